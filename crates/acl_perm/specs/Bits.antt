@@ -1,0 +1,31 @@
+-- Sets of bits, as the numbers that stand for them.
+use Rattle.std.specs.Prelude.{◌≡◌, ℕ, bit_and, Bool, ◌==◌, ◌&&◌, ◌||◌, not, IsTrue}
+use Rattle.std.specs.Int.{bit_at}
+
+-- the set has bit k
+abbrev pub has_bit : ℕ → ℕ → Bool
+has_bit set k = bit_at set k == 1
+
+-- the set has the bits of either of two sets
+abbrev pub IsUnion : ℕ → ℕ → ℕ → Type 0
+IsUnion m n set = (k : ℕ) → has_bit set k ≡ (has_bit m k || has_bit n k)
+
+-- the set has the bits of both of two sets
+abbrev pub IsIntersection : ℕ → ℕ → ℕ → Type 0
+IsIntersection m n set = (k : ℕ) → has_bit set k ≡ (has_bit m k && has_bit n k)
+
+-- the set has the bits of one set that the other has not
+abbrev pub IsDifference : ℕ → ℕ → ℕ → Type 0
+IsDifference m n set = (k : ℕ) → has_bit set k ≡ (has_bit m k && not (has_bit n k))
+
+-- all bits of the part are bits of the whole
+abbrev pub IsSubset : ℕ → ℕ → Type 0
+IsSubset part whole = (k : ℕ) → IsTrue (has_bit part k) → IsTrue (has_bit whole k)
+
+-- the sixteen access rights of an NFSv4 ACE together (RFC 8881, section 6.2.1.3.1)
+abbrev pub all_rights : ℕ
+all_rights = 0x001f07ff
+
+-- a set of access rights
+abbrev pub IsMask : ℕ → Type 0
+IsMask n = bit_and n all_rights ≡ n

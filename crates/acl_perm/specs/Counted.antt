@@ -1,0 +1,9 @@
+-- What a clause sees of a `Counted`.
+use Rattle.std.specs.Prelude.{ℕ}
+use Rattle.acl_perm.specs.declared.counted.Counted.{Counted}
+
+abbrev pub counted_inner : {T : Type 0} → Counted T → T
+counted_inner c = c.inner
+
+abbrev pub counted_failures : {T : Type 0} → Counted T → ℕ
+counted_failures c = c.failures

@@ -1,0 +1,28 @@
+-- What a pull, a put and a count of failures mean.
+use Rattle.std.specs.Prelude.{◌⊎◌, ◌==◌, ◌&&◌, ◌+◌, ◌-◌, ◌^◌, ◌<◌, ◌≤◌, ℕ, Bool, true, false, List, length, min, nat_lt, Result, Ok, Err, Option, None, if◌then◌else◌}
+
+-- one more failure; the number stops at `u64::MAX`
+abbrev pub one_more : ℕ → ℕ
+one_more n = min (n + 1) (2 ^ 64 - 1)
+
+-- a pull failed
+abbrev pub pull_failed : {E : Type 0} → Result ℕ E → Bool
+pull_failed (Ok n) = false
+pull_failed (Err e) = true
+
+-- a put of `bytes` failed: it gave an error, or took none of some bytes
+abbrev pub put_failed : {E : Type 0} → Result ℕ E → List ℕ → Bool
+put_failed (Ok n) bytes = (n == 0) && nat_lt 0 (length bytes)
+put_failed (Err e) bytes = true
+
+-- the number after a call that failed or not
+abbrev pub failures_after : ℕ → Bool → ℕ
+failures_after n failed = if failed then one_more n else n
+
+-- the number rose, or stood at its greatest
+abbrev pub RoseOrFull : ℕ → ℕ → Type 0
+RoseOrFull old new = (old < new) ⊎ (2 ^ 64 - 1 ≤ old)
+
+-- what is left of a reader whose calls give at most `step` bytes; at 0 nothing can be known
+abbrev pub fused_remaining : ℕ → Option (List ℕ) → Option (List ℕ)
+fused_remaining step known = if step == 0 then None else known

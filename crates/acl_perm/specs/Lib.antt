@@ -1,0 +1,6 @@
+pub mod Bits
+pub mod Principal
+pub mod Situation
+pub mod Devices
+pub mod Counted
+pub mod Fused

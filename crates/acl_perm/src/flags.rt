@@ -1,0 +1,90 @@
+ghost use Rattle.std.specs.Prelude.{◌≡◌, ◌<◌, IfSome, IsSome, IsTrue, ◌↔◌};
+ghost use Rattle.acl_perm.specs.Bits.{IsDifference, IsIntersection, IsSubset, IsUnion, has_bit};
+
+/// A set of the eight flags of an NFSv4 ACE, one bit each (RFC 8881, section 6.2.1.4).
+#[derive(Clone, Copy, Debug, PartialEq, Eq)]
+pub struct Flags {
+    pub bits: u8,
+}
+
+impl Flags {
+    const INHERIT_ONLY: u8 = 0x08;
+
+    const IDENTIFIER_GROUP: u8 = 0x40;
+
+    /// No flag.
+    pub const NONE: Flags = Flags { bits: 0 };
+
+    /// The set that a number stands for; none where it has a bit outside `0xff`.
+    pub fn new(bits: u32) -> Option<Flags>
+        ensures within { IsSome result ↔ (bits < 256) }
+        ensures value { IfSome result (λ flags. flags.bits ≡ bits) }
+    {
+        if bits < 256 {
+            Some(Flags { bits: bits as u8 })
+        } else {
+            None
+        }
+    }
+
+    /// The number that the set stands for.
+    pub fn bits(self) -> u8
+        ensures { result ≡ self.bits }
+    {
+        self.bits
+    }
+
+    /// Whether the ACE takes no part on the object that carries it.
+    #[tactic(auto, using(crate::proofs::Sets::flag_tests))]
+    pub fn is_inherit_only(self) -> bool
+        ensures { result ≡ has_bit self.bits 3 }
+    {
+        self.bits & Flags::INHERIT_ONLY != 0
+    }
+
+    /// Whether the who names a group.
+    #[tactic(auto, using(crate::proofs::Sets::flag_tests))]
+    pub fn is_group(self) -> bool
+        ensures { result ≡ has_bit self.bits 6 }
+    {
+        self.bits & Flags::IDENTIFIER_GROUP != 0
+    }
+
+    /// The flags of either set.
+    #[tactic(auto, using(crate::proofs::Sets::sets))]
+    pub fn union(self, other: Flags) -> Flags
+        ensures { IsUnion self.bits other.bits result.bits }
+    {
+        Flags {
+            bits: self.bits | other.bits,
+        }
+    }
+
+    /// The flags of both sets.
+    #[tactic(auto, using(crate::proofs::Sets::sets))]
+    pub fn intersection(self, other: Flags) -> Flags
+        ensures { IsIntersection self.bits other.bits result.bits }
+    {
+        Flags {
+            bits: self.bits & other.bits,
+        }
+    }
+
+    /// The flags of this set that the other has not.
+    #[tactic(auto, using(crate::proofs::Sets::sets))]
+    pub fn difference(self, other: Flags) -> Flags
+        ensures { IsDifference self.bits other.bits result.bits }
+    {
+        Flags {
+            bits: self.bits & !other.bits,
+        }
+    }
+
+    /// Whether all flags of the other set are in this one.
+    #[tactic(auto, using(crate::proofs::Sets::sets))]
+    pub fn contains(self, other: Flags) -> bool
+        ensures { IsTrue result ↔ IsSubset other.bits self.bits }
+    {
+        self.bits & other.bits == other.bits
+    }
+}

@@ -1,0 +1,91 @@
+//! A device for tests, which fails after some calls.
+ghost use Rattle.std.specs.Prelude.{◌≡◌, ◌-◌, ◌≤◌, ℕ, IfOk, IsErr};
+ghost use Rattle.std.specs.Io.{ReadsAtMost, WritesAtMost};
+ghost use Rattle.std.specs.Io.KnownBytes.{ReadConsumes, WriteAppends};
+ghost use Rattle.acl_perm.specs.Devices.{fused_remaining};
+
+use std::io;
+use std::io::{Read, Write};
+
+/// A reader or writer that passes some calls, each of a few bytes, and then fails every call.
+#[derive(Drop)]
+pub struct Fused<T> {
+    inner: T,
+    calls: u64,
+    step: usize,
+}
+
+impl<T> Fused<T> {
+    ghost use Rattle.acl_perm.specs.Fused.{fused_calls, fused_inner, fused_step};
+
+    /// Passes the first `calls` calls, each of at most `step` bytes.
+    pub fn new(inner: T, calls: u64, step: usize) -> Fused<T>
+        ensures inner { fused_inner result ≡ inner }
+        ensures calls { fused_calls result ≡ calls }
+        ensures step { fused_step result ≡ step }
+    {
+        Fused { inner, calls, step }
+    }
+
+    /// The reader or writer.
+    pub fn into_inner(self) -> T
+        ensures { result ≡ fused_inner self }
+    {
+        let Fused {
+            inner,
+            calls: _,
+            step: _,
+        } = self;
+        inner
+    }
+}
+
+impl<R: Read> Read for Fused<R> {
+    ghost use Rattle.acl_perm.specs.Fused.{fused_calls, fused_inner, fused_step};
+
+    ghost remaining = { λ f. fused_remaining f.step (R.remaining f.inner) };
+
+    fn read(&mut self, buf: &mut [u8]) -> io::Result<usize>
+        ensures bound { ReadsAtMost result buf.new }
+        ensures bytes { ReadConsumes (fused_remaining (fused_step self.old) (R.remaining (fused_inner self.old)))
+            (fused_remaining (fused_step self.new) (R.remaining (fused_inner self.new))) result buf.new }
+        ensures spent { fused_calls self.old ≡ 0 → IsErr result × (self.new ≡ self.old) }
+        ensures counted { fused_calls self.new ≡ fused_calls self.old - 1 }
+        ensures short { IfOk result (λ n. n ≤ fused_step self.old) }
+        ensures step { fused_step self.new ≡ fused_step self.old }
+    {
+        if self.calls == 0 {
+            return Err(io::Error::other("the device is spent"));
+        }
+        self.calls -= 1;
+        let room = self.step.min(buf.len());
+        self.inner.read(&mut buf[..room])
+    }
+}
+
+impl<W: Write> Write for Fused<W> {
+    ghost use Rattle.acl_perm.specs.Fused.{fused_calls, fused_inner, fused_step};
+
+    ghost contents = { λ f. W.contents f.inner };
+
+    fn write(&mut self, bytes: &[u8]) -> io::Result<usize>
+        ensures bound { WritesAtMost result bytes.now }
+        ensures bytes { WriteAppends (W.contents (fused_inner self.old))
+            (W.contents (fused_inner self.new)) result bytes.now }
+        ensures spent { fused_calls self.old ≡ 0 → IsErr result × (self.new ≡ self.old) }
+        ensures counted { fused_calls self.new ≡ fused_calls self.old - 1 }
+        ensures short { IfOk result (λ n. n ≤ fused_step self.old) }
+        ensures step { fused_step self.new ≡ fused_step self.old }
+    {
+        if self.calls == 0 {
+            return Err(io::Error::other("the device is spent"));
+        }
+        self.calls -= 1;
+        let room = self.step.min(bytes.len());
+        self.inner.write(&bytes[..room])
+    }
+
+    fn flush(&mut self) -> io::Result<()> {
+        self.inner.flush()
+    }
+}

@@ -1,0 +1,24 @@
+//! What every access control list here is made of, and sources and sinks of bytes that count their failures.
+#![tactic(auto)]
+
+mod counted;
+mod devices;
+mod flags;
+mod fused;
+mod kind;
+mod mask;
+mod mode;
+mod perm;
+mod principal;
+mod whole;
+
+pub use counted::Counted;
+pub use devices::{Sink, Source};
+pub use flags::Flags;
+pub use fused::Fused;
+pub use kind::Kind;
+pub use mask::Mask;
+pub use mode::Mode;
+pub use perm::Perm;
+pub use principal::Principal;
+pub use whole::{ReadFault, WriteFault, put_all, read_all};

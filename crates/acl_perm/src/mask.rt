@@ -1,0 +1,75 @@
+ghost use Rattle.std.specs.Prelude.{◌≡◌, IfSome, IsSome, IsTrue, ◌↔◌};
+ghost use Rattle.acl_perm.specs.Bits.{IsDifference, IsIntersection, IsMask, IsSubset, IsUnion};
+
+/// A set of the sixteen access rights of an NFSv4 ACE, one bit each (RFC 8881, section 6.2.1.3.1).
+#[derive(Clone, Copy, Debug, PartialEq, Eq)]
+pub struct Mask {
+    pub bits: u32,
+    ghost within: { IsMask bits },
+}
+
+impl Mask {
+    /// The sixteen rights together.
+    const RIGHTS: u32 = 0x001f_07ff;
+
+    /// No right.
+    pub const NONE: Mask = Mask { bits: 0 };
+
+    /// The set that a number stands for; none where it has a bit outside `0x001f07ff`.
+    pub fn new(bits: u32) -> Option<Mask>
+        ensures within { IsSome result ↔ IsMask bits }
+        ensures value { IfSome result (λ mask. mask.bits ≡ bits) }
+    {
+        if bits & Mask::RIGHTS == bits {
+            Some(Mask { bits })
+        } else {
+            None
+        }
+    }
+
+    /// The number that the set stands for.
+    pub fn bits(self) -> u32
+        ensures value { result ≡ self.bits }
+        ensures within { IsMask result }
+    {
+        self.bits
+    }
+
+    /// The rights of either set.
+    #[tactic(auto, using(crate::proofs::Sets::sets))]
+    pub fn union(self, other: Mask) -> Mask
+        ensures { IsUnion self.bits other.bits result.bits }
+    {
+        Mask {
+            bits: self.bits | other.bits,
+        }
+    }
+
+    /// The rights of both sets.
+    #[tactic(auto, using(crate::proofs::Sets::sets))]
+    pub fn intersection(self, other: Mask) -> Mask
+        ensures { IsIntersection self.bits other.bits result.bits }
+    {
+        Mask {
+            bits: self.bits & other.bits,
+        }
+    }
+
+    /// The rights of this set that the other has not.
+    #[tactic(auto, using(crate::proofs::Sets::sets))]
+    pub fn difference(self, other: Mask) -> Mask
+        ensures { IsDifference self.bits other.bits result.bits }
+    {
+        Mask {
+            bits: self.bits & !other.bits,
+        }
+    }
+
+    /// Whether all rights of the other set are in this one.
+    #[tactic(auto, using(crate::proofs::Sets::sets))]
+    pub fn contains(self, other: Mask) -> bool
+        ensures { IsTrue result ↔ IsSubset other.bits self.bits }
+    {
+        self.bits & other.bits == other.bits
+    }
+}

@@ -1,0 +1,72 @@
+ghost use Rattle.std.specs.Prelude.{◌≡◌, ◌<◌, IfSome, IsSome, IsTrue, ◌↔◌};
+ghost use Rattle.acl_perm.specs.Bits.{IsDifference, IsIntersection, IsSubset, IsUnion};
+
+/// A set of the permissions of a POSIX ACL entry: read is 4, write is 2, execute is 1 (POSIX.1e draft 17,
+/// section 23.1.2).
+#[derive(Clone, Copy, Debug, PartialEq, Eq)]
+pub struct Perm {
+    pub bits: u8,
+    ghost within: { bits < 8 },
+}
+
+impl Perm {
+    /// No permission.
+    pub const NONE: Perm = Perm { bits: 0 };
+
+    /// Read, write and execute.
+    pub const ALL: Perm = Perm { bits: 7 };
+
+    /// The set that a number stands for; none above 7.
+    pub fn new(bits: u8) -> Option<Perm>
+        ensures within { IsSome result ↔ (bits < 8) }
+        ensures value { IfSome result (λ perm. perm.bits ≡ bits) }
+    {
+        if bits < 8 { Some(Perm { bits }) } else { None }
+    }
+
+    /// The number that the set stands for.
+    pub fn bits(self) -> u8
+        ensures value { result ≡ self.bits }
+        ensures within { result < 8 }
+    {
+        self.bits
+    }
+
+    /// The permissions of either set.
+    #[tactic(auto, using(crate::proofs::Sets::sets))]
+    pub fn union(self, other: Perm) -> Perm
+        ensures { IsUnion self.bits other.bits result.bits }
+    {
+        Perm {
+            bits: self.bits | other.bits,
+        }
+    }
+
+    /// The permissions of both sets.
+    #[tactic(auto, using(crate::proofs::Sets::sets))]
+    pub fn intersection(self, other: Perm) -> Perm
+        ensures { IsIntersection self.bits other.bits result.bits }
+    {
+        Perm {
+            bits: self.bits & other.bits,
+        }
+    }
+
+    /// The permissions of this set that the other has not.
+    #[tactic(auto, using(crate::proofs::Sets::sets))]
+    pub fn difference(self, other: Perm) -> Perm
+        ensures { IsDifference self.bits other.bits result.bits }
+    {
+        Perm {
+            bits: self.bits & !other.bits,
+        }
+    }
+
+    /// Whether all permissions of the other set are in this one.
+    #[tactic(auto, using(crate::proofs::Sets::sets))]
+    pub fn contains(self, other: Perm) -> bool
+        ensures { IsTrue result ↔ IsSubset other.bits self.bits }
+    {
+        self.bits & other.bits == other.bits
+    }
+}

@@ -1,0 +1,95 @@
+//! Whole reads and whole writes.
+ghost use Rattle.std.specs.Prelude.{◌≡◌, ◌<◌, ◌≤◌, IfErr, IfNone, IfOk, IfSome, OnErr, OnOk, OnSome, length, take};
+ghost use Rattle.std.specs.Io.KnownBytes.{Appends, IsAtEnd, Keeps};
+ghost use Rattle.acl_perm.specs.Devices.{one_more};
+
+use crate::devices::{Sink, Source};
+use std::alloc::Global;
+use thiserror::Error;
+
+/// A write failed after `written` bytes, which are a beginning of the text that the call was to write.
+#[derive(Clone, Copy, Debug, PartialEq, Eq, Error)]
+#[error("write failed after {written} bytes")]
+pub struct WriteFault {
+    pub written: u64,
+}
+
+/// Why an input could not be read whole.
+#[derive(Clone, Copy, Debug, PartialEq, Eq, Error)]
+pub enum ReadFault {
+    #[error("read failed")]
+    Read,
+    #[error("out of memory")]
+    Memory,
+}
+
+/// Writes all of `bytes`. The first put that fails, or takes no byte, ends it; nothing is tried again.
+pub fn put_all<S: Sink>(sink: &mut S, bytes: &[u8]) -> Result<(), WriteFault>
+    ensures ok { OnOk result (Appends (S.contents sink.old) (S.contents sink.new) bytes.now) }
+    ensures none_failed { OnOk result (S.failure_count sink.new ≡ S.failure_count sink.old) }
+
+    ensures err { IfErr result (λ fault. Appends (S.contents sink.old) (S.contents sink.new)
+        (take fault.written bytes.now)) }
+    ensures short { IfErr result (λ fault. fault.written < length bytes.now) }
+    ensures failed { OnErr result
+        (S.failure_count sink.new ≡ one_more (S.failure_count sink.old)) }
+{
+    let mut written = 0usize;
+    while written < bytes.len() {
+        let (_, rest) = bytes.split_at(written);
+        match put_piece(sink, rest) {
+            Some(count) => written += count,
+            None => {
+                return Err(WriteFault {
+                    written: written as u64,
+                });
+            }
+        }
+    }
+    Ok(())
+}
+
+// One put of some bytes: how many went out, or `None` where it failed.
+fn put_piece<S: Sink>(sink: &mut S, bytes: &[u8]) -> Option<usize>
+    requires { 0 < length bytes.now }
+    ensures some { IfSome result (λ count. (0 < count) × (count ≤ length bytes.now)) }
+    ensures written { IfSome result (λ count. Appends (S.contents sink.old) (S.contents sink.new)
+        (take count bytes.now)) }
+    ensures none_failed { OnSome result (S.failure_count sink.new ≡ S.failure_count sink.old) }
+    ensures none { IfNone result (Keeps (S.contents sink.old) (S.contents sink.new)) }
+    ensures failed { IfNone result
+        (S.failure_count sink.new ≡ one_more (S.failure_count sink.old)) }
+{
+    match sink.put(bytes) {
+        Ok(0) => None,
+        Ok(count) => Some(count),
+        Err(_) => None,
+    }
+}
+
+/// Reads to the end. The first pull that fails ends it; nothing is tried again. Over a source that never ends it
+/// answers `Memory` when what was read can't grow.
+pub fn read_all<S: Source>(alloc: Global, source: &mut S) -> Result<Vec<u8>, ReadFault>
+    ensures ok { IfOk result (λ bytes. IfSome (S.remaining source.old) (λ input. bytes.items ≡ input)) }
+    ensures end { OnOk result (IsAtEnd (S.remaining source.new)) }
+    ensures none_failed { OnOk result (S.failure_count source.new ≡ S.failure_count source.old) }
+
+    ensures read { result ≡ Err ReadFault.Read
+        → S.failure_count source.new ≡ one_more (S.failure_count source.old) }
+    ensures memory { result ≡ Err ReadFault.Memory
+        → S.failure_count source.new ≡ S.failure_count source.old }
+{
+    let mut whole = Vec::new(alloc);
+    let mut piece = [0u8; 4096];
+    loop {
+        match source.pull(&mut piece) {
+            Ok(0) => return Ok(whole),
+            Ok(count) => {
+                if whole.extend_from_slice(&piece[..count]).is_err() {
+                    return Err(ReadFault::Memory);
+                }
+            }
+            Err(_) => return Err(ReadFault::Read),
+        }
+    }
+}
