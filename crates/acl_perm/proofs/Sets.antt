@@ -1,11 +1,11 @@
 -- The operations on sets of bits, each once for every width.
-use Rattle.std.proofs.Common.{◌≡◌, ℕ, ◌-◌, ◌*◌, ◌^◌, ◌<◌, ◌≤◌, Bool, true, false, eqb, refl, sym, ap, ◌∙◌, arith, inl, inr}
+use Rattle.std.proofs.Common.{◌≡◌, ◌≢◌, ℕ, ◌-◌, ◌*◌, ◌^◌, ◌<◌, ◌≤◌, Bool, true, false, eqb, refl, sym, ap, ◌∙◌, arith, inl, inr}
 use Rattle.std.specs.Prelude.{bit_and, bit_or, min, max, ◌&&◌, ◌||◌, not, ◌↔◌}
 use mir.Val.{bits}
-use Rattle.std.specs.Int.{Width, w8, w16, w32, bit_at, bit_not}
+use Rattle.std.specs.Int.{Width, w8, w16, w32, bit_at, bit_not, trailing_zeros}
 use Rattle.std.proofs.lemmas.Bool.{cases_lt, false≢true, eqb-true, eq-eqb}
 use Rattle.std.proofs.lemmas.Nat.{and_le_r, and_le_l, or_lt}
-use Rattle.std.proofs.lemmas.Nat.Bits.{and_pow, bit_at-lt, bit_at_and, bit_at_or, bit_at_not, bit_at_above, same_from_bits}
+use Rattle.std.proofs.lemmas.Nat.Bits.{and_pow, bit_at-lt, bit_at_and, bit_at_or, bit_at_not, bit_at_above, bit_at-zero, bit_at-trailing_zeros, same_from_bits}
 use Rattle.acl_perm.specs.Bits.{has_bit, all_rights, IsMask, IsSubset, IsUnion, IsIntersection, IsDifference}
 
 pub IsMask-lt : (n : ℕ) → IsMask n → n < 2 ^ 32
@@ -72,6 +72,19 @@ tests false false h = refl
 
 same_bit : (m n k : ℕ) → has_bit m k ≡ has_bit n k → bit_at m k ≡ bit_at n k
 same_bit m n k e = digits (bit_at m k) (bit_at n k) (bit_at-lt m k) (bit_at-lt n k) e
+
+-- a set is its bits
+pub same_set : (m n : ℕ) → ((k : ℕ) → has_bit m k ≡ has_bit n k) → m ≡ n
+same_set m n h = same_from_bits m n (λ k. same_bit m n k (h k))
+
+-- the empty set has no bit, and any other has one
+pub no_bit : (k : ℕ) → has_bit 0 k ≡ false
+no_bit k = ap (λ (d : ℕ). eqb d 1) (bit_at-zero k)
+
+pub some_bit : (n : ℕ) → n < 2 ^ 32 → n ≢ 0 → (k : ℕ) × (has_bit n k ≡ true)
+some_bit n lt ne =
+    let t = bit_at-trailing_zeros w32 n (omega arith) lt in
+    (trailing_zeros w32 n, ap (λ (d : ℕ). eqb d 1) t.1)
 
 -- the test of a subset
 pub subset : (m n : ℕ) → (bit_and m n ≡ n) ↔ IsSubset n m

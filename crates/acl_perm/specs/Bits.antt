@@ -1,5 +1,5 @@
 -- Sets of bits, as the numbers that stand for them.
-use Rattle.std.specs.Prelude.{◌≡◌, ℕ, bit_and, Bool, ◌==◌, ◌&&◌, ◌||◌, not, IsTrue}
+use Rattle.std.specs.Prelude.{◌≡◌, ℕ, ◌<◌, bit_and, Bool, ◌==◌, ◌&&◌, ◌||◌, not, IsTrue}
 use Rattle.std.specs.Int.{bit_at}
 
 -- the set has bit k
@@ -29,3 +29,7 @@ all_rights = 0x001f07ff
 -- a set of access rights
 abbrev pub IsMask : ℕ → Type 0
 IsMask n = bit_and n all_rights ≡ n
+
+-- a set of the eight flags of an NFSv4 ACE (RFC 8881, section 6.2.1.4)
+abbrev pub IsFlags : ℕ → Type 0
+IsFlags n = n < 256

@@ -1,5 +1,5 @@
-ghost use Rattle.std.specs.Prelude.{◌≡◌, ◌<◌, IfSome, IsSome, IsTrue, ◌↔◌};
-ghost use Rattle.acl_perm.specs.Bits.{IsDifference, IsIntersection, IsSubset, IsUnion, has_bit};
+ghost use Rattle.std.specs.Prelude.{◌≡◌, IfSome, IsSome, IsTrue, ◌↔◌};
+ghost use Rattle.acl_perm.specs.Bits.{IsDifference, IsFlags, IsIntersection, IsSubset, IsUnion, has_bit};
 
 /// A set of the eight flags of an NFSv4 ACE, one bit each (RFC 8881, section 6.2.1.4).
 #[derive(Clone, Copy, Debug, PartialEq, Eq)]
@@ -17,7 +17,7 @@ impl Flags {
 
     /// The set that a number stands for; none where it has a bit outside `0xff`.
     pub fn new(bits: u32) -> Option<Flags>
-        ensures within { IsSome result ↔ (bits < 256) }
+        ensures within { IsSome result ↔ IsFlags bits }
         ensures value { IfSome result (λ flags. flags.bits ≡ bits) }
     {
         if bits < 256 {

@@ -1,0 +1,9 @@
+pub mod Text
+pub mod Loop
+pub mod Fields
+pub mod Lists
+pub mod Body
+pub mod Faults
+pub mod Resume
+pub mod Names
+pub mod Whole

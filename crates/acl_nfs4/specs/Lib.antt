@@ -1,0 +1,10 @@
+pub mod Ace
+pub mod Who
+pub mod Spelling
+pub mod Fields
+pub mod Fault
+pub mod Reading
+pub mod Cursor
+pub mod Body
+pub mod Rights
+pub mod RightsTable

@@ -1,0 +1,57 @@
+-- The one spelling of a list of ACEs as XDR (RFC 4506, sections 4.2, 4.10, 4.11 and 4.13, over the types of RFC 8881,
+-- section 6.2.1), and which lists have one.
+use Rattle.std.specs.Prelude.{if◌then◌else◌, ◌≡◌, ℕ, ◌-◌, ◌%◌, ◌≤◌, List, ◌++◌, length, replicate, count_ones, sum_by, ◌==◌}
+use Rattle.std.specs.List.{flat_map, AllByRecursion}
+use Rattle.std.specs.Int.{w32, to_be_bytes}
+use Rattle.acl_perm.specs.Bits.{IsMask, IsFlags}
+use Rattle.acl_nfs4.specs.Ace.{Ace}
+use Rattle.acl_nfs4.specs.Who.{IsWho}
+use Rattle.acl_perm.specs.declared.kind.Kind.{Kind}
+use Rattle.acl_perm.specs.declared.kind.Kind.TheVariants.{Deny, Allow}
+
+-- the number of a type (RFC 8881, section 6.2.1.1)
+abbrev pub kind_number : Kind → ℕ
+kind_number Allow = 0
+kind_number Deny = 1
+
+-- an unsigned word: four bytes, the most significant first
+abbrev pub word : ℕ → List ℕ
+word n = to_be_bytes w32 n
+
+-- the fewest bytes that make a length of n a multiple of four
+abbrev pub pad_len : ℕ → ℕ
+pad_len n = (4 - n % 4) % 4
+
+-- the bytes of an ACE: the words of its type, flags, mask and who's length, the who, and zero bytes up to a multiple
+-- of four
+abbrev pub piece : Ace → List ℕ
+piece a = word (kind_number a.kind) ++ word a.flags ++ word a.mask ++ word (length a.who) ++ a.who ++ replicate (pad_len (length a.who)) 0
+
+-- the bytes of a list: the word of its length, and the pieces of its ACEs in order
+abbrev pub spelling : List Ace → List ℕ
+spelling list = word (length list) ++ flat_map piece list
+
+-- the flags, the mask and the who are ones that may stand there
+pub record IsAce (a : Ace) : Type 0 where
+  pub flags : IsFlags a.flags
+  pub mask : IsMask a.mask
+  pub who : IsWho a.who
+
+-- the number of mask bits that are set, over all ACEs
+abbrev pub weight : List Ace → ℕ
+weight list = sum_by (λ a. count_ones a.mask) list
+
+-- a list within the limits of this library
+pub record IsAccepted (list : List Ace) : Type 0 where
+  pub count : length list ≤ 65536
+  pub weight : weight list ≤ 65536
+  pub each : AllByRecursion IsAce list
+
+-- the list is accepted, and the bytes are its spelling
+pub record Xdr (list : List Ace) (bytes : List ℕ) : Type 0 where
+  pub accepted : IsAccepted list
+  pub spelled : bytes ≡ spelling list
+
+-- the type of a number that is one
+abbrev pub kind_from : ℕ → Kind
+kind_from n = if n == 0 then Allow else Deny
