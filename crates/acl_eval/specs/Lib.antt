@@ -1,0 +1,2 @@
+pub mod Situation
+pub mod Grant

@@ -1,0 +1,87 @@
+//! Who asks, and of whose object.
+ghost use Rattle.std.specs.Prelude.{◌≡◌, ◌<◌, ◌↔◌, IfSome, IsSome, All, length, map};
+ghost use Rattle.std.specs.List.{list_any};
+ghost use Rattle.std.specs.Str.{bytes_eq};
+ghost use Rattle.acl_perm.specs.Principal.{subject};
+ghost use Rattle.acl_perm.specs.Situation.{matches};
+ghost use Rattle.acl_eval.specs.Situation.{groups_of, owner_of, owning_group_of, situation, user_of};
+
+use acl_perm::Principal;
+
+/// What is asked for: an object's owner and its owning group.
+#[derive(Clone, Copy, Debug)]
+pub struct Object<'a> {
+    owner: &'a [u8],
+    group: &'a [u8],
+}
+
+impl<'a> Object<'a> {
+    /// An object of these names, which stay where they are. None where one is empty.
+    pub fn new(owner: &'a [u8], group: &'a [u8]) -> Option<Self>
+        ensures named { IsSome result ↔ ((0 < length owner.now) × (0 < length group.now)) }
+        ensures owner { IfSome result (λ object. owner_of object ≡ owner.now) }
+        ensures group { IfSome result (λ object. owning_group_of object ≡ group.now) }
+    {
+        if owner.is_empty() || group.is_empty() {
+            None
+        } else {
+            Some(Object { owner, group })
+        }
+    }
+}
+
+/// Who asks: a user, and the groups of that user.
+#[derive(Clone, Copy, Debug)]
+pub struct Requester<'a> {
+    user: &'a [u8],
+    groups: &'a [&'a [u8]],
+}
+
+impl<'a> Requester<'a> {
+    /// A requester of these names, which stay where they are. None where one is empty. There may be no group; one
+    /// that is named twice counts once.
+    pub fn new(user: &'a [u8], groups: &'a [&'a [u8]]) -> Option<Self>
+        ensures named { IsSome result
+            ↔ ((0 < length user.now) × All (λ g. 0 < length g.now) groups.now) }
+        ensures user { IfSome result (λ requester. user_of requester ≡ user.now) }
+        ensures groups { IfSome result (λ requester.
+            groups_of requester ≡ map (λ g. g.now) groups.now) }
+    {
+        if user.is_empty() || groups.iter().any(|group| group.is_empty()) {
+            None
+        } else {
+            Some(Requester { user, groups })
+        }
+    }
+
+    // Whether the user is in the group. It goes over the groups.
+    #[tactic(auto, using(crate::proofs::Members::any_now))]
+    fn is_in(&self, name: &[u8]) -> bool
+        ensures { result ≡ list_any (bytes_eq name.now) (groups_of self.now) }
+    {
+        is_member(self.groups, name)
+    }
+}
+
+fn is_member(groups: &[&[u8]], name: &[u8]) -> bool
+    ensures { result ≡ list_any (λ g. bytes_eq name.now g.now) groups.now }
+{
+    groups.iter().any(|group| name == *group)
+}
+
+/// Whether a principal speaks of the requester.
+pub(crate) fn is_match(
+    principal: Principal<'_>,
+    object: &Object<'_>,
+    requester: &Requester<'_>,
+) -> bool
+    ensures { result ≡ matches (situation object.now requester.now) (subject principal.entry) }
+{
+    match principal {
+        Principal::Owner => requester.user == object.owner,
+        Principal::User(name) => requester.user == name,
+        Principal::Group => requester.is_in(object.group),
+        Principal::GroupNamed(name) => requester.is_in(name),
+        Principal::Everyone => true,
+    }
+}
