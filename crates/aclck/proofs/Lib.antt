@@ -1,0 +1,3 @@
+pub mod Engines
+pub mod LineLemmas
+pub mod CheckNfsLemmas
