@@ -3,6 +3,8 @@
 
 mod grant;
 mod situation;
+#[cfg(test)]
+mod tests;
 
 pub use grant::grants;
 pub use situation::{Object, Requester};

@@ -6,6 +6,8 @@ mod aces;
 mod cursor;
 mod fault;
 pub mod laws;
+#[cfg(test)]
+mod parse_tests;
 mod reading;
 mod rights;
 mod view;

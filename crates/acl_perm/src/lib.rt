@@ -2,6 +2,8 @@
 #![tactic(auto)]
 
 mod counted;
+#[cfg(test)]
+mod device_tests;
 mod devices;
 mod flags;
 mod fused;

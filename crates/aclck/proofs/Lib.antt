@@ -1,3 +1,4 @@
 pub mod Engines
 pub mod LineLemmas
 pub mod CheckNfsLemmas
+mod Vectors

@@ -5,6 +5,8 @@ mod args;
 mod command;
 mod engine;
 mod line;
+#[cfg(test)]
+mod tests;
 mod values;
 
 use acl_perm::{Counted, put_all};

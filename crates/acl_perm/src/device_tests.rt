@@ -1,0 +1,119 @@
+use super::*;
+use std::io;
+use std::io::{Read, Write};
+use std::test::Fail;
+
+// A source gives what its reader gives, call by call, and counts just the calls that fail.
+#[test]
+fn a_counted_reader_gives_the_same(rt: HostRuntime) -> Result<(), Fail> {
+    for calls in [0u64, 1, 5] {
+        let mut plain = Fused::new(b"granted".as_slice(), calls, 3);
+        let mut counted = Counted::new(Fused::new(b"granted".as_slice(), calls, 3));
+        let mut failed = 0u64;
+        assert_eq!(rt; counted.failures(), 0);
+        for _ in 0..7 {
+            let mut first = [0u8; 4];
+            let mut second = [0u8; 4];
+            let read = plain.read(&mut first).ok();
+            assert_eq!(rt; counted.pull(&mut second).ok(), read, "after {calls} calls");
+            assert_eq!(rt; first.as_slice(), second.as_slice());
+            if read.is_none() {
+                failed = failed.saturating_add(1);
+            }
+            assert_eq!(rt; counted.failures(), failed);
+        }
+        assert_eq!(rt; failed, 7u64.saturating_sub(calls));
+    }
+    Ok(())
+}
+
+// A sink takes what its writer takes; an end of input is no failure, a put that takes no byte of some is one.
+#[test]
+fn a_counted_writer_takes_the_same(rt: HostRuntime) -> Result<(), Fail> {
+    let alloc = rt.alloc();
+    for (calls, step, pieces) in [(0u64, 2usize, 0u64), (1, 2, 1), (2, 2, 2), (3, 0, 0)] {
+        let mut counted = Counted::new(Fused::new(Vec::new(alloc), calls, step));
+        let mut taken = 0u64;
+        for _ in 0..4 {
+            match counted.put(b"abc") {
+                Ok(0) => {}
+                Ok(_) => taken = taken.saturating_add(1),
+                Err(e) if e.kind() == io::ErrorKind::OutOfMemory => return Ok(()),
+                Err(_) => {}
+            }
+        }
+        assert_eq!(rt; taken, pieces);
+        assert_eq!(rt; counted.failures(), 4u64.saturating_sub(pieces));
+        assert_eq!(rt; counted.put(b"").is_ok(), calls > 4);
+        assert_eq!(rt; counted.into_inner().into_inner().len() as u64, 2 * pieces);
+    }
+    let mut ended = Counted::new(b"".as_slice());
+    assert_eq!(rt; ended.pull(&mut [0u8; 4])?, 0);
+    assert_eq!(rt; ended.failures(), 0);
+    Ok(())
+}
+
+// What no clause of `Fused` can say: that the calls before the last are passed on.
+#[test]
+fn a_fused_device_passes_its_first_calls(rt: HostRuntime) -> Result<(), Fail> {
+    let mut reader = Fused::new(b"abcde".as_slice(), 2, 2);
+    let mut buffer = [0u8; 4];
+    assert_eq!(rt; reader.read(&mut buffer)?, 2);
+    assert_eq!(rt; buffer.as_slice(), b"ab\0\0".as_slice());
+    assert_eq!(rt; reader.read(&mut buffer)?, 2);
+    assert_eq!(rt; buffer.as_slice(), b"cd\0\0".as_slice());
+    assert!(rt; reader.read(&mut buffer).is_err());
+    assert_eq!(rt; reader.into_inner(), b"e".as_slice());
+    let mut room = [0u8; 8];
+    let mut writer = Fused::new(room.as_mut_slice(), 1, 3);
+    writer.flush()?;
+    assert_eq!(rt; writer.write(b"abcde")?, 3);
+    assert!(rt; writer.write(b"de").is_err());
+    assert_eq!(rt; room.as_slice(), b"abc\0\0\0\0\0".as_slice());
+    Ok(())
+}
+
+// Whole writes to a sink that fails at the second and each later put, and whole reads of a source that fails at each
+// read in turn.
+#[test]
+fn whole_reads_and_writes_stop_at_the_first_failure(rt: HostRuntime) -> Result<(), Fail> {
+    let alloc = rt.alloc();
+    for calls in 0..4u64 {
+        let mut room = [0u8; 7];
+        let mut sink = Counted::new(Fused::new(room.as_mut_slice(), calls, 2));
+        let written = 2 * calls;
+        assert_eq!(rt; put_all(&mut sink, b"granted"), Err(WriteFault { written }));
+        assert_eq!(rt; sink.failures(), 1);
+        assert_eq!(rt;
+            room.iter().filter(|byte| **byte != 0).count() as u64,
+            written
+        );
+
+        let mut source = Counted::new(Fused::new(b"granted".as_slice(), calls, 2));
+        match read_all(alloc, &mut source) {
+            Ok(_) => assert!(rt; false, "the source failed"),
+            Err(ReadFault::Read) => assert_eq!(rt; source.failures(), 1),
+            Err(ReadFault::Memory) => return Ok(()),
+        }
+    }
+    let mut source = Counted::new(Fused::new(b"granted".as_slice(), 9, 2));
+    match read_all(alloc, &mut source) {
+        Ok(bytes) => assert_eq!(rt; bytes.as_slice(), b"granted".as_slice()),
+        Err(fault) => assert_eq!(rt; fault, ReadFault::Memory),
+    }
+    Ok(())
+}
+
+// With ample memory a whole read succeeds.
+#[test]
+fn ample_memory_suffices(rt: HostRuntime) -> Result<(), Fail> {
+    let mut source = Counted::new(b"granted".as_slice());
+    assert_eq!(rt;
+        read_all(rt.alloc(), &mut source)?.as_slice(),
+        b"granted".as_slice()
+    );
+    let mut sink = Counted::new(Vec::new(rt.alloc()));
+    put_all(&mut sink, b"granted")?;
+    assert_eq!(rt; sink.into_inner().as_slice(), b"granted".as_slice());
+    Ok(())
+}
