@@ -67,6 +67,9 @@ fn put_piece<S: Sink>(sink: &mut S, bytes: &[u8]) -> Option<usize>
     }
 }
 
+// How many bytes a pull asks for: few pulls for a large input, and a small part of the stack.
+const PIECE: usize = 16384;
+
 /// Reads to the end. The first pull that fails ends it; nothing is tried again. Over a source that never ends it
 /// answers `Memory` when what was read can't grow.
 pub fn read_all<S: Source>(alloc: Global, source: &mut S) -> Result<Vec<u8>, ReadFault>
@@ -80,7 +83,7 @@ pub fn read_all<S: Source>(alloc: Global, source: &mut S) -> Result<Vec<u8>, Rea
         → S.failure_count source.new ≡ S.failure_count source.old }
 {
     let mut whole = Vec::new(alloc);
-    let mut piece = [0u8; 4096];
+    let mut piece = [0u8; PIECE];
     loop {
         match source.pull(&mut piece) {
             Ok(0) => return Ok(whole),
