@@ -95,7 +95,7 @@ pub regroup : (t a b c d e f : List ℕ) → ((((((t ++ a) ++ b) ++ c) ++ d) ++ 
 regroup t a b c d e f = simp append_assoc
 
 -- behind a whole ACE the text is at a border again
-border_after : (n : ℕ) (list : List Ace) (t : List ℕ) (a : Ace) → Border (at_kind n list) t → length list < n → IsAce a → weight list + count_ones a.mask ≤ 65536
+pub border_after : (n : ℕ) (list : List Ace) (t : List ℕ) (a : Ace) → Border (at_kind n list) t → length list < n → IsAce a → weight list + count_ones a.mask ≤ 65536
     → Border (at_kind n (list ++ a ∷ [])) (t ++ piece a)
 border_after n list t a b lt is light =
     let b1 = typed n list a.kind t b lt in

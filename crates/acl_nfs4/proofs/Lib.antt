@@ -7,3 +7,7 @@ pub mod Faults
 pub mod Resume
 pub mod Names
 pub mod Whole
+pub mod Push
+pub mod Completion
+pub mod Weights
+pub mod OneFault

@@ -1,11 +1,11 @@
 -- Fields that name rights: cut at their bars, and joined again.
-use Rattle.std.proofs.Common.{◌≡◌, ◌≢◌, ℕ, zero, suc, ◌+◌, ◌-◌, ◌<◌, ◌≤◌, Bool, true, false, cond, eqb, List, [], ◌∷◌, ◌++◌, length, take, drop, Option, Some, None, refl, sym, ap, ◌∙◌, subst, arith, inl, inr, rules, codes}
-use Rattle.std.specs.Prelude.{position, not, ◌&&◌, ◌||◌, ◌⊎◌, find, option_map, bit_or, IfSome, IsSomeAnd}
+use Rattle.std.proofs.Common.{◌≡◌, ◌≢◌, ℕ, suc, ◌+◌, ◌<◌, Bool, true, false, cond, eqb, List, [], ◌∷◌, length, take, drop, Option, Some, None, refl, sym, ap, ◌∙◌, arith, inl, inr, rules}
+use Rattle.std.specs.Prelude.{position, not, ◌&&◌, ◌||◌, find, option_map, bit_or, IfSome, IsSomeAnd}
 use Rattle.std.specs.List.{slice_split, onto_first, position_or_len, join_with_byte, list_all}
 use Rattle.std.specs.Option.{option_and_then, option_map_or}
 use Rattle.std.specs.Str.{bytes_eq}
-use Rattle.std.proofs.lemmas.Bool.{cases_lt, cases_Bool, lt-ltb, le-ltb}
-use Rattle.std.proofs.lemmas.List.{length-take-le, length-drop, take_rest}
+use Rattle.std.proofs.lemmas.Bool.{cases_lt, lt-ltb, le-ltb}
+use Rattle.std.proofs.lemmas.List.{length-drop}
 use Rattle.std.proofs.lemmas.List.Sums.{prefix_len-le-length}
 use Rattle.std.proofs.lemmas.List.Splits.{slice_split_first, slice_split_at, slice_split_none, length-slice_split, join_with_byte-slice_split}
 use Rattle.acl_perm.specs.Bits.{has_bit, IsUnion}
@@ -16,7 +16,7 @@ use Rattle.std.proofs.lemmas.Slice.Eq.{bytes_eq-Decides}
 use Rattle.std.proofs.lemmas.Nat.{or_comm}
 use Rattle.acl_perm.proofs.Sets.{has_bit-or, same_set, no_bit}
 use Rattle.acl_perm.specs.declared.mask.Mask.{Mask}
-use Rattle.acl_nfs4.specs.Rights.{Right, right, right_or, rights, is_name_of, bit_named, rights_named, no_rights, SpellsMask, mask_named, IsCut, parts_after, size_after}
+use Rattle.acl_nfs4.specs.Rights.{Right, rights, is_name_of, bit_named, rights_named, no_rights, SpellsMask, mask_named, IsCut, parts_after}
 
 abbrev is_bar : ℕ → Bool
 is_bar b = eqb b 0x7c

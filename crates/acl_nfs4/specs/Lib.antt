@@ -8,3 +8,6 @@ pub mod Cursor
 pub mod Body
 pub mod Rights
 pub mod RightsTable
+pub mod Owned
+pub mod Push
+pub mod Laws

@@ -1,5 +1,5 @@
 -- The who of an ACE (RFC 8881, section 6.2.1.5): which bytes may stand there, and whom they name.
-use Rattle.std.specs.Prelude.{◌≡◌, ℕ, ◌-◌, ◌≤◌, List, length, slice_index, codes, IsTrue, ◌==◌, ◌||◌, ◌&&◌, nat_le, Bool, not, if◌then◌else◌}
+use Rattle.std.specs.Prelude.{ℕ, ◌-◌, ◌≤◌, List, length, slice_index, codes, IsTrue, ◌==◌, ◌||◌, ◌&&◌, nat_le, Bool, not, if◌then◌else◌}
 use Rattle.std.specs.List.{list_all}
 use Rattle.std.specs.Str.{is_utf8, bytes_eq}
 use Rattle.acl_perm.specs.Bits.{has_bit}

@@ -1,2 +1,4 @@
 pub mod Sets
 pub mod DeviceLemmas
+pub mod Orders
+pub mod Meetings

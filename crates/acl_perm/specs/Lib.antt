@@ -4,3 +4,5 @@ pub mod Situation
 pub mod Devices
 pub mod Counted
 pub mod Fused
+pub mod Order
+pub mod Overlap

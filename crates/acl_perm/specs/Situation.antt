@@ -1,5 +1,5 @@
 -- Who asks, and of whose object (RFC 8881, section 6.2.1.5).
-use Rattle.std.specs.Prelude.{◌≡◌, ℕ, ◌<◌, Bool, true, List, All, length}
+use Rattle.std.specs.Prelude.{ℕ, ◌<◌, Bool, true, List, All, length}
 use Rattle.std.specs.List.{list_any}
 use Rattle.std.specs.Str.{bytes_eq}
 use Rattle.acl_perm.specs.Principal.{Subject, owner, user, group, group_named, everyone}

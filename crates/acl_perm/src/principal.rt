@@ -1,10 +1,104 @@
+ghost use Rattle.std.specs.Prelude.{◌≡◌, ◌↔◌, IsTrue, Some, refl};
+ghost use Rattle.std.specs.Ordering.{as_partial_cmp, eq_by_cmp, on};
+ghost use Rattle.std.specs.Cmp.{eq_by_cmp_equiv, on_equiv, on_per, on_total, partial_equiv_from_equiv, partial_order_from_total};
+ghost use Rattle.acl_perm.specs.Principal.{subject};
+ghost use Rattle.acl_perm.specs.Order.{subject_cmp, subject_name, subject_rank, subject_total};
+ghost use Rattle.acl_perm.specs.Overlap.{Overlap, may_overlap};
+
+use std::cmp::Ordering;
+
 /// Whom an NFSv4 ACE names (RFC 8881, section 6.2.1.5): the object's owner, a user, who is in the object's owning
-/// group, who is in a group, or all. Names are compared as bytes; user names and group names are apart.
-#[derive(Clone, Copy, Debug, PartialEq, Eq, PartialOrd, Ord)]
+/// group, who is in a group, or all. Names are compared as bytes; user names and group names are apart. The order is
+/// that of the variants, and then of the names.
+#[derive(Clone, Copy, Debug)]
 pub enum Principal<'a> {
     Owner,
     User(&'a [u8]),
     Group,
     GroupNamed(&'a [u8]),
     Everyone,
+}
+
+impl Principal<'_> {
+    fn rank(&self) -> u8
+        ensures { result ≡ subject_rank (subject self.now) }
+    {
+        match self {
+            Principal::Owner => 0,
+            Principal::User(_) => 1,
+            Principal::Group => 2,
+            Principal::GroupNamed(_) => 3,
+            Principal::Everyone => 4,
+        }
+    }
+
+    fn name(&self) -> &[u8]
+        ensures { result.now ≡ subject_name (subject self.now) }
+    {
+        match self {
+            Principal::User(name) | Principal::GroupNamed(name) => name,
+            _ => &[],
+        }
+    }
+}
+
+impl<'a> PartialEq for Principal<'a> {
+    ghost eq = { on subject (eq_by_cmp subject_cmp) };
+
+    ghost laws = { on_per subject (partial_equiv_from_equiv (eq_by_cmp_equiv subject_total)) };
+
+    #[tactic(auto, using(crate::proofs::Orders::subject_tied, crate::proofs::Orders::subjects_same))]
+    fn eq(&self, other: &Principal<'a>) -> bool
+        ensures value { result ≡ eq_by_cmp subject_cmp (subject self.now) (subject other.now) }
+        ensures exact { IsTrue result ↔ (subject self.now ≡ subject other.now) }
+    {
+        self.rank() == other.rank() && self.name() == other.name()
+    }
+}
+
+impl<'a> Eq for Principal<'a> {
+    ghost laws = { on_equiv subject (eq_by_cmp_equiv subject_total) };
+}
+
+impl<'a> Ord for Principal<'a> {
+    ghost cmp = { on subject subject_cmp };
+
+    ghost total = { on_total subject subject_total };
+
+    ghost matches_partial_cmp = { λ x y. refl };
+
+    ghost matches_eq = { λ x y. refl };
+
+    fn cmp(&self, other: &Principal<'a>) -> Ordering
+        ensures { result ≡ subject_cmp (subject self.now) (subject other.now) }
+    {
+        self.rank()
+            .cmp(&other.rank())
+            .then(self.name().cmp(other.name()))
+    }
+}
+
+impl<'a> PartialOrd for Principal<'a> {
+    ghost partial_cmp = { as_partial_cmp (on subject subject_cmp) };
+
+    ghost laws = { partial_order_from_total (on_total subject subject_total) };
+
+    fn partial_cmp(&self, other: &Principal<'a>) -> Option<Ordering>
+        ensures { result ≡ Some (subject_cmp (subject self.now) (subject other.now)) }
+    {
+        Some(self.cmp(other))
+    }
+}
+
+/// Whether both can speak of one requester: all can, but two users of different names.
+pub fn overlaps(p: Principal<'_>, q: Principal<'_>) -> bool
+    // Some situation, whose names may be empty, matches both.
+    ensures meaning { IsTrue result ↔ Overlap (subject p.entry) (subject q.entry) }
+    // The test by cases.
+    ensures value { result ≡ may_overlap (subject p.entry) (subject q.entry) }
+{
+    match (p, q) {
+        (Principal::User(name), Principal::User(other)) => name == other,
+        _ => true,
+    }
 }

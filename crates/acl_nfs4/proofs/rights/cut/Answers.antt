@@ -1,4 +1,4 @@
-use Rattle.std.proofs.Common.{◌≡◌, ◌+◌, sym, subst, ◌∙◌}
+use Rattle.std.proofs.Common.{◌+◌, sym, subst, ◌∙◌}
 use Rattle.std.proofs.lemmas.List.{take_rest}
 use Rattle.acl_nfs4.proofs.Names.{Says, place, cut_none, cut_some}
 use Rattle.acl_nfs4.proofs.rights.cut.Goals as goal

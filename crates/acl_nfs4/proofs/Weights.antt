@@ -1,0 +1,55 @@
+-- The weight of a list counts its pairs of a place and a bit.
+use Rattle.std.proofs.Common.{◌≡◌, ℕ, zero, suc, ◌+◌, ◌/◌, ◌%◌, ◌^◌, ◌<◌, cond, eqb, List, [], ◌∷◌, length, refl, sym, ap, ◌∙◌, arith}
+use Rattle.std.specs.Prelude.{count_ones, map}
+use Rattle.std.specs.List.{AllByRecursion, count_by, range_with_len}
+use Rattle.std.specs.Int.{bit_at}
+use Rattle.std.specs.Int.Count.{ones_step, ones-le}
+use Rattle.std.proofs.lemmas.List.{length-append, length-map}
+use Rattle.std.proofs.lemmas.List.Sums.{length-filter, sum_by-cons}
+use Rattle.std.proofs.lemmas.Nat.Bits.{bit_at-lt, bit_at_lowest, bit_at-suc}
+use Rattle.acl_perm.specs.Bits.{has_bit}
+use Rattle.acl_nfs4.specs.Ace.{Ace}
+use Rattle.acl_nfs4.specs.Spelling.{weight}
+use Rattle.acl_nfs4.specs.Laws.{bits_of, pairs_from}
+use Rattle.acl_nfs4.proofs.Lists.{weight-cons}
+
+digit_is : (d : ℕ) → d < 2 → cond (eqb d 1) 1 0 ≡ d
+digit_is d lt = grind arith
+
+-- the bits from one place higher are those of the half
+shifted : (k a n : ℕ) → count_by (has_bit n) (range_with_len (a + 1) k) ≡ count_by (has_bit (n / 2)) (range_with_len a k)
+shifted zero a n = refl
+shifted (suc k) a n =
+    sum_by-cons (λ i. cond (has_bit n i) 1 0) (a + 1) (range_with_len (a + 1 + 1) k)
+    ∙ ap (λ (s : ℕ). cond (has_bit n (a + 1)) 1 0 + s) (shifted k (a + 1) n)
+    ∙ ap (λ (d : ℕ). cond (eqb d 1) 1 0 + count_by (has_bit (n / 2)) (range_with_len (a + 1) k)) (one_higher n a)
+    ∙ sym (sum_by-cons (λ i. cond (has_bit (n / 2) i) 1 0) a (range_with_len (a + 1) k))
+  where
+    one_higher : (n a : ℕ) → bit_at n (a + 1) ≡ bit_at (n / 2) a
+    one_higher n a = let e : a + 1 ≡ suc a = omega arith in ap (bit_at n) e ∙ bit_at-suc n a
+
+pub ones_are_bits : (k n : ℕ) → n < 2 ^ k → count_ones n ≡ count_by (has_bit n) (range_with_len 0 k)
+ones_are_bits zero n lt = omega (arith, ones-le 0 n lt)
+ones_are_bits (suc k) n lt =
+    let low : cond (has_bit n 0) 1 0 ≡ n % 2 = digit_is (bit_at n 0) (bit_at-lt n 0) ∙ bit_at_lowest n in
+    let half : n / 2 < 2 ^ k = halved n k lt in
+    ones_step n
+    ∙ ap (λ (s : ℕ). n % 2 + s) (ones_are_bits k (n / 2) half ∙ sym (shifted k 0 n))
+    ∙ ap (λ (d : ℕ). d + count_by (has_bit n) (range_with_len 1 k)) (sym low)
+    ∙ sym (sum_by-cons (λ i. cond (has_bit n i) 1 0) 0 (range_with_len 1 k))
+  where
+    halved : (n k : ℕ) → n < 2 ^ suc k → n / 2 < 2 ^ k
+    halved n k lt = omega (arith, lt)
+
+pub bits_counted : (mask : ℕ) → mask < 2 ^ 32 → count_ones mask ≡ length (bits_of mask)
+bits_counted mask lt = ones_are_bits 32 mask lt ∙ sym (length-filter (has_bit mask) (range_with_len 0 32))
+
+pub weight_counts : (list : List Ace) (place : ℕ) → AllByRecursion (λ a. a.mask < 2 ^ 32) list → weight list ≡ length (pairs_from place list)
+weight_counts [] place each = refl
+weight_counts (a ∷ list) place each =
+    let here : List (ℕ × ℕ) = map (λ bit. (place, bit)) (bits_of a.mask) in
+    let count : count_ones a.mask ≡ length here = bits_counted a.mask each.0 ∙ sym (length-map (bits_of a.mask) _) in
+    weight-cons a list
+    ∙ ap (λ (n : ℕ). n + weight list) count
+    ∙ ap (λ (n : ℕ). length here + n) (weight_counts list (place + 1) each.1)
+    ∙ sym (length-append here (pairs_from (place + 1) list))

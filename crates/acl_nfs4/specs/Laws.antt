@@ -1,0 +1,23 @@
+-- What the laws of the XDR layout say (RFC 4506, over the types of RFC 8881, section 6.2.1).
+use Rattle.std.specs.Prelude.{ℕ, ◌+◌, List, [], ◌∷◌, ◌++◌, map}
+use Rattle.std.specs.List.{filter, range_with_len}
+use Rattle.acl_perm.specs.Bits.{has_bit}
+use Rattle.acl_nfs4.specs.Ace.{Ace}
+use Rattle.acl_nfs4.specs.Spelling.{Xdr}
+
+-- the text is a beginning of the spelling of some accepted list
+abbrev pub BeginsSpelling : List ℕ → Type 0
+BeginsSpelling text = (list : List Ace) × (rest : List ℕ) × Xdr list (text ++ rest)
+
+-- the bits of a mask, a word, in rising order
+abbrev pub bits_of : ℕ → List ℕ
+bits_of mask = filter (has_bit mask) (range_with_len 0 32)
+
+-- the pairs of a place in the list, counted from the given one, and a bit that the ACE there has
+abbrev pub pairs_from : ℕ → List Ace → List (ℕ × ℕ)
+pairs_from place [] = []
+pairs_from place (a ∷ list) = map (λ bit. (place, bit)) (bits_of a.mask) ++ pairs_from (place + 1) list
+
+-- the pairs of a place in the list and a bit that the ACE there has
+abbrev pub pairs_of : List Ace → List (ℕ × ℕ)
+pairs_of list = pairs_from 0 list

@@ -1,0 +1,253 @@
+//! The owned list.
+ghost use Rattle.std.specs.Prelude.{◌≡◌, ◌<◌, ◌≤◌, ◌↔◌, IsTrue, IfOk, OnOk, OnErr, None};
+ghost use Rattle.std.specs.Prelude.{[], ◌∷◌, ◌++◌, length, replicate};
+ghost use Rattle.acl_nfs4.specs.Ace.{ace};
+ghost use Rattle.acl_nfs4.specs.Spelling.{piece, word, kind_number, IsAccepted};
+ghost use Rattle.acl_nfs4.specs.Spelling as spelled;
+ghost use Rattle.acl_nfs4.specs.Owned.{same_list};
+ghost use Rattle.acl_nfs4.specs.Push.{who_refusal, push_refusal, Judges, PushAnswers, Extended, IsBeginning};
+
+use crate::ace::AceRef;
+use crate::aces::Aces;
+use crate::push_fault::PushFault;
+use crate::view::AclView;
+use crate::who::{has_at, is_plain_text, is_special_who, is_text};
+use acl_perm::Kind;
+use byteorder::{BigEndian, ByteOrder};
+use std::alloc::{AllocError, Global};
+use std::marker::Model;
+
+/// A list of ACEs (RFC 8881, section 6.2.1) that is always accepted: at most 65,536 ACEs, of at most 65,536 mask bits
+/// together, each with a who of 1 to 1,024 bytes. It is kept as the bytes that spell it, in one allocation.
+#[derive(Drop)]
+pub struct Acl {
+    pub(crate) count: u32,
+    pub(crate) weight: u32,
+    pub(crate) body: Vec<u8>,
+}
+
+impl Model for Acl {
+    ghost use Rattle.std.specs.Prelude.{List};
+    ghost use Rattle.acl_nfs4.specs.Ace.{Ace};
+    ghost use Rattle.acl_nfs4.specs.Body.{aces_of};
+    ghost use Rattle.acl_nfs4.specs.Owned.{IsOwned};
+
+    ghost Value = { List Ace };
+
+    ghost view = { λ s. aces_of s.count s.body.items };
+
+    ghost invariant = { λ s. IsOwned s.count s.weight s.body.items };
+}
+
+impl Acl {
+    /// The empty list. It takes no memory.
+    pub fn new(alloc: Global) -> Acl
+        ensures { result ≡ [] }
+    {
+        Acl {
+            count: 0,
+            weight: 0,
+            body: Vec::new(alloc),
+        }
+    }
+
+    /// The number of ACEs, in constant time.
+    pub fn len(&self) -> usize
+        ensures { result ≡ length self.now }
+    {
+        self.count as usize
+    }
+
+    /// Whether there is no ACE, in constant time.
+    pub fn is_empty(&self) -> bool
+        ensures { IsTrue result ↔ (self.now ≡ []) }
+    {
+        self.count == 0
+    }
+
+    /// The number of mask bits set, over all ACEs, in constant time.
+    pub fn weight(&self) -> u32
+        ensures { result ≡ spelled.weight self.now }
+    {
+        self.weight
+    }
+
+    /// The ACEs in order. To go through all takes time linear in their bytes, and no memory.
+    pub fn aces(&self) -> Aces<'_>
+        ensures same { result ≡ self.now }
+        // Every list of this type is accepted.
+        ensures accepted { IsAccepted self.now }
+    {
+        Aces {
+            left: self.count,
+            rest: &self.body,
+        }
+    }
+
+    /// The same list again, in time linear in its bytes and with one allocation.
+    pub fn copy(&self, alloc: Global) -> Result<Acl, AllocError>
+        ensures { IfOk result (λ a. a ≡ self.now) }
+    {
+        Ok(Acl {
+            count: self.count,
+            weight: self.weight,
+            body: Vec::from_slice(alloc, &self.body)?,
+        })
+    }
+
+    /// The list that a view shows, in time linear in its bytes and with one allocation.
+    pub fn from_view(alloc: Global, view: &AclView<'_>) -> Result<Acl, AllocError>
+        ensures { IfOk result (λ a. a ≡ view.now) }
+    {
+        let body = Vec::from_slice(alloc, view.body)?;
+        Ok(Acl {
+            count: view.count,
+            weight: weight_of(view.aces()),
+            body,
+        })
+    }
+
+    /// Adds an ACE at the end, where the list stays accepted. Else the answer is the first condition, in the order of
+    /// `PushFault`, that refuses it. To push many ACEs takes time linear in their bytes.
+    pub fn push(&mut self, item: AceRef<'_>) -> Result<(), PushFault>
+        // What is taken stands at the end.
+        ensures ok { OnOk result (self.new ≡ self.old ++ ace item.entry ∷ []) }
+        // A refusal leaves the list as it was.
+        ensures err { OnErr result (self.new ≡ self.old) }
+        // A fault is the first condition that refuses; memory is wanted only where none does.
+        ensures fault { PushAnswers result (push_refusal self.old (ace item.entry)) }
+        // What is taken leaves the list accepted.
+        ensures accepted { OnOk result (IsAccepted (self.old ++ ace item.entry ∷ [])) }
+        // What would leave the list accepted is not refused.
+        ensures only { IsAccepted (self.old ++ ace item.entry ∷ [])
+            → push_refusal self.old (ace item.entry) ≡ None }
+    {
+        if self.count >= 65536 {
+            return Err(PushFault::TooManyAces);
+        }
+        let bits = item.mask.bits().count_ones();
+        if self.weight + bits > 65536 {
+            return Err(PushFault::TooHeavy);
+        }
+        judge_who(item.who)?;
+        match append_piece(&mut self.body, item) {
+            Ok(()) => {
+                self.count += 1;
+                self.weight += bits;
+                Ok(())
+            }
+            Err(_) => Err(PushFault::Memory),
+        }
+    }
+}
+
+fn judge_who(who: &[u8]) -> Result<(), PushFault>
+    ensures { Judges result (who_refusal who.now) }
+{
+    if who.is_empty() || who.len() > 1024 {
+        return Err(PushFault::WhoLength);
+    }
+    if !is_text(who) {
+        return Err(PushFault::WhoUtf8);
+    }
+    if !is_plain_text(who) {
+        return Err(PushFault::WhoControl);
+    }
+    if has_at(who) && !is_special_who(who) {
+        return Err(PushFault::SpecialWho);
+    }
+    Ok(())
+}
+
+// The word of a number at the end.
+fn append_word(body: &mut Vec<u8>, number: u32) -> Result<(), AllocError>
+    ensures { Extended body.old.items body.new.items (word number) result }
+{
+    let mut bytes = [0u8; 4];
+    BigEndian::write_u32(&mut bytes, number);
+    body.extend_from_slice(&bytes)
+}
+
+// The piece of an ACE at the end, or a beginning of it.
+fn append_fields(body: &mut Vec<u8>, item: AceRef<'_>) -> Result<(), AllocError>
+    requires { length item.who.now ≤ 1024 }
+    ensures ok { OnOk result (body.new.items ≡ body.old.items ++ piece (ace item.entry)) }
+    ensures err { OnErr result (IsBeginning body.old.items body.new.items) }
+{
+    append_word(body, kind_word(item.kind))?;
+    append_word(body, item.flags.bits() as u32)?;
+    append_word(body, item.mask.bits())?;
+    append_word(body, item.who.len() as u32)?;
+    body.extend_from_slice(item.who)?;
+    body.extend_from_slice(zeros((4 - item.who.len() % 4) % 4))?;
+    Ok(())
+}
+
+fn kind_word(kind: Kind) -> u32
+    ensures { result ≡ kind_number kind }
+{
+    match kind {
+        Kind::Allow => 0,
+        Kind::Deny => 1,
+    }
+}
+
+fn zeros(count: usize) -> &'static [u8]
+    requires { count < 4 }
+    ensures { result.now ≡ replicate count 0 }
+{
+    match count {
+        0 => &[],
+        1 => &[0],
+        2 => &[0, 0],
+        _ => &[0, 0, 0],
+    }
+}
+
+// The piece of an ACE at the end, or nothing.
+fn append_piece(body: &mut Vec<u8>, item: AceRef<'_>) -> Result<(), AllocError>
+    requires { length item.who.now ≤ 1024 }
+    ensures { Extended body.old.items body.new.items (piece (ace item.entry)) result }
+{
+    let len = body.len();
+    match append_fields(body, item) {
+        Ok(()) => Ok(()),
+        Err(fault) => {
+            body.truncate(len);
+            Err(fault)
+        }
+    }
+}
+
+fn weight_of(aces: Aces<'_>) -> u32
+    requires { spelled.weight aces ≤ 65536 }
+    ensures { result ≡ spelled.weight aces.entry }
+{
+    let mut weight = 0;
+    for ace in aces {
+        weight += ace.mask.bits().count_ones();
+    }
+    weight
+}
+
+impl PartialEq for Acl {
+    ghost use Rattle.std.specs.Prelude.{◌≡◌, IsTrue, ◌↔◌};
+    ghost use Rattle.acl_nfs4.specs.Owned.{same_list, same_list_laws};
+
+    ghost eq = { same_list };
+
+    ghost laws = { same_list_laws };
+
+    fn eq(&self, other: &Acl) -> bool
+        ensures value { result ≡ same_list self.now other.now }
+        ensures exact { IsTrue result ↔ (self.now ≡ other.now) }
+    {
+        self.count == other.count && self.body == other.body
+    }
+}
+
+impl Eq for Acl {
+    ghost use Rattle.acl_nfs4.specs.Owned.{same_list_equiv};
+
+    ghost laws = { same_list_equiv };
+}

@@ -1,0 +1,14 @@
+//! Laws of the orders.
+ghost use Rattle.acl_perm.specs.Order.{IsStrictTotalOrder, key_cmp, subject_cmp};
+
+/// The order of principals is strict and total, and two are equal in it exactly if they are the same.
+#[tactic(auto, using(crate::proofs::Orders::subject_order))]
+pub fn order_of_principals()
+    ensures { IsStrictTotalOrder subject_cmp }
+{}
+
+/// The order of keys is strict and total, and two are equal in it exactly if they are the same.
+#[tactic(auto, using(crate::proofs::Orders::key_order))]
+pub fn order_of_keys()
+    ensures { IsStrictTotalOrder key_cmp }
+{}
