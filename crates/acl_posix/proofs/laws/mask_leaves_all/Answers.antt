@@ -1,0 +1,5 @@
+use Rattle.acl_posix.proofs.Calculated.{effective_own}
+use Rattle.acl_posix.proofs.laws.mask_leaves_all.Goals as goal
+
+pub returns : goal.returns
+returns c = effective_own

@@ -1,0 +1,5 @@
+use Rattle.acl_posix.proofs.Calculated.{mode_set}
+use Rattle.acl_posix.proofs.laws.mode_is_set.Goals as goal
+
+pub returns : goal.returns
+returns c = mode_set

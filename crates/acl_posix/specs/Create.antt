@@ -1,0 +1,24 @@
+-- The ACLs of a new file (acl(5), "OBJECT CREATION AND DEFAULT ACLs").
+use Rattle.std.specs.Prelude.{ℕ, ◌/◌, ◌%◌, bit_and, Bool, [], ◌∷◌, Option, Some, None, if◌then◌else◌}
+use Rattle.std.specs.Int.{w16, bit_not}
+use Rattle.acl_posix.specs.Label.{user_obj, group_obj, other}
+use Rattle.acl_posix.specs.Entries.{Entries, as_set}
+use Rattle.acl_posix.specs.Mode.{mode_of, chmoded}
+
+-- the three entries that stand for a mode
+abbrev pub of_mode : ℕ → Entries
+of_mode mode = as_set ((user_obj, mode / 64) ∷ (group_obj, mode / 8 % 8) ∷ (other, mode % 8) ∷ [])
+
+-- a set with the entries of its mode cut to the bits of a mode
+abbrev pub cut : Entries → ℕ → Entries
+cut entries mode = chmoded entries (bit_and (mode_of entries) mode)
+
+-- the access ACL: the default ACL of the directory with the entries of its mode cut to the bits of the mode, and
+-- without a default ACL the bits of the mode that the umask has not
+abbrev pub created_access : Option Entries → ℕ → ℕ → Entries
+created_access (Some default) mode umask = cut default mode
+created_access None mode umask = of_mode (bit_and mode (bit_not w16 umask))
+
+-- the default ACL: that of the directory for a new directory, and none for a file
+abbrev pub created_default : Option Entries → Bool → Option Entries
+created_default default is_directory = if is_directory then default else None

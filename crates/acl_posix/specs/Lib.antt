@@ -1,0 +1,9 @@
+pub mod Label
+pub mod Entries
+pub mod Valid
+pub mod Collect
+pub mod Places
+pub mod Mode
+pub mod Check
+pub mod Create
+pub mod Laws

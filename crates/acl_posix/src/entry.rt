@@ -1,0 +1,9 @@
+use crate::tag::Tag;
+use acl_perm::Perm;
+
+/// A tag and the permissions that it has (POSIX.1e draft 17, section 23.1.2).
+#[derive(Clone, Copy, Debug, PartialEq, Eq)]
+pub struct Entry {
+    pub tag: Tag,
+    pub perm: Perm,
+}
