@@ -1,5 +1,5 @@
 -- What a pull, a put and a count of failures mean.
-use Rattle.std.specs.Prelude.{◌⊎◌, ◌==◌, ◌&&◌, ◌+◌, ◌-◌, ◌^◌, ◌<◌, ◌≤◌, ℕ, Bool, true, false, List, length, min, nat_lt, Result, Ok, Err, Option, None, if◌then◌else◌}
+use Rattle.std.specs.Prelude.{◌==◌, ◌&&◌, ◌+◌, ◌-◌, ◌^◌, ℕ, Bool, true, false, List, length, min, nat_lt, Result, Ok, Err, Option, None, if◌then◌else◌}
 
 -- one more failure; the number stops at `u64::MAX`
 abbrev pub one_more : ℕ → ℕ
@@ -18,10 +18,6 @@ put_failed (Err e) bytes = true
 -- the number after a call that failed or not
 abbrev pub failures_after : ℕ → Bool → ℕ
 failures_after n failed = if failed then one_more n else n
-
--- the number rose, or stood at its greatest
-abbrev pub RoseOrFull : ℕ → ℕ → Type 0
-RoseOrFull old new = (old < new) ⊎ (2 ^ 64 - 1 ≤ old)
 
 -- what is left of a reader whose calls give at most `step` bytes; at 0 nothing can be known
 abbrev pub fused_remaining : ℕ → Option (List ℕ) → Option (List ℕ)

@@ -55,7 +55,7 @@ fn acl_of(alloc: Global, count: u32, step: u32) -> Result<PosixAcl, AclFault>
     PosixAcl::from_entries(alloc, entries)
 }
 
-// How often, of a thousand times, a user of sixteen groups without an entry is granted anything.
+// How often, of ten thousand times, a user of sixteen groups without an entry is granted anything.
 fn granted(acl: &PosixAcl) -> usize {
     let (owner, group, user) = (
         Id { value: 4000000001 },
@@ -63,7 +63,7 @@ fn granted(acl: &PosixAcl) -> usize {
         Id { value: 4000000003 },
     );
     let groups = [Id { value: 4000000000 }; 16];
-    (0..1000usize)
+    (0..10000usize)
         .filter(|_| acl.check(owner, group, user, &groups, Perm::ALL))
         .count()
 }
@@ -107,11 +107,11 @@ fn shuffled_10000(rt: HostRuntime) {
 #[test]
 fn check_1000(rt: HostRuntime) {
     let acl = acl_of(rt.alloc(), 498, 7919);
-    assert!(rt; acl.is_err() || acl.is_ok_and(|acl| granted(&acl) == 1000));
+    assert!(rt; acl.is_err() || acl.is_ok_and(|acl| granted(&acl) == 10000));
 }
 
 #[test]
 fn check_10000(rt: HostRuntime) {
     let acl = acl_of(rt.alloc(), 4998, 7919);
-    assert!(rt; acl.is_err() || acl.is_ok_and(|acl| granted(&acl) == 1000));
+    assert!(rt; acl.is_err() || acl.is_ok_and(|acl| granted(&acl) == 10000));
 }

@@ -74,9 +74,10 @@ impl Ord for Tag {
     ghost matches_eq = { Prim.search (comparing, rules) };
 
     fn cmp(&self, other: &Tag) -> Ordering {
-        self.rank()
-            .cmp(&other.rank())
-            .then(self.qualifier().cmp(&other.qualifier()))
+        match self.rank().cmp(&other.rank()) {
+            Ordering::Equal => self.qualifier().cmp(&other.qualifier()),
+            order => order,
+        }
     }
 }
 

@@ -6,6 +6,9 @@ use std::test::Fail;
 // ALLOW READ_DATA EVERYONE@.
 const ONE: &[u8; 32] = b"\0\0\0\x01\0\0\0\0\0\0\0\0\0\0\0\x01\0\0\0\x09EVERYONE@\0\0\0";
 
+// The same, and one byte more.
+const ONE_MORE: &[u8; 33] = b"\0\0\0\x01\0\0\0\0\0\0\0\0\0\0\0\x01\0\0\0\x09EVERYONE@\0\0\0\0";
+
 // ALLOW READ_DATA OWNER@, DENY WRITE_DATA bob, ALLOW WRITE_DATA OWNER@.
 const THREE: &[u8; 72] = b"\0\0\0\x03\
     \0\0\0\0\0\0\0\0\0\0\0\x01\0\0\0\x06OWNER@\0\0\
@@ -62,7 +65,7 @@ fn check<'a>(owner: &'a str, user: &'a str, mask: &'a str) -> [&'a str; 9] {
 
 #[test]
 fn decisions_and_refusals(rt: HostRuntime) -> Result<(), Fail> {
-    let rows: [(&str, &str, &str, &[u8], u8, &str, &str); 12] = [
+    let rows: [(&str, &str, &str, &[u8], u8, &str, &str); 13] = [
         ("alice", "bob", "READ_DATA", b"\0\0\0\0", 1, "denied\n", ""),
         ("alice", "bob", "none", b"\0\0\0\0", 0, "granted\n", ""),
         ("alice", "bob", "READ_DATA", ONE, 0, "granted\n", ""),
@@ -103,6 +106,15 @@ fn decisions_and_refusals(rt: HostRuntime) -> Result<(), Fail> {
             2,
             "",
             "aclck: TrailingBytes at byte 4\n",
+        ),
+        (
+            "alice",
+            "bob",
+            "READ_DATA",
+            ONE_MORE,
+            2,
+            "",
+            "aclck: TrailingBytes at byte 32\n",
         ),
         ("alice", "bob", "NOTHING", ONE, 3, "", "aclck: usage\n"),
         ("alice", "bob", "-", ONE, 3, "", "aclck: usage\n"),
