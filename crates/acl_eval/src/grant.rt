@@ -14,7 +14,7 @@ use acl_perm::{Kind, Mask};
 /// INHERIT_ONLY, the first that has a bit and speaks of the requester decides it, and what no ACE decides is denied.
 /// The empty mask is granted. It goes over the list once, ends as soon as the answer is known, and takes no memory. So its
 /// cost is the number of ACEs times that of groups: an ACE of a group walks over the requester's groups, which at 1,000
-/// groups costs about half a microsecond.
+/// groups costs up to a microsecond.
 pub fn grants(aces: Aces<'_>, object: &Object<'_>, requester: &Requester<'_>, mask: Mask) -> bool
     ensures { IsTrue result ↔ Grant aces.entry (situation object.now requester.now) mask.bits }
 {
