@@ -1,4 +1,5 @@
--- The first fault of a text, said without reading it: where its fields end, and what the next one breaks.
+-- The first fault of a text, said without reading it: where its fields end, and what the next one breaks. The layout is
+-- that of RFC 4506, sections 4.2, 4.11 and 4.13, over RFC 8881, section 6.2.1; the reasons are this library's own.
 use Rattle.std.specs.Prelude.{◌≡◌, ℕ, ◌+◌, ◌≤◌, ◌<◌, List, [], ◌∷◌, ◌++◌, length, take, replicate, count_ones, Err, ◌⊎◌}
 use Rattle.acl_perm.specs.Bits.{IsMask, IsFlags}
 use Rattle.acl_nfs4.specs.Ace.{Ace}
@@ -59,6 +60,7 @@ IsOwed _ = Unit {0}
 abbrev pub Breaks : Stage → List ℕ → Reason → Type 0
 Breaks s rest r = ((length rest < size s) × (r ≡ Truncated)) ⊎ ((size s ≤ length rest) × refuses s (take (size s) rest) r)
 
+-- the first fault of a text: accepted fields up to a border, where one of at least one byte is owed and breaks
 pub record IsFault (bytes : List ℕ) (offset : ℕ) (r : Reason) : Type 0 where
   pub stage : Stage
   pub front : List ℕ
