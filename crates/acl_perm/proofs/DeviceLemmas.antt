@@ -5,6 +5,7 @@ use Rattle.std.proofs.KnownBytes.{Appends-trans}
 use Rattle.std.specs.Io.KnownBytes.{Appends}
 
 -- n more bytes of `all`
-pub appends_more : (a b c : Option (List ℕ)) (i n : ℕ) (all : List ℕ) → Appends a b (take i all) → Appends b c (take n (drop i all))
-    → Appends a c (take (i + n) all)
-appends_more a b c i n all front more = rw (take-add i n all) (Appends-trans a b c (take i all) (take n (drop i all)) front more)
+pub appends_more : (a b c : Option (List ℕ)) (i n : ℕ) (all : List ℕ) → Appends a b (take i all)
+    → Appends b c (take n (drop i all)) → Appends a c (take (i + n) all)
+appends_more a b c i n all front more =
+    rw (take-add i n all) (Appends-trans a b c (take i all) (take n (drop i all)) front more)

@@ -1,4 +1,7 @@
+pub mod Bools
 pub mod Sets
 pub mod DeviceLemmas
 pub mod Orders
 pub mod Meetings
+pub mod Cuts
+pub mod PieceLemmas

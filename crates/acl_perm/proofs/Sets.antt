@@ -6,10 +6,14 @@ use Rattle.std.specs.Int.{Width, w8, w16, w32, bit_at, bit_not, trailing_zeros}
 use Rattle.std.proofs.lemmas.Bool.{cases_lt, false≢true, eqb-true, eq-eqb}
 use Rattle.std.proofs.lemmas.Nat.{and_le_r, and_le_l, or_lt}
 use Rattle.std.proofs.lemmas.Nat.Bits.{and_pow, bit_at-lt, bit_at_and, bit_at_or, bit_at_not, bit_at_above, bit_at-zero, bit_at-trailing_zeros, same_from_bits}
+use Rattle.acl_perm.proofs.Bools.{and_true, or_true}
 use Rattle.acl_perm.specs.Bits.{has_bit, all_rights, IsMask, IsSubset, IsUnion, IsIntersection, IsDifference}
 
+-- a set of rights is a number of 32 bits
 pub IsMask-lt : (n : ℕ) → IsMask n → n < 2 ^ 32
 IsMask-lt n is = let le : n ≤ 0x001f07ff = rw (← is) (and_le_r n 0x001f07ff) in omega arith
+
+-- ---- the bits of what the operations give
 
 both : (d e : ℕ) → d < 2 → e < 2 → eqb (min d e) 1 ≡ (eqb d 1 && eqb e 1)
 both d e dl el = grind arith
@@ -20,55 +24,66 @@ either d e dl el = grind arith
 turned : (e : ℕ) → e < 2 → eqb (1 - e) 1 ≡ not (eqb e 1)
 turned e el = grind arith
 
+-- the bits that two numbers have together
 pub has_bit-and : (m n k : ℕ) → has_bit (bit_and m n) k ≡ (has_bit m k && has_bit n k)
-has_bit-and m n k = ap (λ (d : ℕ). eqb d 1) (bit_at_and m n k) ∙ both (bit_at m k) (bit_at n k) (bit_at-lt m k) (bit_at-lt n k)
+has_bit-and m n k =
+    ap (λ (d : ℕ). eqb d 1) (bit_at_and m n k) ∙ both (bit_at m k) (bit_at n k) (bit_at-lt m k) (bit_at-lt n k)
 
+-- the bits that one of two numbers has
 pub has_bit-or : (m n k : ℕ) → has_bit (bit_or m n) k ≡ (has_bit m k || has_bit n k)
-has_bit-or m n k = ap (λ (d : ℕ). eqb d 1) (bit_at_or m n k) ∙ either (bit_at m k) (bit_at n k) (bit_at-lt m k) (bit_at-lt n k)
+has_bit-or m n k =
+    ap (λ (d : ℕ). eqb d 1) (bit_at_or m n k) ∙ either (bit_at m k) (bit_at n k) (bit_at-lt m k) (bit_at-lt n k)
 
+-- a number has no bit past its width
 pub has_bit-above : (w : Width) (n k : ℕ) → n < 2 ^ bits w → bits w ≤ k → has_bit n k ≡ false
 has_bit-above w n k lt le = ap (λ (d : ℕ). eqb d 1) (bit_at_above n (bits w) k lt le)
 
-pub has_bit-clear : (w : Width) (m n k : ℕ) → m < 2 ^ bits w → n < 2 ^ bits w → has_bit (bit_and m (bit_not w n)) k ≡ (has_bit m k && not (has_bit n k))
+-- the bits that the first of two numbers has and the second has not
+pub has_bit-clear : (w : Width) (m n k : ℕ) → m < 2 ^ bits w → n < 2 ^ bits w
+    → has_bit (bit_and m (bit_not w n)) k ≡ (has_bit m k && not (has_bit n k))
 has_bit-clear w m n k ml nl =
     elim (cases_lt k (bits w)) [
-      | inl lt ↦ has_bit-and m (bit_not w n) k ∙ ap (λ (b : Bool). has_bit m k && b) (ap (λ (d : ℕ). eqb d 1) (bit_at_not w n k nl lt) ∙ turned (bit_at n k) (bit_at-lt n k))
+      | inl lt ↦
+          has_bit-and m (bit_not w n) k
+          ∙ ap (λ (b : Bool). has_bit m k && b)
+          (ap (λ (d : ℕ). eqb d 1) (bit_at_not w n k nl lt) ∙ turned (bit_at n k) (bit_at-lt n k))
       | inr le ↦ has_bit-and m (bit_not w n) k ∙ rw (has_bit-above w m k ml le) refl
     ]
 
-digits : (d e : ℕ) → d < 2 → e < 2 → eqb d 1 ≡ eqb e 1 → d ≡ e
-digits d e dl el h = grind arith
+-- ---- sets of rights
 
 least : (d e : ℕ) → d < 2 → e < 2 → (eqb d 1 ≡ true → eqb e 1 ≡ true) → min d e ≡ d
 least d e dl el h = grind arith
 
--- a number whose bits are all rights is a mask
+-- a number whose bits are all rights is a set of rights
 pub mask_from_bits : (n : ℕ) → ((k : ℕ) → has_bit n k ≡ true → has_bit all_rights k ≡ true) → IsMask n
-mask_from_bits n h = same_from_bits (bit_and n all_rights) n (λ k. bit_at_and n all_rights k ∙ least (bit_at n k) (bit_at all_rights k) (bit_at-lt n k) (bit_at-lt all_rights k) (h k))
+mask_from_bits n h = same_from_bits (bit_and n all_rights) n (λ k.
+    bit_at_and n all_rights k
+    ∙ least (bit_at n k) (bit_at all_rights k) (bit_at-lt n k) (bit_at-lt all_rights k) (h k))
 
-pub and_true : (x y : Bool) → (x && y) ≡ true → (x ≡ true) × (y ≡ true)
-and_true true y e = (refl, e)
-and_true false y e = absurd cc
-
-or_true : (x y : Bool) (C : Type 0) → (x || y) ≡ true → (x ≡ true → C) → (y ≡ true → C) → C
-or_true true y C e f g = f refl
-or_true false y C e f g = g e
-
--- a mask has no other bit
+-- a set of rights has no other bit
 pub bits_from_mask : (n k : ℕ) → IsMask n → has_bit n k ≡ true → has_bit all_rights k ≡ true
-bits_from_mask n k is h = (and_true (has_bit n k) (has_bit all_rights k) (sym (has_bit-and n all_rights k) ∙ ap (λ (m : ℕ). has_bit m k) is ∙ h)).1
+bits_from_mask n k is h =
+    let same = sym (has_bit-and n all_rights k) ∙ ap (λ (m : ℕ). has_bit m k) is in
+    (and_true (has_bit n k) (has_bit all_rights k) (same ∙ h)).1
 
--- what the operations give is a mask again
+-- what either of two sets of rights has is a set of rights
 pub IsMask-union : (m n : ℕ) → IsMask m → IsMask n → IsMask (bit_or m n)
-IsMask-union m n p q = mask_from_bits (bit_or m n) (λ k h. or_true (has_bit m k) (has_bit n k) (has_bit all_rights k ≡ true) (sym (has_bit-or m n k) ∙ h) (bits_from_mask m k p) (bits_from_mask n k q))
+IsMask-union m n p q = mask_from_bits (bit_or m n) (λ k h.
+    elim (or_true (has_bit m k) (has_bit n k) (sym (has_bit-or m n k) ∙ h)) [
+      | inl of_m ↦ bits_from_mask m k p of_m
+      | inr of_n ↦ bits_from_mask n k q of_n
+    ])
 
+-- what a number has of a set of rights is a set of rights
 pub IsMask-and : (m n : ℕ) → IsMask m → IsMask (bit_and m n)
-IsMask-and m n p = mask_from_bits (bit_and m n) (λ k h. bits_from_mask m k p (and_true (has_bit m k) (has_bit n k) (sym (has_bit-and m n k) ∙ h)).0)
+IsMask-and m n p = mask_from_bits (bit_and m n) (λ k h.
+    bits_from_mask m k p (and_true (has_bit m k) (has_bit n k) (sym (has_bit-and m n k) ∙ h)).0)
 
-tests : (x y : Bool) → (y ≡ true → x ≡ true) → (x && y) ≡ y
-tests true y h = refl
-tests false true h = absurd (false≢true (h refl))
-tests false false h = refl
+-- ---- one set by its bits
+
+digits : (d e : ℕ) → d < 2 → e < 2 → eqb d 1 ≡ eqb e 1 → d ≡ e
+digits d e dl el h = grind arith
 
 same_bit : (m n k : ℕ) → has_bit m k ≡ has_bit n k → bit_at m k ≡ bit_at n k
 same_bit m n k e = digits (bit_at m k) (bit_at n k) (bit_at-lt m k) (bit_at-lt n k) e
@@ -77,45 +92,51 @@ same_bit m n k e = digits (bit_at m k) (bit_at n k) (bit_at-lt m k) (bit_at-lt n
 pub same_set : (m n : ℕ) → ((k : ℕ) → has_bit m k ≡ has_bit n k) → m ≡ n
 same_set m n h = same_from_bits m n (λ k. same_bit m n k (h k))
 
--- the empty set has no bit, and any other has one
+-- the empty set has no bit
 pub no_bit : (k : ℕ) → has_bit 0 k ≡ false
 no_bit k = ap (λ (d : ℕ). eqb d 1) (bit_at-zero k)
 
+-- any other set has one
 pub some_bit : (n : ℕ) → n < 2 ^ 32 → n ≢ 0 → (k : ℕ) × (has_bit n k ≡ true)
 some_bit n lt ne =
     let t = bit_at-trailing_zeros w32 n (omega arith) lt in
     (trailing_zeros w32 n, ap (λ (d : ℕ). eqb d 1) t.1)
 
--- the test of a subset
+-- ---- the test of a subset
+
+narrower : (x y : Bool) → (y ≡ true → x ≡ true) → (x && y) ≡ y
+narrower true y h = refl
+narrower false true h = absurd (false≢true (h refl))
+narrower false false h = refl
+
+-- what two sets have together is the second exactly if that is a part of the first
 pub subset : (m n : ℕ) → (bit_and m n ≡ n) ↔ IsSubset n m
 subset m n = (
-  λ e k h. (and_true (has_bit m k) (has_bit n k) (sym (has_bit-and m n k) ∙ ap (λ (x : ℕ). has_bit x k) e ∙ h)).0,
-  λ h. same_from_bits (bit_and m n) n (λ k. same_bit (bit_and m n) n k (has_bit-and m n k ∙ tests (has_bit m k) (has_bit n k) (h k))),
+  λ e k h.
+      (and_true (has_bit m k) (has_bit n k) (sym (has_bit-and m n k) ∙ ap (λ (x : ℕ). has_bit x k) e ∙ h)).0,
+  λ h. same_set (bit_and m n) n (λ k. has_bit-and m n k ∙ narrower (has_bit m k) (has_bit n k) (h k)),
 )
 
+-- the same as a test
 pub subset_test : (m n : ℕ) → (eqb (bit_and m n) n ≡ true) ↔ IsSubset n m
 subset_test m n = let s = subset m n in (λ t. s.0 (eqb-true _ _ t), λ h. eq-eqb _ _ (s.1 h))
-
-pub union_is : (m n : ℕ) → IsUnion m n (bit_or m n)
-union_is m n = has_bit-or m n
-
-pub intersection_is : (m n : ℕ) → IsIntersection m n (bit_and m n)
-intersection_is m n = has_bit-and m n
-
-pub difference_is : (w : Width) (m n : ℕ) → m < 2 ^ bits w → n < 2 ^ bits w → IsDifference m n (bit_and m (bit_not w n))
-difference_is w m n ml nl k = has_bit-clear w m n k ml nl
 
 -- ---- tests of one bit
 
 by_digit : (d p : ℕ) → d < 2 → 0 < p → not (eqb (d * p) 0) ≡ eqb d 1
 by_digit d p lt pos = grind arith
 
+-- a number has something together with a power of two exactly if it has that bit
 pub bit_test : (n k p : ℕ) → p ≡ 2 ^ k → 0 < p → not (eqb (bit_and n p) 0) ≡ has_bit n k
-bit_test n k p e pos = ap (λ (m : ℕ). not (eqb m 0)) (ap (bit_and n) e ∙ and_pow n k) ∙ by_digit (bit_at n k) (2 ^ k) (bit_at-lt n k) (omega (arith, e))
+bit_test n k p e pos =
+    ap (λ (m : ℕ). not (eqb m 0)) (ap (bit_and n) e ∙ and_pow n k)
+    ∙ by_digit (bit_at n k) (2 ^ k) (bit_at-lt n k) (omega (arith, e))
 
+-- the test of bit 3
 pub third : (n : ℕ) → not (eqb (bit_and n 8) 0) ≡ has_bit n 3
 third n = bit_test n 3 8 refl (omega arith)
 
+-- the test of bit 6
 pub sixth : (n : ℕ) → not (eqb (bit_and n 64) 0) ≡ has_bit n 6
 sixth n = bit_test n 6 64 refl (omega arith)
 
@@ -123,19 +144,44 @@ pub ruleset flag_tests = (third, sixth)
 
 -- ---- what each type's operations need
 
+-- the set of what either number has
+pub union_is : (m n : ℕ) → IsUnion m n (bit_or m n)
+union_is m n = has_bit-or m n
+
+-- the set of what both numbers have
+pub intersection_is : (m n : ℕ) → IsIntersection m n (bit_and m n)
+intersection_is m n = has_bit-and m n
+
+-- the set of what the first has and the second has not, at 8 bits
 pub w8_difference : (m n : ℕ) → m < 2 ^ 8 → n < 2 ^ 8 → IsDifference m n (bit_and m (bit_not w8 n))
-w8_difference m n ml nl = difference_is w8 m n ml nl
+w8_difference m n ml nl k = has_bit-clear w8 m n k ml nl
 
+-- at 16 bits
 pub w16_difference : (m n : ℕ) → m < 2 ^ 16 → n < 2 ^ 16 → IsDifference m n (bit_and m (bit_not w16 n))
-w16_difference m n ml nl = difference_is w16 m n ml nl
+w16_difference m n ml nl k = has_bit-clear w16 m n k ml nl
 
+-- of two sets of rights
 pub mask_difference : (m n : ℕ) → IsMask m → IsMask n → IsDifference m n (bit_and m (bit_not w32 n))
-mask_difference m n p q = difference_is w32 m n (IsMask-lt m p) (IsMask-lt n q)
+mask_difference m n p q k = has_bit-clear w32 m n k (IsMask-lt m p) (IsMask-lt n q)
 
+-- what either of two sets of permissions has is a set of permissions
 pub perm_union : (m n : ℕ) → m < 8 → n < 8 → bit_or m n < 8
 perm_union m n p q = or_lt 3 m n p q
 
+-- what either of two modes has is a mode
 pub mode_union : (m n : ℕ) → m < 512 → n < 512 → bit_or m n < 512
 mode_union m n p q = or_lt 9 m n p q
 
-pub ruleset sets = (union_is, intersection_is, w8_difference, w16_difference, mask_difference, subset_test, IsMask-union, IsMask-and, perm_union, mode_union, and_le_l)
+pub ruleset sets = (
+  union_is,
+  intersection_is,
+  w8_difference,
+  w16_difference,
+  mask_difference,
+  subset_test,
+  IsMask-union,
+  IsMask-and,
+  perm_union,
+  mode_union,
+  and_le_l,
+)

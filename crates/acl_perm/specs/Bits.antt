@@ -1,5 +1,6 @@
--- Sets of bits, as the numbers that stand for them.
-use Rattle.std.specs.Prelude.{◌≡◌, ℕ, ◌<◌, bit_and, Bool, ◌==◌, ◌&&◌, ◌||◌, not, IsTrue}
+-- Sets of bits, as the numbers that stand for them (this library's own; the sets of all rights and of all flags are of
+-- RFC 8881, sections 6.2.1.3.1 and 6.2.1.4).
+use Rattle.std.specs.Prelude.{◌≡◌, ℕ, ◌≤◌, bit_and, Bool, ◌==◌, ◌&&◌, ◌||◌, not, IsTrue}
 use Rattle.std.specs.Int.{bit_at}
 
 -- the set has bit k
@@ -30,6 +31,18 @@ all_rights = 0x001f07ff
 abbrev pub IsMask : ℕ → Type 0
 IsMask n = bit_and n all_rights ≡ n
 
--- a set of the eight flags of an NFSv4 ACE (RFC 8881, section 6.2.1.4)
+-- the eight flags of an NFSv4 ACE together (RFC 8881, section 6.2.1.4)
+abbrev pub all_flags : ℕ
+all_flags = 0xff
+
+-- the bit of the flag INHERIT_ONLY (RFC 8881, section 6.2.1.4.1)
+abbrev pub inherit_only : ℕ
+inherit_only = 3
+
+-- the bit of the flag IDENTIFIER_GROUP (RFC 8881, section 6.2.1.4.1)
+abbrev pub identifier_group : ℕ
+identifier_group = 6
+
+-- a set of flags
 abbrev pub IsFlags : ℕ → Type 0
-IsFlags n = n < 256
+IsFlags n = n ≤ all_flags

@@ -1,5 +1,6 @@
--- What a pull, a put and a count of failures mean.
-use Rattle.std.specs.Prelude.{◌==◌, ◌&&◌, ◌+◌, ◌-◌, ◌^◌, ℕ, Bool, true, false, List, length, min, nat_lt, Result, Ok, Err, Option, None, if◌then◌else◌}
+-- What a pull, a put and a count of failures mean (this library's own).
+use Rattle.std.specs.Prelude.{◌==◌, ◌&&◌, ◌+◌, ◌-◌, ◌^◌, ℕ, Bool, true, false, List, length, min, nat_lt, take, Result, Ok, Err, Option, None, if◌then◌else◌, MatchResult}
+use Rattle.std.specs.Io.KnownBytes.{Consumes, Keeps}
 
 -- one more failure; the number stops at `u64::MAX`
 abbrev pub one_more : ℕ → ℕ
@@ -22,3 +23,7 @@ failures_after n failed = if failed then one_more n else n
 -- what is left of a reader whose calls give at most `step` bytes; at 0 nothing can be known
 abbrev pub fused_remaining : ℕ → Option (List ℕ) → Option (List ℕ)
 fused_remaining step known = if step == 0 then None else known
+
+-- what a reader has left is less by just the bytes that a read gave, and the same at an error
+abbrev pub GivesOn : {E : Type 0} → Option (List ℕ) → Option (List ℕ) → Result ℕ E → List ℕ → Type 0
+GivesOn old new answer buf = MatchResult answer (λ n. Consumes old new (take n buf)) (λ _. Keeps old new)

@@ -6,3 +6,7 @@ pub mod Counted
 pub mod Fused
 pub mod Order
 pub mod Overlap
+pub mod Profile
+pub mod Lines
+pub mod Pieces
+pub mod Mode

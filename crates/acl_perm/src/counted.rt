@@ -1,5 +1,6 @@
 //! A reader or a writer with a count of its failures.
 ghost use Rattle.std.specs.Prelude.{◌≡◌, ℕ};
+ghost use Rattle.acl_perm.specs.Devices.{failures_after};
 
 use crate::devices::{Sink, Source};
 use std::io;
@@ -37,6 +38,16 @@ impl<T> Counted<T> {
     {
         self.failures
     }
+
+    // A call failed or not.
+    fn count(&mut self, has_failed: bool)
+        ensures inner { counted_inner self.new ≡ counted_inner self.old }
+        ensures failures { counted_failures self.new ≡ failures_after (counted_failures self.old) has_failed }
+    {
+        if has_failed {
+            self.failures = self.failures.saturating_add(1);
+        }
+    }
 }
 
 impl<R: Read> Source for Counted<R> {
@@ -46,14 +57,12 @@ impl<R: Read> Source for Counted<R> {
 
     fn pull(&mut self, buf: &mut [u8]) -> io::Result<usize> {
         let answer = self.inner.read(buf);
-        if answer.is_err() {
-            self.failures = self.failures.saturating_add(1);
-        }
+        self.count(answer.is_err());
         answer
     }
 
     fn failures(&self) -> u64 {
-        self.failures
+        Counted::failures(self)
     }
 }
 
@@ -64,17 +73,14 @@ impl<W: Write> Sink for Counted<W> {
 
     fn put(&mut self, bytes: &[u8]) -> io::Result<usize> {
         let answer = self.inner.write(bytes);
-        let has_failed = match &answer {
+        self.count(match &answer {
             Ok(n) => *n == 0 && !bytes.is_empty(),
             Err(_) => true,
-        };
-        if has_failed {
-            self.failures = self.failures.saturating_add(1);
-        }
+        });
         answer
     }
 
     fn failures(&self) -> u64 {
-        self.failures
+        Counted::failures(self)
     }
 }

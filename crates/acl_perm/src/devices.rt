@@ -1,4 +1,4 @@
-//! The two traits.
+//! Sources and sinks of bytes, which count their failures.
 ghost use Rattle.std.specs.Prelude.{◌≡◌, ℕ, List, Option};
 ghost use Rattle.std.specs.Io.{ReadsAtMost, WritesAtMost};
 ghost use Rattle.std.specs.Io.KnownBytes.{ReadConsumes, WriteAppends};
@@ -14,7 +14,7 @@ pub trait Source {
     // How many pulls failed so far.
     ghost failure_count: { Self → ℕ };
 
-    /// Reads some bytes into `buf`. `Ok(0)` with room in `buf` is the end.
+    /// Reads some bytes into `buf`. `Ok(0)` with room in `buf` is the end. An error takes no byte.
     fn pull(&mut self, buf: &mut [u8]) -> io::Result<usize>
         ensures bound { ReadsAtMost result buf.new }
         ensures bytes { ReadConsumes (remaining self.old) (remaining self.new) result buf.new }
@@ -34,7 +34,7 @@ pub trait Sink {
     // How many puts failed so far.
     ghost failure_count: { Self → ℕ };
 
-    /// Writes a beginning of `bytes`, and says how many.
+    /// Writes a beginning of `bytes`, and says how many. An error writes no byte.
     fn put(&mut self, bytes: &[u8]) -> io::Result<usize>
         ensures bound { WritesAtMost result bytes.now }
         ensures written { WriteAppends (contents self.old) (contents self.new) result bytes.now }

@@ -1,5 +1,6 @@
-ghost use Rattle.std.specs.Prelude.{◌≡◌, IfSome, IsSome, IsTrue, ◌↔◌};
-ghost use Rattle.acl_perm.specs.Bits.{IsDifference, IsFlags, IsIntersection, IsSubset, IsUnion, has_bit};
+ghost use Rattle.std.specs.Prelude.{◌≡◌, IfSome, IsSome, IsTrue, ◌↔◌, ◌==◌, bit_and, bit_or};
+ghost use Rattle.std.specs.Int.{bit_not, w8};
+ghost use Rattle.acl_perm.specs.Bits.{IsDifference, IsFlags, IsIntersection, IsSubset, IsUnion, has_bit, identifier_group, inherit_only};
 
 /// A set of the eight flags of an NFSv4 ACE, one bit each (RFC 8881, section 6.2.1.4).
 #[derive(Clone, Copy, Debug, PartialEq, Eq)]
@@ -8,6 +9,9 @@ pub struct Flags {
 }
 
 impl Flags {
+    /// The eight flags together.
+    pub const ALL: Flags = Flags { bits: 0xff };
+
     const INHERIT_ONLY: u8 = 0x08;
 
     const IDENTIFIER_GROUP: u8 = 0x40;
@@ -37,23 +41,24 @@ impl Flags {
     /// Whether the ACE takes no part on the object that carries it.
     #[tactic(auto, using(crate::proofs::Sets::flag_tests))]
     pub fn is_inherit_only(self) -> bool
-        ensures { result ≡ has_bit self.bits 3 }
+        ensures { result ≡ has_bit self.bits inherit_only }
     {
-        self.bits & Flags::INHERIT_ONLY != 0
+        (self.bits & Flags::INHERIT_ONLY) != 0
     }
 
     /// Whether the who names a group.
     #[tactic(auto, using(crate::proofs::Sets::flag_tests))]
     pub fn is_group(self) -> bool
-        ensures { result ≡ has_bit self.bits 6 }
+        ensures { result ≡ has_bit self.bits identifier_group }
     {
-        self.bits & Flags::IDENTIFIER_GROUP != 0
+        (self.bits & Flags::IDENTIFIER_GROUP) != 0
     }
 
     /// The flags of either set.
     #[tactic(auto, using(crate::proofs::Sets::sets))]
     pub fn union(self, other: Flags) -> Flags
-        ensures { IsUnion self.bits other.bits result.bits }
+        ensures meaning { IsUnion self.bits other.bits result.bits }
+        ensures value { result.bits ≡ bit_or self.bits other.bits }
     {
         Flags {
             bits: self.bits | other.bits,
@@ -63,7 +68,8 @@ impl Flags {
     /// The flags of both sets.
     #[tactic(auto, using(crate::proofs::Sets::sets))]
     pub fn intersection(self, other: Flags) -> Flags
-        ensures { IsIntersection self.bits other.bits result.bits }
+        ensures meaning { IsIntersection self.bits other.bits result.bits }
+        ensures value { result.bits ≡ bit_and self.bits other.bits }
     {
         Flags {
             bits: self.bits & other.bits,
@@ -73,7 +79,8 @@ impl Flags {
     /// The flags of this set that the other has not.
     #[tactic(auto, using(crate::proofs::Sets::sets))]
     pub fn difference(self, other: Flags) -> Flags
-        ensures { IsDifference self.bits other.bits result.bits }
+        ensures meaning { IsDifference self.bits other.bits result.bits }
+        ensures value { result.bits ≡ bit_and self.bits (bit_not w8 other.bits) }
     {
         Flags {
             bits: self.bits & !other.bits,
@@ -83,8 +90,9 @@ impl Flags {
     /// Whether all flags of the other set are in this one.
     #[tactic(auto, using(crate::proofs::Sets::sets))]
     pub fn contains(self, other: Flags) -> bool
-        ensures { IsTrue result ↔ IsSubset other.bits self.bits }
+        ensures meaning { IsTrue result ↔ IsSubset other.bits self.bits }
+        ensures value { result ≡ (bit_and self.bits other.bits == other.bits) }
     {
-        self.bits & other.bits == other.bits
+        (self.bits & other.bits) == other.bits
     }
 }

@@ -1,13 +1,14 @@
 //! A device for tests, which fails after some calls.
 ghost use Rattle.std.specs.Prelude.{◌≡◌, ◌-◌, ◌≤◌, ℕ, IfOk, IsErr};
 ghost use Rattle.std.specs.Io.{ReadsAtMost, WritesAtMost};
-ghost use Rattle.std.specs.Io.KnownBytes.{ReadConsumes, WriteAppends};
-ghost use Rattle.acl_perm.specs.Devices.{fused_remaining};
+ghost use Rattle.std.specs.Io.KnownBytes.{Keeps, ReadConsumes, WriteAppends};
+ghost use Rattle.acl_perm.specs.Devices.{GivesOn, fused_remaining};
 
 use std::io;
 use std::io::{Read, Write};
 
-/// A reader or writer that passes some calls, each of a few bytes, and then fails every call.
+/// A reader or writer that passes some calls, each of a few bytes, and then is spent: every call fails. Flushes are
+/// passed and not counted.
 #[derive(Drop)]
 pub struct Fused<T> {
     inner: T,
@@ -49,6 +50,8 @@ impl<R: Read> Read for Fused<R> {
         ensures bound { ReadsAtMost result buf.new }
         ensures bytes { ReadConsumes (fused_remaining (fused_step self.old) (R.remaining (fused_inner self.old)))
             (fused_remaining (fused_step self.new) (R.remaining (fused_inner self.new))) result buf.new }
+        ensures passed { GivesOn (R.remaining (fused_inner self.old)) (R.remaining (fused_inner self.new))
+            result buf.new }
         ensures spent { fused_calls self.old ≡ 0 → IsErr result × (self.new ≡ self.old) }
         ensures counted { fused_calls self.new ≡ fused_calls self.old - 1 }
         ensures short { IfOk result (λ n. n ≤ fused_step self.old) }
@@ -85,7 +88,11 @@ impl<W: Write> Write for Fused<W> {
         self.inner.write(&bytes[..room])
     }
 
-    fn flush(&mut self) -> io::Result<()> {
+    fn flush(&mut self) -> io::Result<()>
+        ensures bytes { Keeps (W.contents (fused_inner self.old)) (W.contents (fused_inner self.new)) }
+        ensures calls { fused_calls self.new ≡ fused_calls self.old }
+        ensures step { fused_step self.new ≡ fused_step self.old }
+    {
         self.inner.flush()
     }
 }

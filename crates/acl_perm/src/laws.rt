@@ -1,10 +1,10 @@
 //! Laws of the orders.
-ghost use Rattle.acl_perm.specs.Order.{IsStrictTotalOrder, key_cmp, subject_cmp};
+ghost use Rattle.acl_perm.specs.Order.{IsStrictTotalOrder, key_cmp, principal_cmp};
 
 /// The order of principals is strict and total, and two are equal in it exactly if they are the same.
-#[tactic(auto, using(crate::proofs::Orders::subject_order))]
+#[tactic(auto, using(crate::proofs::Orders::principal_order))]
 pub fn order_of_principals()
-    ensures { IsStrictTotalOrder subject_cmp }
+    ensures { IsStrictTotalOrder principal_cmp }
 {}
 
 /// The order of keys is strict and total, and two are equal in it exactly if they are the same.

@@ -1,6 +1,7 @@
 //! What every access control list here is made of, and sources and sinks of bytes that count their failures.
 #![tactic(auto)]
 
+mod constants;
 mod counted;
 #[cfg(test)]
 mod device_tests;
@@ -10,12 +11,15 @@ mod fused;
 mod key;
 mod kind;
 pub mod laws;
+mod lines;
 mod mask;
 mod mode;
 #[cfg(test)]
 mod order_tests;
 mod perm;
+mod pieces;
 mod principal;
+mod profile;
 mod whole;
 
 pub use counted::Counted;
@@ -24,8 +28,11 @@ pub use flags::Flags;
 pub use fused::Fused;
 pub use key::Key;
 pub use kind::Kind;
+pub use lines::{Piece, before_mark, cut_line, is_all_blank, trimmed};
 pub use mask::Mask;
 pub use mode::Mode;
 pub use perm::Perm;
+pub use pieces::put_next;
 pub use principal::{Principal, overlaps};
+pub use profile::Profile;
 pub use whole::{ReadFault, WriteFault, put_all, read_all};

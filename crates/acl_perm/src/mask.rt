@@ -1,4 +1,5 @@
-ghost use Rattle.std.specs.Prelude.{◌≡◌, IfSome, IsSome, IsTrue, ◌↔◌};
+ghost use Rattle.std.specs.Prelude.{◌≡◌, IfSome, IsSome, IsTrue, ◌↔◌, ◌==◌, bit_and, bit_or};
+ghost use Rattle.std.specs.Int.{bit_not, w32};
 ghost use Rattle.acl_perm.specs.Bits.{IsDifference, IsIntersection, IsMask, IsSubset, IsUnion};
 
 /// A set of the sixteen access rights of an NFSv4 ACE, one bit each (RFC 8881, section 6.2.1.3.1).
@@ -10,7 +11,7 @@ pub struct Mask {
 
 impl Mask {
     /// The sixteen rights together.
-    const RIGHTS: u32 = 0x001f_07ff;
+    pub const ALL: Mask = Mask { bits: 0x001f_07ff };
 
     /// No right.
     pub const NONE: Mask = Mask { bits: 0 };
@@ -20,7 +21,7 @@ impl Mask {
         ensures within { IsSome result ↔ IsMask bits }
         ensures value { IfSome result (λ mask. mask.bits ≡ bits) }
     {
-        if bits & Mask::RIGHTS == bits {
+        if bits & Mask::ALL.bits == bits {
             Some(Mask { bits })
         } else {
             None
@@ -38,7 +39,8 @@ impl Mask {
     /// The rights of either set.
     #[tactic(auto, using(crate::proofs::Sets::sets))]
     pub fn union(self, other: Mask) -> Mask
-        ensures { IsUnion self.bits other.bits result.bits }
+        ensures meaning { IsUnion self.bits other.bits result.bits }
+        ensures value { result.bits ≡ bit_or self.bits other.bits }
     {
         Mask {
             bits: self.bits | other.bits,
@@ -48,7 +50,8 @@ impl Mask {
     /// The rights of both sets.
     #[tactic(auto, using(crate::proofs::Sets::sets))]
     pub fn intersection(self, other: Mask) -> Mask
-        ensures { IsIntersection self.bits other.bits result.bits }
+        ensures meaning { IsIntersection self.bits other.bits result.bits }
+        ensures value { result.bits ≡ bit_and self.bits other.bits }
     {
         Mask {
             bits: self.bits & other.bits,
@@ -58,7 +61,8 @@ impl Mask {
     /// The rights of this set that the other has not.
     #[tactic(auto, using(crate::proofs::Sets::sets))]
     pub fn difference(self, other: Mask) -> Mask
-        ensures { IsDifference self.bits other.bits result.bits }
+        ensures meaning { IsDifference self.bits other.bits result.bits }
+        ensures value { result.bits ≡ bit_and self.bits (bit_not w32 other.bits) }
     {
         Mask {
             bits: self.bits & !other.bits,
@@ -68,8 +72,9 @@ impl Mask {
     /// Whether all rights of the other set are in this one.
     #[tactic(auto, using(crate::proofs::Sets::sets))]
     pub fn contains(self, other: Mask) -> bool
-        ensures { IsTrue result ↔ IsSubset other.bits self.bits }
+        ensures meaning { IsTrue result ↔ IsSubset other.bits self.bits }
+        ensures value { result ≡ (bit_and self.bits other.bits == other.bits) }
     {
-        self.bits & other.bits == other.bits
+        (self.bits & other.bits) == other.bits
     }
 }

@@ -1,5 +1,9 @@
-ghost use Rattle.std.specs.Prelude.{◌≡◌, ◌<◌, IfSome, IsSome, IsTrue, ◌↔◌};
+ghost use Rattle.std.specs.Prelude.{◌≡◌, ◌<◌, IfSome, IsSome, IsTrue, ◌↔◌, ◌==◌, bit_and, bit_or};
+ghost use Rattle.std.specs.Int.{bit_not, w16};
 ghost use Rattle.acl_perm.specs.Bits.{IsDifference, IsIntersection, IsSubset, IsUnion};
+ghost use Rattle.acl_perm.specs.Mode.{group_part, mode_of_parts, others_part, owner_part};
+
+use crate::perm::Perm;
 
 /// The nine file mode bits: of the owner, the group and others, each as read 4, write 2, execute 1 (POSIX.1e
 /// draft 17, section 23.1.3).
@@ -36,10 +40,47 @@ impl Mode {
         self.bits
     }
 
+    /// The mode of the permissions of the owner, the group and others.
+    pub fn from_parts(owner: Perm, group: Perm, others: Perm) -> Mode
+        ensures { result.bits ≡ mode_of_parts owner.bits group.bits others.bits }
+    {
+        Mode {
+            bits: 64 * u16::from(owner.bits) + 8 * u16::from(group.bits) + u16::from(others.bits),
+        }
+    }
+
+    /// The permissions of the owner.
+    pub fn owner(self) -> Perm
+        ensures { result.bits ≡ owner_part self.bits }
+    {
+        Perm {
+            bits: (self.bits / 64) as u8,
+        }
+    }
+
+    /// The permissions of the group.
+    pub fn group(self) -> Perm
+        ensures { result.bits ≡ group_part self.bits }
+    {
+        Perm {
+            bits: (self.bits / 8 % 8) as u8,
+        }
+    }
+
+    /// The permissions of others.
+    pub fn others(self) -> Perm
+        ensures { result.bits ≡ others_part self.bits }
+    {
+        Perm {
+            bits: (self.bits % 8) as u8,
+        }
+    }
+
     /// The bits of either set.
     #[tactic(auto, using(crate::proofs::Sets::sets))]
     pub fn union(self, other: Mode) -> Mode
-        ensures { IsUnion self.bits other.bits result.bits }
+        ensures meaning { IsUnion self.bits other.bits result.bits }
+        ensures value { result.bits ≡ bit_or self.bits other.bits }
     {
         Mode {
             bits: self.bits | other.bits,
@@ -49,7 +90,8 @@ impl Mode {
     /// The bits of both sets.
     #[tactic(auto, using(crate::proofs::Sets::sets))]
     pub fn intersection(self, other: Mode) -> Mode
-        ensures { IsIntersection self.bits other.bits result.bits }
+        ensures meaning { IsIntersection self.bits other.bits result.bits }
+        ensures value { result.bits ≡ bit_and self.bits other.bits }
     {
         Mode {
             bits: self.bits & other.bits,
@@ -59,7 +101,8 @@ impl Mode {
     /// The bits of this set that the other has not.
     #[tactic(auto, using(crate::proofs::Sets::sets))]
     pub fn difference(self, other: Mode) -> Mode
-        ensures { IsDifference self.bits other.bits result.bits }
+        ensures meaning { IsDifference self.bits other.bits result.bits }
+        ensures value { result.bits ≡ bit_and self.bits (bit_not w16 other.bits) }
     {
         Mode {
             bits: self.bits & !other.bits,
@@ -69,8 +112,9 @@ impl Mode {
     /// Whether all bits of the other set are in this one.
     #[tactic(auto, using(crate::proofs::Sets::sets))]
     pub fn contains(self, other: Mode) -> bool
-        ensures { IsTrue result ↔ IsSubset other.bits self.bits }
+        ensures meaning { IsTrue result ↔ IsSubset other.bits self.bits }
+        ensures value { result ≡ (bit_and self.bits other.bits == other.bits) }
     {
-        self.bits & other.bits == other.bits
+        (self.bits & other.bits) == other.bits
     }
 }

@@ -56,14 +56,3 @@ fn a_number_with_another_bit_is_no_set(rt: HostRuntime) {
     assert_eq!(rt; Mask::new(0x800), None);
     assert_eq!(rt; Flags::new(0x100), None);
 }
-
-#[test]
-fn a_failed_read_is_counted(rt: HostRuntime) {
-    let mut source = Counted::new(Fused::new(b"bytes".as_slice(), 1, 2));
-    let mut buf = [0u8; 8];
-    assert_eq!(rt; source.failures(), 0);
-    assert!(rt; source.pull(&mut buf).is_ok());
-    assert_eq!(rt; source.failures(), 0);
-    assert!(rt; source.pull(&mut buf).is_err());
-    assert_eq!(rt; source.failures(), 1);
-}

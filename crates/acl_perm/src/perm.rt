@@ -1,4 +1,5 @@
-ghost use Rattle.std.specs.Prelude.{◌≡◌, ◌<◌, IfSome, IsSome, IsTrue, ◌↔◌};
+ghost use Rattle.std.specs.Prelude.{◌≡◌, ◌<◌, IfSome, IsSome, IsTrue, ◌↔◌, ◌==◌, bit_and, bit_or};
+ghost use Rattle.std.specs.Int.{bit_not, w8};
 ghost use Rattle.acl_perm.specs.Bits.{IsDifference, IsIntersection, IsSubset, IsUnion};
 
 /// A set of the permissions of a POSIX ACL entry: read is 4, write is 2, execute is 1 (POSIX.1e draft 17,
@@ -35,7 +36,8 @@ impl Perm {
     /// The permissions of either set.
     #[tactic(auto, using(crate::proofs::Sets::sets))]
     pub fn union(self, other: Perm) -> Perm
-        ensures { IsUnion self.bits other.bits result.bits }
+        ensures meaning { IsUnion self.bits other.bits result.bits }
+        ensures value { result.bits ≡ bit_or self.bits other.bits }
     {
         Perm {
             bits: self.bits | other.bits,
@@ -45,7 +47,8 @@ impl Perm {
     /// The permissions of both sets.
     #[tactic(auto, using(crate::proofs::Sets::sets))]
     pub fn intersection(self, other: Perm) -> Perm
-        ensures { IsIntersection self.bits other.bits result.bits }
+        ensures meaning { IsIntersection self.bits other.bits result.bits }
+        ensures value { result.bits ≡ bit_and self.bits other.bits }
     {
         Perm {
             bits: self.bits & other.bits,
@@ -55,7 +58,8 @@ impl Perm {
     /// The permissions of this set that the other has not.
     #[tactic(auto, using(crate::proofs::Sets::sets))]
     pub fn difference(self, other: Perm) -> Perm
-        ensures { IsDifference self.bits other.bits result.bits }
+        ensures meaning { IsDifference self.bits other.bits result.bits }
+        ensures value { result.bits ≡ bit_and self.bits (bit_not w8 other.bits) }
     {
         Perm {
             bits: self.bits & !other.bits,
@@ -65,8 +69,9 @@ impl Perm {
     /// Whether all permissions of the other set are in this one.
     #[tactic(auto, using(crate::proofs::Sets::sets))]
     pub fn contains(self, other: Perm) -> bool
-        ensures { IsTrue result ↔ IsSubset other.bits self.bits }
+        ensures meaning { IsTrue result ↔ IsSubset other.bits self.bits }
+        ensures value { result ≡ (bit_and self.bits other.bits == other.bits) }
     {
-        self.bits & other.bits == other.bits
+        (self.bits & other.bits) == other.bits
     }
 }

@@ -1,8 +1,8 @@
 ghost use Rattle.std.specs.Prelude.{◌≡◌, ◌↔◌, IsTrue, Some, refl};
 ghost use Rattle.std.specs.Ordering.{as_partial_cmp, eq_by_cmp, on};
 ghost use Rattle.std.specs.Cmp.{eq_by_cmp_equiv, on_equiv, on_per, on_total, partial_equiv_from_equiv, partial_order_from_total};
-ghost use Rattle.acl_perm.specs.Principal.{subject};
-ghost use Rattle.acl_perm.specs.Order.{subject_cmp, subject_name, subject_rank, subject_total};
+ghost use Rattle.acl_perm.specs.Principal.{principal};
+ghost use Rattle.acl_perm.specs.Order.{principal_cmp, principal_name, principal_rank, principal_total};
 ghost use Rattle.acl_perm.specs.Overlap.{Overlap, may_overlap};
 
 use std::cmp::Ordering;
@@ -21,7 +21,7 @@ pub enum Principal<'a> {
 
 impl Principal<'_> {
     fn rank(&self) -> u8
-        ensures { result ≡ subject_rank (subject self.now) }
+        ensures { result ≡ principal_rank (principal self.now) }
     {
         match self {
             Principal::Owner => 0,
@@ -33,7 +33,7 @@ impl Principal<'_> {
     }
 
     fn name(&self) -> &[u8]
-        ensures { result.now ≡ subject_name (subject self.now) }
+        ensures { result.now ≡ principal_name (principal self.now) }
     {
         match self {
             Principal::User(name) | Principal::GroupNamed(name) => name,
@@ -43,34 +43,34 @@ impl Principal<'_> {
 }
 
 impl<'a> PartialEq for Principal<'a> {
-    ghost eq = { on subject (eq_by_cmp subject_cmp) };
+    ghost eq = { on principal (eq_by_cmp principal_cmp) };
 
-    ghost laws = { on_per subject (partial_equiv_from_equiv (eq_by_cmp_equiv subject_total)) };
+    ghost laws = { on_per principal (partial_equiv_from_equiv (eq_by_cmp_equiv principal_total)) };
 
-    #[tactic(auto, using(crate::proofs::Orders::subject_tied, crate::proofs::Orders::subjects_same))]
+    #[tactic(auto, using(crate::proofs::Orders::principal_tied, crate::proofs::Orders::principals_same))]
     fn eq(&self, other: &Principal<'a>) -> bool
-        ensures value { result ≡ eq_by_cmp subject_cmp (subject self.now) (subject other.now) }
-        ensures exact { IsTrue result ↔ (subject self.now ≡ subject other.now) }
+        ensures value { result ≡ eq_by_cmp principal_cmp (principal self.now) (principal other.now) }
+        ensures exact { IsTrue result ↔ (principal self.now ≡ principal other.now) }
     {
         self.rank() == other.rank() && self.name() == other.name()
     }
 }
 
 impl<'a> Eq for Principal<'a> {
-    ghost laws = { on_equiv subject (eq_by_cmp_equiv subject_total) };
+    ghost laws = { on_equiv principal (eq_by_cmp_equiv principal_total) };
 }
 
 impl<'a> Ord for Principal<'a> {
-    ghost cmp = { on subject subject_cmp };
+    ghost cmp = { on principal principal_cmp };
 
-    ghost total = { on_total subject subject_total };
+    ghost total = { on_total principal principal_total };
 
     ghost matches_partial_cmp = { λ x y. refl };
 
     ghost matches_eq = { λ x y. refl };
 
     fn cmp(&self, other: &Principal<'a>) -> Ordering
-        ensures { result ≡ subject_cmp (subject self.now) (subject other.now) }
+        ensures { result ≡ principal_cmp (principal self.now) (principal other.now) }
     {
         self.rank()
             .cmp(&other.rank())
@@ -79,12 +79,12 @@ impl<'a> Ord for Principal<'a> {
 }
 
 impl<'a> PartialOrd for Principal<'a> {
-    ghost partial_cmp = { as_partial_cmp (on subject subject_cmp) };
+    ghost partial_cmp = { as_partial_cmp (on principal principal_cmp) };
 
-    ghost laws = { partial_order_from_total (on_total subject subject_total) };
+    ghost laws = { partial_order_from_total (on_total principal principal_total) };
 
     fn partial_cmp(&self, other: &Principal<'a>) -> Option<Ordering>
-        ensures { result ≡ Some (subject_cmp (subject self.now) (subject other.now)) }
+        ensures { result ≡ Some (principal_cmp (principal self.now) (principal other.now)) }
     {
         Some(self.cmp(other))
     }
@@ -93,9 +93,9 @@ impl<'a> PartialOrd for Principal<'a> {
 /// Whether both can speak of one requester: all can, but two users of different names.
 pub fn overlaps(p: Principal<'_>, q: Principal<'_>) -> bool
     // Some situation, whose names may be empty, matches both.
-    ensures meaning { IsTrue result ↔ Overlap (subject p.entry) (subject q.entry) }
+    ensures meaning { IsTrue result ↔ Overlap (principal p.entry) (principal q.entry) }
     // The test by cases.
-    ensures value { result ≡ may_overlap (subject p.entry) (subject q.entry) }
+    ensures value { result ≡ may_overlap (principal p.entry) (principal q.entry) }
 {
     match (p, q) {
         (Principal::User(name), Principal::User(other)) => name == other,

@@ -1,0 +1,71 @@
+//! What each constant is: a function that returns it, for its clause alone.
+ghost use Rattle.std.specs.Prelude.{◌≡◌};
+ghost use Rattle.acl_perm.specs.Bits.{all_flags, all_rights};
+ghost use Rattle.acl_perm.specs.Mode.{mode_of_parts};
+ghost use Rattle.acl_perm.specs.Profile.{full, narrow, profile_of};
+
+use crate::flags::Flags;
+use crate::mask::Mask;
+use crate::mode::Mode;
+use crate::perm::Perm;
+use crate::profile::Profile;
+
+fn perm_none() -> Perm
+    ensures { result.bits ≡ 0 }
+{
+    Perm::NONE
+}
+
+fn perm_all() -> Perm
+    ensures { result.bits ≡ 7 }
+{
+    Perm::ALL
+}
+
+fn mode_none() -> Mode
+    ensures { result.bits ≡ 0 }
+{
+    Mode::NONE
+}
+
+fn mode_all() -> Mode
+    ensures { result.bits ≡ mode_of_parts 7 7 7 }
+{
+    Mode::ALL
+}
+
+fn mask_none() -> Mask
+    ensures { result.bits ≡ 0 }
+{
+    Mask::NONE
+}
+
+fn mask_all() -> Mask
+    ensures { result.bits ≡ all_rights }
+{
+    Mask::ALL
+}
+
+fn flags_none() -> Flags
+    ensures { result.bits ≡ 0 }
+{
+    Flags::NONE
+}
+
+fn flags_all() -> Flags
+    ensures { result.bits ≡ all_flags }
+{
+    Flags::ALL
+}
+
+fn profile_full() -> Profile
+    ensures { profile_of result ≡ full }
+{
+    Profile::FULL
+}
+
+fn profile_narrow() -> Profile
+    ensures { profile_of result ≡ narrow }
+{
+    Profile::NARROW
+}

@@ -1,0 +1,133 @@
+//! Lines of a text, and parts of a line with their columns.
+ghost use Rattle.std.specs.Prelude.{◌≡◌, ◌+◌, ◌≤◌, ◌<◌, ◌^◌, ◌==◌, length, position, not};
+ghost use Rattle.std.specs.List.{list_all};
+ghost use Rattle.acl_perm.specs.Lines.{
+  before_mark,
+  blanks_before,
+  cut_at,
+  is_all_blank,
+  is_blank,
+  span_of,
+  start_of,
+  trimmed,
+  IsCut,
+  IsLineCut,
+};
+
+/// Some bytes of a line, and the column of the first of them. Columns count from 1.
+#[derive(Clone, Copy)]
+pub struct Piece<'a> {
+    pub column: usize,
+    pub bytes: &'a [u8],
+}
+
+impl<'a> Piece<'a> {
+    /// The whole of a line.
+    pub fn whole(line: &'a [u8]) -> Piece<'a>
+        ensures value { span_of result ≡ record { column = 1; bytes = line.now } }
+        ensures fits { result.column + length result.bytes.now < 2 ^ 64 }
+    {
+        Piece {
+            column: 1,
+            bytes: line,
+        }
+    }
+
+    /// The part before the first separator, and what stands behind it where there is one.
+    pub fn cut(self, separator: u8) -> (Piece<'a>, Option<Piece<'a>>)
+        requires { self.column + length self.bytes.now < 2 ^ 64 }
+        ensures parts { IsCut separator (span_of self.entry) result }
+    {
+        match find(self.bytes, separator) {
+            None => (self, None),
+            Some(place) => {
+                let first = Piece {
+                    column: self.column,
+                    bytes: &self.bytes[..place],
+                };
+                let rest = Piece {
+                    column: self.column + place + 1,
+                    bytes: &self.bytes[place + 1..],
+                };
+                (first, Some(rest))
+            }
+        }
+    }
+
+    /// The column of the first byte that is no blank, and where there is none that of the byte after the piece.
+    pub fn start(self) -> usize
+        requires { self.column + length self.bytes.now < 2 ^ 64 }
+        ensures { result ≡ start_of (span_of self.entry) }
+    {
+        self.column + blanks_before(self.bytes)
+    }
+}
+
+/// The first line without its line feed, and what stands behind that.
+pub fn cut_line(text: &[u8]) -> (&[u8], Option<&[u8]>)
+    ensures parts { IsLineCut text.now result }
+{
+    match find(text, b'\n') {
+        None => (text, None),
+        Some(place) => (&text[..place], Some(&text[place + 1..])),
+    }
+}
+
+/// Whether there is no byte but blanks.
+pub fn is_all_blank(bytes: &[u8]) -> bool
+    ensures { result ≡ is_all_blank bytes.now }
+{
+    bytes.iter().all(|b| is_blank(*b))
+}
+
+/// The bytes without the blanks at both ends.
+pub fn trimmed(bytes: &[u8]) -> &[u8]
+    ensures { result.now ≡ trimmed bytes.now }
+{
+    let mut rest = &bytes[blanks_before(bytes)..];
+    while let [front @ .., last] = rest {
+        if !is_blank(*last) {
+            break;
+        }
+        rest = front;
+    }
+    rest
+}
+
+/// The bytes before the first mark, or all of them.
+pub fn before_mark(bytes: &[u8], mark: u8) -> &[u8]
+    ensures { result.now ≡ before_mark mark bytes.now }
+{
+    match find(bytes, mark) {
+        Some(place) => &bytes[..place],
+        None => bytes,
+    }
+}
+
+fn find(bytes: &[u8], wanted: u8) -> Option<usize>
+    ensures { result ≡ position (λ b. b == wanted) bytes.now }
+{
+    bytes.iter().position(|b| *b == wanted)
+}
+
+fn is_blank(b: u8) -> bool
+    ensures { result ≡ is_blank b }
+{
+    b == b' ' || b == b'\t'
+}
+
+fn first_other(bytes: &[u8]) -> Option<usize>
+    ensures { result ≡ position (λ b. not (is_blank b)) bytes.now }
+{
+    bytes.iter().position(|b| !is_blank(*b))
+}
+
+fn blanks_before(bytes: &[u8]) -> usize
+    ensures value { result ≡ blanks_before bytes.now }
+    ensures within { result ≤ length bytes.now }
+{
+    match first_other(bytes) {
+        Some(place) => place,
+        None => bytes.len(),
+    }
+}
