@@ -1,17 +1,19 @@
 -- The access check (acl(5), "ACCESS CHECK ALGORITHM").
-use Rattle.std.specs.Prelude.{ℕ, Bool, false, ◌&&◌, ◌||◌, ◌==◌, List, Option, Some, None, map, bit_and, unwrap_or, if◌then◌else◌}
+use Rattle.std.specs.Prelude.{ℕ, Bool, false, ◌&&◌, ◌==◌, List, Option, Some, None, map, bit_and, if◌then◌else◌}
 use Rattle.std.specs.List.{list_any}
 use Rattle.std.specs.FinMap as set
 use Rattle.acl_posix.specs.declared.id.Id.{Id}
-use Rattle.acl_posix.specs.Label.{Label, user_obj, user, group_obj, group, mask, other}
+use Rattle.acl_posix.specs.Tag.{Tag, user_obj, user, group_obj, group, mask, other}
 use Rattle.acl_posix.specs.Entries.{Entries}
-use Rattle.acl_posix.specs.Mode.{perm_at}
 
--- who asks, with the groups, and of whose object
-pub record Asked : Type 0 where
-  pub owner : ℕ
-  pub owning_group : ℕ
-  pub asker : ℕ
+-- whose the object is: its owner and its owning group
+pub record Object : Type 0 where
+  pub user : ℕ
+  pub group : ℕ
+
+-- who asks: a user, and the groups that the user is in
+pub record Requester : Type 0 where
+  pub user : ℕ
   pub groups : List ℕ
 
 -- the numbers of a list of ids
@@ -19,15 +21,24 @@ abbrev pub ids : List Id → List ℕ
 ids list = map (λ id. id.value) list
 
 -- the permissions contain all that is requested
-abbrev pub holds : ℕ → ℕ → Bool
-holds perm want = bit_and perm want == want
+abbrev pub contains : ℕ → ℕ → Bool
+contains perm request = bit_and perm request == request
+
+-- there are permissions, and they contain all that is requested
+abbrev pub is_contained : Option ℕ → ℕ → Bool
+is_contained None request = false
+is_contained (Some perm) request = contains perm request
+
+-- the tag has an entry, and it contains all that is requested
+abbrev pub entry_contains : Entries → Tag → ℕ → Bool
+entry_contains entries tag request = is_contained (set.get entries tag) request
 
 -- the group is one of the groups of the requester
 abbrev pub is_member : ℕ → List ℕ → Bool
 is_member id groups = list_any (λ one. one == id) groups
 
 -- the entry matches: GROUP_OBJ where the owning group is a group of the requester, GROUP where its qualifier is
-abbrev pub matches : ℕ → List ℕ → Label → Bool
+abbrev pub matches : ℕ → List ℕ → Tag → Bool
 matches owning_group groups user_obj = false
 matches owning_group groups (user id) = false
 matches owning_group groups group_obj = is_member owning_group groups
@@ -35,38 +46,29 @@ matches owning_group groups (group id) = is_member id groups
 matches owning_group groups mask = false
 matches owning_group groups other = false
 
--- MASK contains all that is requested, or there is none
-abbrev pub mask_holds : Entries → ℕ → Bool
-mask_holds entries want = holds (unwrap_or (set.get entries mask) 7) want
-
--- some entry matches
+-- some GROUP_OBJ or GROUP entry matches
 abbrev pub any_matches : Entries → ℕ → List ℕ → Bool
 any_matches entries owning_group groups = list_any (λ entry. matches owning_group groups entry.0) (set.entries entries)
 
 -- some entry matches and contains all that is requested; two that contain it together are not enough
-abbrev pub any_grants : Entries → ℕ → List ℕ → ℕ → Bool
-any_grants entries owning_group groups want =
-    list_any (λ entry. matches owning_group groups entry.0 && holds entry.1 want) (set.entries entries)
+abbrev pub any_contains : Entries → ℕ → List ℕ → ℕ → Bool
+any_contains entries owning_group groups request =
+    list_any (λ entry. matches owning_group groups entry.0 && contains entry.1 request) (set.entries entries)
 
--- there are permissions, and they contain all that is requested
-abbrev pub is_held : Option ℕ → ℕ → Bool
-is_held None want = false
-is_held (Some perm) want = holds perm want
-
--- the label has an entry, and it contains all that is requested
-abbrev pub entry_holds : Entries → Label → ℕ → Bool
-entry_holds entries label want = is_held (set.get entries label) want
-
--- an entry that matches by one group contains all that is requested: what one search of the code finds
-abbrev pub group_holds : Entries → ℕ → ℕ → ℕ → Bool
-group_holds entries owning_group want id =
-    ((id == owning_group) && entry_holds entries group_obj want) || entry_holds entries (group id) want
+-- with a MASK it and some matching entry contain all that is requested, and without one the GROUP_OBJ entry does
+abbrev pub class_contains : Entries → ℕ → List ℕ → ℕ → Bool
+class_contains entries owning_group groups request =
+    if set.contains_key entries mask
+    then entry_contains entries mask request && any_contains entries owning_group groups request
+    else entry_contains entries group_obj request
 
 -- the owner by USER_OBJ; else a user with an entry by that entry and MASK; else, where an entry of a group matches, by
--- some such entry and MASK (without MASK a valid set has no such entry but GROUP_OBJ); else by OTHER
-unfoldable pub grants : Entries → Asked → ℕ → Bool
-grants entries asked want =
-    if asked.asker == asked.owner then holds (perm_at entries user_obj) want
-    else (if set.contains_key entries (user asked.asker) then holds (perm_at entries (user asked.asker)) want && mask_holds entries want
-    else (if any_matches entries asked.owning_group asked.groups then any_grants entries asked.owning_group asked.groups want && mask_holds entries want
-    else holds (perm_at entries other) want))
+-- such entries; else by OTHER
+unfoldable pub grants : Entries → Object → Requester → ℕ → Bool
+grants entries object requester request =
+    if requester.user == object.user then entry_contains entries user_obj request
+    else (if set.contains_key entries (user requester.user)
+    then entry_contains entries (user requester.user) request && entry_contains entries mask request
+    else (if any_matches entries object.group requester.groups
+    then class_contains entries object.group requester.groups request
+    else entry_contains entries other request))

@@ -1,13 +1,14 @@
 -- The ACLs of a new file (acl(5), "OBJECT CREATION AND DEFAULT ACLs").
-use Rattle.std.specs.Prelude.{ℕ, ◌/◌, ◌%◌, bit_and, Bool, [], ◌∷◌, Option, Some, None, if◌then◌else◌}
+use Rattle.std.specs.Prelude.{ℕ, bit_and, Bool, [], ◌∷◌, Option, Some, None, if◌then◌else◌}
 use Rattle.std.specs.Int.{w16, bit_not}
-use Rattle.acl_posix.specs.Label.{user_obj, group_obj, other}
+use Rattle.acl_perm.specs.Mode.{owner_part, group_part, others_part}
+use Rattle.acl_posix.specs.Tag.{user_obj, group_obj, other}
 use Rattle.acl_posix.specs.Entries.{Entries, as_set}
 use Rattle.acl_posix.specs.Mode.{mode_of, chmoded}
 
 -- the three entries that stand for a mode
 abbrev pub of_mode : ℕ → Entries
-of_mode mode = as_set ((user_obj, mode / 64) ∷ (group_obj, mode / 8 % 8) ∷ (other, mode % 8) ∷ [])
+of_mode mode = as_set ((user_obj, owner_part mode) ∷ (group_obj, group_part mode) ∷ (other, others_part mode) ∷ [])
 
 -- a set with the entries of its mode cut to the bits of a mode
 abbrev pub cut : Entries → ℕ → Entries

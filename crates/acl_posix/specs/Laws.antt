@@ -1,9 +1,10 @@
--- Laws of the mode and the mask, over sets of entries alone.
+-- Laws of the mode and the mask, over sets of entries alone (this library's own).
 use Rattle.std.specs.Prelude.{ℕ, ◌≡◌, Some}
 use Rattle.std.specs.FinMap as set
-use Rattle.acl_posix.specs.Label.{Label}
+use Rattle.acl_posix.specs.Tag.{Tag}
 use Rattle.acl_posix.specs.Entries.{Entries}
-use Rattle.acl_posix.specs.Mode.{mode_of, chmoded, with_mask, effective_of}
+use Rattle.acl_posix.specs.Mode.{mode_of, chmoded}
+use Rattle.acl_posix.specs.Mask.{with_mask, effective_of}
 
 -- the mode after it is changed is the mode that was set
 abbrev pub ModeIsSet : Type 0
@@ -11,7 +12,9 @@ ModeIsSet = (entries : Entries) (mode : ℕ) → mode_of (chmoded entries mode) 
 
 -- after the mask is calculated each entry grants all of its own permissions
 abbrev pub MaskLeavesAll : Type 0
-MaskLeavesAll = (entries : Entries) (entry : Label × ℕ) → set.get (with_mask entries) entry.0 ≡ Some entry.1 → effective_of (with_mask entries) entry ≡ entry.1
+MaskLeavesAll =
+    (entries : Entries) (entry : Tag × ℕ)
+    → set.get (with_mask entries) entry.0 ≡ Some entry.1 → effective_of (with_mask entries) entry ≡ entry.1
 
 -- the mask calculated twice is calculated once
 abbrev pub MaskStays : Type 0

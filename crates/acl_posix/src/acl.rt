@@ -1,21 +1,19 @@
-ghost use Rattle.std.specs.Prelude.{◌≡◌, IfErr, IfOk, IsOk, IsSome, List, OnErr, OnOk, All};
+ghost use Rattle.std.specs.Prelude.{◌≡◌, All, IfErr, IfOk, IsOk, IsSome, IsTrue, MatchResult, OnErr, OnOk};
 ghost use Rattle.std.specs.FinMap as set;
+ghost use Rattle.acl_posix.specs.declared.fault.AclFault.{AclFault as Fault};
 ghost use Rattle.acl_posix.specs.declared.fault.AclFault.TheVariants.{Memory};
-ghost use Rattle.acl_posix.specs.Label.{label_of, mask};
-ghost use Rattle.acl_posix.specs.Entries.{as_set, IsEntry, pair_of, pairs};
-ghost use Rattle.acl_posix.specs.Valid.{IsFaultOf, IsValid, IsValidList};
-ghost use Rattle.acl_posix.specs.Mode.{chmoded, effective_of, mode_of, with_mask};
+ghost use Rattle.acl_posix.specs.Tag.{mask};
+ghost use Rattle.acl_posix.specs.Entries.{as_set, IsEntry, IsSorted, pair_of, pairs};
+ghost use Rattle.acl_posix.specs.Valid.{is_refusal, IsFaultOf, IsValid, IsValidList};
+ghost use Rattle.acl_posix.specs.Mode.{chmoded, mode_of};
+ghost use Rattle.acl_posix.specs.Mask.{effective_of, with_mask};
 ghost use Rattle.acl_posix.specs.Check.{grants, ids};
 ghost use Rattle.acl_posix.specs.Create.{of_mode};
 
-use crate::check::{any_grants, any_matches, mask_contains};
-use crate::collect::in_order;
-use crate::edit::{is_masked, set_mask, set_mode};
 use crate::entry::Entry;
 use crate::fault::AclFault;
-use crate::find::{find, group_class, missing, perm_at};
 use crate::id::Id;
-use crate::perms::{common, contains, group_of, others_of, owner_of};
+use crate::sorted::SortedEntries;
 use crate::tag::Tag;
 use acl_perm::{Mode, Perm};
 use std::alloc::{AllocError, Global};
@@ -25,39 +23,42 @@ use std::marker::Model;
 /// in canonical order. Clauses see it as what each tag and qualifier has.
 #[derive(Drop)]
 pub struct PosixAcl {
-    entries: Vec<Entry>,
+    entries: SortedEntries,
 }
 
 impl Model for PosixAcl {
     ghost use Rattle.std.specs.Prelude.{ℕ};
     ghost use Rattle.std.specs.FinMap as set;
     ghost use Rattle.std.specs.Coded.{coded_ℕ};
-    ghost use Rattle.acl_posix.specs.Label.{label_cmp, coded_label};
-    ghost use Rattle.acl_posix.specs.Entries.{as_set, pairs};
-    ghost use Rattle.acl_posix.specs.Valid.{IsCanonical};
+    ghost use Rattle.acl_posix.specs.Tag.{tag_cmp};
+    ghost use Rattle.acl_posix.specs.TagCode.{coded_tag};
+    ghost use Rattle.acl_posix.specs.Valid.{IsValid};
 
-    ghost Value = { set.FinMap label_cmp ℕ };
+    ghost Value = { set.FinMap tag_cmp ℕ };
 
-    ghost coded = { set.code coded_label coded_ℕ };
+    ghost coded = { set.code coded_tag coded_ℕ };
 
-    ghost view = { λ acl. as_set (pairs acl.entries.items) };
+    ghost view = { λ acl. acl.entries };
 
-    ghost invariant = { λ acl. IsCanonical (pairs acl.entries.items) };
+    ghost invariant = { λ acl. IsValid acl.entries };
 }
 
 impl PosixAcl {
     /// The ACL of these entries, which may stand in any order. A list that is not valid is refused: by the first entry
     /// with the tag and qualifier of one before it, else by the first absent of USER_OBJ, GROUP_OBJ, OTHER, and of MASK
-    /// where there is a USER or GROUP entry. Time n log n, and one map of at most n entries beside those handed in; linear
-    /// time and no memory where they stand in canonical order.
+    /// where there is a USER or GROUP entry. Time n log n, and one map of at most n entries beside those handed in;
+    /// linear time and no memory where they stand in canonical order.
     pub fn from_entries(alloc: Global, entries: Vec<Entry>) -> Result<PosixAcl, AclFault>
         ensures valid { OnOk result (IsValidList (pairs entries.items)) }
         ensures entries { IfOk result (λ acl. acl ≡ as_set (pairs entries.items)) }
         ensures fault { IfErr result (IsFaultOf (pairs entries.items)) }
         ensures accepts { IsValidList (pairs entries.items) → IfErr result (λ fault. fault ≡ Memory) }
+        ensures refused { (fault : Fault) → IsTrue (is_refusal fault) → IsFaultOf (pairs entries.items) fault
+            → MatchResult result (λ _. ⊥) (λ found. IsTrue (is_refusal found) → found ≡ fault) }
+        ensures no_memory { IsSorted (pairs entries.items) → IfErr result (λ fault. IsTrue (is_refusal fault)) }
     {
-        let entries = in_order(alloc, entries)?;
-        match missing(&entries) {
+        let entries = SortedEntries::from_entries(alloc, entries)?;
+        match entries.missing() {
             Some(tag) => Err(AclFault::Miss(tag)),
             None => Ok(PosixAcl { entries }),
         }
@@ -69,14 +70,14 @@ impl PosixAcl {
         ensures within { All IsEntry (set.entries self.now) }
         ensures valid { IsValid self.now }
     {
-        &self.entries
+        self.entries.as_slice()
     }
 
     /// Another ACL of the same entries. Linear time; one table of their number.
     pub fn copy(&self, alloc: Global) -> Result<PosixAcl, AllocError>
         ensures { IfOk result (λ acl. acl ≡ self.now) }
     {
-        let entries = Vec::from_slice(alloc, &self.entries)?;
+        let entries = self.entries.copy(alloc)?;
         Ok(PosixAcl { entries })
     }
 
@@ -84,19 +85,7 @@ impl PosixAcl {
     pub(crate) fn of_mode(alloc: Global, mode: Mode) -> Result<PosixAcl, AllocError>
         ensures { IfOk result (λ acl. acl ≡ of_mode mode.bits) }
     {
-        let owner = Entry {
-            tag: Tag::UserObj,
-            perm: owner_of(mode),
-        };
-        let group = Entry {
-            tag: Tag::GroupObj,
-            perm: group_of(mode),
-        };
-        let other = Entry {
-            tag: Tag::Other,
-            perm: others_of(mode),
-        };
-        let entries = Vec::from_slice(alloc, &[owner, group, other])?;
+        let entries = SortedEntries::of_mode(alloc, mode)?;
         Ok(PosixAcl { entries })
     }
 
@@ -105,18 +94,19 @@ impl PosixAcl {
     #[tactic(auto, unfolding(crate::specs::Check::grants))]
     pub fn check(&self, owner: Id, group: Id, user: Id, groups: &[Id], want: Perm) -> bool
         ensures { result ≡ grants self.now
-            (record { owner = owner.value; owning_group = group.value; asker = user.value; groups = ids groups.now })
+            (record { user = owner.value; group = group.value })
+            (record { user = user.value; groups = ids groups.now })
             want.bits }
     {
-        let entries: &[Entry] = &self.entries;
+        let entries = &self.entries;
         if user.value == owner.value {
-            contains(perm_at(entries, Tag::UserObj), want)
-        } else if let Some(perm) = find(entries, Tag::User(user)) {
-            contains(perm, want) && mask_contains(entries, want)
-        } else if any_matches(entries, group, groups) {
-            any_grants(entries, group, groups, want) && mask_contains(entries, want)
+            entries.entry_contains(Tag::UserObj, want)
+        } else if let Some(perm) = entries.get(Tag::User(user)) {
+            perm.contains(want) && entries.entry_contains(Tag::Mask, want)
+        } else if entries.any_matches(group, groups) {
+            entries.class_contains(group, groups, want)
         } else {
-            contains(perm_at(entries, Tag::Other), want)
+            entries.entry_contains(Tag::Other, want)
         }
     }
 
@@ -125,13 +115,12 @@ impl PosixAcl {
     pub fn mode(&self) -> Mode
         ensures { result.bits ≡ mode_of self.now }
     {
-        let entries: &[Entry] = &self.entries;
-        let owner = u16::from(perm_at(entries, Tag::UserObj).bits);
-        let class = u16::from(perm_at(entries, group_class(entries)).bits);
-        let others = u16::from(perm_at(entries, Tag::Other).bits);
-        Mode {
-            bits: 64 * owner + 8 * class + others,
-        }
+        let entries = &self.entries;
+        Mode::from_parts(
+            entries.perm_at(Tag::UserObj),
+            entries.perm_at(entries.group_class()),
+            entries.perm_at(Tag::Other),
+        )
     }
 
     /// Sets the file mode bits: USER_OBJ, MASK or, where there is none, GROUP_OBJ, and OTHER, and no other entry. No
@@ -139,12 +128,7 @@ impl PosixAcl {
     pub fn chmod(&mut self, mode: Mode)
         ensures { self.new ≡ chmoded self.old mode.bits }
     {
-        set_mode(
-            &mut self.entries,
-            owner_of(mode),
-            group_of(mode),
-            others_of(mode),
-        );
+        self.entries.set_mode(mode);
     }
 
     /// The permissions of an entry that MASK leaves: of a USER, GROUP_OBJ or GROUP entry those that MASK has too, where
@@ -152,11 +136,11 @@ impl PosixAcl {
     pub fn effective(&self, entry: Entry) -> Perm
         ensures { result.bits ≡ effective_of self.now (pair_of entry) }
     {
-        if !is_masked(entry.tag) {
+        if !entry.tag.is_masked() {
             return entry.perm;
         }
-        match find(&self.entries, Tag::Mask) {
-            Some(mask) => common(entry.perm, mask),
+        match self.entries.get(Tag::Mask) {
+            Some(mask) => entry.perm.intersection(mask),
             None => entry.perm,
         }
     }
@@ -168,6 +152,6 @@ impl PosixAcl {
         ensures err { OnErr result (self.new ≡ self.old) }
         ensures no_memory { IsSome (set.get self.old mask) → IsOk result }
     {
-        set_mask(&mut self.entries)
+        self.entries.set_mask()
     }
 }

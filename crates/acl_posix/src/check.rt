@@ -1,64 +1,60 @@
 ghost use Rattle.std.specs.Prelude.{◌≡◌};
-ghost use Rattle.std.specs.FinMap as set;
-ghost use Rattle.acl_posix.specs.Label.{label_of};
-ghost use Rattle.acl_posix.specs.Entries.{as_set, IsSorted, pairs};
-ghost use Rattle.acl_posix.specs.Check.{any_grants, any_matches, entry_holds, group_holds, ids, mask_holds};
+ghost use Rattle.acl_posix.specs.Tag.{tag_of};
+ghost use Rattle.acl_posix.specs.Check.{any_contains, any_matches, class_contains, entry_contains, ids};
+ghost use Rattle.acl_posix.specs.GroupSearch.{group_contains};
 
-use crate::entry::Entry;
-use crate::find::find;
 use crate::id::Id;
-use crate::perms::contains;
+use crate::sorted::SortedEntries;
 use crate::tag::Tag;
 use acl_perm::Perm;
 
-/// Whether the mask contains all that is requested, or there is none.
-pub(crate) fn mask_contains(entries: &[Entry], want: Perm) -> bool
-    requires { IsSorted (pairs entries.now) }
-    ensures { result ≡ mask_holds (as_set (pairs entries.now)) want.bits }
-{
-    match find(entries, Tag::Mask) {
-        Some(mask) => contains(mask, want),
-        None => contains(Perm::ALL, want),
-    }
-}
-
-/// Whether an entry matches: some matching entry contains the empty request.
-pub(crate) fn any_matches(entries: &[Entry], owning_group: Id, groups: &[Id]) -> bool
-    requires { IsSorted (pairs entries.now) }
-    ensures { result ≡ any_matches (as_set (pairs entries.now)) owning_group.value (ids groups.now) }
-{
-    any_grants(entries, owning_group, groups, Perm::NONE)
-}
-
-/// Whether one matching entry contains all that is requested: a search for each group of the requester.
-pub(crate) fn any_grants(entries: &[Entry], owning_group: Id, groups: &[Id], want: Perm) -> bool
-    requires { IsSorted (pairs entries.now) }
-    ensures { result ≡ any_grants (as_set (pairs entries.now)) owning_group.value (ids groups.now) want.bits }
-{
-    for group in groups {
-        if group_grants(entries, owning_group, *group, want) {
-            return true;
+impl SortedEntries {
+    /// Whether the tag has an entry that contains all that is requested.
+    pub(crate) fn entry_contains(&self, tag: Tag, request: Perm) -> bool
+        ensures { result ≡ entry_contains self.now (tag_of tag) request.bits }
+    {
+        match self.get(tag) {
+            Some(perm) => perm.contains(request),
+            None => false,
         }
     }
-    false
-}
 
-/// Whether an entry that matches by this group contains all that is requested.
-fn group_grants(entries: &[Entry], owning_group: Id, group: Id, want: Perm) -> bool
-    requires { IsSorted (pairs entries.now) }
-    ensures { result ≡ group_holds (as_set (pairs entries.now)) owning_group.value want.bits group.value }
-{
-    (group.value == owning_group.value && entry_grants(entries, Tag::GroupObj, want))
-        || entry_grants(entries, Tag::Group(group), want)
-}
+    /// Whether some entry matches by a group of the requester: some such entry contains the empty request.
+    pub(crate) fn any_matches(&self, owning_group: Id, groups: &[Id]) -> bool
+        ensures { result ≡ any_matches self.now owning_group.value (ids groups.now) }
+    {
+        self.any_contains(owning_group, groups, Perm::NONE)
+    }
 
-/// Whether the tag has an entry that contains all that is requested.
-fn entry_grants(entries: &[Entry], tag: Tag, want: Perm) -> bool
-    requires { IsSorted (pairs entries.now) }
-    ensures { result ≡ entry_holds (as_set (pairs entries.now)) (label_of tag) want.bits }
-{
-    match find(entries, tag) {
-        Some(perm) => contains(perm, want),
-        None => false,
+    /// Whether the entries that match by a group of the requester grant the request: MASK and one of them, and without
+    /// MASK the owning group's.
+    pub(crate) fn class_contains(&self, owning_group: Id, groups: &[Id], request: Perm) -> bool
+        ensures { result ≡ class_contains self.now owning_group.value (ids groups.now) request.bits }
+    {
+        match self.get(Tag::Mask) {
+            Some(mask) => mask.contains(request)
+                && self.any_contains(owning_group, groups, request),
+            None => self.entry_contains(Tag::GroupObj, request),
+        }
+    }
+
+    /// Whether one matching entry contains all that is requested: a search for each group of the requester.
+    fn any_contains(&self, owning_group: Id, groups: &[Id], request: Perm) -> bool
+        ensures { result ≡ any_contains self.now owning_group.value (ids groups.now) request.bits }
+    {
+        for group in groups {
+            if self.group_contains(owning_group, *group, request) {
+                return true;
+            }
+        }
+        false
+    }
+
+    /// Whether an entry that matches by this group contains all that is requested.
+    fn group_contains(&self, owning_group: Id, group: Id, request: Perm) -> bool
+        ensures { result ≡ group_contains self.now owning_group.value request.bits group.value }
+    {
+        (group.value == owning_group.value && self.entry_contains(Tag::GroupObj, request))
+            || self.entry_contains(Tag::Group(group), request)
     }
 }

@@ -2,7 +2,6 @@ ghost use Rattle.std.specs.Prelude.{◌≡◌, IfOk, Some, option_map};
 ghost use Rattle.acl_posix.specs.Create.{created_access, created_default, cut};
 
 use crate::acl::PosixAcl;
-use crate::perms::{common_bits, without};
 use acl_perm::Mode;
 use std::alloc::{AllocError, Global};
 
@@ -15,8 +14,8 @@ pub struct PosixFile {
 
 /// The ACLs of a new file, or of a new directory where `dir` is true, in a directory with this default ACL (acl(5),
 /// "OBJECT CREATION AND DEFAULT ACLs"). With a default ACL the access ACL is that with the entries of its mode cut to
-/// the bits of `mode`, the umask has no part, and a directory gets the default ACL unchanged as its own. Without one the
-/// access ACL has three entries with the bits of `mode` that are not in `umask`. Linear time; a table for each ACL.
+/// the bits of `mode`, the umask has no part, and a directory gets the default ACL unchanged as its own. Without one
+/// the access ACL has three entries with the bits of `mode` that are not in `umask`. Linear time; a table for each ACL.
 pub fn create(
     alloc: Global,
     default: Option<&PosixAcl>,
@@ -24,13 +23,15 @@ pub fn create(
     umask: Mode,
     dir: bool,
 ) -> Result<PosixFile, AllocError>
-    ensures access { IfOk result (λ file. file.access ≡ created_access (option_map (λ acl. acl.now) default.entry) mode.bits umask.bits) }
-    ensures default { IfOk result (λ file. file.default ≡ created_default (option_map (λ acl. acl.now) default.entry) dir) }
+    ensures access { IfOk result (λ file.
+        file.access ≡ created_access (option_map (λ acl. acl.now) default.entry) mode.bits umask.bits) }
+    ensures default { IfOk result (λ file.
+        file.default ≡ created_default (option_map (λ acl. acl.now) default.entry) dir) }
 {
     match default {
         Some(inherited) => inherit(alloc, inherited, mode, dir),
         None => {
-            let access = PosixAcl::of_mode(alloc, without(mode, umask))?;
+            let access = PosixAcl::of_mode(alloc, mode.difference(umask))?;
             Ok(PosixFile {
                 access,
                 default: None,
@@ -49,7 +50,7 @@ fn inherit(
     ensures default { IfOk result (λ file. file.default ≡ created_default (Some inherited.now) dir) }
 {
     let mut access = inherited.copy(alloc.clone()?)?;
-    access.chmod(common_bits(inherited.mode(), mode));
+    access.chmod(inherited.mode().intersection(mode));
     let default = if dir {
         Some(inherited.copy(alloc)?)
     } else {

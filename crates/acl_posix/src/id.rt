@@ -1,19 +1,23 @@
-ghost use Rattle.std.specs.Prelude.{◌≡◌, ◌<◌, IfSome, IsSome, ◌↔◌};
+ghost use Rattle.std.specs.Prelude.{◌≡◌, IfSome, IsSome, ◌↔◌};
+ghost use Rattle.acl_posix.specs.Id.{IsId};
+
+/// The greatest id. The number above it stands for no id.
+pub(crate) const GREATEST: u32 = u32::MAX - 1;
 
 /// The id of a user or a group, from 0 to 4294967294: the qualifier of a USER or GROUP entry (acl(5), "ACL ENTRIES").
 #[derive(Clone, Copy, Debug, PartialEq, Eq)]
 pub struct Id {
     pub value: u32,
-    ghost within: { value < 4294967295 },
+    ghost within: { IsId value },
 }
 
 impl Id {
     /// The id of this number; none for 4294967295, which stands for no id. Constant time.
     pub fn new(value: u32) -> Option<Id>
-        ensures within { IsSome result ↔ (value < 4294967295) }
+        ensures within { IsSome result ↔ IsId value }
         ensures value { IfSome result (λ id. id.value ≡ value) }
     {
-        if value < u32::MAX {
+        if value <= GREATEST {
             Some(Id { value })
         } else {
             None
@@ -23,7 +27,7 @@ impl Id {
     /// The number of the id. Constant time.
     pub fn value(self) -> u32
         ensures value { result ≡ self.value }
-        ensures within { result < 4294967295 }
+        ensures within { IsId result }
     {
         self.value
     }

@@ -3,25 +3,39 @@
 
 mod acl;
 mod check;
-mod collect;
-mod edit;
+mod edits;
 mod entry;
+mod entry_line;
 mod fault;
+mod field;
 mod file;
-mod find;
 mod id;
 pub mod laws;
-mod perms;
+mod look_up;
+mod names;
+mod parser;
+mod piece;
+mod reader;
+mod sorted;
+mod sorting;
 mod tag;
+mod text_fault;
+mod validity;
+mod writer;
 
 pub use acl::PosixAcl;
 pub use entry::Entry;
 pub use fault::AclFault;
 pub use file::{PosixFile, create};
 pub use id::Id;
+pub use names::{NameFault, Names};
+pub use parser::parse;
 pub use tag::Tag;
+pub use text_fault::{Cause, Part, TextFault};
 
 #[cfg(test)]
 mod speed;
 #[cfg(test)]
 mod tests;
+#[cfg(test)]
+mod text_tests;

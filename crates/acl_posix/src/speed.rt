@@ -6,8 +6,8 @@ use super::*;
 use acl_perm::Perm;
 use std::alloc::{AllocError, Global};
 
-// The entries without qualifier, and `count` users and groups each: in canonical order where `step` is 1, and with their
-// ids in no order where it is a large prime.
+// The entries without qualifier, and `count` users and groups each: in canonical order where `step` is 1, and with
+// their ids in no order where it is a large prime.
 fn many(alloc: Global, count: u32, step: u32) -> Result<Vec<Entry>, AllocError>
     requires { 0 < count }
 {

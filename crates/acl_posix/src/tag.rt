@@ -3,7 +3,8 @@ ghost use Rattle.std.proofs.Common.{rules};
 ghost use Rattle.std.specs.Cmp.{partial_order_from_agreeing_total};
 ghost use Rattle.std.specs.Cmp.Rules.{comparing};
 ghost use Rattle.std.specs.Ordering.{as_partial_cmp};
-ghost use Rattle.acl_posix.specs.Label.{label_of, name_of, qualifier, rank, tag_cmp, tags_total};
+ghost use Rattle.acl_posix.specs.Tag.{is_masked, is_named, name_of, qualifier, rank, tag_of};
+ghost use Rattle.acl_posix.specs.TagCode.{code_cmp, codes_total};
 
 use crate::id::Id;
 use std::cmp::Ordering;
@@ -29,7 +30,7 @@ pub enum Tag {
 impl Tag {
     /// The name of the tag type in the standard, without the qualifier. Constant time.
     pub fn name(&self) -> &'static str
-        ensures { result.now ≡ name_of (label_of self.now) }
+        ensures { result.now ≡ name_of (tag_of self.now) }
     {
         match self {
             Tag::UserObj => "USER_OBJ",
@@ -41,8 +42,22 @@ impl Tag {
         }
     }
 
+    /// Whether the tag has a qualifier: USER or GROUP.
+    pub(crate) fn is_named(self) -> bool
+        ensures { result ≡ is_named (tag_of self) }
+    {
+        matches!(self, Tag::User(_) | Tag::Group(_))
+    }
+
+    /// Whether the mask limits the entry of the tag: USER, GROUP_OBJ or GROUP.
+    pub(crate) fn is_masked(self) -> bool
+        ensures { result ≡ is_masked (tag_of self) }
+    {
+        matches!(self, Tag::User(_) | Tag::GroupObj | Tag::Group(_))
+    }
+
     fn rank(self) -> u8
-        ensures { result ≡ rank (label_of self) }
+        ensures { result ≡ rank (tag_of self) }
     {
         match self {
             Tag::UserObj => 0,
@@ -55,7 +70,7 @@ impl Tag {
     }
 
     fn qualifier(self) -> u32
-        ensures { result ≡ qualifier (label_of self) }
+        ensures { result ≡ qualifier (tag_of self) }
     {
         match self {
             Tag::User(id) | Tag::Group(id) => id.value,
@@ -65,9 +80,9 @@ impl Tag {
 }
 
 impl Ord for Tag {
-    ghost cmp = { tag_cmp };
+    ghost cmp = { code_cmp };
 
-    ghost total = { tags_total };
+    ghost total = { codes_total };
 
     ghost matches_partial_cmp = { Prim.search (comparing, rules) };
 
@@ -82,9 +97,10 @@ impl Ord for Tag {
 }
 
 impl PartialOrd for Tag {
-    ghost partial_cmp = { as_partial_cmp tag_cmp };
+    ghost partial_cmp = { as_partial_cmp code_cmp };
 
-    ghost laws = { partial_order_from_agreeing_total tag_cmp tags_total (λ x y. refl) (Prim.search (comparing, rules)) };
+    ghost laws = { partial_order_from_agreeing_total code_cmp codes_total (λ x y. refl)
+        (Prim.search (comparing, rules)) };
 
     fn partial_cmp(&self, other: &Tag) -> Option<Ordering> {
         Some(self.cmp(other))

@@ -1,32 +1,54 @@
-//! Each public call with the entries of worked examples. A test whose own entries are refused memory ends quietly, and a
-//! call that is refused memory must answer so and leave its value as it was; `ample_memory` asserts that with memory
-//! left no call is refused.
+//! Each public call with the entries of worked examples. Each table runs twice: with ample memory, where each answer is
+//! exact, and where memory may be wanting, which is then an answer too and leaves a value as it was.
 
 use super::*;
 use acl_perm::{Mode, Perm};
 use std::alloc::Global;
+use std::process::Abort;
 use std::test::Fail;
 
 type Row = (Tag, u8);
 
+const USER_5: Tag = Tag::User(Id { value: 5 });
+
 const USER_7: Tag = Tag::User(Id { value: 7 });
+
+const USER_1001: Tag = Tag::User(Id { value: 1001 });
+
+const GROUP_5: Tag = Tag::Group(Id { value: 5 });
+
+const GROUP_50: Tag = Tag::Group(Id { value: 50 });
+
+const GROUP_60: Tag = Tag::Group(Id { value: 60 });
 
 // `u::rw-,u:1001:rw-,g::r--,g:50:rw-,m::r--,o::r--`, in another order
 const SHARED: [Row; 6] = [
     (Tag::Other, 4),
     (Tag::Mask, 4),
-    (Tag::Group(Id { value: 50 }), 6),
+    (GROUP_50, 6),
     (Tag::UserObj, 6),
-    (Tag::User(Id { value: 1001 }), 6),
+    (USER_1001, 6),
     (Tag::GroupObj, 4),
 ];
+
+// The same in canonical order, with these permissions of OTHER and of the mask
+const fn shared(mask: u8, other: u8) -> [Row; 6] {
+    [
+        (Tag::UserObj, 6),
+        (USER_1001, 6),
+        (Tag::GroupObj, 4),
+        (GROUP_50, 6),
+        (Tag::Mask, mask),
+        (Tag::Other, other),
+    ]
+}
 
 // `u::rwx,g::---,g:50:r--,g:60:-w-,m::rw-,o::---`
 const TWO_GROUPS: [Row; 6] = [
     (Tag::UserObj, 7),
     (Tag::GroupObj, 0),
-    (Tag::Group(Id { value: 50 }), 4),
-    (Tag::Group(Id { value: 60 }), 2),
+    (GROUP_50, 4),
+    (GROUP_60, 2),
     (Tag::Mask, 6),
     (Tag::Other, 0),
 ];
@@ -34,7 +56,7 @@ const TWO_GROUPS: [Row; 6] = [
 // `u::rwx,u:5:rwx,g::r-x,m::rwx,o::r-x`
 const DEFAULT: [Row; 5] = [
     (Tag::UserObj, 7),
-    (Tag::User(Id { value: 5 }), 7),
+    (USER_5, 7),
     (Tag::GroupObj, 5),
     (Tag::Mask, 7),
     (Tag::Other, 5),
@@ -51,20 +73,95 @@ const MASKED: [Row; 4] = [
     (Tag::Other, 7),
 ];
 
-// The entries of some rows; none where memory ran out.
-fn entries_of(alloc: Global, rows: &[Row]) -> Option<Vec<Entry>> {
-    let mut entries = Vec::new(alloc);
-    for (tag, bits) in rows {
-        let perm = Perm::new(*bits)?;
-        entries.push(Entry { tag: *tag, perm }).ok()?;
-    }
-    Some(entries)
+// `u::rwx,g::---,o::rwx`
+const NO_GROUP: [Row; 3] = [(Tag::UserObj, 7), (Tag::GroupObj, 0), (Tag::Other, 7)];
+
+// `u::rw-,u:7:r--,g::r--,o::---`
+const NO_MASK: [Row; 4] = [
+    (Tag::UserObj, 6),
+    (USER_7, 4),
+    (Tag::GroupObj, 4),
+    (Tag::Other, 0),
+];
+
+// `u::rw-,g::r--,m::r--,m::r--,o::---`
+const TWO_MASKS: [Row; 5] = [
+    (Tag::UserObj, 6),
+    (Tag::GroupObj, 4),
+    (Tag::Mask, 4),
+    (Tag::Mask, 4),
+    (Tag::Other, 0),
+];
+
+// `u::rw-,u:7:r--,u:7:r--,g::r--,m::r--,o::---`
+const TWO_USERS: [Row; 6] = [
+    (Tag::UserObj, 6),
+    (USER_7, 4),
+    (USER_7, 4),
+    (Tag::GroupObj, 4),
+    (Tag::Mask, 4),
+    (Tag::Other, 0),
+];
+
+// `u::rw-,g:5:r--,g:5:r--,u::rw-`
+const TWO_REPEATS: [Row; 4] = [
+    (Tag::UserObj, 6),
+    (GROUP_5, 4),
+    (GROUP_5, 4),
+    (Tag::UserObj, 6),
+];
+
+// `o::r--,g::r--,u:7:r--,g:5:r--,o::r--`
+const LATE_REPEAT: [Row; 5] = [
+    (Tag::Other, 4),
+    (Tag::GroupObj, 4),
+    (USER_7, 4),
+    (GROUP_5, 4),
+    (Tag::Other, 4),
+];
+
+// Where the calls get their memory, and whether it may be wanting, which is then an answer to every row.
+#[derive(Clone, Copy)]
+struct Memory {
+    alloc: Global,
+    is_ample: bool,
 }
 
-// The ACL of some rows; none where memory ran out.
-fn acl_of(alloc: Global, rows: &[Row]) -> Option<PosixAcl> {
-    let entries = entries_of(alloc.clone().ok()?, rows)?;
-    PosixAcl::from_entries(alloc, entries).ok()
+impl Memory {
+    fn entries(self, rows: &[Row]) -> Result<Vec<Entry>, AclFault> {
+        let mut entries = Vec::new(self.alloc);
+        for (tag, bits) in rows {
+            if let Some(perm) = Perm::new(*bits) {
+                entries.push(Entry { tag: *tag, perm })?;
+            }
+        }
+        Ok(entries)
+    }
+
+    fn acl(self, rows: &[Row]) -> Result<PosixAcl, AclFault> {
+        PosixAcl::from_entries(self.alloc, self.entries(rows)?)
+    }
+
+    // What a file gets in a directory with the default ACL above, or with none.
+    fn new_file(
+        self,
+        has_default: bool,
+        mode: Mode,
+        umask: Mode,
+        dir: bool,
+    ) -> Result<PosixFile, AclFault> {
+        if has_default {
+            let default = self.acl(&DEFAULT)?;
+            Ok(create(self.alloc, Some(&default), mode, umask, dir)?)
+        } else {
+            Ok(create(self.alloc, None, mode, umask, dir)?)
+        }
+    }
+
+    // Whether a call may have been refused with this fault.
+    fn may_want(self, fault: Option<AclFault>) -> bool {
+        !self.is_ample && fault == Some(AclFault::Memory)
+    }
 }
 
 fn has_rows(acl: &PosixAcl, rows: &[Row]) -> bool {
@@ -74,98 +171,50 @@ fn has_rows(acl: &PosixAcl, rows: &[Row]) -> bool {
             && entry.perm.bits == row.1)
 }
 
-#[test]
-fn lists_are_valid_or_have_their_fault(rt: HostRuntime) {
-    let group_5 = Tag::Group(Id { value: 5 });
-    let table: [(&[Row], Option<AclFault>); 12] = [
+// ---- tables
+
+fn lists<A: Abort>(rt: &A, memory: Memory) {
+    let three: [Row; 3] = [(Tag::UserObj, 7), (Tag::GroupObj, 5), (Tag::Other, 0)];
+    let table: [(&[Row], Option<AclFault>); 18] = [
         (&SHARED, None),
         (&TWO_GROUPS, None),
         (&DEFAULT, None),
         (&NO_OWNER, None),
         (&MASKED, None),
-        (
-            &[(Tag::UserObj, 7), (Tag::GroupObj, 5), (Tag::Other, 0)],
-            None,
-        ),
-        (
-            &[
-                (Tag::UserObj, 6),
-                (USER_7, 4),
-                (Tag::GroupObj, 4),
-                (Tag::Other, 0),
-            ],
-            Some(AclFault::Miss(Tag::Mask)),
-        ),
-        (
-            &[
-                (Tag::UserObj, 6),
-                (Tag::GroupObj, 4),
-                (Tag::Mask, 4),
-                (Tag::Mask, 4),
-                (Tag::Other, 0),
-            ],
-            Some(AclFault::Multi(3)),
-        ),
-        (
-            &[
-                (Tag::UserObj, 6),
-                (USER_7, 4),
-                (USER_7, 4),
-                (Tag::GroupObj, 4),
-                (Tag::Mask, 4),
-                (Tag::Other, 0),
-            ],
-            Some(AclFault::Duplicate(2)),
-        ),
+        (&three, None),
+        (&NO_MASK, Some(AclFault::Miss(Tag::Mask))),
+        (&TWO_MASKS, Some(AclFault::Multi(3))),
+        (&TWO_USERS, Some(AclFault::Duplicate(2))),
+        (&TWO_REPEATS, Some(AclFault::Duplicate(2))),
+        (&LATE_REPEAT, Some(AclFault::Multi(4))),
         (&[], Some(AclFault::Miss(Tag::UserObj))),
-        (
-            &[
-                (Tag::UserObj, 6),
-                (group_5, 4),
-                (group_5, 4),
-                (Tag::UserObj, 6),
-            ],
-            Some(AclFault::Duplicate(2)),
-        ),
-        (
-            &[(Tag::UserObj, 6), (Tag::Other, 4)],
-            Some(AclFault::Miss(Tag::GroupObj)),
-        ),
+        (&SHARED[..3], Some(AclFault::Miss(Tag::UserObj))),
+        (&SHARED[..5], Some(AclFault::Miss(Tag::GroupObj))),
+        (&SHARED[1..], Some(AclFault::Miss(Tag::Other))),
+        (&three[..1], Some(AclFault::Miss(Tag::GroupObj))),
+        (&three[..2], Some(AclFault::Miss(Tag::Other))),
+        (&TWO_MASKS[..3], Some(AclFault::Miss(Tag::Other))),
     ];
     for (rows, fault) in table {
-        let Some(entries) = entries_of(rt.alloc(), rows) else {
-            return;
-        };
-        let answer = PosixAcl::from_entries(rt.alloc(), entries).err();
-        assert!(rt;
-            answer == fault || answer == Some(AclFault::Memory),
-            "of {rows:?}"
-        );
+        let found = memory.acl(rows).err();
+        assert!(rt; found == fault || memory.may_want(found), "of {rows:?}");
     }
 }
 
-#[test]
-fn entries_are_in_canonical_order(rt: HostRuntime) {
-    let Some(acl) = acl_of(rt.alloc(), &SHARED) else {
-        return;
+fn effective_permissions<A: Abort>(rt: &A, memory: Memory) {
+    let acl = match memory.acl(&SHARED) {
+        Ok(acl) => acl,
+        Err(fault) => {
+            assert!(rt; memory.may_want(Some(fault)));
+            return;
+        }
     };
-    let rows = [
-        (Tag::UserObj, 6),
-        (Tag::User(Id { value: 1001 }), 6),
-        (Tag::GroupObj, 4),
-        (Tag::Group(Id { value: 50 }), 6),
-        (Tag::Mask, 4),
-        (Tag::Other, 4),
-    ];
-    assert!(rt; has_rows(&acl, &rows));
-    if let Ok(copy) = acl.copy(rt.alloc()) {
-        assert!(rt; has_rows(&copy, &rows));
-    }
+    assert!(rt; has_rows(&acl, &shared(4, 4)));
     for (tag, perm, effective) in [
         (Tag::UserObj, 6, 6),
-        (Tag::User(Id { value: 1001 }), 6, 4),
+        (USER_1001, 6, 4),
         (Tag::GroupObj, 4, 4),
-        (Tag::Group(Id { value: 50 }), 6, 4),
+        (GROUP_50, 6, 4),
         (Tag::Mask, 4, 4),
         (Tag::Other, 4, 4),
     ] {
@@ -179,168 +228,195 @@ fn entries_are_in_canonical_order(rt: HostRuntime) {
     }
 }
 
-#[test]
-fn the_mode_and_the_mask_are_set(rt: HostRuntime) {
-    let Some(mut acl) = acl_of(rt.alloc(), &SHARED) else {
-        return;
-    };
-    assert_eq!(rt; acl.mode().bits, 0o644);
-    acl.chmod(Mode { bits: 0o660 });
-    let user = Tag::User(Id { value: 1001 });
-    let group = Tag::Group(Id { value: 50 });
-    assert!(rt;
-        has_rows(
-            &acl,
-            &[
-                (Tag::UserObj, 6),
-                (user, 6),
-                (Tag::GroupObj, 4),
-                (group, 6),
-                (Tag::Mask, 6),
-                (Tag::Other, 0)
-            ]
-        )
-    );
-    acl.chmod(Mode { bits: 0o644 });
-    assert!(rt; acl.calc_mask().is_ok());
-    assert!(rt;
-        has_rows(
-            &acl,
-            &[
-                (Tag::UserObj, 6),
-                (user, 6),
-                (Tag::GroupObj, 4),
-                (group, 6),
-                (Tag::Mask, 6),
-                (Tag::Other, 4)
-            ]
-        )
-    );
-    let Some(masked) = acl_of(rt.alloc(), &MASKED) else {
-        return;
-    };
-    assert_eq!(rt; masked.mode().bits, 0o747);
-}
-
-#[test]
-fn a_mask_is_added_or_nothing_is(rt: HostRuntime) {
-    let Some(first) = acl_of(rt.alloc(), &NO_OWNER) else {
-        return;
-    };
-    // A copy has no room to spare.
-    let Ok(mut acl) = first.copy(rt.alloc()) else {
-        return;
-    };
-    if acl.calc_mask().is_ok() {
-        assert!(rt;
-            has_rows(
-                &acl,
-                &[
-                    (Tag::UserObj, 0),
-                    (Tag::GroupObj, 7),
-                    (Tag::Mask, 7),
-                    (Tag::Other, 7)
-                ]
-            )
-        );
-    } else {
-        assert!(rt; has_rows(&acl, &NO_OWNER));
+fn modes<A: Abort>(rt: &A, memory: Memory) {
+    let table: [(&[Row], u16); 4] = [
+        (&SHARED, 0o644),
+        (&MASKED, 0o747),
+        (&NO_OWNER, 0o077),
+        (&TWO_GROUPS, 0o760),
+    ];
+    for (rows, mode) in table {
+        match memory.acl(rows) {
+            Ok(acl) => assert_eq!(rt; acl.mode().bits, mode, "of {rows:?}"),
+            Err(fault) => assert!(rt; memory.may_want(Some(fault)), "of {rows:?}"),
+        }
     }
 }
 
-#[test]
-fn requests_are_granted_or_denied(rt: HostRuntime) {
+fn edits<A: Abort>(rt: &A, memory: Memory) {
+    match memory.acl(&SHARED) {
+        Ok(mut acl) => {
+            acl.chmod(Mode { bits: 0o660 });
+            assert!(rt; has_rows(&acl, &shared(6, 0)));
+            acl.chmod(Mode { bits: 0o644 });
+            assert!(rt; acl.calc_mask().is_ok());
+            assert!(rt; has_rows(&acl, &shared(6, 4)));
+        }
+        Err(fault) => assert!(rt; memory.may_want(Some(fault))),
+    }
+}
+
+fn requests<A: Abort>(rt: &A, memory: Memory) {
     let (owner, group, user) = (Id { value: 1 }, Id { value: 2 }, Id { value: 3 });
     let both = [Id { value: 50 }, Id { value: 60 }];
     let owning = [group];
-    let table: [(&[Row], Id, &[Id], u8, bool); 7] = [
+    let table: [(&[Row], Id, &[Id], u8, bool); 13] = [
         (&TWO_GROUPS, user, &both, 6, false),
         (&TWO_GROUPS, user, &both, 4, true),
         (&TWO_GROUPS, user, &both, 2, true),
+        (&TWO_GROUPS, user, &owning, 4, false),
         (&MASKED, user, &owning, 2, false),
+        (&MASKED, user, &owning, 4, true),
+        (&MASKED, user, &[], 2, true),
+        (&NO_GROUP, user, &owning, 4, false),
+        (&NO_GROUP, user, &both, 7, true),
+        (&SHARED, Id { value: 1001 }, &both, 2, false),
         (&NO_OWNER, owner, &[], 4, false),
         (&NO_OWNER, owner, &owning, 4, false),
         (&NO_OWNER, owner, &owning, 0, true),
     ];
     for (rows, asker, groups, want, granted) in table {
-        let (Some(acl), Some(want)) = (acl_of(rt.alloc(), rows), Perm::new(want)) else {
-            return;
-        };
-        assert_eq!(rt;
-            acl.check(owner, group, asker, groups, want),
-            granted,
-            "{want:?} of {rows:?}"
-        );
+        match (memory.acl(rows), Perm::new(want)) {
+            (Ok(acl), Some(want)) => {
+                assert_eq!(rt;
+                    acl.check(owner, group, asker, groups, want),
+                    granted,
+                    "{want:?} of {rows:?}"
+                );
+            }
+            (answer, _) => assert!(rt; memory.may_want(answer.err()), "of {rows:?}"),
+        }
     }
 }
 
-#[test]
-fn a_new_file_gets_its_acls(rt: HostRuntime) {
-    let Some(default) = acl_of(rt.alloc(), &DEFAULT) else {
-        return;
-    };
-    let (mode, umask) = (Mode { bits: 0o640 }, Mode { bits: 0o077 });
+// The ACLs of a new file or directory, with a umask that has no part where there is a default ACL.
+fn new_files<A: Abort>(rt: &A, memory: Memory) {
+    let three = [(Tag::UserObj, 6), (Tag::GroupObj, 4), (Tag::Other, 4)];
     let cut = [
         (Tag::UserObj, 6),
-        (Tag::User(Id { value: 5 }), 7),
+        (USER_5, 7),
         (Tag::GroupObj, 5),
         (Tag::Mask, 4),
         (Tag::Other, 0),
     ];
-    for dir in [false, true] {
-        if let Ok(file) = create(rt.alloc(), Some(&default), mode, umask, dir) {
-            assert!(rt; has_rows(&file.access, &cut));
-            match &file.default {
-                Some(inherited) => assert!(rt; dir && has_rows(inherited, &DEFAULT)),
-                None => assert!(rt; !dir),
+    let (inherited, plain) = (Mode { bits: 0o640 }, Mode { bits: 0o666 });
+    let (all, others) = (Mode { bits: 0o077 }, Mode { bits: 0o022 });
+    let table: [(bool, Mode, Mode, bool, &[Row]); 4] = [
+        (true, inherited, all, false, &cut),
+        (true, inherited, all, true, &cut),
+        (false, plain, others, false, &three),
+        (false, plain, others, true, &three),
+    ];
+    for (has_default, mode, umask, dir, access) in table {
+        match memory.new_file(has_default, mode, umask, dir) {
+            Ok(file) => {
+                assert!(rt; has_rows(&file.access, access));
+                match &file.default {
+                    Some(default) => assert!(rt; has_default && dir && has_rows(default, &DEFAULT)),
+                    None => assert!(rt; !(has_default && dir)),
+                }
             }
+            Err(fault) => assert!(rt; memory.may_want(Some(fault))),
         }
     }
-    let (mode, umask) = (Mode { bits: 0o666 }, Mode { bits: 0o022 });
-    if let Ok(file) = create(rt.alloc(), None, mode, umask, true) {
-        assert!(rt;
-            has_rows(
-                &file.access,
-                &[(Tag::UserObj, 6), (Tag::GroupObj, 4), (Tag::Other, 4)]
-            )
-        );
-        assert!(rt; file.default.is_none());
+}
+
+fn messages<A: Abort>(rt: &A, memory: Memory) {
+    for (fault, message) in [
+        (AclFault::Multi(3), "Multi at entry 3"),
+        (AclFault::Duplicate(2), "Duplicate at entry 2"),
+        (AclFault::Miss(Tag::Mask), "Miss MASK"),
+        (AclFault::Miss(Tag::UserObj), "Miss USER_OBJ"),
+        (AclFault::Memory, "out of memory"),
+    ] {
+        match fault.to_string(memory.alloc) {
+            Ok(text) => assert_eq!(rt; text.as_str(), message),
+            Err(_) => assert!(rt; !memory.is_ample, "of {message}"),
+        }
     }
+}
+
+// ---- tests
+
+#[test]
+fn ample_tables(rt: HostRuntime) {
+    let memory = Memory {
+        alloc: rt.alloc(),
+        is_ample: true,
+    };
+    lists(&rt, memory);
+    effective_permissions(&rt, memory);
+    modes(&rt, memory);
+    edits(&rt, memory);
+    requests(&rt, memory);
+    new_files(&rt, memory);
+    messages(&rt, memory);
+}
+
+#[test]
+fn tables_where_memory_may_be_wanting(rt: HostRuntime) {
+    let memory = Memory {
+        alloc: rt.alloc(),
+        is_ample: false,
+    };
+    lists(&rt, memory);
+    effective_permissions(&rt, memory);
+    modes(&rt, memory);
+    edits(&rt, memory);
+    requests(&rt, memory);
+    new_files(&rt, memory);
+    messages(&rt, memory);
+}
+
+// With memory a mask is added, and each copy of a list of any length is made.
+#[test]
+fn ample_copies_and_masks(rt: HostRuntime) -> Result<(), Fail> {
+    let memory = Memory {
+        alloc: rt.alloc(),
+        is_ample: true,
+    };
+    let mut entries = memory.entries(&DEFAULT)?;
+    for value in 0..95 {
+        entries.push(Entry {
+            tag: Tag::Group(Id { value }),
+            perm: Perm::ALL,
+        })?;
+    }
+    let acl = PosixAcl::from_entries(memory.alloc, entries)?;
+    let copy = acl.copy(memory.alloc)?;
+    assert_eq!(rt; copy.entries().len(), 100);
+    let mut added = memory.acl(&NO_OWNER)?.copy(memory.alloc)?;
+    added.calc_mask()?;
+    assert!(rt;
+        has_rows(
+            &added,
+            &[
+                (Tag::UserObj, 0),
+                (Tag::GroupObj, 7),
+                (Tag::Mask, 7),
+                (Tag::Other, 7)
+            ]
+        )
+    );
+    Ok(())
+}
+
+#[test]
+fn a_mask_is_added_or_nothing_is(rt: HostRuntime) {
+    let memory = Memory {
+        alloc: rt.alloc(),
+        is_ample: false,
+    };
+    // A copy has no room to spare.
+    let Ok(Ok(mut acl)) = memory.acl(&NO_OWNER).map(|acl| acl.copy(memory.alloc)) else {
+        return;
+    };
+    let is_added = acl.calc_mask().is_ok();
+    assert_eq!(rt; acl.entries().len(), if is_added { 4 } else { 3 });
 }
 
 #[test]
 fn ids_end_below_4294967295(rt: HostRuntime) {
     assert_eq!(rt; Id::new(4294967295), None);
     assert_eq!(rt; Id::new(4294967294), Some(Id { value: 4294967294 }));
-}
-
-#[test]
-fn faults_have_messages(rt: HostRuntime) {
-    for (fault, message) in [
-        (AclFault::Multi(3), "Multi at entry 3"),
-        (AclFault::Duplicate(2), "Duplicate at entry 2"),
-        (AclFault::Miss(Tag::Mask), "Miss MASK"),
-        (AclFault::Miss(Tag::UserObj), "Miss USER_OBJ"),
-    ] {
-        if let Ok(text) = fault.to_string(rt.alloc()) {
-            assert_eq!(rt; text.as_str(), message);
-        }
-    }
-}
-
-// With memory left no call is refused; under a failing allocation this test fails and says nothing.
-#[test]
-fn ample_memory(rt: HostRuntime) -> Result<(), Fail> {
-    for rows in [&SHARED[..], &TWO_GROUPS, &DEFAULT, &NO_OWNER, &MASKED] {
-        let mut acl = acl_of(rt.alloc(), rows).ok_or("an ACL")?;
-        let file = create(rt.alloc(), Some(&acl), Mode::ALL, Mode::NONE, true)?;
-        assert!(rt; file.default.is_some());
-        let copy = acl.copy(rt.alloc())?;
-        assert_eq!(rt; copy.entries().len(), rows.len());
-        acl.calc_mask()?;
-    }
-    create(rt.alloc(), None, Mode::ALL, Mode::NONE, false)?;
-    let text = AclFault::Multi(3).to_string(rt.alloc())?;
-    assert_eq!(rt; text.as_str(), "Multi at entry 3");
-    Ok(())
 }

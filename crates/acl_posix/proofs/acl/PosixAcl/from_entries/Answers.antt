@@ -1,25 +1,23 @@
-use Rattle.std.proofs.Common.{List, sym, ap, ◌∙◌}
-use Rattle.std.specs.Prelude.{option_map}
-use Rattle.acl_posix.specs.declared.entry.Entry.{Entry}
-use Rattle.acl_posix.specs.Label.{label_of}
-use Rattle.acl_posix.specs.Entries.{as_set, pairs}
-use Rattle.acl_posix.specs.Valid.{missing}
+use Rattle.std.proofs.Common.{refl, rules}
+use Rattle.std.specs.Prelude.{IfErr, OnOk}
+use Rattle.acl_posix.specs.declared.fault.AclFault.TheVariants.{Miss}
+use Rattle.acl_posix.specs.Entries.{pairs}
+use Rattle.acl_posix.specs.Valid.{IsFaultOf, IsValidList}
+use Rattle.acl_posix.proofs.Faults.{refused_from, one_fault, no_fault}
 use Rattle.acl_posix.proofs.acl.PosixAcl.from_entries.Goals as goal
 
-pub invariant_of-result : goal.invariant_of-result
-invariant_of-result c = record {
-  sorted = c.in_ok-entries.ensures.sorted;
-  valid = ap (λ (es : List Entry). missing (as_set (pairs es))) (sym c.deref.ensures.value) ∙ sym c.missing.ensures ∙ ap (option_map label_of) c.in-None.is;
-}
+pub returns-in_err-entries-clause-refused : goal.returns-in_err-entries-clause-refused
+returns-in_err-entries-clause-refused c = λ fault p is.
+    let found : IfErr c.from_residual.result (IsFaultOf (pairs c.args.entries.items)) = search rules in
+    let valid : OnOk c.from_residual.result (IsValidList (pairs c.args.entries.items)) = search rules in
+    refused_from (pairs c.args.entries.items) c.from_residual.result fault valid found p is
 
-pub returns-in-Some-clause-fault : goal.returns-in-Some-clause-fault
-returns-in-Some-clause-fault c = record {
-  distinct = c.in_ok-entries.ensures.distinct;
-  absent = ap missing (sym (ap (λ (es : List Entry). as_set (pairs es)) c.deref.ensures.value ∙ c.in_ok-entries.ensures.set)) ∙ sym c.missing.ensures ∙ ap (option_map label_of) c.in-Some.is;
-}
+pub returns-in-Some-clause-refused : goal.returns-in-Some-clause-refused
+returns-in-Some-clause-refused c = λ fault p is q.
+    let found : IsFaultOf (pairs c.args.entries.items) (Miss c.in-Some.tag) = search rules in
+    one_fault (pairs c.args.entries.items) (Miss c.in-Some.tag) fault refl p found is
 
-pub returns-in-None-clause-valid : goal.returns-in-None-clause-valid
-returns-in-None-clause-valid c = record {
-  distinct = c.in_ok-entries.ensures.distinct;
-  complete = ap missing (sym (ap (λ (es : List Entry). as_set (pairs es)) c.deref.ensures.value ∙ c.in_ok-entries.ensures.set)) ∙ sym c.missing.ensures ∙ ap (option_map label_of) c.in-None.is;
-}
+pub returns-in-None-clause-refused : goal.returns-in-None-clause-refused
+returns-in-None-clause-refused c = λ fault p is.
+    let valid : IsValidList (pairs c.args.entries.items) = search rules in
+    no_fault (pairs c.args.entries.items) fault valid p is

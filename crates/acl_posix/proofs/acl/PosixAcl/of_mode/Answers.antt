@@ -1,11 +1,10 @@
-use Rattle.std.proofs.Common.{sym, subst, List}
-use Rattle.acl_posix.specs.declared.entry.Entry.{Entry}
-use Rattle.acl_posix.specs.Entries.{pairs}
-use Rattle.acl_posix.specs.Valid.{IsCanonical}
-use Rattle.acl_posix.proofs.Edits.{three_canonical}
+use Rattle.std.proofs.Common.{sym, subst}
+use Rattle.acl_perm.specs.Mode.{owner_part, group_part, others_part}
+use Rattle.acl_posix.specs.Valid.{IsValid}
+use Rattle.acl_posix.proofs.Changes.{three_valid}
 use Rattle.acl_posix.proofs.acl.PosixAcl.of_mode.Goals as goal
 
 pub invariant_of-result : goal.invariant_of-result
 invariant_of-result c =
-    subst (λ (es : List Entry). IsCanonical (pairs es)) (sym c.in_ok-entries.ensures.items)
-    (three_canonical c.owner_of.result.bits c.group_of.result.bits c.others_of.result.bits)
+    let bits = c.args.mode.bits in
+    subst IsValid (sym c.in_ok-entries.ensures) (three_valid (owner_part bits) (group_part bits) (others_part bits))

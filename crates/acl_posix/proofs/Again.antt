@@ -1,0 +1,338 @@
+-- The fields of a written entry spell that entry, with every table of names and at any column.
+use Rattle.std.proofs.Common.{◌≡◌, ℕ, zero, suc, ◌+◌, ◌%◌, ◌^◌, ◌<◌, Bool, true, false, eqb, List, [], ◌∷◌, ◌++◌, length, Some, refl, sym, ap, ◌∙◌, subst, arith}
+use Rattle.std.specs.Prelude.{not, ◌&&◌, ◌||◌, codes, decimal, nat_le, ◌==◌}
+use Rattle.std.specs.List.{slice_split, list_all, All}
+use Rattle.std.specs.Char.{is_ascii_digit}
+use Rattle.std.proofs.lemmas.Bool.Decides.{nat_tests}
+use Rattle.std.proofs.lemmas.List.Sums.{AllPass-from_list_all}
+use Rattle.std.proofs.lemmas.List.Elements.{All-weaker}
+use Rattle.std.proofs.lemmas.List.Splits.{slice_split_none, slice_split_at}
+use Rattle.std.proofs.lemmas.List.Folds.{list_all-append}
+use Rattle.std.proofs.lemmas.Fmt.{decimal_is_IsNumeral, decimal_by_steps}
+use Rattle.acl_perm.specs.Lines.{cut_at, is_blank, is_all_blank, blanks_before, end_trimmed, trimmed}
+use Rattle.acl_posix.specs.declared.field.TagWord.{TagWord}
+use Rattle.acl_posix.specs.declared.field.TagWord.TheVariants as words
+use Rattle.acl_posix.specs.declared.text_fault.Part.{Part}
+use Rattle.acl_posix.specs.declared.text_fault.Part.TheVariants as parts
+use Rattle.acl_posix.specs.Tag.{Tag, user_obj, user, group_obj, group, mask, other, IsTag}
+use Rattle.acl_posix.specs.Names.{Table, Ids}
+use Rattle.acl_posix.specs.Fields.{permissions_of, word_of, is_default, id_of, id_in}
+use Rattle.acl_posix.specs.Grammar.{EntryFields, fields_of, HasFields, SpellsTag, HasTag, Spells}
+use Rattle.acl_posix.specs.Texts.{perm_text, long_word, short_word, qualifier_text}
+
+-- ---- bytes of fields
+
+-- a lowercase letter, a digit or -
+abbrev pub is_plain : ℕ → Bool
+is_plain b = (b == 45) || (nat_le 48 b && nat_le b 57) || (nat_le 97 b && nat_le b 122)
+
+-- minus signs, digits and lower case letters alone
+abbrev pub Plain : List ℕ → Type 0
+Plain bs = list_all is_plain bs ≡ true
+
+plain_not : (b : ℕ) → is_plain b ≡ true → (is_blank b ≡ false) × (eqb b 10 ≡ false) × (eqb b 35 ≡ false)
+    × (eqb b 44 ≡ false) × (eqb b 58 ≡ false)
+plain_not b h = (
+  grind (arith, nat_tests),
+  grind (arith, nat_tests),
+  grind (arith, nat_tests),
+  grind (arith, nat_tests),
+  grind (arith, nat_tests),
+)
+
+and_both : (a b : Bool) → (a && b) ≡ true → (a ≡ true) × (b ≡ true)
+and_both true b h = (refl, h)
+and_both false b h = absurd cc
+
+blank_plain : (b : ℕ) (bs : List ℕ) → Plain (b ∷ bs) → is_all_blank (b ∷ bs) ≡ false
+blank_plain b bs h = ap (λ t. t && is_all_blank bs) (plain_not b (and_both _ _ h).0).0
+
+end_plain : (bs : List ℕ) → Plain bs → end_trimmed bs ≡ bs
+end_plain [] h = refl
+end_plain (b ∷ bs) h = rw (blank_plain b bs h) (ap (λ (xs : List ℕ). b ∷ xs) (end_plain bs (and_both _ _ h).1))
+
+no_blanks_before : (bs : List ℕ) → Plain bs → blanks_before bs ≡ 0
+no_blanks_before [] h = refl
+no_blanks_before (b ∷ bs) h = rw (plain_not b (and_both _ _ h).0).0 refl
+
+-- plain bytes have no blanks to be trimmed
+pub trimmed_plain : (bs : List ℕ) → Plain bs → trimmed bs ≡ bs
+unfolding trimmed
+trimmed_plain bs h = rw (no_blanks_before bs h) (end_plain bs h)
+
+-- ---- fields
+
+digit_plain : (b : ℕ) → b < 10 → is_plain (48 + b) ≡ true
+digit_plain b lt = grind (arith, nat_tests)
+
+digit_digit : (b : ℕ) → b < 10 → is_ascii_digit (48 + b) ≡ true
+digit_digit b lt = grind (arith, nat_tests)
+
+-- the decimal digits of a number pass a test that each digit passes
+decimal_pass : (p : ℕ → Bool) → ((b : ℕ) → b < 10 → p (48 + b) ≡ true) → (n : ℕ) → n < 2 ^ 64
+    → list_all p (decimal n) ≡ true
+decimal_pass p each n lt =
+    decimal_by_steps (λ _ ds. list_all p ds ≡ true) (λ d small. ap (λ t. t && true) (each d small))
+    (λ m ds large so_far. list_all-append p ds ((48 + m % 10) ∷ []) ∙ ap (λ t. t && (p (48 + m % 10) && true)) so_far
+    ∙ ap (λ t. t && true) (each (m % 10) (omega arith))) n lt
+
+-- a number is written in plain bytes
+pub decimal_plain : (n : ℕ) → n < 2 ^ 64 → Plain (decimal n)
+decimal_plain = decimal_pass is_plain digit_plain
+
+-- a qualifier is written in plain bytes
+pub qualifier_plain : (t : Tag) → IsTag t → Plain (qualifier_text t)
+qualifier_plain user_obj h = refl
+qualifier_plain (user id) h = decimal_plain id (omega arith)
+qualifier_plain group_obj h = refl
+qualifier_plain (group id) h = decimal_plain id (omega arith)
+qualifier_plain mask h = refl
+qualifier_plain other h = refl
+
+-- permissions are written in plain bytes
+pub perm_plain : (p : ℕ) → p < 8 → Plain (perm_text p)
+perm_plain zero h = refl
+perm_plain (suc zero) h = refl
+perm_plain (suc (suc zero)) h = refl
+perm_plain (suc (suc (suc zero))) h = refl
+perm_plain (suc (suc (suc (suc zero)))) h = refl
+perm_plain (suc (suc (suc (suc (suc zero))))) h = refl
+perm_plain (suc (suc (suc (suc (suc (suc zero)))))) h = refl
+perm_plain (suc (suc (suc (suc (suc (suc (suc zero))))))) h = refl
+perm_plain (suc (suc (suc (suc (suc (suc (suc (suc p)))))))) h = absurd (omega arith)
+
+-- permissions that are written read back
+pub perm_again : (p : ℕ) → p < 8 → permissions_of (perm_text p) ≡ Some p
+unfolding permissions_of
+perm_again zero h = refl
+perm_again (suc zero) h = refl
+perm_again (suc (suc zero)) h = refl
+perm_again (suc (suc (suc zero))) h = refl
+perm_again (suc (suc (suc (suc zero)))) h = refl
+perm_again (suc (suc (suc (suc (suc zero))))) h = refl
+perm_again (suc (suc (suc (suc (suc (suc zero)))))) h = refl
+perm_again (suc (suc (suc (suc (suc (suc (suc zero))))))) h = refl
+perm_again (suc (suc (suc (suc (suc (suc (suc (suc p)))))))) h = absurd (omega arith)
+
+-- an id is digits alone, and its number is read
+number_again : (n : ℕ) → n < 4294967295 → (list_all is_ascii_digit (decimal n) ≡ true)
+    × (eqb (length (decimal n)) 0 ≡ false) × (id_of (decimal n) ≡ Some n)
+unfolding id_of
+number_again n lt =
+    let is = decimal_is_IsNumeral n (omega arith) in
+    let some : eqb (length (decimal n)) 0 ≡ false = let positive : 0 < length (decimal n) = is.0.0 in
+    grind (arith, nat_tests) in
+    let digits : list_all is_ascii_digit (decimal n) ≡ true = decimal_pass is_ascii_digit digit_digit n (omega arith) in
+    let small : nat_le n 4294967294 ≡ true = grind (arith, nat_tests) in
+    (digits, some, rw (is.1, small) refl)
+
+-- the id of a number, whatever the names
+id_again : (ids : Ids) (n : ℕ) → n < 4294967295 → (0 < length (decimal n)) × (id_in ids (decimal n) ≡ Some n)
+id_again ids n lt =
+    let is = decimal_is_IsNumeral n (omega arith) in
+    let again = number_again n lt in
+    (is.0.0, rw (again.1, again.0) again.2)
+
+-- the tag word of a tag
+abbrev pub tag_word : Tag → TagWord
+tag_word user_obj = words.User
+tag_word (user id) = words.User
+tag_word group_obj = words.Group
+tag_word (group id) = words.Group
+tag_word mask = words.Mask
+tag_word other = words.Other
+
+-- a word that stands for the tag word of a tag
+pub record IsWordOf (t : Tag) (w : List ℕ) : Type 0 where
+  pub plain : Plain w
+  pub some_byte : 0 < length w
+  pub means : word_of w ≡ Some (tag_word t)
+  pub no_default : is_default w ≡ false
+
+-- the long word of a tag is one of its words
+pub long_is : (t : Tag) → IsWordOf t (long_word t)
+unfolding word_of
+long_is user_obj = record { plain = refl; some_byte = omega arith; means = refl; no_default = refl }
+long_is (user id) = record { plain = refl; some_byte = omega arith; means = refl; no_default = refl }
+long_is group_obj = record { plain = refl; some_byte = omega arith; means = refl; no_default = refl }
+long_is (group id) = record { plain = refl; some_byte = omega arith; means = refl; no_default = refl }
+long_is mask = record { plain = refl; some_byte = omega arith; means = refl; no_default = refl }
+long_is other = record { plain = refl; some_byte = omega arith; means = refl; no_default = refl }
+
+-- the short word of a tag is one of its words
+pub short_is : (t : Tag) → IsWordOf t (short_word t)
+unfolding word_of
+short_is user_obj = record { plain = refl; some_byte = omega arith; means = refl; no_default = refl }
+short_is (user id) = record { plain = refl; some_byte = omega arith; means = refl; no_default = refl }
+short_is group_obj = record { plain = refl; some_byte = omega arith; means = refl; no_default = refl }
+short_is (group id) = record { plain = refl; some_byte = omega arith; means = refl; no_default = refl }
+short_is mask = record { plain = refl; some_byte = omega arith; means = refl; no_default = refl }
+short_is other = record { plain = refl; some_byte = omega arith; means = refl; no_default = refl }
+
+-- a word that marks an entry of a default ACL
+pub record IsMark (d : List ℕ) : Type 0 where
+  pub plain : Plain d
+  pub some_byte : 0 < length d
+  pub means : is_default d ≡ true
+
+-- `default` marks an entry of the default ACL
+pub long_mark : IsMark (codes "default")
+long_mark = record { plain = refl; some_byte = omega arith; means = refl }
+
+-- `d` marks an entry of the default ACL
+pub short_mark : IsMark (codes "d")
+short_mark = record { plain = refl; some_byte = omega arith; means = refl }
+
+tag_spelled : (names : Table) (w : List ℕ) (t : Tag) → IsTag t → word_of w ≡ Some (tag_word t)
+    → SpellsTag names w (qualifier_text t) t
+tag_spelled names w user_obj h e = (e, refl)
+tag_spelled names w (user id) h e = let lt : id < 4294967295 = omega (arith, h) in
+    let again = id_again names.users id lt in (e, again.0, again.1)
+tag_spelled names w group_obj h e = (e, refl)
+tag_spelled names w (group id) h e = let lt : id < 4294967295 = omega (arith, h) in
+    let again = id_again names.groups id lt in (e, again.0, again.1)
+tag_spelled names w mask h e = (e, refl)
+tag_spelled names w other h e = (e, refl)
+
+-- the bytes of a last field that spell permissions
+pub record IsPermText (p : ℕ) (ps : List ℕ) : Type 0 where
+  pub trims : trimmed ps ≡ perm_text p
+  pub no_colon : All (λ b. eqb b 58 ≡ false) ps
+
+not_in : (c : ℕ) (bs : List ℕ) → ((b : ℕ) → is_plain b ≡ true → eqb b c ≡ false) → Plain bs
+    → All (λ b. eqb b c ≡ false) bs
+not_in c bs each h = All-weaker (λ b. is_plain b ≡ true) (λ b. eqb b c ≡ false) each bs
+    (AllPass-from_list_all is_plain bs h)
+
+no_colon : (bs : List ℕ) → Plain bs → All (λ b. eqb b 58 ≡ false) bs
+no_colon bs h = not_in 58 bs (λ b is. (plain_not b is).4) h
+
+-- permissions without a blank are a field
+pub perm_alone : (p : ℕ) → p < 8 → IsPermText p (perm_text p)
+perm_alone p h =
+    record { trims = trimmed_plain (perm_text p) (perm_plain p h); no_colon = no_colon (perm_text p) (perm_plain p h) }
+
+tab_trimmed : (p : ℕ) → p < 8 → trimmed (perm_text p ++ 9 ∷ []) ≡ perm_text p
+unfolding trimmed
+tab_trimmed zero h = refl
+tab_trimmed (suc zero) h = refl
+tab_trimmed (suc (suc zero)) h = refl
+tab_trimmed (suc (suc (suc zero))) h = refl
+tab_trimmed (suc (suc (suc (suc zero)))) h = refl
+tab_trimmed (suc (suc (suc (suc (suc zero))))) h = refl
+tab_trimmed (suc (suc (suc (suc (suc (suc zero)))))) h = refl
+tab_trimmed (suc (suc (suc (suc (suc (suc (suc zero))))))) h = refl
+tab_trimmed (suc (suc (suc (suc (suc (suc (suc (suc p)))))))) h = absurd (omega arith)
+
+-- no colon, as a test
+abbrev not_colon : ℕ → Bool
+not_colon b = not (eqb b 58)
+
+colon_free : (b : ℕ) → not_colon b ≡ true → eqb b 58 ≡ false
+colon_free b h = elim (eqb b 58) as (λ t. not t ≡ true → t ≡ false) [ true ↦ λ e. absurd cc | false ↦ λ e. refl ] h
+
+tab_no_colon : (p : ℕ) → p < 8 → list_all not_colon (perm_text p ++ 9 ∷ []) ≡ true
+tab_no_colon zero h = refl
+tab_no_colon (suc zero) h = refl
+tab_no_colon (suc (suc zero)) h = refl
+tab_no_colon (suc (suc (suc zero))) h = refl
+tab_no_colon (suc (suc (suc (suc zero)))) h = refl
+tab_no_colon (suc (suc (suc (suc (suc zero))))) h = refl
+tab_no_colon (suc (suc (suc (suc (suc (suc zero)))))) h = refl
+tab_no_colon (suc (suc (suc (suc (suc (suc (suc zero))))))) h = refl
+tab_no_colon (suc (suc (suc (suc (suc (suc (suc (suc p)))))))) h = absurd (omega arith)
+
+-- the same with a tab behind them
+pub perm_tab : (p : ℕ) → p < 8 → IsPermText p (perm_text p ++ 9 ∷ [])
+perm_tab p h = record {
+  trims = tab_trimmed p h;
+  no_colon = All-weaker (λ b. not_colon b ≡ true) (λ b. eqb b 58 ≡ false) colon_free (perm_text p ++ 9 ∷ [])
+      (AllPass-from_list_all not_colon (perm_text p ++ 9 ∷ []) (tab_no_colon p h));
+}
+
+-- ---- pieces
+
+colon_next : (bs rest : List ℕ) → Plain bs → slice_split (λ b. eqb b 58) (bs ++ 58 ∷ rest)
+    ≡ bs ∷ slice_split (λ b. eqb b 58) rest
+colon_next bs rest h = slice_split_at (λ b. eqb b 58) bs 58 rest (no_colon bs h) refl
+
+-- three fields
+abbrev pub fields_text : List ℕ → Tag → List ℕ → List ℕ
+fields_text w t ps = w ++ 58 ∷ (qualifier_text t ++ 58 ∷ ps)
+
+three_split : (w : List ℕ) (t : Tag) (p : ℕ) (ps : List ℕ) → IsTag t → IsWordOf t w → IsPermText p ps
+    → slice_split (λ b. eqb b 58) (fields_text w t ps) ≡ w ∷ qualifier_text t ∷ ps ∷ []
+three_split w t p ps ht hw hp =
+    colon_next w (qualifier_text t ++ 58 ∷ ps) hw.plain
+    ∙ ap (λ (xs : List (List ℕ)). w ∷ xs)
+    (colon_next (qualifier_text t) ps (qualifier_plain t ht)
+    ∙ ap (λ (xs : List (List ℕ)). qualifier_text t ∷ xs) (slice_split_none (λ b. eqb b 58) ps hp.no_colon))
+
+-- a text that begins with a plain byte is not blank
+pub starts_filled : (w rest : List ℕ) → Plain w → 0 < length w → is_all_blank (w ++ rest) ≡ false
+starts_filled [] rest h some = absurd (omega (arith, some))
+starts_filled (b ∷ bs) rest h some = ap (λ t. t && is_all_blank (bs ++ rest)) (plain_not b (and_both _ _ h).0).0
+
+-- where the fields stand
+abbrev fields_at : ℕ → Part → List ℕ → Tag → List ℕ → EntryFields
+fields_at column part w t ps = record {
+  part = part;
+  tag = record { column = column; bytes = w };
+  qualifier = record { column = column + length w + 1; bytes = qualifier_text t };
+  permissions = record { column = column + length w + 1 + length (qualifier_text t) + 1; bytes = ps };
+}
+
+access_fields : (column : ℕ) (w : List ℕ) (t : Tag) (p : ℕ) (ps : List ℕ) → IsTag t → IsWordOf t w → IsPermText p ps
+    → HasFields (record { column = column; bytes = fields_text w t ps }) (fields_at column parts.Access w t ps)
+unfolding cut_at fields_of
+access_fields column w t p ps ht hw hp = record {
+  filled = starts_filled w (58 ∷ (qualifier_text t ++ 58 ∷ ps)) hw.plain hw.some_byte;
+  cut = rw (three_split w t p ps ht hw hp, trimmed_plain w hw.plain, hw.no_default) refl;
+}
+
+default_fields : (column : ℕ) (d w : List ℕ) (t : Tag) (p : ℕ) (ps : List ℕ) → IsMark d → IsTag t → IsWordOf t w
+    → IsPermText p ps → HasFields (record { column = column; bytes = d ++ 58 ∷ fields_text w t ps })
+    (fields_at (column + length d + 1) parts.Default w t ps)
+unfolding cut_at fields_of
+default_fields column d w t p ps hd ht hw hp = record {
+  filled = starts_filled d (58 ∷ fields_text w t ps) hd.plain hd.some_byte;
+  cut = rw (
+    colon_next d (fields_text w t ps) hd.plain,
+    three_split w t p ps ht hw hp,
+    trimmed_plain d hd.plain,
+    hd.means,
+  ) refl;
+}
+
+fields_tag : (names : Table) (column : ℕ) (part : Part) (w : List ℕ) (t : Tag) (ps : List ℕ) → IsTag t → IsWordOf t w
+    → HasTag names (fields_at column part w t ps) t
+fields_tag names column part w t ps ht hw =
+    let word : trimmed w ≡ w = trimmed_plain w hw.plain in
+    let qualifier : trimmed (qualifier_text t) ≡ qualifier_text t =
+    trimmed_plain (qualifier_text t) (qualifier_plain t ht) in
+    subst (λ (x : List ℕ). SpellsTag names x (trimmed (qualifier_text t)) t) (sym word)
+    (subst (λ (x : List ℕ). SpellsTag names w x t) (sym qualifier) (tag_spelled names w t ht hw.means))
+
+-- three written fields spell their entry of the access part
+pub access_spelled : (names : Table) (column : ℕ) (w : List ℕ) (t : Tag) (p : ℕ) (ps : List ℕ) → IsTag t → p < 8
+    → IsWordOf t w → IsPermText p ps
+    → Spells names (record { column = column; bytes = fields_text w t ps }) (parts.Access, (t, p))
+access_spelled names column w t p ps ht lt hw hp = record {
+  fields = fields_at column parts.Access w t ps;
+  has = access_fields column w t p ps ht hw hp;
+  part = refl;
+  tag = fields_tag names column parts.Access w t ps ht hw;
+  permissions = ap permissions_of hp.trims ∙ perm_again p lt;
+}
+
+-- and with a mark their entry of the default part
+pub default_spelled : (names : Table) (column : ℕ) (d w : List ℕ) (t : Tag) (p : ℕ) (ps : List ℕ) → IsMark d → IsTag t
+    → p < 8 → IsWordOf t w → IsPermText p ps
+    → Spells names (record { column = column; bytes = d ++ 58 ∷ fields_text w t ps }) (parts.Default, (t, p))
+default_spelled names column d w t p ps hd ht lt hw hp = record {
+  fields = fields_at (column + length d + 1) parts.Default w t ps;
+  has = default_fields column d w t p ps hd ht hw hp;
+  part = refl;
+  tag = fields_tag names (column + length d + 1) parts.Default w t ps ht hw;
+  permissions = ap permissions_of hp.trims ∙ perm_again p lt;
+}

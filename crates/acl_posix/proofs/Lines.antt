@@ -1,0 +1,162 @@
+-- Reading pieces and lines one after the other.
+use Rattle.std.proofs.Common.{◌≡◌, ℕ, suc, ◌+◌, ◌^◌, ◌<◌, ◌≤◌, true, false, List, [], ◌∷◌, ◌++◌, length, Option, Some, None, Result, Ok, Err, refl, sym, ap, ◌∙◌, subst, arith, Bor}
+use Rattle.acl_perm.specs.declared.lines.Piece.{Piece}
+use Rattle.acl_perm.specs.Lines.{Span, span_of, cut_at, IsCut, IsLineCut, is_all_blank, before_mark, lines_of}
+use Rattle.acl_posix.specs.declared.text_fault.TextFault.{TextFault}
+use Rattle.acl_posix.specs.declared.text_fault.TextFault.TheVariants as faults
+use Rattle.acl_posix.specs.Names.{Table}
+use Rattle.acl_posix.specs.Grammar.{TextPiece, PartEntry, numbered, line_pieces, pieces_from}
+use Rattle.acl_posix.specs.Reading.{◌>>=◌, Lists, added, Fails, read_piece, read_pieces}
+
+-- the pieces that are still to be cut
+abbrev pub pieces_left : Option Piece → List Span
+pieces_left None = []
+pieces_left (Some p) = cut_at 44 (span_of p)
+
+-- how many bytes of a line are left to be cut, and one more
+abbrev pub size_left : Option Piece → ℕ
+size_left None = 0
+size_left (Some p) = suc (length p.bytes.now)
+
+-- the columns of what is left stay below 2 ^ 64
+abbrev pub FitsLeft : Option Piece → Type 0
+FitsLeft None = Unit {0}
+FitsLeft (Some p) = p.column + length p.bytes.now < 2 ^ 64
+
+-- a piece that is left fits
+pub fits_some : (r : Option Piece) (p : Piece) → r ≡ Some p → FitsLeft r → p.column + length p.bytes.now < 2 ^ 64
+fits_some r p e h = subst FitsLeft e h
+
+-- where no piece is left there is none to read
+pub left_none : (r : Option Piece) → ((p : Piece) → r ≡ Some p → ⊥) → pieces_left r ≡ []
+left_none None h = refl
+left_none (Some p) h = absurd (h p refl)
+
+-- a fault that is read fails the reading
+pub fails_is : (f : TextFault) (r : Result Lists TextFault) → r ≡ Err f → Fails f r
+fails_is faults.Memory r h = tt
+fails_is f r h = h
+
+-- ---- pieces of a line
+
+-- a line of blanks and a comment has no piece
+pub pieces_blank : (l : List ℕ) → is_all_blank (before_mark 35 l) ≡ true → line_pieces l ≡ []
+unfolding line_pieces
+pieces_blank l h = rw h refl
+
+-- any other line has the pieces between the commas before its comment
+pub pieces_some : (l : List ℕ) → is_all_blank (before_mark 35 l) ≡ false
+    → line_pieces l ≡ cut_at 44 (record { column = 1; bytes = before_mark 35 l })
+unfolding line_pieces
+pieces_some l h = rw h refl
+
+-- a cut gives the first piece and those left
+pub pieces_next : (s : Span) (r : Piece × Option Piece) → IsCut 44 s r → cut_at 44 s ≡ span_of r.0 ∷ pieces_left r.1
+pieces_next s (first, None) h = h.0
+pieces_next s (first, Some rest) h = h.parts
+
+-- what is left behind a cut fits
+pub fits_next : (p : Piece) (r : Piece × Option Piece) → IsCut 44 (span_of p) r → p.column + length p.bytes.now < 2 ^ 64
+    → FitsLeft r.1
+fits_next p (first, None) h fits = tt
+fits_next p (first, Some rest) h fits = omega (arith, h.rest_fits)
+
+-- ---- pieces one after the other
+
+-- where no piece is left what was read stays
+pub read_none : (table : Table) (so_far : Lists) → read_pieces table so_far [] ≡ Ok so_far
+unfolding read_pieces
+read_none table so_far = refl
+
+-- a piece that spells an entry adds it
+pub read_next : (table : Table) (so_far : Lists) (p : TextPiece) (ps : List TextPiece) (e : PartEntry)
+    → read_piece table p.line p.span ≡ Ok e → read_pieces table so_far (p ∷ ps) ≡ read_pieces table (added so_far e) ps
+unfolding read_pieces
+read_next table so_far p ps e h = rw h refl
+
+-- a piece that has a fault ends the reading with it
+pub read_fault : (table : Table) (so_far : Lists) (p : TextPiece) (ps : List TextPiece) (f : TextFault)
+    → read_piece table p.line p.span ≡ Err f → read_pieces table so_far (p ∷ ps) ≡ Err f
+unfolding read_pieces
+read_fault table so_far p ps f h = rw h refl
+
+-- pieces that are read, and then others
+pub read_append : (table : Table) (so_far : Lists) (ps qs : List TextPiece) (next : Lists)
+    → read_pieces table so_far ps ≡ Ok next → read_pieces table so_far (ps ++ qs) ≡ read_pieces table next qs
+unfolding read_pieces
+read_append table so_far [] qs next h = let same : so_far ≡ next = cc in ap (λ (x : Lists). read_pieces table x qs) same
+read_append table so_far (p ∷ ps) qs next h =
+    elim (read_piece table p.line p.span)
+    as (λ r. (r >>= (λ e. read_pieces table (added so_far e) ps)) ≡ Ok next
+    → (r >>= (λ e. read_pieces table (added so_far e) (ps ++ qs))) ≡ read_pieces table next qs) [
+      | Ok e ↦ λ is. read_append table (added so_far e) ps qs next is
+      | Err f ↦ λ is. absurd cc
+    ] h
+
+-- pieces with a fault, and then others
+pub read_append_fault : (table : Table) (so_far : Lists) (ps qs : List TextPiece) (f : TextFault)
+    → read_pieces table so_far ps ≡ Err f → read_pieces table so_far (ps ++ qs) ≡ Err f
+unfolding read_pieces
+read_append_fault table so_far [] qs f h = absurd cc
+read_append_fault table so_far (p ∷ ps) qs f h =
+    elim (read_piece table p.line p.span)
+    as (λ r. (r >>= (λ e. read_pieces table (added so_far e) ps)) ≡ Err f
+    → (r >>= (λ e. read_pieces table (added so_far e) (ps ++ qs))) ≡ Err f) [
+      | Ok e ↦ λ is. read_append_fault table (added so_far e) ps qs f is
+      | Err g ↦ λ is. is
+    ] h
+
+-- ---- lines of a text
+
+-- the lines of what is left of a text
+abbrev pub lines_left : Option (Bor (List ℕ)) → List (List ℕ)
+lines_left None = []
+lines_left (Some t) = lines_of t.now
+
+-- how many bytes of a text are left, and one more
+abbrev pub text_left : Option (Bor (List ℕ)) → ℕ
+text_left None = 0
+text_left (Some t) = suc (length t.now)
+
+-- a line's number is at most one more than the bytes before it
+abbrev pub NumberFits : ℕ → List ℕ → Option (Bor (List ℕ)) → Type 0
+NumberFits n text None = Unit {0}
+NumberFits n text (Some t) = n + length t.now ≤ length text + 1
+
+-- a cut gives the first line and those left
+pub lines_next : (t : List ℕ) (r : Bor (List ℕ) × Option (Bor (List ℕ))) → IsLineCut t r
+    → lines_of t ≡ r.0.now ∷ lines_left r.1
+lines_next t (first, None) h = h
+lines_next t (first, Some rest) h = h.0
+
+-- the number of the next line fits
+pub number_next : (n : ℕ) (text : List ℕ) (t : Bor (List ℕ)) (r : Bor (List ℕ) × Option (Bor (List ℕ)))
+    → IsLineCut t.now r → NumberFits n text (Some t) → NumberFits (n + 1) text r.1
+number_next n text t (first, None) h fits = tt
+number_next n text t (first, Some rest) h fits = omega (arith, h.1, fits)
+
+-- what is left behind a line is shorter
+pub smaller_next : (t : Bor (List ℕ)) (r : Bor (List ℕ) × Option (Bor (List ℕ))) → IsLineCut t.now r
+    → text_left r.1 < suc (length t.now)
+smaller_next t (first, None) h = omega arith
+smaller_next t (first, Some rest) h = omega (arith, h.1)
+
+-- a line that is read, and then others
+pub read_lines_next : (table : Table) (n : ℕ) (so_far next : Lists) (l : List ℕ) (ls : List (List ℕ))
+    → read_pieces table so_far (numbered n (line_pieces l)) ≡ Ok next
+    → read_pieces table so_far (pieces_from n (l ∷ ls)) ≡ read_pieces table next (pieces_from (n + 1) ls)
+read_lines_next table n so_far next l ls h = read_append table so_far (numbered n (line_pieces l))
+    (pieces_from (n + 1) ls) next h
+
+-- a fault of a line is that of the text
+pub read_lines_fault : (table : Table) (n : ℕ) (so_far : Lists) (l : List ℕ) (ls : List (List ℕ)) (f : TextFault)
+    → Fails f (read_pieces table so_far (numbered n (line_pieces l))) → (total : Result Lists TextFault)
+    → read_pieces table so_far (pieces_from n (l ∷ ls)) ≡ total → Fails f total
+read_lines_fault table n so_far l ls faults.Memory h total e = tt
+read_lines_fault table n so_far l ls f h total e = sym e
+    ∙ read_append_fault table so_far (numbered n (line_pieces l)) (pieces_from (n + 1) ls) f h
+
+-- where no text is left there is no line
+pub no_lines : (r : Option (Bor (List ℕ))) → ((t : Bor (List ℕ)) → r ≡ Some t → ⊥) → lines_left r ≡ []
+no_lines None h = refl
+no_lines (Some t) h = absurd (h t refl)

@@ -1,0 +1,90 @@
+-- Tags that compare as equal are equal, and what a list of entries has at a tag.
+use Rattle.std.proofs.Common.{◌≡◌, ℕ, zero, suc, ◌<◌, true, false, cond, List, [], ◌∷◌, length, get_or, set, Option, Some, None, refl, sym, ap, ◌∙◌, subst, arith}
+use Rattle.std.specs.Prelude.{insert, is_some}
+use Rattle.std.specs.Ordering.{nat_cmp, eq_by_cmp, is_eq}
+use Rattle.std.specs.declared.cmp.Ordering.{Ordering}
+use Rattle.std.specs.declared.cmp.Ordering.TheVariants.{Less, Equal, Greater}
+use Rattle.std.proofs.lemmas.Map.Lookups.{exact_pairs, exact_unsigned}
+use Rattle.std.specs.FinMap.{IsAntisymmetric}
+use Rattle.acl_posix.specs.declared.entry.Entry.{Entry}
+use Rattle.acl_posix.specs.Tag.{Tag, rank, qualifier, tag_of, tag_cmp}
+use Rattle.acl_posix.specs.TagCode.{tag_from, tag_again}
+use Rattle.acl_posix.specs.Entries.{pairs, pair_of, tags}
+
+-- tags that compare as equal are equal
+pub exact_tags : IsAntisymmetric tag_cmp
+exact_tags x y e =
+    let both = exact_pairs nat_cmp nat_cmp exact_unsigned exact_unsigned (rank x, qualifier x)
+    (rank y, qualifier y) e in
+    sym (tag_again x) ∙ ap (λ (p : ℕ × ℕ). tag_from p.0 p.1) both ∙ tag_again y
+
+equal : (o : Ordering) → is_eq o ≡ true → o ≡ Equal
+equal Less h = absurd cc
+equal Equal h = refl
+equal Greater h = absurd cc
+
+-- tags that a test finds equal are equal
+pub same_tag : (q l : Tag) → eq_by_cmp tag_cmp q l ≡ true → q ≡ l
+same_tag q l h = exact_tags q l (equal (tag_cmp q l) h)
+
+-- a tag that is less than another is not equal to it, either way round
+pub unequal_less : (a b : Tag) → tag_cmp a b ≡ Less → eq_by_cmp tag_cmp a b ≡ false
+unequal_less a b h = rw h refl
+
+-- a tag that is greater than another is not equal to it
+pub unequal_greater : (a b : Tag) → tag_cmp a b ≡ Greater → eq_by_cmp tag_cmp a b ≡ false
+unequal_greater a b h = rw h refl
+
+-- two tests of one tag against tags that differ
+pub swap_tests : (q a b : Tag) (x y z : Option ℕ) → eq_by_cmp tag_cmp a b ≡ false
+    → cond (eq_by_cmp tag_cmp q a) x (cond (eq_by_cmp tag_cmp q b) y z) ≡ cond (eq_by_cmp tag_cmp q b) y
+    (cond (eq_by_cmp tag_cmp q a) x z)
+swap_tests q a b x y z differ =
+    elim (eq_by_cmp tag_cmp q a) as (λ s. eq_by_cmp tag_cmp q a ≡ s
+    → cond s x (cond (eq_by_cmp tag_cmp q b) y z) ≡ cond (eq_by_cmp tag_cmp q b) y (cond s x z)) [
+      | true ↦ λ is. let apart : eq_by_cmp tag_cmp q b ≡ false = subst (λ (t : Tag). eq_by_cmp tag_cmp t b ≡ false)
+          (sym (same_tag q a is)) differ in rw apart refl
+      | false ↦ λ is. refl
+    ] refl
+
+-- two tests against one tag: the second is never reached
+pub same_tests : (q a b : Tag) (x y z : Option ℕ) → a ≡ b
+    → cond (eq_by_cmp tag_cmp q b) x z ≡ cond (eq_by_cmp tag_cmp q b) x (cond (eq_by_cmp tag_cmp q a) y z)
+same_tests q a b x y z e =
+    rw e (elim (eq_by_cmp tag_cmp q b) as (λ s. cond s x z ≡ cond s x (cond s y z)) [ true ↦ refl | false ↦ refl ])
+
+-- ---- a list of entries and its tags, place by place
+
+-- the tag at a place of a list
+pub tag_read : (es : List Entry) (i : ℕ) (d : Entry) (l : Tag) → i < length es
+    → get_or (tags (pairs es)) i l ≡ tag_of (get_or es i d).tag
+tag_read [] i d l lt = absurd (omega (arith, lt))
+tag_read (e ∷ es) zero d l lt = refl
+tag_read (e ∷ es) (suc i) d l lt = tag_read es i d l (omega (arith, lt))
+
+-- a list of entries has as many tags
+pub length-tags : (es : List Entry) → length (tags (pairs es)) ≡ length es
+length-tags [] = refl
+length-tags (e ∷ es) = ap suc (length-tags es)
+
+-- a list of pairs has as many tags
+pub length-tags_of : (ps : List (Tag × ℕ)) → length (tags ps) ≡ length ps
+length-tags_of [] = refl
+length-tags_of (p ∷ ps) = ap suc (length-tags_of ps)
+
+-- the pairs of a list with another entry at a place
+pub pairs-set : (es : List Entry) (i : ℕ) (e : Entry) → pairs (set es i e) ≡ set (pairs es) i (pair_of e)
+pairs-set [] i e = refl
+pairs-set (x ∷ es) zero e = refl
+pairs-set (x ∷ es) (suc i) e = ap (λ (ps : List (Tag × ℕ)). pair_of x ∷ ps) (pairs-set es i e)
+
+-- the pairs of a list with one entry more
+pub pairs-insert : (es : List Entry) (i : ℕ) (e : Entry) → pairs (insert es i e) ≡ insert (pairs es) i (pair_of e)
+pairs-insert es zero e = refl
+pairs-insert [] (suc i) e = refl
+pairs-insert (x ∷ es) (suc i) e = ap (λ (ps : List (Tag × ℕ)). pair_of x ∷ ps) (pairs-insert es i e)
+
+-- an option that is not Some is None
+pub is_none : {X : Type 0} (o : Option X) → is_some o ≡ false → o ≡ None
+is_none None e = refl
+is_none (Some x) e = absurd cc

@@ -1,8 +1,0 @@
-use Rattle.acl_posix.specs.Entries.{pairs}
-use Rattle.acl_posix.proofs.Collected.{IsCollected}
-use Rattle.acl_posix.specs.Collect.{map_pairs}
-use Rattle.acl_posix.proofs.collect.collect.Given as goal
-
--- the entries up to the place are in the map, and none of them repeats one
-abbrev pub invariant-loop-place : goal.invariant-loop-place
-invariant-loop-place l = IsCollected (pairs l.entries) l.place (map_pairs l.map.entries)

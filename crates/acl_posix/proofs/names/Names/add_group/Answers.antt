@@ -1,0 +1,5 @@
+use Rattle.acl_posix.proofs.Limits.{table_within}
+use Rattle.acl_posix.proofs.names.Names.add_group.Goals as goal
+
+pub returns-clause-table : goal.returns-clause-table
+returns-clause-table c = table_within _ _

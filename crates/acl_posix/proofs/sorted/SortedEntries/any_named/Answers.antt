@@ -1,0 +1,7 @@
+use Rattle.std.proofs.Common.{sym, ◌∙◌}
+use Rattle.acl_posix.specs.Tag.{is_named}
+use Rattle.acl_posix.proofs.Lookups.{any_tag}
+use Rattle.acl_posix.proofs.sorted.SortedEntries.any_named.Goals as goal
+
+pub returns : goal.returns
+returns c = c.any_entry_named.ensures ∙ sym (any_tag is_named _ _ c.as_slice.ensures.entries)

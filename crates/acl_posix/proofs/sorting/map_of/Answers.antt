@@ -1,0 +1,32 @@
+use Rattle.std.proofs.Common.{◌≡◌, ◌∙◌, length, sym, ap, subst, arith}
+use Rattle.std.specs.Prelude.{is_some}
+use Rattle.std.proofs.lemmas.List.{length-map}
+use Rattle.acl_posix.specs.Entries.{pairs, pair_of}
+use Rattle.acl_posix.specs.Valid.{IsFaultOf}
+use Rattle.acl_posix.specs.TagMap.{map_pairs}
+use Rattle.acl_posix.proofs.Repeats.{collected_all, distinct_fault, entry_more, entry_repeat}
+use Rattle.acl_posix.proofs.sorting.map_of.Goals as goal
+
+pub loop-place-preserved : goal.loop-place-preserved
+loop-place-preserved c =
+    entry_more _ _ _ _ _ c.loop-place-test.true c.index-entries-place.is c.loop-place.invariant
+    (sym (ap is_some c.in_ok-insert.ensures.old) ∙ sym c.is_some.ensures
+    ∙ c.if-is_some.false) c.in_ok-insert.ensures.entries
+
+pub returns-then-is_some-clause-fault : goal.returns-then-is_some-clause-fault
+returns-then-is_some-clause-fault c =
+    subst (IsFaultOf (pairs c.args.entries.now)) (sym c.repeated.ensures)
+    (entry_repeat _ _ _ _ c.loop-place-test.true c.index-entries-place.is c.loop-place.invariant
+    (sym (ap is_some c.in_ok-insert.ensures.old) ∙ sym c.is_some.ensures ∙ c.if-is_some.true))
+
+pub returns-then-is_some-clause-accepts : goal.returns-then-is_some-clause-accepts
+returns-then-is_some-clause-accepts c = λ distinct.
+    absurd (distinct_fault _ _ _
+    (entry_repeat _ _ _ _ c.loop-place-test.true c.index-entries-place.is c.loop-place.invariant
+    (sym (ap is_some c.in_ok-insert.ensures.old) ∙ sym c.is_some.ensures ∙ c.if-is_some.true)) distinct)
+
+pub returns-clause-distinct : goal.returns-clause-distinct
+returns-clause-distinct c =
+    let same : length (pairs c.args.entries.now) ≡ length c.args.entries.now = length-map c.args.entries.now pair_of in
+    (collected_all (pairs c.args.entries.now) c.loop-place.place (map_pairs c.loop-place.map.entries)
+    (omega (arith, same, c.loop-place-test.false)) c.loop-place.invariant).1

@@ -1,0 +1,57 @@
+use Rattle.std.proofs.Common.{ℕ, List, sym, ap, refl, ◌∙◌, arith}
+use Rattle.std.proofs.lemmas.List.{drop_all}
+use Rattle.acl_perm.specs.Devices.{one_more}
+use Rattle.acl_posix.specs.declared.entry.Entry.{Entry}
+use Rattle.acl_posix.specs.Tag.{Tag}
+use Rattle.acl_posix.specs.Entries.{pairs}
+use Rattle.acl_posix.specs.Writing.{part_out}
+use Rattle.acl_posix.proofs.Written.{out_none, entry_next, next_fits, out_more, out_cut, out_all}
+use Rattle.acl_posix.proofs.writer.put_part.Goals as goal
+
+pub loop-entry-init : goal.loop-entry-init
+loop-entry-init g c = record {
+  out = out_none c.args.done _ _ _
+      (ap (λ (es : List (Tag × ℕ)). part_out c.args.form c.args.part c.args.acl.now c.args.is_first es)
+      (sym c.requires.entries));
+  same = refl;
+}
+
+pub put_next-requires : goal.put_next-requires
+put_next-requires g c =
+    let next = entry_next c.args.form c.args.part c.args.acl.now c.loop-entry.is_first c.args.entries.now
+    c.loop-entry.entry-index c.entry-item.result c.effective.result.bits c.deref.result.now c.loop-entry-test.true
+    c.entry-item.is (c.deref.ensures.0 ∙ c.entry_line-line.ensures) c.effective.ensures in
+    next_fits c.args.done c.loop-entry.done _ _ _ _ _ _ c.loop-entry.invariant.out next c.requires.room
+
+pub returns-in-Err-clause-written : goal.returns-in-Err-clause-written
+returns-in-Err-clause-written g c =
+    let next = entry_next c.args.form c.args.part c.args.acl.now c.loop-entry.is_first c.args.entries.now
+    c.loop-entry.entry-index c.entry-item.result c.effective.result.bits c.deref.result.now c.loop-entry-test.true
+    c.entry-item.is (c.deref.ensures.0 ∙ c.entry_line-line.ensures) c.effective.ensures in
+    let said = c.in-Err.ensures.written in
+    out_cut c.args.done c.loop-entry.done c.in-Err.fault.written _ _ _ _ _ _ _ c.loop-entry.invariant.out next said.0
+    said.1 said.2
+
+pub returns-in-Err-clause-failed : goal.returns-in-Err-clause-failed
+returns-in-Err-clause-failed g c = c.in-Err.ensures.failed ∙ ap one_more c.loop-entry.invariant.same
+
+pub loop-entry-preserved : goal.loop-entry-preserved
+loop-entry-preserved g c =
+    let next = entry_next c.args.form c.args.part c.args.acl.now c.loop-entry.is_first c.args.entries.now
+    c.loop-entry.entry-index c.entry-item.result c.effective.result.bits c.deref.result.now c.loop-entry-test.true
+    c.entry-item.is (c.deref.ensures.0 ∙ c.entry_line-line.ensures) c.effective.ensures in
+    let said = c.in-Ok.ensures.written in
+    record {
+      out = out_more c.args.done c.loop-entry.done c.in-Ok.count _ _ _ _ _ _ _ c.loop-entry.invariant.out next said.0
+          said.1;
+      same = c.in-Ok.ensures.none_failed ∙ c.loop-entry.invariant.same;
+    }
+
+pub returns-clause-written : goal.returns-clause-written
+returns-clause-written g c =
+    out_all c.args.done c.loop-entry.done _ _ _ _ c.loop-entry.invariant.out
+    (ap (λ (es : List Entry). part_out c.args.form c.args.part c.args.acl.now c.loop-entry.is_first (pairs es))
+    (drop_all c.loop-entry.entry-index c.args.entries.now (omega (arith, c.loop-entry-test.false))))
+
+pub returns-clause-none_failed : goal.returns-clause-none_failed
+returns-clause-none_failed g c = c.loop-entry.invariant.same

@@ -1,0 +1,140 @@
+-- The texts of ACLs: one grammar for the long form, the short form and what getfacl prints of one file (acl(5), "LONG
+-- TEXT FORM", "SHORT TEXT FORM"). What a line is and how it is cut are this library's own.
+use Rattle.std.specs.Prelude.{ℕ, ◌≡◌, ◌+◌, ◌<◌, List, [], ◌∷◌, ◌++◌, length, map, Option, Some, None, IsFalse, if◌then◌else◌}
+use Rattle.acl_perm.specs.Lines.{Span, lines_of, cut_at, before_mark, is_all_blank, trimmed}
+use Rattle.acl_posix.specs.declared.text_fault.Part.{Part}
+use Rattle.acl_posix.specs.declared.text_fault.Part.TheVariants.{Access, Default}
+use Rattle.acl_posix.specs.declared.field.TagWord.TheVariants as word
+use Rattle.acl_posix.specs.declared.file.PosixFile.{PosixFile}
+use Rattle.acl_posix.specs.Tag.{Tag, user_obj, user, group_obj, group, mask, other}
+use Rattle.acl_posix.specs.Entries.{Entries, as_set}
+use Rattle.acl_posix.specs.Valid.{IsValidList}
+use Rattle.acl_posix.specs.Names.{Table}
+use Rattle.acl_posix.specs.Fields.{permissions_of, word_of, is_default, id_in}
+
+-- the byte that begins a comment
+abbrev pub comment_mark : ℕ
+comment_mark = 35
+
+-- the byte between two entries of a line
+abbrev pub comma : ℕ
+comma = 44
+
+-- the byte between two fields of an entry
+abbrev pub colon : ℕ
+colon = 58
+
+-- a piece of a text, which is to spell an entry: the number of its line, and its bytes with their column
+pub record TextPiece : Type 0 where
+  pub line : ℕ
+  pub span : Span
+
+-- the pieces of a line: what stands before its comment, cut at the commas; none where that has no byte but blanks
+unfoldable pub line_pieces : List ℕ → List Span
+line_pieces line =
+    if is_all_blank (before_mark comment_mark line) then []
+    else cut_at comma (record { column = 1; bytes = before_mark comment_mark line })
+
+-- parts of the line of this number
+abbrev pub numbered : ℕ → List Span → List TextPiece
+numbered line spans = map (λ span. record { line = line; span = span }) spans
+
+-- the pieces of lines, of which the first has this number
+abbrev pub pieces_from : ℕ → List (List ℕ) → List TextPiece
+pieces_from line [] = []
+pieces_from line (bytes ∷ lines) = numbered line (line_pieces bytes) ++ pieces_from (line + 1) lines
+
+-- the pieces of a text, in the order in which they stand
+abbrev pub pieces_of : List ℕ → List TextPiece
+pieces_of text = pieces_from 1 (lines_of text)
+
+-- the fields of an entry, and the part that it belongs to
+pub record EntryFields : Type 0 where
+  pub part : Part
+  pub tag : Span
+  pub qualifier : Span
+  pub permissions : Span
+
+-- three fields and no more
+abbrev pub three_of : Part → List Span → Option EntryFields
+three_of part [] = None
+three_of part (a ∷ []) = None
+three_of part (a ∷ b ∷ []) = None
+three_of part (a ∷ b ∷ c ∷ []) = Some (record { part = part; tag = a; qualifier = b; permissions = c })
+three_of part (a ∷ b ∷ c ∷ d ∷ more) = None
+
+-- the fields that a piece is cut into: a first one that marks a default entry is dropped, and three are left
+unfoldable pub fields_of : List Span → Option EntryFields
+fields_of [] = None
+fields_of (first ∷ more) =
+    if is_default (trimmed first.bytes) then three_of Default more else three_of Access (first ∷ more)
+
+-- a piece that has more than blanks has these fields
+pub record HasFields (piece : Span) (fields : EntryFields) : Type 0 where
+  pub filled : IsFalse (is_all_blank piece.bytes)
+  pub cut : fields_of (cut_at colon piece) ≡ Some fields
+
+-- a tag word and a qualifier spell a tag; names are looked up in the half of the table that the word names
+abbrev pub SpellsTag : Table → List ℕ → List ℕ → Tag → Type 0
+SpellsTag names tag qualifier user_obj = (word_of tag ≡ Some word.User) × (qualifier ≡ [])
+SpellsTag names tag qualifier (user id) =
+    (word_of tag ≡ Some word.User) × (0 < length qualifier) × (id_in names.users qualifier ≡ Some id)
+SpellsTag names tag qualifier group_obj = (word_of tag ≡ Some word.Group) × (qualifier ≡ [])
+SpellsTag names tag qualifier (group id) =
+    (word_of tag ≡ Some word.Group) × (0 < length qualifier) × (id_in names.groups qualifier ≡ Some id)
+SpellsTag names tag qualifier mask = (word_of tag ≡ Some word.Mask) × (qualifier ≡ [])
+SpellsTag names tag qualifier other = (word_of tag ≡ Some word.Other) × (qualifier ≡ [])
+
+-- the first two of these fields spell a tag; blanks at their ends do not count
+abbrev pub HasTag : Table → EntryFields → Tag → Type 0
+HasTag names fields tag = SpellsTag names (trimmed fields.tag.bytes) (trimmed fields.qualifier.bytes) tag
+
+-- an entry with the part that it belongs to
+abbrev pub PartEntry : Type 0
+PartEntry = Part × (Tag × ℕ)
+
+-- a piece spells an entry of a part
+pub record Spells (names : Table) (piece : Span) (entry : PartEntry) : Type 0 where
+  pub fields : EntryFields
+  pub has : HasFields piece fields
+  pub part : fields.part ≡ entry.0
+  pub tag : HasTag names fields entry.1.0
+  pub permissions : permissions_of (trimmed fields.permissions.bytes) ≡ Some entry.1.1
+
+-- pieces spell entries, one each
+abbrev pub SpellAll : Table → List TextPiece → List PartEntry → Type 0
+SpellAll names [] [] = Unit {0}
+SpellAll names [] (entry ∷ entries) = ⊥
+SpellAll names (piece ∷ pieces) [] = ⊥
+SpellAll names (piece ∷ pieces) (entry ∷ entries) = Spells names piece.span entry × SpellAll names pieces entries
+
+-- the entries of the access part, in the order in which they stand
+abbrev pub access_of : List PartEntry → List (Tag × ℕ)
+access_of [] = []
+access_of ((Access, entry) ∷ entries) = entry ∷ access_of entries
+access_of ((Default, entry) ∷ entries) = access_of entries
+
+-- the entries of the default part, in the order in which they stand
+abbrev pub default_of : List PartEntry → List (Tag × ℕ)
+default_of [] = []
+default_of ((Access, entry) ∷ entries) = default_of entries
+default_of ((Default, entry) ∷ entries) = entry ∷ default_of entries
+
+-- a valid list of entries, and their set
+pub record IsAclOf (entries : List (Tag × ℕ)) (acl : Entries) : Type 0 where
+  pub valid : IsValidList entries
+  pub set : acl ≡ as_set entries
+
+-- no default ACL where there are no default entries, and else theirs
+abbrev pub IsDefaultOf : List (Tag × ℕ) → Option Entries → Type 0
+IsDefaultOf [] None = Unit {0}
+IsDefaultOf [] (Some acl) = ⊥
+IsDefaultOf (entry ∷ entries) None = ⊥
+IsDefaultOf (entry ∷ entries) (Some acl) = IsAclOf (entry ∷ entries) acl
+
+-- a text spells the ACLs of a file: each piece spells an entry, and the entries of each part are valid
+pub record Reads (text : List ℕ) (names : Table) (file : PosixFile) : Type 0 where
+  pub entries : List PartEntry
+  pub spelled : SpellAll names (pieces_of text) entries
+  pub access : IsAclOf (access_of entries) file.access
+  pub default : IsDefaultOf (default_of entries) file.default

@@ -1,0 +1,66 @@
+-- Tables of names: the ids of users and of groups, and which names may be added. This library's own.
+use Rattle.std.specs.Prelude.{ℕ, ◌≡◌, ◌==◌, not, ◌&&◌, Bool, List, length, Option, Some, None, IfSome, refl, if◌then◌else◌}
+use Rattle.std.specs.List.{list_all}
+use Rattle.std.specs.Char.{is_ascii_digit}
+use Rattle.std.specs.Ordering.{nat_cmp}
+use Rattle.std.specs.Cmp.Lexicographic.{slice_cmp}
+use Rattle.std.specs.Coded.{Coded, code_by, coded×, coded_list, coded_ℕ}
+use Rattle.std.specs.FinMap as fin
+use Rattle.acl_posix.specs.Id.{IsId}
+use Rattle.acl_posix.specs.declared.names.NameFault.{NameFault}
+use Rattle.acl_posix.specs.declared.names.NameFault.TheVariants as faults
+
+-- the id of each name, by the bytes of the name
+abbrev pub Ids : Type 0
+Ids = fin.FinMap (slice_cmp nat_cmp) ℕ
+
+-- the ids of user names, and those of group names
+pub record Table : Type 0 where
+  pub users : Ids
+  pub groups : Ids
+
+-- a table as a pair
+abbrev pub coded_table : Coded Table
+coded_table =
+    code_by (Ids × Ids) (coded× (fin.code (coded_list coded_ℕ) coded_ℕ) (fin.code (coded_list coded_ℕ) coded_ℕ))
+    (λ table. (table.users, table.groups)) (λ pair. record { users = pair.0; groups = pair.1 }) (λ table. refl)
+
+-- the table without names
+abbrev pub no_names : Table
+no_names = record { users = fin.empty; groups = fin.empty }
+
+-- the table with one more user name
+abbrev pub with_user : Table → List ℕ → ℕ → Table
+with_user table name id = record { users = fin.insert table.users name id; groups = table.groups }
+
+-- the table with one more group name
+abbrev pub with_group : Table → List ℕ → ℕ → Table
+with_group table name id = record { users = table.users; groups = fin.insert table.groups name id }
+
+-- the number of each name is an id
+abbrev pub AreIds : Ids → Type 0
+AreIds ids = (name : List ℕ) → IfSome (fin.get ids name) IsId
+
+-- the number of each user name and of each group name is an id
+pub record IsTable (table : Table) : Type 0 where
+  pub users : AreIds table.users
+  pub groups : AreIds table.groups
+
+-- digits alone, and at least one
+abbrev pub is_number : List ℕ → Bool
+is_number bytes = not (length bytes == 0) && list_all is_ascii_digit bytes
+
+-- why a name may not be added to these, in the order in which it is judged
+abbrev pub name_fault : Ids → List ℕ → Option NameFault
+name_fault ids name =
+    if length name == 0 then Some faults.EmptyName
+    else (if is_number name then Some faults.DigitsOnly
+    else (if fin.contains_key ids name then Some faults.Taken
+    else None))
+
+-- what a refusal says: why the name may not be added, or that it may and memory ran out
+abbrev pub IsNameFault : Ids → List ℕ → NameFault → Type 0
+IsNameFault ids name faults.EmptyName = name_fault ids name ≡ Some faults.EmptyName
+IsNameFault ids name faults.DigitsOnly = name_fault ids name ≡ Some faults.DigitsOnly
+IsNameFault ids name faults.Taken = name_fault ids name ≡ Some faults.Taken
+IsNameFault ids name faults.Memory = name_fault ids name ≡ None

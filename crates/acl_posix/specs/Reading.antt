@@ -1,0 +1,149 @@
+-- How the code reads pieces one after the other, as functions: this library's own words, which only
+-- code needs. What public clauses say of texts stands in Grammar and TextFault.
+use Rattle.std.specs.Prelude.{ℕ, ◌≡◌, ◌+◌, ◌<◌, ◌≤◌, ◌==◌, List, [], ◌∷◌, ◌++◌, length, Option, Some, None, Result, Ok, Err, option_map, ok_or, if◌then◌else◌}
+use Rattle.std.specs.FinMap as fin
+use Rattle.acl_perm.specs.declared.lines.Piece.{Piece}
+use Rattle.acl_perm.specs.Lines.{Span, span_of, cut_at, start_of, trimmed, is_all_blank}
+use Rattle.acl_posix.specs.declared.field.TagWord.{TagWord}
+use Rattle.acl_posix.specs.declared.field.TagWord.TheVariants as word
+use Rattle.acl_posix.specs.declared.entry.Entry.{Entry}
+use Rattle.acl_posix.specs.declared.text_fault.Part.{Part}
+use Rattle.acl_posix.specs.declared.text_fault.Part.TheVariants.{Access, Default}
+use Rattle.acl_posix.specs.declared.text_fault.TextFault.{TextFault}
+use Rattle.acl_posix.specs.declared.text_fault.TextFault.TheVariants as faults
+use Rattle.acl_posix.specs.declared.reader.EntryLists.{EntryLists}
+use Rattle.acl_posix.specs.declared.piece.EntryPieces.{EntryPieces}
+use Rattle.acl_posix.specs.Tag.{Tag, user_obj, user, group_obj, group, mask, other}
+use Rattle.acl_posix.specs.Entries.{pair_of, pairs}
+use Rattle.acl_posix.specs.Valid.{IsFaultOf}
+use Rattle.acl_posix.specs.Names.{Table, Ids, is_number}
+use Rattle.acl_posix.specs.Fields.{word_of, id_of, permissions_of}
+use Rattle.acl_posix.specs.Grammar.{TextPiece, EntryFields, fields_of, PartEntry, colon}
+use Rattle.acl_posix.specs.TextFault.{acl_fault}
+
+infixl 10 ◌>>=◌
+abbrev pub ◌>>=◌ : {A B : Type 0} → Result A TextFault → (A → Result B TextFault) → Result B TextFault
+(Ok x) >>= f = f x
+(Err e) >>= f = Err e
+
+-- the tag word of a field, or its fault
+unfoldable pub read_word : ℕ → Span → Result TagWord TextFault
+read_word line span = ok_or (word_of (trimmed span.bytes)) (faults.Tag line (start_of span))
+
+-- the permissions of a field, or their fault
+unfoldable pub read_permissions : ℕ → Span → Result ℕ TextFault
+read_permissions line span = ok_or (permissions_of (trimmed span.bytes)) (faults.Permission line (start_of span))
+
+-- a tag that may have a qualifier: the one without, and the one of an id
+abbrev pub read_named : Tag → (ℕ → Tag) → Ids → ℕ → Span → Result Tag TextFault
+read_named alone of_id ids line span =
+    if length (trimmed span.bytes) == 0 then Ok alone
+    else (if is_number (trimmed span.bytes)
+    then ok_or (option_map of_id (id_of (trimmed span.bytes))) (faults.Id line (start_of span))
+    else ok_or (option_map of_id (fin.get ids (trimmed span.bytes))) (faults.UnknownName line (start_of span)))
+
+-- a tag that has no qualifier
+abbrev pub read_unnamed : Tag → ℕ → Span → Result Tag TextFault
+read_unnamed tag line span =
+    if length (trimmed span.bytes) == 0 then Ok tag else Err (faults.Qualifier line (start_of span))
+
+-- the tag of a word and a qualifier, or its fault
+unfoldable pub read_tag : Table → ℕ → Span → TagWord → Result Tag TextFault
+read_tag names line span word.User = read_named user_obj (λ id. user id) names.users line span
+read_tag names line span word.Group = read_named group_obj (λ id. group id) names.groups line span
+read_tag names line span word.Mask = read_unnamed mask line span
+read_tag names line span word.Other = read_unnamed other line span
+
+-- the fields of code
+abbrev pub view_fields : EntryPieces → EntryFields
+view_fields fields = record {
+  part = fields.part;
+  tag = span_of fields.tag;
+  qualifier = span_of fields.qualifier;
+  permissions = span_of fields.permissions;
+}
+
+-- a part of a piece ends where that piece does, at most
+abbrev pub FitsIn : Piece → Piece → Type 0
+FitsIn part whole = part.column + length part.bytes.now ≤ whole.column + length whole.bytes.now
+
+-- the fields of a piece end where it does, at most
+pub record FieldsFit (fields : EntryPieces) (whole : Piece) : Type 0 where
+  pub tag : FitsIn fields.tag whole
+  pub qualifier : FitsIn fields.qualifier whole
+  pub permissions : FitsIn fields.permissions whole
+
+-- the entry of three fields
+abbrev pub read_three : Table → ℕ → EntryFields → Result PartEntry TextFault
+read_three names line fields = do
+  tag_word ← read_word line fields.tag
+  tag ← read_tag names line fields.qualifier tag_word
+  perm ← read_permissions line fields.permissions
+  Ok (fields.part, (tag, perm))
+
+-- the entry of a piece with these fields
+abbrev pub read_fields : Table → ℕ → Span → Option EntryFields → Result PartEntry TextFault
+read_fields names line piece None = Err (faults.Fields line (start_of piece))
+read_fields names line piece (Some fields) = read_three names line fields
+
+-- the entry of a piece, or its fault
+unfoldable pub read_piece : Table → ℕ → Span → Result PartEntry TextFault
+read_piece names line piece =
+    if is_all_blank piece.bytes then Err (faults.EmptyEntry line (start_of piece))
+    else read_fields names line piece (fields_of (cut_at colon piece))
+
+-- an entry of code with its part
+abbrev pub view_entry : Part × Entry → PartEntry
+view_entry entry = (entry.0, pair_of entry.1)
+
+-- what code read, as the definitions have it
+abbrev pub mapped : {A B : Type 0} → (A → B) → Result A TextFault → Result B TextFault
+mapped f (Ok x) = Ok (f x)
+mapped f (Err fault) = Err fault
+
+-- the entries of each part, in the order read
+pub record Lists : Type 0 where
+  pub access : List (Tag × ℕ)
+  pub default : List (Tag × ℕ)
+
+-- the lists of code
+abbrev pub lists_of : EntryLists → Lists
+lists_of lists = record { access = pairs lists.access.items; default = pairs lists.default.items }
+
+-- no entry of either part
+abbrev pub no_lists : Lists
+no_lists = record { access = []; default = [] }
+
+-- one more entry
+abbrev pub added : Lists → PartEntry → Lists
+added lists (Access, entry) = record { access = lists.access ++ entry ∷ []; default = lists.default }
+added lists (Default, entry) = record { access = lists.access; default = lists.default ++ entry ∷ [] }
+
+-- the entries of these pieces behind those read so far, or the first fault
+unfoldable pub read_pieces : Table → Lists → List TextPiece → Result Lists TextFault
+read_pieces names lists [] = Ok lists
+read_pieces names lists (piece ∷ pieces) = do
+  entry ← read_piece names piece.line piece.span
+  read_pieces names (added lists entry) pieces
+
+-- what code failed with is the fault that is told, unless memory ran out
+abbrev pub Fails : {Y : Type 0} → TextFault → Result Y TextFault → Type 0
+Fails faults.Memory read = Unit {0}
+Fails fault read = read ≡ Err fault
+
+-- what a fault says of the entries of a part
+abbrev pub IsPartFault : Part → List (Tag × ℕ) → TextFault → Type 0
+IsPartFault part entries (faults.Fields line column) = ⊥
+IsPartFault part entries (faults.Tag line column) = ⊥
+IsPartFault part entries (faults.Qualifier line column) = ⊥
+IsPartFault part entries (faults.Id line column) = ⊥
+IsPartFault part entries (faults.UnknownName line column) = ⊥
+IsPartFault part entries (faults.Permission line column) = ⊥
+IsPartFault part entries (faults.EmptyEntry line column) = ⊥
+IsPartFault part entries (faults.Invalid which why) = (which ≡ part) × IsFaultOf entries (acl_fault why)
+IsPartFault part entries faults.Memory = Unit {0}
+
+-- what a fault says of the entries of the default part, of which there are some
+pub record IsDefaultFault (entries : List (Tag × ℕ)) (fault : TextFault) : Type 0 where
+  pub some_entry : 0 < length entries
+  pub wrong : IsPartFault Default entries fault

@@ -1,0 +1,125 @@
+-- The texts of the ACLs of a file, as functions of the sets of entries alone (acl(5), "LONG TEXT FORM" and "SHORT TEXT
+-- FORM"). That ids are decimal, and where the effective permissions are shown, are this library's own.
+use Rattle.std.specs.Prelude.{ℕ, ◌==◌, List, [], ◌∷◌, ◌++◌, codes, decimal, bit_and, map, Option, Some, None, if◌then◌else◌}
+use Rattle.std.specs.List.{flat_map, All}
+use Rattle.std.specs.FinMap as set
+use Rattle.acl_posix.specs.declared.file.PosixFile.{PosixFile}
+use Rattle.acl_posix.specs.Tag.{Tag, user_obj, user, group_obj, group, mask, other}
+use Rattle.acl_posix.specs.Entries.{Entries, IsEntry}
+use Rattle.acl_posix.specs.Valid.{IsValid}
+use Rattle.acl_posix.specs.Mask.{effective_of}
+
+-- a letter, or - where the bit is absent
+abbrev pub letter : ℕ → ℕ → ℕ → ℕ
+letter perm bit shown = if bit_and perm bit == bit then shown else 45
+
+-- three characters: r, w and x, each replaced by - where it is absent
+abbrev pub perm_text : ℕ → List ℕ
+perm_text perm = letter perm 4 114 ∷ letter perm 2 119 ∷ letter perm 1 120 ∷ []
+
+-- the word of a tag, in full
+abbrev pub long_word : Tag → List ℕ
+long_word user_obj = codes "user"
+long_word (user id) = codes "user"
+long_word group_obj = codes "group"
+long_word (group id) = codes "group"
+long_word mask = codes "mask"
+long_word other = codes "other"
+
+-- the first letter of that word
+abbrev pub short_word : Tag → List ℕ
+short_word user_obj = codes "u"
+short_word (user id) = codes "u"
+short_word group_obj = codes "g"
+short_word (group id) = codes "g"
+short_word mask = codes "m"
+short_word other = codes "o"
+
+-- the id in decimal, or nothing
+abbrev pub qualifier_text : Tag → List ℕ
+qualifier_text user_obj = []
+qualifier_text (user id) = decimal id
+qualifier_text group_obj = []
+qualifier_text (group id) = decimal id
+qualifier_text mask = []
+qualifier_text other = []
+
+-- an entry with the word of its tag: word, qualifier and permissions with colons between them
+abbrev pub entry_text : List ℕ → Tag × ℕ → List ℕ
+entry_text word entry = word ++ 58 ∷ (qualifier_text entry.0 ++ 58 ∷ perm_text entry.1)
+
+-- an entry in the long form
+unfoldable pub long_entry : Tag × ℕ → List ℕ
+long_entry entry = entry_text (long_word entry.0) entry
+
+-- an entry in the short form
+unfoldable pub short_entry : Tag × ℕ → List ℕ
+short_entry entry = entry_text (short_word entry.0) entry
+
+-- an entry of a default ACL in the long form
+unfoldable pub long_default : Tag × ℕ → List ℕ
+long_default entry = codes "default:" ++ long_entry entry
+
+-- an entry of a default ACL in the short form
+unfoldable pub short_default : Tag × ℕ → List ℕ
+short_default entry = codes "d:" ++ short_entry entry
+
+-- what follows an entry with permissions that are not its effective ones: a comment with these
+abbrev pub mark_text : ℕ → ℕ → List ℕ
+mark_text effective perm = if effective == perm then [] else 9 ∷ (codes "#effective:" ++ perm_text effective)
+
+-- what follows an entry that has a permission outside the mask of its ACL
+unfoldable pub effective_mark : Entries → Tag × ℕ → List ℕ
+effective_mark acl entry = mark_text (effective_of acl entry) entry.1
+
+-- a line
+abbrev pub line : List ℕ → List ℕ
+line bytes = bytes ++ 10 ∷ []
+
+-- the entries of a default ACL in canonical order, and none where there is no default ACL
+abbrev pub default_entries : Option Entries → List (Tag × ℕ)
+default_entries None = []
+default_entries (Some acl) = set.entries acl
+
+-- the effective permissions in a default ACL
+abbrev pub default_mark : Option Entries → Tag × ℕ → List ℕ
+default_mark None entry = []
+default_mark (Some acl) entry = effective_mark acl entry
+
+-- a line an entry, in canonical order
+unfoldable pub canonical_text : Entries → Option Entries → List ℕ
+canonical_text access default =
+    flat_map (λ entry. line (long_entry entry)) (set.entries access)
+    ++ flat_map (λ entry. line (long_default entry)) (default_entries default)
+
+-- the same, with the effective permissions of each entry that the mask cuts
+unfoldable pub shown_text : Entries → Option Entries → List ℕ
+shown_text access default =
+    flat_map (λ entry. line (long_entry entry ++ effective_mark access entry)) (set.entries access)
+    ++ flat_map (λ entry. line (long_default entry ++ default_mark default entry)) (default_entries default)
+
+-- parts with commas between them
+abbrev pub with_commas : List (List ℕ) → List ℕ
+with_commas [] = []
+with_commas (part ∷ []) = part
+with_commas (part ∷ next ∷ parts) = part ++ 44 ∷ with_commas (next ∷ parts)
+
+-- the entries in the short form with commas between them
+unfoldable pub short_text : Entries → Option Entries → List ℕ
+short_text access default =
+    with_commas (map short_entry (set.entries access) ++ map short_default (default_entries default))
+
+-- a set of entries that an ACL can have
+pub record IsAcl (acl : Entries) : Type 0 where
+  pub valid : IsValid acl
+  pub within : All IsEntry (set.entries acl)
+
+-- a default ACL that a file can have
+abbrev pub IsDefault : Option Entries → Type 0
+IsDefault None = Unit {0}
+IsDefault (Some acl) = IsAcl acl
+
+-- the ACLs that a file can have
+pub record IsFile (file : PosixFile) : Type 0 where
+  pub access : IsAcl file.access
+  pub default : IsDefault file.default

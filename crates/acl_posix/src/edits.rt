@@ -1,0 +1,79 @@
+ghost use Rattle.std.specs.Prelude.{◌≡◌, IsOk, IsSome, OnErr, OnOk};
+ghost use Rattle.std.specs.FinMap as set;
+ghost use Rattle.acl_posix.specs.Tag.{mask, tag_of};
+ghost use Rattle.acl_posix.specs.Entries.{pairs};
+ghost use Rattle.acl_posix.specs.Valid.{IsValid};
+ghost use Rattle.acl_posix.specs.Mode.{chmoded};
+ghost use Rattle.acl_posix.specs.Mask.{class_union, with_mask};
+
+use crate::entry::Entry;
+use crate::sorted::SortedEntries;
+use crate::tag::Tag;
+use acl_perm::{Mode, Perm};
+use std::alloc::AllocError;
+
+impl SortedEntries {
+    /// Sets the permissions of a tag that has an entry.
+    fn set(&mut self, tag: Tag, perm: Perm)
+        requires { IsSome (set.get self.old (tag_of tag)) }
+        ensures set { self.new ≡ set.insert self.old (tag_of tag) perm.bits }
+        ensures tags { set.keys self.new ≡ set.keys self.old }
+    {
+        match self.place_of(tag) {
+            Ok(place) => {
+                let entry = &mut self.items[place];
+                entry.perm = perm;
+            }
+            Err(_) => {}
+        }
+    }
+
+    /// Sets the three entries of the mode, and no other.
+    pub(crate) fn set_mode(&mut self, mode: Mode)
+        requires { IsValid self.old }
+        ensures set { self.new ≡ chmoded self.old mode.bits }
+        ensures valid { IsValid self.new }
+    {
+        let class = self.group_class();
+        self.set(Tag::UserObj, mode.owner());
+        self.set(class, mode.group());
+        self.set(Tag::Other, mode.others());
+    }
+
+    /// Sets the mask to the union of the permissions that it limits, and adds one that is absent.
+    pub(crate) fn set_mask(&mut self) -> Result<(), AllocError>
+        ensures ok { OnOk result (self.new ≡ with_mask self.old) }
+        ensures err { OnErr result (self.new ≡ self.old) }
+        ensures no_memory { IsSome (set.get self.old mask) → IsOk result }
+        ensures valid { IsValid self.old → IsValid self.new }
+    {
+        let perm = class_union(self.as_slice());
+        match self.place_of(Tag::Mask) {
+            Ok(_) => {
+                self.set(Tag::Mask, perm);
+                Ok(())
+            }
+            Err(place) => {
+                let entry = Entry {
+                    tag: Tag::Mask,
+                    perm,
+                };
+                Ok(self.items.insert(place, entry)?)
+            }
+        }
+    }
+}
+
+/// The union of the permissions of all entries that the mask limits.
+#[tactic(auto, using(crate::proofs::Masks::union_more, crate::proofs::Masks::union_done))]
+fn class_union(entries: &[Entry]) -> Perm
+    ensures { result.bits ≡ class_union (pairs entries.now) }
+{
+    let mut union = Perm::NONE;
+    for entry in entries {
+        if entry.tag.is_masked() {
+            union = union.union(entry.perm);
+        }
+    }
+    union
+}

@@ -1,0 +1,107 @@
+//! What the fields of an entry spell.
+ghost use Rattle.std.specs.Prelude.{◌≡◌, ◌==◌, ◌||◌, IsTrue, count_by, option_map};
+ghost use Rattle.std.specs.List.{list_all};
+ghost use Rattle.std.specs.Str.{bytes_eq};
+ghost use Rattle.std.specs.Char.{is_ascii_digit};
+ghost use Rattle.acl_posix.specs.Fields.{count_of, id_of, is_default, is_permission, permissions_of, word_of};
+ghost use Rattle.acl_posix.specs.Names.{is_number};
+
+use crate::id::{GREATEST, Id};
+use acl_perm::Perm;
+
+/// The word of a tag, of which `User` and `Group` may have a qualifier.
+#[derive(Clone, Copy, Debug, PartialEq, Eq)]
+pub enum TagWord {
+    User,
+    Group,
+    Mask,
+    Other,
+}
+
+fn is_one_of(bytes: &[u8], long: &[u8], short: &[u8]) -> bool
+    ensures { result ≡ (bytes_eq bytes.now long.now || bytes_eq bytes.now short.now) }
+{
+    bytes == long || bytes == short
+}
+
+/// The tag word that a field spells.
+#[tactic(auto, unfolding(crate::specs::Fields::word_of))]
+pub(crate) fn read_word(bytes: &[u8]) -> Option<TagWord>
+    ensures { result ≡ word_of bytes.now }
+{
+    if is_one_of(bytes, b"user", b"u") {
+        Some(TagWord::User)
+    } else if is_one_of(bytes, b"group", b"g") {
+        Some(TagWord::Group)
+    } else if is_one_of(bytes, b"mask", b"m") {
+        Some(TagWord::Mask)
+    } else if is_one_of(bytes, b"other", b"o") {
+        Some(TagWord::Other)
+    } else {
+        None
+    }
+}
+
+/// Whether a field marks an entry of the default ACL.
+pub(crate) fn is_default(bytes: &[u8]) -> bool
+    ensures { result ≡ is_default bytes.now }
+{
+    is_one_of(bytes, b"default", b"d")
+}
+
+fn count(bytes: &[u8], letter: u8) -> usize
+    ensures { result ≡ count_by (λ b. b == letter) bytes.now }
+{
+    bytes.iter().filter(|b| **b == letter).count()
+}
+
+fn are_permissions(bytes: &[u8]) -> bool
+    ensures { result ≡ list_all is_permission bytes.now }
+{
+    bytes
+        .iter()
+        .all(|b| *b == b'r' || *b == b'w' || *b == b'x' || *b == b'-')
+}
+
+/// The set that a permission field spells.
+#[tactic(auto, unfolding(crate::specs::Fields::permissions_of))]
+pub(crate) fn read_permissions(bytes: &[u8]) -> Option<Perm>
+    ensures { option_map (λ perm. perm.bits) result ≡ permissions_of bytes.now }
+{
+    let read = count(bytes, b'r');
+    let write = count(bytes, b'w');
+    let execute = count(bytes, b'x');
+    if !are_permissions(bytes) || read > 1 || write > 1 || execute > 1 {
+        return None;
+    }
+    Perm::new((4 * read + 2 * write + execute) as u8)
+}
+
+fn are_digits(bytes: &[u8]) -> bool
+    ensures { result ≡ list_all is_ascii_digit bytes.now }
+{
+    bytes.iter().all(|b| b.is_ascii_digit())
+}
+
+/// Whether there are digits alone, and at least one.
+pub(crate) fn is_number(bytes: &[u8]) -> bool
+    ensures { result ≡ is_number bytes.now }
+{
+    !bytes.is_empty() && are_digits(bytes)
+}
+
+/// The id of decimal digits, if it is one.
+#[tactic(auto, unfolding(crate::specs::Fields::id_of))]
+pub(crate) fn read_id(digits: &[u8]) -> Option<Id>
+    requires { IsTrue (is_number digits.now) }
+    ensures { option_map (λ id. id.value) result ≡ id_of digits.now }
+{
+    let mut value = 0u64;
+    for digit in digits {
+        value = value * 10 + u64::from(*digit - b'0');
+        if value > u64::from(GREATEST) {
+            return None;
+        }
+    }
+    Id::new(value as u32)
+}

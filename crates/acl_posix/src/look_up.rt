@@ -1,0 +1,57 @@
+ghost use Rattle.std.specs.Prelude.{◌≡◌, MatchResult, option_map};
+ghost use Rattle.std.specs.FinMap as set;
+ghost use Rattle.acl_posix.specs.Tag.{tag_of};
+ghost use Rattle.acl_posix.specs.Mode.{group_class, perm_at};
+ghost use Rattle.acl_posix.specs.Search.{IsAt, IsGap};
+
+use crate::sorted::SortedEntries;
+use crate::tag::Tag;
+use acl_perm::Perm;
+
+impl SortedEntries {
+    /// The place of the entry of a tag, or the place where it would go.
+    pub(crate) fn place_of(&self, tag: Tag) -> Result<usize, usize>
+        ensures { MatchResult result (IsAt (set.keys self.now) (tag_of tag)) (IsGap (set.keys self.now) (tag_of tag)) }
+    {
+        self.as_slice()
+            .binary_search_by_key(&tag, |entry| entry.tag)
+    }
+
+    /// The permissions of a tag, if it has an entry.
+    pub(crate) fn get(&self, tag: Tag) -> Option<Perm>
+        ensures { option_map (λ perm. perm.bits) result ≡ set.get self.now (tag_of tag) }
+    {
+        match self.place_of(tag) {
+            Ok(place) => Some(self.as_slice()[place].perm),
+            Err(_) => None,
+        }
+    }
+
+    /// Whether a tag has an entry.
+    pub(crate) fn has(&self, tag: Tag) -> bool
+        ensures { result ≡ set.contains_key self.now (tag_of tag) }
+    {
+        self.get(tag).is_some()
+    }
+
+    /// The permissions of a tag, and none where it has no entry.
+    pub(crate) fn perm_at(&self, tag: Tag) -> Perm
+        ensures { result.bits ≡ perm_at self.now (tag_of tag) }
+    {
+        match self.get(tag) {
+            Some(perm) => perm,
+            None => Perm::NONE,
+        }
+    }
+
+    /// The tag of the entry that the group bits of the mode are.
+    pub(crate) fn group_class(&self) -> Tag
+        ensures { tag_of result ≡ group_class self.now }
+    {
+        if self.has(Tag::Mask) {
+            Tag::Mask
+        } else {
+            Tag::GroupObj
+        }
+    }
+}

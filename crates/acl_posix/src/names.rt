@@ -1,0 +1,143 @@
+ghost use Rattle.std.specs.Prelude.{◌≡◌, IfErr, None, OnErr, OnOk, option_map};
+ghost use Rattle.std.specs.FinMap as fin;
+ghost use Rattle.acl_posix.specs.NameMaps.{ids_of};
+ghost use Rattle.acl_posix.specs.Names.{name_fault, no_names, with_group, with_user, IsNameFault, IsTable};
+ghost use Rattle.acl_posix.specs.declared.names.NameFault.TheVariants.{Memory};
+
+use crate::field::is_number;
+use crate::id::Id;
+use std::alloc::{AllocError, AllocFailed, Global};
+use std::collections::BTreeMap;
+use std::marker::Model;
+use thiserror::Error;
+
+/// Why a name is not added.
+#[derive(Clone, Copy, Debug, PartialEq, Eq, Error)]
+pub enum NameFault {
+    /// The name has no byte.
+    #[error("EmptyName")]
+    EmptyName,
+    /// The name is digits alone, so a text that has it means an id.
+    #[error("DigitsOnly")]
+    DigitsOnly,
+    /// The name is in this half of the table.
+    #[error("Taken")]
+    Taken,
+    /// Memory ran out.
+    #[error("out of memory")]
+    Memory,
+}
+
+impl From<AllocError> for NameFault {
+    ghost from_gives = { λ _ fault. fault ≡ Memory };
+
+    fn from(_error: AllocError) -> NameFault {
+        NameFault::Memory
+    }
+}
+
+impl<T: Drop> From<AllocFailed<T>> for NameFault {
+    ghost from_gives = { λ _ fault. fault ≡ Memory };
+
+    fn from(_error: AllocFailed<T>) -> NameFault {
+        NameFault::Memory
+    }
+}
+
+/// The names of users and of groups with their ids, by which a text may call them. Clauses see it as two finite maps.
+#[derive(Drop)]
+pub struct Names {
+    alloc: Global,
+    users: BTreeMap<Vec<u8>, Id>,
+    groups: BTreeMap<Vec<u8>, Id>,
+}
+
+impl Model for Names {
+    ghost use Rattle.acl_posix.specs.NameMaps.{ids_of};
+    ghost use Rattle.acl_posix.specs.Names.{coded_table, Table};
+
+    ghost Value = { Table };
+
+    ghost coded = { coded_table };
+
+    ghost view = { λ names. record { users = ids_of names.users.entries; groups = ids_of names.groups.entries } };
+}
+
+impl Names {
+    /// The table without names. No memory.
+    pub fn new(alloc: Global) -> Names
+        ensures empty { result ≡ no_names }
+        ensures table { IsTable result }
+    {
+        Names {
+            users: BTreeMap::new(alloc),
+            groups: BTreeMap::new(alloc),
+            alloc,
+        }
+    }
+
+    /// Adds a user name. A name that is refused leaves the table as it was. Logarithmic time; one string, and a node of
+    /// the map.
+    pub fn add_user(&mut self, name: &[u8], id: Id) -> Result<(), NameFault>
+        ensures added { OnOk result (self.new ≡ with_user self.old name.now id.value) }
+        ensures free { OnOk result (name_fault self.old.users name.now ≡ None) }
+        ensures fault { IfErr result (IsNameFault self.old.users name.now) }
+        ensures kept { OnErr result (self.new ≡ self.old) }
+        ensures table { IsTable self.new }
+    {
+        add(self.alloc, &mut self.users, name, id)
+    }
+
+    /// Adds a group name. A name that is refused leaves the table as it was. Logarithmic time; one string, and a node
+    /// of the map.
+    pub fn add_group(&mut self, name: &[u8], id: Id) -> Result<(), NameFault>
+        ensures added { OnOk result (self.new ≡ with_group self.old name.now id.value) }
+        ensures free { OnOk result (name_fault self.old.groups name.now ≡ None) }
+        ensures fault { IfErr result (IsNameFault self.old.groups name.now) }
+        ensures kept { OnErr result (self.new ≡ self.old) }
+        ensures table { IsTable self.new }
+    {
+        add(self.alloc, &mut self.groups, name, id)
+    }
+
+    /// The id of a user name.
+    pub(crate) fn user(&self, name: &[u8]) -> Option<Id>
+        ensures { option_map (λ id. id.value) result ≡ fin.get self.now.users name.now }
+    {
+        self.users.get(name).copied()
+    }
+
+    /// The id of a group name.
+    pub(crate) fn group(&self, name: &[u8]) -> Option<Id>
+        ensures { option_map (λ id. id.value) result ≡ fin.get self.now.groups name.now }
+    {
+        self.groups.get(name).copied()
+    }
+}
+
+fn contains(ids: &BTreeMap<Vec<u8>, Id>, name: &[u8]) -> bool
+    ensures { result ≡ fin.contains_key (ids_of ids.now.entries) name.now }
+{
+    ids.contains_key(name)
+}
+
+/// Adds a name to one half of the table.
+fn add(alloc: Global, ids: &mut BTreeMap<Vec<u8>, Id>, name: &[u8], id: Id) -> Result<(), NameFault>
+    ensures added { OnOk result (ids_of ids.new.entries ≡ fin.insert (ids_of ids.old.entries) name.now id.value) }
+    ensures free { OnOk result (name_fault (ids_of ids.old.entries) name.now ≡ None) }
+    ensures fault { IfErr result (IsNameFault (ids_of ids.old.entries) name.now) }
+    ensures kept { OnErr result (ids.new.entries ≡ ids.old.entries) }
+{
+    if name.is_empty() {
+        return Err(NameFault::EmptyName);
+    }
+    if is_number(name) {
+        return Err(NameFault::DigitsOnly);
+    }
+    if contains(ids, name) {
+        return Err(NameFault::Taken);
+    }
+    let name = Vec::from_slice(alloc, name)?;
+    ids.insert(name, id)?;
+    Ok(())
+}

@@ -1,0 +1,75 @@
+//! The ACLs of a file from their text.
+ghost use Rattle.std.specs.Prelude.{◌≡◌, ◌⊎◌, IfErr, IfOk, MatchResult};
+ghost use Rattle.acl_posix.specs.declared.file.PosixFile.{PosixFile as FileValue};
+ghost use Rattle.acl_posix.specs.declared.text_fault.TextFault.{TextFault as FaultValue};
+ghost use Rattle.acl_posix.specs.declared.text_fault.TextFault.TheVariants.{Memory};
+ghost use Rattle.acl_posix.specs.Entries.{pairs};
+ghost use Rattle.acl_posix.specs.Grammar.{IsAclOf, IsDefaultOf, Reads};
+ghost use Rattle.acl_posix.specs.Reading.{IsDefaultFault, IsPartFault};
+ghost use Rattle.acl_posix.specs.TextFault.{IsRefusal, IsTextFault};
+
+use crate::acl::PosixAcl;
+use crate::entry::Entry;
+use crate::fault::AclFault;
+use crate::file::PosixFile;
+use crate::names::Names;
+use crate::reader::read_text;
+use crate::text_fault::{Cause, Part, TextFault};
+use std::alloc::Global;
+
+/// The ACLs that a text spells, in the long form, the short form, or as getfacl prints them of one file (acl(5), "LONG
+/// TEXT FORM", "SHORT TEXT FORM"). A text that spells none is refused: by the first entry that is wrong, else by the
+/// first part that is no valid ACL. Time n log n in the number of entries, and linear where they stand in canonical
+/// order; a list of entries for each part.
+pub fn parse(alloc: Global, text: &[u8], names: &Names) -> Result<PosixFile, TextFault>
+    // What is read is spelled by the text.
+    ensures found { IfOk result (Reads text.now names.now) }
+    // What the text spells is read.
+    ensures only { (file : FileValue) → Reads text.now names.now file
+        → MatchResult result (λ read. read ≡ file) (λ fault. fault ≡ Memory) }
+    // A refusal is that of the text.
+    ensures fault { IfErr result (IsRefusal text.now names.now) }
+    // A text with a fault is refused by it.
+    ensures refused { (wrong : FaultValue) → IsTextFault text.now names.now wrong
+        → MatchResult result (λ _. ⊥) (λ fault. (fault ≡ wrong) ⊎ (fault ≡ Memory)) }
+{
+    read_file(alloc, text, names)
+}
+
+fn read_file(alloc: Global, text: &[u8], names: &Names) -> Result<PosixFile, TextFault>
+    ensures found { IfOk result (Reads text.now names.now) }
+    ensures fault { IfErr result (IsRefusal text.now names.now) }
+{
+    let lists = read_text(alloc, text, names)?;
+    let access = part_of(alloc, Part::Access, lists.access)?;
+    let default = default_of(alloc, lists.default)?;
+    Ok(PosixFile { access, default })
+}
+
+/// The default ACL of these entries, and none where there is no entry.
+fn default_of(alloc: Global, entries: Vec<Entry>) -> Result<Option<PosixAcl>, TextFault>
+    ensures ok { IfOk result (IsDefaultOf (pairs entries.items)) }
+    ensures err { IfErr result (IsDefaultFault (pairs entries.items)) }
+{
+    if entries.is_empty() {
+        return Ok(None);
+    }
+    match part_of(alloc, Part::Default, entries) {
+        Ok(acl) => Ok(Some(acl)),
+        Err(fault) => Err(fault),
+    }
+}
+
+/// The ACL of these entries of a part.
+fn part_of(alloc: Global, part: Part, entries: Vec<Entry>) -> Result<PosixAcl, TextFault>
+    ensures ok { IfOk result (IsAclOf (pairs entries.items)) }
+    ensures err { IfErr result (IsPartFault part (pairs entries.items)) }
+{
+    match PosixAcl::from_entries(alloc, entries) {
+        Ok(acl) => Ok(acl),
+        Err(AclFault::Multi(place)) => Err(TextFault::Invalid(part, Cause::Multi(place))),
+        Err(AclFault::Duplicate(place)) => Err(TextFault::Invalid(part, Cause::Duplicate(place))),
+        Err(AclFault::Miss(tag)) => Err(TextFault::Invalid(part, Cause::Miss(tag))),
+        Err(AclFault::Memory) => Err(TextFault::Memory),
+    }
+}

@@ -1,0 +1,139 @@
+//! The entry that a piece of a text spells.
+ghost use Rattle.std.specs.Prelude.{◌≡◌, ◌+◌, ◌<◌, ◌^◌, length, option_map, IfSome};
+ghost use Rattle.acl_perm.specs.Lines.{cut_at, span_of};
+ghost use Rattle.acl_posix.specs.Grammar.{fields_of, three_of};
+ghost use Rattle.acl_posix.specs.Reading.{mapped, read_permissions, read_piece, read_tag, read_word, view_entry, view_fields, FieldsFit};
+ghost use Rattle.acl_posix.specs.Tag.{tag_of};
+
+use crate::entry::Entry;
+use crate::field::{TagWord, is_default, is_number, read_id, read_permissions, read_word};
+use crate::id::Id;
+use crate::names::Names;
+use crate::tag::Tag;
+use crate::text_fault::{Part, TextFault};
+use acl_perm::{Perm, Piece, is_all_blank, trimmed};
+
+/// The fields of an entry, and the part that it belongs to.
+#[derive(Clone, Copy)]
+pub(crate) struct EntryPieces<'a> {
+    pub part: Part,
+    pub tag: Piece<'a>,
+    pub qualifier: Piece<'a>,
+    pub permissions: Piece<'a>,
+}
+
+#[tactic(auto, unfolding(crate::specs::Reading::read_word))]
+fn word_at(field: Piece, line: usize) -> Result<TagWord, TextFault>
+    requires { field.column + length field.bytes.now < 2 ^ 64 }
+    ensures { result ≡ read_word line (span_of field.entry) }
+{
+    let column = field.start();
+    match read_word(trimmed(field.bytes)) {
+        Some(word) => Ok(word),
+        None => Err(TextFault::Tag { line, column }),
+    }
+}
+
+#[tactic(auto, unfolding(crate::specs::Reading::read_permissions))]
+fn permissions_at(field: Piece, line: usize) -> Result<Perm, TextFault>
+    requires { field.column + length field.bytes.now < 2 ^ 64 }
+    ensures { mapped (λ perm. perm.bits) result ≡ read_permissions line (span_of field.entry) }
+{
+    let column = field.start();
+    match read_permissions(trimmed(field.bytes)) {
+        Some(perm) => Ok(perm),
+        None => Err(TextFault::Permission { line, column }),
+    }
+}
+
+#[tactic(auto, unfolding(crate::specs::Reading::read_tag))]
+fn tag_at(field: Piece, line: usize, word: TagWord, names: &Names) -> Result<Tag, TextFault>
+    requires { field.column + length field.bytes.now < 2 ^ 64 }
+    ensures { mapped tag_of result ≡ read_tag names.now line (span_of field.entry) word }
+{
+    let qualifier = trimmed(field.bytes);
+    let column = field.start();
+    match word {
+        TagWord::Mask | TagWord::Other if !qualifier.is_empty() => {
+            Err(TextFault::Qualifier { line, column })
+        }
+        TagWord::Mask => Ok(Tag::Mask),
+        TagWord::Other => Ok(Tag::Other),
+        TagWord::User if qualifier.is_empty() => Ok(Tag::UserObj),
+        TagWord::Group if qualifier.is_empty() => Ok(Tag::GroupObj),
+        TagWord::User if is_number(qualifier) => match read_id(qualifier) {
+            Some(id) => Ok(Tag::User(id)),
+            None => Err(TextFault::Id { line, column }),
+        },
+        TagWord::Group if is_number(qualifier) => match read_id(qualifier) {
+            Some(id) => Ok(Tag::Group(id)),
+            None => Err(TextFault::Id { line, column }),
+        },
+        TagWord::User => match names.user(qualifier) {
+            Some(id) => Ok(Tag::User(id)),
+            None => Err(TextFault::UnknownName { line, column }),
+        },
+        TagWord::Group => match names.group(qualifier) {
+            Some(id) => Ok(Tag::Group(id)),
+            None => Err(TextFault::UnknownName { line, column }),
+        },
+    }
+}
+
+/// The three fields that a piece has from here on, and no more.
+fn three<'a>(part: Part, piece: Piece<'a>) -> Option<EntryPieces<'a>>
+    requires { piece.column + length piece.bytes.now < 2 ^ 64 }
+    ensures value { option_map view_fields result ≡ three_of part (cut_at 58 (span_of piece.entry)) }
+    ensures fits { IfSome result (λ fields. FieldsFit fields piece.entry) }
+{
+    let (tag, rest) = piece.cut(b':');
+    let (qualifier, rest) = rest?.cut(b':');
+    let (permissions, rest) = rest?.cut(b':');
+    match rest {
+        None => Some(EntryPieces {
+            part,
+            tag,
+            qualifier,
+            permissions,
+        }),
+        Some(_) => None,
+    }
+}
+
+/// The part that a piece belongs to, and its three fields.
+#[tactic(auto, unfolding(crate::specs::Grammar::fields_of))]
+fn fields<'a>(piece: Piece<'a>) -> Option<EntryPieces<'a>>
+    requires { piece.column + length piece.bytes.now < 2 ^ 64 }
+    ensures value { option_map view_fields result ≡ fields_of (cut_at 58 (span_of piece.entry)) }
+    ensures fits { IfSome result (λ fields. FieldsFit fields piece.entry) }
+{
+    let (first, rest) = piece.cut(b':');
+    if is_default(trimmed(first.bytes)) {
+        three(Part::Default, rest?)
+    } else {
+        three(Part::Access, piece)
+    }
+}
+
+/// The entry that a piece spells, and its part.
+#[tactic(auto, unfolding(crate::specs::Reading::read_piece))]
+pub(crate) fn read_piece(
+    piece: Piece,
+    line: usize,
+    names: &Names,
+) -> Result<(Part, Entry), TextFault>
+    requires { piece.column + length piece.bytes.now < 2 ^ 64 }
+    ensures { mapped view_entry result ≡ read_piece names.now line (span_of piece.entry) }
+{
+    let column = piece.start();
+    if is_all_blank(piece.bytes) {
+        return Err(TextFault::EmptyEntry { line, column });
+    }
+    let Some(fields) = fields(piece) else {
+        return Err(TextFault::Fields { line, column });
+    };
+    let word = word_at(fields.tag, line)?;
+    let tag = tag_at(fields.qualifier, line, word, names)?;
+    let perm = permissions_at(fields.permissions, line)?;
+    Ok((fields.part, Entry { tag, perm }))
+}

@@ -1,0 +1,79 @@
+//! The entries of each part of a text.
+ghost use Rattle.std.specs.Prelude.{◌≡◌, MatchResult, OnOk, Ok};
+ghost use Rattle.acl_perm.specs.Lines.{lines_of};
+ghost use Rattle.acl_posix.specs.Entries.{pair_of};
+ghost use Rattle.acl_posix.specs.Grammar.{line_pieces, numbered, pieces_of};
+ghost use Rattle.acl_posix.specs.Reading.{added, lists_of, no_lists, read_pieces, view_entry, Fails};
+
+use crate::entry::Entry;
+use crate::names::Names;
+use crate::piece::read_piece;
+use crate::text_fault::{Part, TextFault};
+use acl_perm::{Piece, before_mark, cut_line, is_all_blank};
+use std::alloc::{AllocError, Global};
+
+/// The entries read so far, those of each part in order.
+#[derive(Drop)]
+pub(crate) struct EntryLists {
+    pub access: Vec<Entry>,
+    pub default: Vec<Entry>,
+}
+
+fn push(lists: &mut EntryLists, part: Part, entry: Entry) -> Result<(), AllocError>
+    ensures { OnOk result (lists_of lists.new ≡ added (lists_of lists.old) (part, pair_of entry)) }
+{
+    match part {
+        Part::Access => lists.access.push(entry)?,
+        Part::Default => lists.default.push(entry)?,
+    }
+    Ok(())
+}
+
+/// Reads the entries of a line.
+fn read_line(
+    line: &[u8],
+    number: usize,
+    names: &Names,
+    lists: &mut EntryLists,
+) -> Result<(), TextFault>
+    ensures { MatchResult result
+        (λ _. read_pieces names.now (lists_of lists.old) (numbered number (line_pieces line.now))
+        ≡ Ok (lists_of lists.new))
+        (λ fault. Fails fault (read_pieces names.now (lists_of lists.old) (numbered number (line_pieces line.now)))) }
+{
+    let content = before_mark(line, b'#');
+    if is_all_blank(content) {
+        return Ok(());
+    }
+    let mut rest = Some(Piece::whole(content));
+    while let Some(piece) = rest {
+        let (first, after) = piece.cut(b',');
+        let (part, entry) = read_piece(first, number, names)?;
+        match push(lists, part, entry) {
+            Ok(()) => rest = after,
+            Err(_) => return Err(TextFault::Memory),
+        }
+    }
+    Ok(())
+}
+
+/// Reads the entries of a text.
+pub(crate) fn read_text(alloc: Global, text: &[u8], names: &Names) -> Result<EntryLists, TextFault>
+    ensures { MatchResult result
+        (λ lists. read_pieces names.now no_lists (pieces_of text.now) ≡ Ok (lists_of lists))
+        (λ fault. Fails fault (read_pieces names.now no_lists (pieces_of text.now))) }
+{
+    let mut lists = EntryLists {
+        access: Vec::new(alloc),
+        default: Vec::new(alloc),
+    };
+    let mut number = 1;
+    let mut rest = Some(text);
+    while let Some(left) = rest {
+        let (line, after) = cut_line(left);
+        read_line(line, number, names, &mut lists)?;
+        number += 1;
+        rest = after;
+    }
+    Ok(lists)
+}

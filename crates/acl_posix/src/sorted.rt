@@ -1,0 +1,72 @@
+ghost use Rattle.std.specs.Prelude.{◌≡◌, All, IfOk};
+ghost use Rattle.std.specs.FinMap as set;
+ghost use Rattle.acl_posix.specs.Entries.{IsEntry, IsSorted, pairs};
+ghost use Rattle.acl_posix.specs.Create.{of_mode};
+
+use crate::entry::Entry;
+use crate::tag::Tag;
+use acl_perm::Mode;
+use std::alloc::{AllocError, Global};
+use std::marker::Model;
+
+/// Entries in canonical order, in which no tag and qualifier stand twice. Clauses see them as what each tag has.
+#[derive(Drop)]
+pub(crate) struct SortedEntries {
+    pub(crate) items: Vec<Entry>,
+}
+
+impl Model for SortedEntries {
+    ghost use Rattle.std.specs.Prelude.{ℕ};
+    ghost use Rattle.std.specs.FinMap as set;
+    ghost use Rattle.std.specs.Coded.{coded_ℕ};
+    ghost use Rattle.acl_posix.specs.Tag.{tag_cmp};
+    ghost use Rattle.acl_posix.specs.TagCode.{coded_tag};
+    ghost use Rattle.acl_posix.specs.Entries.{as_set, IsSorted, pairs};
+
+    ghost Value = { set.FinMap tag_cmp ℕ };
+
+    ghost coded = { set.code coded_tag coded_ℕ };
+
+    ghost view = { λ entries. as_set (pairs entries.items.items) };
+
+    ghost invariant = { λ entries. IsSorted (pairs entries.items.items) };
+}
+
+impl SortedEntries {
+    /// The three entries that stand for a mode.
+    pub(crate) fn of_mode(alloc: Global, mode: Mode) -> Result<SortedEntries, AllocError>
+        ensures { IfOk result (λ entries. entries ≡ of_mode mode.bits) }
+    {
+        let owner = Entry {
+            tag: Tag::UserObj,
+            perm: mode.owner(),
+        };
+        let group = Entry {
+            tag: Tag::GroupObj,
+            perm: mode.group(),
+        };
+        let others = Entry {
+            tag: Tag::Other,
+            perm: mode.others(),
+        };
+        let items = Vec::from_slice(alloc, &[owner, group, others])?;
+        Ok(SortedEntries { items })
+    }
+
+    /// The same entries once more.
+    pub(crate) fn copy(&self, alloc: Global) -> Result<SortedEntries, AllocError>
+        ensures { IfOk result (λ entries. entries ≡ self.now) }
+    {
+        let items = Vec::from_slice(alloc, &self.items)?;
+        Ok(SortedEntries { items })
+    }
+
+    /// The entries, in canonical order.
+    pub(crate) fn as_slice(&self) -> &[Entry]
+        ensures entries { pairs result.now ≡ set.entries self.now }
+        ensures sorted { IsSorted (pairs result.now) }
+        ensures within { All IsEntry (pairs result.now) }
+    {
+        &self.items
+    }
+}

@@ -1,0 +1,85 @@
+ghost use Rattle.std.specs.Prelude.{◌≡◌};
+ghost use Rattle.acl_posix.specs.declared.text_fault.TextFault.TheVariants.{Memory};
+
+use crate::tag::Tag;
+use std::alloc::{AllocError, AllocFailed};
+use thiserror::Error;
+
+/// A part of a text: the entries of the access ACL, or those of the default ACL.
+#[derive(Clone, Copy, Debug, PartialEq, Eq)]
+pub enum Part {
+    Access,
+    Default,
+}
+
+impl Part {
+    /// The name of the part. Constant time.
+    pub fn name(&self) -> &'static str {
+        match self {
+            Part::Access => "access",
+            Part::Default => "default",
+        }
+    }
+}
+
+/// Why the entries of a part are no valid ACL (acl(5), "VALID ACLs"). Places count the entries of the part from 0.
+#[derive(Clone, Copy, Debug, PartialEq, Eq, Error)]
+pub enum Cause {
+    /// The entry at this place has the tag of one before it.
+    #[error("Multi at entry {0}")]
+    Multi(usize),
+    /// The user or group entry at this place has the tag and the id of one before it.
+    #[error("Duplicate at entry {0}")]
+    Duplicate(usize),
+    /// An entry with this tag has to be there, and is absent.
+    #[error("Miss {}", .0.name())]
+    Miss(Tag),
+}
+
+/// Why a text is refused. Lines and columns count from 1, columns in bytes.
+#[derive(Clone, Copy, Debug, PartialEq, Eq, Error)]
+pub enum TextFault {
+    /// The entry here has not three fields.
+    #[error("Fields at line {line} column {column}")]
+    Fields { line: usize, column: usize },
+    /// The field here is no tag.
+    #[error("Tag at line {line} column {column}")]
+    Tag { line: usize, column: usize },
+    /// The qualifier here stands with a mask or other entry.
+    #[error("Qualifier at line {line} column {column}")]
+    Qualifier { line: usize, column: usize },
+    /// The digits here are above 4294967294.
+    #[error("Id at line {line} column {column}")]
+    Id { line: usize, column: usize },
+    /// The name here is not in the table.
+    #[error("UnknownName at line {line} column {column}")]
+    UnknownName { line: usize, column: usize },
+    /// The field here has a byte that is none of r, w, x and -, or a letter twice.
+    #[error("Permission at line {line} column {column}")]
+    Permission { line: usize, column: usize },
+    /// Blanks alone stand here where an entry should.
+    #[error("EmptyEntry at line {line} column {column}")]
+    EmptyEntry { line: usize, column: usize },
+    /// The entries of a part are no valid ACL.
+    #[error("Invalid {}: {}", .0.name(), .1)]
+    Invalid(Part, Cause),
+    /// Memory ran out.
+    #[error("out of memory")]
+    Memory,
+}
+
+impl From<AllocError> for TextFault {
+    ghost from_gives = { λ _ fault. fault ≡ Memory };
+
+    fn from(_error: AllocError) -> TextFault {
+        TextFault::Memory
+    }
+}
+
+impl<T: Drop> From<AllocFailed<T>> for TextFault {
+    ghost from_gives = { λ _ fault. fault ≡ Memory };
+
+    fn from(_error: AllocFailed<T>) -> TextFault {
+        TextFault::Memory
+    }
+}

@@ -1,0 +1,355 @@
+//! Texts of worked examples. A test that is refused memory ends quietly; a table named `ample` asserts that with memory
+//! left no call is refused.
+
+use super::*;
+use acl_perm::Counted;
+use std::alloc::Global;
+use std::process::Abort;
+use std::test::Fail;
+
+const SHORT: &[u8] = b"u::rw-,u:1001:rw-,g::r--,g:50:rw-,m::r--,o::r--";
+
+const CANONICAL: &[u8] =
+    b"user::rw-\nuser:1001:rw-\ngroup::r--\ngroup:50:rw-\nmask::r--\nother::r--\n";
+
+const SHOWN: &[u8] =
+    b"user::rw-\nuser:1001:rw-\t#effective:r--\ngroup::r--\ngroup:50:rw-\t#effective:r--\nmask::r--\nother::r--\n";
+
+// What getfacl prints of a directory (getfacl(1)).
+const LISTED: &[u8] =
+    b"# file: reports\n# owner: alice\n# group: staff\nuser::rw-\nuser:bob:rwx\t#effective:r--\ngroup::r--\n\
+    mask::r--\nother::---\ndefault:user::rwx\ndefault:group::r-x\ndefault:other::---\n\n";
+
+const LISTED_CANONICAL: &[u8] =
+    b"user::rw-\nuser:1002:rwx\ngroup::r--\nmask::r--\nother::---\ndefault:user::rwx\ndefault:group::r-x\n\
+    default:other::---\n";
+
+const LISTED_SHORT: &[u8] = b"u::rw-,u:1002:rwx,g::r--,m::r--,o::---,d:u::rwx,d:g::r-x,d:o::---";
+
+// A default part with a mask of its own, and the same in order.
+const TWO_MASKS: &[u8] =
+    b"u::rwx,g::rwx,m::rwx,o::---,d:g:7:rwx,d:u::rwx,d:m::-w-,d:g::r-x,d:o::---";
+
+const TWO_MASKS_SHOWN: &[u8] =
+    b"user::rwx\ngroup::rwx\nmask::rwx\nother::---\ndefault:user::rwx\ndefault:group::r-x\t#effective:---\n\
+    default:group:7:rwx\t#effective:-w-\ndefault:mask::-w-\ndefault:other::---\n";
+
+fn names_of(alloc: Global) -> Option<Names> {
+    let mut names = Names::new(alloc);
+    names.add_user(b"bob", Id::new(1002)?).ok()?;
+    names.add_group(b"staff ops", Id::new(50)?).ok()?;
+    Some(names)
+}
+
+#[derive(Clone, Copy)]
+enum Form {
+    Canonical,
+    Shown,
+    Short,
+}
+
+// Writes a text into a room, and tells how many bytes went in and what the call answered.
+fn write(file: &PosixFile, form: Form, room: &mut [u8]) -> (usize, Option<u64>) {
+    let size = room.len();
+    let mut sink = Counted::new(room);
+    let answer = match form {
+        Form::Canonical => file.write_canonical(&mut sink),
+        Form::Shown => file.write_shown(&mut sink),
+        Form::Short => file.write_short(&mut sink),
+    };
+    let left = sink.into_inner().len();
+    (
+        size.saturating_sub(left),
+        answer.err().map(|fault| fault.written),
+    )
+}
+
+// The text that a room begins with, and nothing behind it.
+fn holds(room: &[u8], text: &[u8]) -> bool {
+    room.starts_with(text) && room.iter().skip(text.len()).all(|byte| *byte == 0)
+}
+
+// Each text with its three forms.
+#[test]
+fn ample_memory_for_texts(rt: HostRuntime) -> Result<(), Fail> {
+    let names = names_of(rt.alloc()).ok_or("names are added")?;
+    let rows = [
+        (SHORT, Form::Canonical, CANONICAL),
+        (SHORT, Form::Shown, SHOWN),
+        (SHORT, Form::Short, SHORT),
+        (CANONICAL, Form::Short, SHORT),
+        (SHOWN, Form::Canonical, CANONICAL),
+        (LISTED, Form::Canonical, LISTED_CANONICAL),
+        (LISTED, Form::Short, LISTED_SHORT),
+        (LISTED_SHORT, Form::Canonical, LISTED_CANONICAL),
+        (TWO_MASKS, Form::Shown, TWO_MASKS_SHOWN),
+        (TWO_MASKS_SHOWN, Form::Shown, TWO_MASKS_SHOWN),
+        (
+            b"o::r--,m:\t:r , g : staff ops :wr,g::r,user: 01001:rw#,\nuser::wr".as_slice(),
+            Form::Short,
+            SHORT,
+        ),
+        (
+            b"u::,g::-----,o::-x-r-w".as_slice(),
+            Form::Short,
+            b"u::---,g::---,o::rwx".as_slice(),
+        ),
+        (
+            b"u:4294967294:,u::,g::,m::,o::".as_slice(),
+            Form::Short,
+            b"u::---,u:4294967294:---,g::---,m::---,o::---".as_slice(),
+        ),
+    ];
+    for (text, form, wanted) in rows {
+        let file = parse(rt.alloc(), text, &names)?;
+        let mut room = [0u8; 512];
+        let (size, fault) = write(&file, form, &mut room);
+        assert_eq!(rt; fault, None);
+        assert!(rt; size == wanted.len() && holds(&room, wanted));
+    }
+    Ok(())
+}
+
+// The first fault of each text, with its place.
+#[test]
+fn ample_memory_for_faults(rt: HostRuntime) -> Result<(), Fail> {
+    let names = names_of(rt.alloc()).ok_or("names are added")?;
+    let rows = [
+        (
+            b"u::rw-,u:7:r--,g::r--,o::---".as_slice(),
+            TextFault::Invalid(Part::Access, Cause::Miss(Tag::Mask)),
+        ),
+        (
+            b"u::rw-,g::r--,m::r--,m::r--,o::---".as_slice(),
+            TextFault::Invalid(Part::Access, Cause::Multi(3)),
+        ),
+        (
+            b"u::rw-,u:7:r--,u:007:r--,g::r--,m::r--,o::---".as_slice(),
+            TextFault::Invalid(Part::Access, Cause::Duplicate(2)),
+        ),
+        (
+            b"u::rw-,u:1002:r--,u:bob:r--,g::r--,m::r--,o::---".as_slice(),
+            TextFault::Invalid(Part::Access, Cause::Duplicate(2)),
+        ),
+        (
+            b"".as_slice(),
+            TextFault::Invalid(Part::Access, Cause::Miss(Tag::UserObj)),
+        ),
+        (
+            b"d:u::rwx".as_slice(),
+            TextFault::Invalid(Part::Access, Cause::Miss(Tag::UserObj)),
+        ),
+        (
+            b"d:g::,u::,d:g::,g::,o::".as_slice(),
+            TextFault::Invalid(Part::Default, Cause::Multi(1)),
+        ),
+        (
+            b"d:g::,u::,d:g::,g::".as_slice(),
+            TextFault::Invalid(Part::Access, Cause::Miss(Tag::Other)),
+        ),
+        (
+            b"u:4294967295:r--".as_slice(),
+            TextFault::Id { line: 1, column: 3 },
+        ),
+        (
+            b"u: 99999999999999999999999 :rr".as_slice(),
+            TextFault::Id { line: 1, column: 4 },
+        ),
+        (
+            b"u::rw-,,o::r--".as_slice(),
+            TextFault::EmptyEntry { line: 1, column: 8 },
+        ),
+        (
+            b"user::rw-\n\n  g::-- , ".as_slice(),
+            TextFault::EmptyEntry {
+                line: 3,
+                column: 11,
+            },
+        ),
+        (
+            b"u::r, # x".as_slice(),
+            TextFault::EmptyEntry { line: 1, column: 7 },
+        ),
+        (
+            b"m:r--".as_slice(),
+            TextFault::Fields { line: 1, column: 1 },
+        ),
+        (b"d".as_slice(), TextFault::Fields { line: 1, column: 1 }),
+        (b" d::".as_slice(), TextFault::Fields { line: 1, column: 2 }),
+        (
+            b"u:::r".as_slice(),
+            TextFault::Fields { line: 1, column: 1 },
+        ),
+        (
+            b"other:5:r--".as_slice(),
+            TextFault::Qualifier { line: 1, column: 7 },
+        ),
+        (
+            b"u::rr".as_slice(),
+            TextFault::Permission { line: 1, column: 4 },
+        ),
+        (
+            b"u::r w".as_slice(),
+            TextFault::Permission { line: 1, column: 4 },
+        ),
+        (
+            b"u::rw-\r\n".as_slice(),
+            TextFault::Permission { line: 1, column: 4 },
+        ),
+        (b"x::rr".as_slice(), TextFault::Tag { line: 1, column: 1 }),
+        (b"User::r".as_slice(), TextFault::Tag { line: 1, column: 1 }),
+        (b"d:::r".as_slice(), TextFault::Tag { line: 1, column: 3 }),
+        (b"d:d::r".as_slice(), TextFault::Tag { line: 1, column: 3 }),
+        (
+            b"u::r\nd: x ::r".as_slice(),
+            TextFault::Tag { line: 2, column: 4 },
+        ),
+        (
+            b"#\n\ng:bob:r".as_slice(),
+            TextFault::UnknownName { line: 3, column: 3 },
+        ),
+        (
+            b"u:staff ops:r".as_slice(),
+            TextFault::UnknownName { line: 1, column: 3 },
+        ),
+        (
+            b"u:\xff:r".as_slice(),
+            TextFault::UnknownName { line: 1, column: 3 },
+        ),
+    ];
+    for (text, wanted) in rows {
+        assert_eq!(rt; parse(rt.alloc(), text, &names).err(), Some(wanted));
+    }
+    let nobody = Names::new(rt.alloc());
+    assert_eq!(rt;
+        parse(rt.alloc(), LISTED, &nobody).err(),
+        Some(TextFault::UnknownName { line: 5, column: 6 })
+    );
+    Ok(())
+}
+
+// Which names are added, and that a refused one changes nothing.
+#[test]
+fn ample_memory_for_names(rt: HostRuntime) -> Result<(), Fail> {
+    let mut names = Names::new(rt.alloc());
+    let one = Id::new(1).ok_or("an id")?;
+    let two = Id::new(2).ok_or("an id")?;
+    assert_eq!(rt; names.add_user(b"", one), Err(NameFault::EmptyName));
+    assert_eq!(rt; names.add_user(b"007", one), Err(NameFault::DigitsOnly));
+    assert_eq!(rt; names.add_user(b"7a", one), Ok(()));
+    assert_eq!(rt; names.add_user(b"7a", two), Err(NameFault::Taken));
+    assert_eq!(rt; names.add_group(b"7a", two), Ok(()));
+    assert_eq!(rt; names.add_group(b"7a", two), Err(NameFault::Taken));
+    let file = parse(rt.alloc(), b"u::,u:7a:,g::,g:7a:,m::,o::", &names)?;
+    let mut room = [0u8; 64];
+    let (size, _) = write(&file, Form::Short, &mut room);
+    let wanted = b"u::---,u:1:---,g::---,g:2:---,m::---,o::---".as_slice();
+    assert!(rt; size == wanted.len() && holds(&room, wanted));
+    Ok(())
+}
+
+// A room of n bytes: the fault tells n, and the room holds the first n bytes of the text.
+#[test]
+fn each_write_fails_in_turn(rt: HostRuntime) {
+    let names = Names::new(rt.alloc());
+    let Ok(file) = parse(rt.alloc(), SHORT, &names) else {
+        return;
+    };
+    for (form, text) in [
+        (Form::Canonical, CANONICAL),
+        (Form::Shown, SHOWN),
+        (Form::Short, SHORT),
+    ] {
+        for size in 0..text.len() {
+            let mut room = [0u8; 128];
+            assert_eq!(rt;
+                write(&file, form, &mut room[..size]),
+                (size, Some(size as u64))
+            );
+            assert_eq!(rt; &room[..size], &text[..size]);
+        }
+    }
+}
+
+// The texts of an ACL are those of a file without a default ACL.
+#[test]
+fn an_acl_is_written_as_a_file(rt: HostRuntime) {
+    let names = Names::new(rt.alloc());
+    let Ok(file) = parse(rt.alloc(), SHORT, &names) else {
+        return;
+    };
+    let mut room = [0u8; 256];
+    let mut sink = Counted::new(room.as_mut_slice());
+    assert!(rt; file.access.write_canonical(&mut sink).is_ok());
+    assert!(rt; file.access.write_shown(&mut sink).is_ok());
+    assert!(rt; file.access.write_short(&mut sink).is_ok());
+    let left = sink.into_inner().len();
+    assert_eq!(rt;
+        256usize.saturating_sub(left),
+        CANONICAL.len() + SHOWN.len() + SHORT.len()
+    );
+}
+
+// Adds a name of each half of the table. A call that is refused memory leaves the table as it was, so that it can be
+// made again.
+fn add_names(rt: &impl Abort, names: &mut Names) -> Option<()> {
+    let id = Id::new(1002)?;
+    let added = names.add_user(b"bob", id);
+    match added {
+        Ok(()) => assert_eq!(rt; names.add_user(b"bob", id), Err(NameFault::Taken)),
+        Err(fault) => {
+            assert_eq!(rt; fault, NameFault::Memory);
+            assert_eq!(rt; names.user(b"bob"), None);
+            assert_eq!(rt; names.group(b"bob"), None);
+        }
+    }
+    let id = Id::new(50)?;
+    match names.add_group(b"staff ops", id) {
+        Ok(()) => assert_eq!(rt; names.add_group(b"staff ops", id), Err(NameFault::Taken)),
+        Err(fault) => {
+            assert_eq!(rt; fault, NameFault::Memory);
+            assert_eq!(rt; names.group(b"staff ops"), None);
+        }
+    }
+    assert_eq!(rt; names.user(b"bob").is_some(), added.is_ok());
+    Some(())
+}
+
+// Names, a text with them, and its forms, where memory may be wanting: it is an answer then, and no other is.
+#[test]
+fn texts_where_memory_may_be_wanting(rt: HostRuntime) {
+    let mut names = Names::new(rt.alloc());
+    assert!(rt; add_names(&rt, &mut names).is_some());
+    let has_both = names.user(b"bob").is_some() && names.group(b"staff ops").is_some();
+    let rows = [
+        (SHORT, Form::Shown, SHOWN),
+        (LISTED_SHORT, Form::Canonical, LISTED_CANONICAL),
+        (TWO_MASKS, Form::Shown, TWO_MASKS_SHOWN),
+        (
+            b"u::,u:bob:r,g::,g:staff ops:w,m::,o::".as_slice(),
+            Form::Short,
+            b"u::---,u:1002:r--,g::---,g:50:-w-,m::---,o::---".as_slice(),
+        ),
+    ];
+    for (text, form, wanted) in rows {
+        let mut room = [0u8; 512];
+        match parse(rt.alloc(), text, &names) {
+            Ok(file) => {
+                let (size, fault) = write(&file, form, &mut room);
+                assert_eq!(rt; fault, None);
+                assert!(rt; size == wanted.len() && holds(&room, wanted));
+            }
+            Err(TextFault::UnknownName { line, .. }) => {
+                assert!(rt; !has_both && line == 1);
+            }
+            Err(fault) => assert_eq!(rt; fault, TextFault::Memory),
+        }
+    }
+    match parse(rt.alloc(), b"u::,u:7:r,u:007:w,g::,m::,o::", &names) {
+        Ok(_) => assert!(rt; false, "an id that stands twice"),
+        Err(TextFault::Invalid(part, cause)) => {
+            assert_eq!(rt; (part, cause), (Part::Access, Cause::Duplicate(2)));
+        }
+        Err(fault) => assert_eq!(rt; fault, TextFault::Memory),
+    }
+}

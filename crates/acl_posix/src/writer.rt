@@ -1,0 +1,252 @@
+//! The texts of ACLs, to a sink.
+ghost use Rattle.std.specs.Prelude.{◌≡◌, ◌+◌, ◌^◌, ◌<◌, IfErr, OnErr, OnOk, None, length, option_map, take};
+ghost use Rattle.std.specs.FinMap as set;
+ghost use Rattle.std.specs.Io.KnownBytes.{Appends};
+ghost use Rattle.acl_perm.specs.Devices.{one_more};
+ghost use Rattle.acl_perm.specs.Pieces.{WritesFrom};
+ghost use Rattle.acl_posix.specs.Texts.{canonical_text, short_text, shown_text};
+ghost use Rattle.acl_posix.specs.Entries.{pairs};
+ghost use Rattle.acl_posix.specs.Valid.{IsValid};
+ghost use Rattle.acl_posix.specs.Writing.{default_out, form_text, part_out};
+
+use crate::acl::PosixAcl;
+use crate::entry::Entry;
+use crate::entry_line::{Form, entry_line};
+use crate::file::PosixFile;
+use crate::text_fault::Part;
+use acl_perm::{Sink, WriteFault, put_next};
+
+/// Writes the entries of a part, after `done` bytes of the text, and answers how many are out then.
+fn put_part<S: Sink>(
+    sink: &mut S,
+    done: u64,
+    form: Form,
+    part: Part,
+    acl: &PosixAcl,
+    entries: &[Entry],
+    is_first: bool,
+) -> Result<u64, WriteFault>
+    requires entries { pairs entries.now ≡ set.entries acl.now }
+    requires room { done + length (part_out form part acl.now is_first (set.entries acl.now)) < 2 ^ 64 }
+    ensures written { WritesFrom (S.contents sink.old) (S.contents sink.new) done
+        (part_out form part acl.now is_first (set.entries acl.now)) result }
+    ensures none_failed { OnOk result (S.failure_count sink.new ≡ S.failure_count sink.old) }
+    ensures failed { OnErr result (S.failure_count sink.new ≡ one_more (S.failure_count sink.old)) }
+{
+    let mut done = done;
+    let mut is_first = is_first;
+    for entry in entries {
+        let line = entry_line(form, part, is_first, *entry, acl.effective(*entry));
+        match put_next(sink, done, &line) {
+            Ok(count) => done = count,
+            Err(fault) => return Err(fault),
+        }
+        is_first = false;
+    }
+    Ok(done)
+}
+
+/// Writes the entries of the default part, if there is one.
+fn put_default<S: Sink>(
+    sink: &mut S,
+    done: u64,
+    form: Form,
+    default: Option<&PosixAcl>,
+) -> Result<u64, WriteFault>
+    requires { done < 2 ^ 62 }
+    ensures written { WritesFrom (S.contents sink.old) (S.contents sink.new) done
+        (default_out form (option_map (λ acl. acl.now) default.entry)) result }
+    ensures none_failed { OnOk result (S.failure_count sink.new ≡ S.failure_count sink.old) }
+    ensures failed { OnErr result (S.failure_count sink.new ≡ one_more (S.failure_count sink.old)) }
+{
+    match default {
+        Some(acl) => {
+            let entries = acl.entries();
+            put_part(sink, done, form, Part::Default, acl, entries, false)
+        }
+        None => Ok(done),
+    }
+}
+
+/// Writes a text of the ACLs of a file, and answers how many bytes it has.
+fn put_file<S: Sink>(
+    sink: &mut S,
+    form: Form,
+    access: &PosixAcl,
+    default: Option<&PosixAcl>,
+) -> Result<u64, WriteFault>
+    ensures written { WritesFrom (S.contents sink.old) (S.contents sink.new) 0
+        (form_text form access.now (option_map (λ acl. acl.now) default.entry)) result }
+    ensures none_failed { OnOk result (S.failure_count sink.new ≡ S.failure_count sink.old) }
+    ensures valid { IsValid access.now }
+    ensures failed { OnErr result (S.failure_count sink.new ≡ one_more (S.failure_count sink.old)) }
+{
+    let entries = access.entries();
+    match put_part(sink, 0, form, Part::Access, access, entries, true) {
+        Ok(done) => put_default(sink, done, form, default),
+        Err(fault) => Err(fault),
+    }
+}
+
+/// Writes a text of the ACLs of a file.
+fn put_text<S: Sink>(
+    sink: &mut S,
+    form: Form,
+    access: &PosixAcl,
+    default: Option<&PosixAcl>,
+) -> Result<(), WriteFault>
+    ensures ok { OnOk result (Appends (S.contents sink.old) (S.contents sink.new)
+        (form_text form access.now (option_map (λ acl. acl.now) default.entry))) }
+    ensures none_failed { OnOk result (S.failure_count sink.new ≡ S.failure_count sink.old) }
+    ensures err { IfErr result (λ fault. Appends (S.contents sink.old) (S.contents sink.new)
+        (take fault.written (form_text form access.now (option_map (λ acl. acl.now) default.entry)))) }
+    ensures short { IfErr result (λ fault. fault.written
+        < length (form_text form access.now (option_map (λ acl. acl.now) default.entry))) }
+    ensures valid { IsValid access.now }
+    ensures failed { OnErr result (S.failure_count sink.new ≡ one_more (S.failure_count sink.old)) }
+{
+    match put_file(sink, form, access, default) {
+        Ok(_) => Ok(()),
+        Err(fault) => Err(fault),
+    }
+}
+
+fn put_canonical<S: Sink>(
+    sink: &mut S,
+    access: &PosixAcl,
+    default: Option<&PosixAcl>,
+) -> Result<(), WriteFault>
+    ensures ok { OnOk result (Appends (S.contents sink.old) (S.contents sink.new)
+        (canonical_text access.now (option_map (λ acl. acl.now) default.entry))) }
+    ensures none_failed { OnOk result (S.failure_count sink.new ≡ S.failure_count sink.old) }
+    ensures err { IfErr result (λ fault. Appends (S.contents sink.old) (S.contents sink.new)
+        (take fault.written (canonical_text access.now (option_map (λ acl. acl.now) default.entry)))) }
+    ensures short { IfErr result (λ fault. fault.written
+        < length (canonical_text access.now (option_map (λ acl. acl.now) default.entry))) }
+    ensures failed { OnErr result (S.failure_count sink.new ≡ one_more (S.failure_count sink.old)) }
+{
+    put_text(sink, Form::Canonical, access, default)
+}
+
+fn put_shown<S: Sink>(
+    sink: &mut S,
+    access: &PosixAcl,
+    default: Option<&PosixAcl>,
+) -> Result<(), WriteFault>
+    ensures ok { OnOk result (Appends (S.contents sink.old) (S.contents sink.new)
+        (shown_text access.now (option_map (λ acl. acl.now) default.entry))) }
+    ensures none_failed { OnOk result (S.failure_count sink.new ≡ S.failure_count sink.old) }
+    ensures err { IfErr result (λ fault. Appends (S.contents sink.old) (S.contents sink.new)
+        (take fault.written (shown_text access.now (option_map (λ acl. acl.now) default.entry)))) }
+    ensures short { IfErr result (λ fault. fault.written
+        < length (shown_text access.now (option_map (λ acl. acl.now) default.entry))) }
+    ensures failed { OnErr result (S.failure_count sink.new ≡ one_more (S.failure_count sink.old)) }
+{
+    put_text(sink, Form::Shown, access, default)
+}
+
+fn put_short<S: Sink>(
+    sink: &mut S,
+    access: &PosixAcl,
+    default: Option<&PosixAcl>,
+) -> Result<(), WriteFault>
+    ensures ok { OnOk result (Appends (S.contents sink.old) (S.contents sink.new)
+        (short_text access.now (option_map (λ acl. acl.now) default.entry))) }
+    ensures none_failed { OnOk result (S.failure_count sink.new ≡ S.failure_count sink.old) }
+    ensures err { IfErr result (λ fault. Appends (S.contents sink.old) (S.contents sink.new)
+        (take fault.written (short_text access.now (option_map (λ acl. acl.now) default.entry)))) }
+    ensures short { IfErr result (λ fault. fault.written
+        < length (short_text access.now (option_map (λ acl. acl.now) default.entry))) }
+    ensures failed { OnErr result (S.failure_count sink.new ≡ one_more (S.failure_count sink.old)) }
+{
+    put_text(sink, Form::Short, access, default)
+}
+
+impl PosixFile {
+    /// Writes the canonical text: a line an entry in canonical order, and the default ACL behind the access ACL. The
+    /// first put that fails ends it; nothing is tried again. No memory; time n log n.
+    pub fn write_canonical<S: Sink>(&self, sink: &mut S) -> Result<(), WriteFault>
+        ensures ok { OnOk result (Appends (S.contents sink.old) (S.contents sink.new)
+            (canonical_text self.now.access self.now.default)) }
+        ensures none_failed { OnOk result (S.failure_count sink.new ≡ S.failure_count sink.old) }
+        ensures err { IfErr result (λ fault. Appends (S.contents sink.old) (S.contents sink.new)
+            (take fault.written (canonical_text self.now.access self.now.default))) }
+        ensures short { IfErr result (λ fault. fault.written
+            < length (canonical_text self.now.access self.now.default)) }
+        ensures failed { OnErr result (S.failure_count sink.new ≡ one_more (S.failure_count sink.old)) }
+    {
+        put_canonical(sink, &self.access, self.default.as_ref())
+    }
+
+    /// Writes the canonical text with a comment behind each entry that the mask cuts: its effective permissions. The
+    /// first put that fails ends it; nothing is tried again. No memory; time n log n.
+    pub fn write_shown<S: Sink>(&self, sink: &mut S) -> Result<(), WriteFault>
+        ensures ok { OnOk result (Appends (S.contents sink.old) (S.contents sink.new)
+            (shown_text self.now.access self.now.default)) }
+        ensures none_failed { OnOk result (S.failure_count sink.new ≡ S.failure_count sink.old) }
+        ensures err { IfErr result (λ fault. Appends (S.contents sink.old) (S.contents sink.new)
+            (take fault.written (shown_text self.now.access self.now.default))) }
+        ensures short { IfErr result (λ fault. fault.written < length (shown_text self.now.access self.now.default)) }
+        ensures failed { OnErr result (S.failure_count sink.new ≡ one_more (S.failure_count sink.old)) }
+    {
+        put_shown(sink, &self.access, self.default.as_ref())
+    }
+
+    /// Writes the short text: the entries in canonical order with commas between them, and no line feed. The first put
+    /// that fails ends it; nothing is tried again. No memory; time n log n.
+    pub fn write_short<S: Sink>(&self, sink: &mut S) -> Result<(), WriteFault>
+        ensures ok { OnOk result (Appends (S.contents sink.old) (S.contents sink.new)
+            (short_text self.now.access self.now.default)) }
+        ensures none_failed { OnOk result (S.failure_count sink.new ≡ S.failure_count sink.old) }
+        ensures err { IfErr result (λ fault. Appends (S.contents sink.old) (S.contents sink.new)
+            (take fault.written (short_text self.now.access self.now.default))) }
+        ensures short { IfErr result (λ fault. fault.written < length (short_text self.now.access self.now.default)) }
+        ensures failed { OnErr result (S.failure_count sink.new ≡ one_more (S.failure_count sink.old)) }
+    {
+        put_short(sink, &self.access, self.default.as_ref())
+    }
+}
+
+impl PosixAcl {
+    /// Writes the canonical text: a line an entry in canonical order, and the default ACL behind the access ACL. The
+    /// first put that fails ends it; nothing is tried again. No memory; time n log n.
+    pub fn write_canonical<S: Sink>(&self, sink: &mut S) -> Result<(), WriteFault>
+        ensures ok { OnOk result (Appends (S.contents sink.old) (S.contents sink.new)
+            (canonical_text self.now None)) }
+        ensures none_failed { OnOk result (S.failure_count sink.new ≡ S.failure_count sink.old) }
+        ensures err { IfErr result (λ fault. Appends (S.contents sink.old) (S.contents sink.new)
+            (take fault.written (canonical_text self.now None))) }
+        ensures short { IfErr result (λ fault. fault.written < length (canonical_text self.now None)) }
+        ensures failed { OnErr result (S.failure_count sink.new ≡ one_more (S.failure_count sink.old)) }
+    {
+        put_canonical(sink, self, None)
+    }
+
+    /// Writes the canonical text with a comment behind each entry that the mask cuts: its effective permissions. The
+    /// first put that fails ends it; nothing is tried again. No memory; time n log n.
+    pub fn write_shown<S: Sink>(&self, sink: &mut S) -> Result<(), WriteFault>
+        ensures ok { OnOk result (Appends (S.contents sink.old) (S.contents sink.new)
+            (shown_text self.now None)) }
+        ensures none_failed { OnOk result (S.failure_count sink.new ≡ S.failure_count sink.old) }
+        ensures err { IfErr result (λ fault. Appends (S.contents sink.old) (S.contents sink.new)
+            (take fault.written (shown_text self.now None))) }
+        ensures short { IfErr result (λ fault. fault.written < length (shown_text self.now None)) }
+        ensures failed { OnErr result (S.failure_count sink.new ≡ one_more (S.failure_count sink.old)) }
+    {
+        put_shown(sink, self, None)
+    }
+
+    /// Writes the short text: the entries in canonical order with commas between them, and no line feed. The first put
+    /// that fails ends it; nothing is tried again. No memory; time n log n.
+    pub fn write_short<S: Sink>(&self, sink: &mut S) -> Result<(), WriteFault>
+        ensures ok { OnOk result (Appends (S.contents sink.old) (S.contents sink.new)
+            (short_text self.now None)) }
+        ensures none_failed { OnOk result (S.failure_count sink.new ≡ S.failure_count sink.old) }
+        ensures err { IfErr result (λ fault. Appends (S.contents sink.old) (S.contents sink.new)
+            (take fault.written (short_text self.now None))) }
+        ensures short { IfErr result (λ fault. fault.written < length (short_text self.now None)) }
+        ensures failed { OnErr result (S.failure_count sink.new ≡ one_more (S.failure_count sink.old)) }
+    {
+        put_short(sink, self, None)
+    }
+}
