@@ -1,20 +1,23 @@
--- What stands before a border of fields begins the spelling of a list: that of the ACEs that are whole, of the one that is
--- begun, and of further ones with no bits, up to the number that is announced.
-use Rattle.std.proofs.Common.{◌≡◌, ℕ, zero, suc, ◌+◌, ◌-◌, ◌<◌, ◌≤◌, true, false, eqb, List, [], ◌∷◌, ◌++◌, length, take, refl, sym, ap, subst, ◌∙◌, append_assoc, arith, get_or}
-use Rattle.std.specs.Prelude.{count_ones, replicate, not, ◌&&◌}
+-- What stands before a border of fields begins the spelling of a list: that of the ACEs that are whole, of the one that
+-- is begun, and of further ones with no bits, up to the number that is announced.
+use Rattle.std.proofs.Common.{◌≡◌, ℕ, zero, suc, ◌+◌, ◌-◌, ◌<◌, ◌≤◌, true, false, eqb, ltb, List, [], ◌∷◌, ◌++◌, length, take, refl, sym, ap, subst, ◌∙◌, append_assoc, arith, get_or}
+use Rattle.std.specs.Prelude.{count_ones, replicate}
 use Rattle.std.specs.List.{flat_map, AllByRecursion, list_all}
 use Rattle.std.specs.Str.{is_utf8}
 use Rattle.std.proofs.lemmas.Str.{IsUtf8-from_ascii, is_utf8-from_IsUtf8}
 use Rattle.std.proofs.lemmas.Str.Ascii.{IsAscii-from_all}
+use Rattle.std.proofs.lemmas.Bool.{or_from, le-ltb}
 use Rattle.std.proofs.lemmas.List.{append-nil, length-append, length-replicate, get_or-replicate, take_at}
 use Rattle.std.proofs.lemmas.List.Elements.{All-replicate}
 use Rattle.std.proofs.lemmas.Nat.{ones_le_self}
-use Rattle.acl_perm.specs.Bits.{IsFlags, IsMask}
+use Rattle.acl_perm.specs.Profile.{Profile}
 use Rattle.acl_perm.specs.declared.kind.Kind.{Kind}
 use Rattle.acl_perm.specs.declared.kind.Kind.TheVariants.{Allow}
 use Rattle.acl_nfs4.specs.declared.fault.Reason.{Reason}
 use Rattle.acl_nfs4.specs.Ace.{Ace}
-use Rattle.acl_nfs4.specs.Who.{IsWho, is_plain, is_special, ends_in_at}
+use Rattle.acl_nfs4.specs.Limits.{most_aces, most_weight, longest_who}
+use Rattle.acl_nfs4.specs.Who.{IsWho, is_no_who_len, is_plain, is_unknown_special, ends_in_at}
+use Rattle.acl_nfs4.specs.Within.{IsWithin}
 use Rattle.acl_nfs4.specs.Spelling.{word, kind_number, pad_len, piece, weight, IsAce, Xdr}
 use Rattle.acl_nfs4.specs.Fault.{Stage, Border, IsFault}
 use Rattle.acl_nfs4.specs.Fault.Stage.{count as at_count, kind as at_kind, flags as at_flags, mask as at_mask, len as at_len, who as at_who, padding as at_padding}
@@ -24,52 +27,77 @@ use Rattle.acl_nfs4.proofs.Faults.{weight-push, regroup, border_after}
 use Rattle.acl_nfs4.proofs.Push.{each_push, flat_map-push}
 
 -- the ACEs that are whole, and the number that is announced
-record IsBegun (n : ℕ) (list : List Ace) : Type 0 where
-  pub small : n ≤ 65536
-  pub light : weight list ≤ 65536
-  pub each : AllByRecursion IsAce list
+pub record IsBegun (profile : Profile) (n : ℕ) (list : List Ace) : Type 0 where
+  pub small : n ≤ most_aces
+  pub light : weight list ≤ most_weight
+  pub each : AllByRecursion (IsAce profile) list
 
 -- the text before the ACE that is being read
-abbrev head : ℕ → List Ace → List ℕ
+abbrev pub head : ℕ → List Ace → List ℕ
 head n list = word n ++ flat_map piece list
 
 -- what a text before a border is
-abbrev Shape : Stage → List ℕ → Type 0
-Shape at_count t = t ≡ []
-Shape (at_kind n list) t = IsBegun n list × (length list ≤ n) × (t ≡ head n list)
-Shape (at_flags n list k) t = IsBegun n list × (length list < n) × (t ≡ head n list ++ word (kind_number k))
-Shape (at_mask n list k f) t = IsBegun n list × (length list < n) × IsFlags f × (t ≡ (head n list ++ word (kind_number k)) ++ word f)
-Shape (at_len n list k f m) t = IsBegun n list × (length list < n) × IsFlags f × IsMask m × (weight list + count_ones m ≤ 65536)
+abbrev pub Shape : Profile → Stage → List ℕ → Type 0
+Shape profile at_count t = t ≡ []
+Shape profile (at_kind n list) t = IsBegun profile n list × (length list ≤ n) × (t ≡ head n list)
+Shape profile (at_flags n list k) t =
+    IsBegun profile n list × (length list < n) × (t ≡ head n list ++ word (kind_number k))
+Shape profile (at_mask n list k f) t =
+    IsBegun profile n list × (length list < n) × IsWithin profile.flags f
+    × (t ≡ (head n list ++ word (kind_number k)) ++ word f)
+Shape profile (at_len n list k f m) t =
+    IsBegun profile n list × (length list < n) × IsWithin profile.flags f × IsWithin profile.masks m
+    × (weight list + count_ones m ≤ most_weight)
     × (t ≡ ((head n list ++ word (kind_number k)) ++ word f) ++ word m)
-Shape (at_who n list k f m l) t = IsBegun n list × (length list < n) × IsFlags f × IsMask m × (weight list + count_ones m ≤ 65536)
+Shape profile (at_who n list k f m l) t =
+    IsBegun profile n list × (length list < n) × IsWithin profile.flags f × IsWithin profile.masks m
+    × (weight list + count_ones m ≤ most_weight)
     × (t ≡ (((head n list ++ word (kind_number k)) ++ word f) ++ word m) ++ word l)
-Shape (at_padding n list k f m w) t = IsBegun n list × (length list < n) × IsFlags f × IsMask m × (weight list + count_ones m ≤ 65536)
+Shape profile (at_padding n list k f m w) t =
+    IsBegun profile n list × (length list < n) × IsWithin profile.flags f × IsWithin profile.masks m
+    × (weight list + count_ones m ≤ most_weight)
     × IsWho w × (t ≡ ((((head n list ++ word (kind_number k)) ++ word f) ++ word m) ++ word (length w)) ++ w)
 
 abbrev onto : List ℕ → List ℕ → List ℕ
 onto more t = t ++ more
 
 head_push : (n : ℕ) (list : List Ace) (a : Ace) → head n list ++ piece a ≡ head n (list ++ a ∷ [])
-head_push n list a = append_assoc (word n) (flat_map piece list) (piece a) ∙ ap (λ (t : List ℕ). word n ++ t) (sym (flat_map-push list a))
+head_push n list a = append_assoc (word n) (flat_map piece list) (piece a)
+    ∙ ap (λ (t : List ℕ). word n ++ t) (sym (flat_map-push list a))
 
-begun_push : (n : ℕ) (list : List Ace) (a : Ace) → IsBegun n list → IsAce a → weight list + count_ones a.mask ≤ 65536 → IsBegun n (list ++ a ∷ [])
-begun_push n list a b is light = record { small = b.small; light = omega (arith, light, weight-push list a); each = each_push list a b.each is }
+begun_push : (profile : Profile) (n : ℕ) (list : List Ace) (a : Ace) → IsBegun profile n list → IsAce profile a
+    → weight list + count_ones a.mask ≤ most_weight → IsBegun profile n (list ++ a ∷ [])
+begun_push profile n list a b is light =
+    record {
+      small = b.small;
+      light = omega (arith, light, weight-push list a);
+      each = each_push profile list a b.each is;
+    }
 
-shape : (s : Stage) (t : List ℕ) → Border s t → Shape s t
-shape _ _ start = refl
-shape _ _ (counted n le) = (record { small = le; light = omega arith; each = tt }, omega arith, sym (append-nil (word n)))
-shape _ _ (typed n list k t b lt) = let h = shape (at_kind n list) t b in (h.0, lt, ap (onto (word (kind_number k))) h.2)
-shape _ _ (flagged n list k f t b is) = let h = shape (at_flags n list k) t b in (h.0, h.1, is, ap (onto (word f)) h.2)
-shape _ _ (masked n list k f m t b is light) = let h = shape (at_mask n list k f) t b in (h.0, h.1, h.2, is, light, ap (onto (word m)) h.3)
-shape _ _ (measured n list k f m l t b some short) = let h = shape (at_len n list k f m) t b in (h.0, h.1, h.2, h.3, h.4, ap (onto (word l)) h.5)
-shape _ _ (named n list k f m w t b is) = let h = shape (at_who n list k f m (length w)) t b in (h.0, h.1, h.2, h.3, h.4, is, ap (onto w) h.5)
-shape _ _ (padded n list k f m w t b) =
-    let h = shape (at_padding n list k f m w) t b in
+-- a text up to a border has its shape
+pub shape : (profile : Profile) (s : Stage) (t : List ℕ) → Border profile s t → Shape profile s t
+shape profile _ _ start = refl
+shape profile _ _ (counted n le) =
+    (record { small = le; light = omega arith; each = tt }, omega arith, sym (append-nil (word n)))
+shape profile _ _ (typed n list k t b lt) = let h = shape profile (at_kind n list) t b in
+    (h.0, lt, ap (onto (word (kind_number k))) h.2)
+shape profile _ _ (flagged n list k f t b is) = let h = shape profile (at_flags n list k) t b in
+    (h.0, h.1, is, ap (onto (word f)) h.2)
+shape profile _ _ (masked n list k f m t b is light) = let h = shape profile (at_mask n list k f) t b in
+    (h.0, h.1, h.2, is, light, ap (onto (word m)) h.3)
+shape profile _ _ (measured n list k f m l t b some short) = let h = shape profile (at_len n list k f m) t b in
+    (h.0, h.1, h.2, h.3, h.4, ap (onto (word l)) h.5)
+shape profile _ _ (named n list k f m w t b is) = let h = shape profile (at_who n list k f m (length w)) t b in
+    (h.0, h.1, h.2, h.3, h.4, is, ap (onto w) h.5)
+shape profile _ _ (padded n list k f m w t b) =
+    let h = shape profile (at_padding n list k f m w) t b in
     let a : Ace = record { kind = k; flags = f; mask = m; who = w } in
-    let is : IsAce a = record { flags = h.2; mask = h.3; who = h.5 } in (
-      begun_push n list a h.0 is h.4,
+    let is : IsAce profile a = record { flags = h.2; mask = h.3; who = h.5 } in (
+      begun_push profile n list a h.0 is h.4,
       omega (arith, h.1, length-append list (a ∷ [])),
-      ap (onto (replicate (pad_len (length w)) 0)) h.6 ∙ regroup (head n list) (word (kind_number k)) (word f) (word m) (word (length w)) w (replicate (pad_len (length w)) 0) ∙ head_push n list a,
+      ap (onto (replicate (pad_len (length w)) 0)) h.6
+          ∙ regroup (head n list) (word (kind_number k)) (word f) (word m) (word (length w)) w
+          (replicate (pad_len (length w)) 0) ∙ head_push n list a,
     )
 
 -- ---- a who of any length
@@ -85,43 +113,44 @@ plain_letters zero = refl
 plain_letters (suc n) = plain_letters n
 
 utf8_letters : (n : ℕ) → is_utf8 (letters n) ≡ true
-utf8_letters n = is_utf8-from_IsUtf8 (letters n) (IsUtf8-from_ascii (letters n) (IsAscii-from_all (letters n) (All-replicate (λ b. b < 128) n 0x61 (omega arith))))
+utf8_letters n = is_utf8-from_IsUtf8 (letters n) (IsUtf8-from_ascii (letters n)
+    (IsAscii-from_all (letters n) (All-replicate (λ b. b < 128) n 0x61 (omega arith))))
 
-no_at : (who : List ℕ) → ends_in_at who ≡ false → not (ends_in_at who && not (is_special who)) ≡ true
-no_at who e = rw e refl
+known_letters : (who : List ℕ) → ends_in_at who ≡ false → is_unknown_special who ≡ false
+known_letters who e = rw e refl
 
 last_letter : (n : ℕ) → 1 ≤ n → ends_in_at (letters n) ≡ false
 last_letter n some =
     ap (λ (k : ℕ). eqb (get_or (letters n) (k - 1) 0) 0x40) (letters_len n)
     ∙ ap (λ (b : ℕ). eqb b 0x40) (get_or-replicate n (n - 1) 0x61 0 (omega (arith, some)))
 
-letters_are_who : (n : ℕ) → 1 ≤ n → n ≤ 1024 → IsWho (letters n)
-letters_are_who n some short = record {
-  some = omega (arith, some, letters_len n);
-  short = omega (arith, short, letters_len n);
-  utf8 = utf8_letters n;
-  plain = plain_letters n;
-  known = no_at (letters n) (last_letter n some);
-}
+letters_are_who : (n : ℕ) → 1 ≤ n → n ≤ longest_who → IsWho (letters n)
+letters_are_who n some short =
+    let len = letters_len n in
+    let long : is_no_who_len (length (letters n)) ≡ false =
+    or_from (eqb (length (letters n)) 0) (ltb longest_who (length (letters n))) (grind (arith, len, some))
+    (le-ltb _ _ (omega (arith, len, short))) in
+    rw (long, utf8_letters n, plain_letters n, known_letters (letters n) (last_letter n some)) refl
 
 -- an ACE without bits
 abbrev filler : Ace
 filler = record { kind = Allow; flags = 0; mask = 0; who = letters 1 }
 
-filler_is : IsAce filler
-filler_is = record { flags = omega arith; mask = refl; who = letters_are_who 1 (omega arith) (omega arith) }
+filler_is : (profile : Profile) → IsAce profile filler
+filler_is profile = record { flags = refl; mask = refl; who = letters_are_who 1 (omega arith) (omega arith) }
 
 no_ones : count_ones 0 ≡ 0
 no_ones = let h = ones_le_self 0 in omega (arith, h)
 
 -- ---- from each border to a whole spelling
 
-longer : (t more : List ℕ) → BeginsSpelling (t ++ more) → BeginsSpelling t
-longer t more b = (b.0, more ++ b.1, subst (Xdr b.0) (append_assoc t more b.1) b.2)
+longer : (profile : Profile) (t more : List ℕ) → BeginsSpelling profile (t ++ more) → BeginsSpelling profile t
+longer profile t more b = (b.0, more ++ b.1, subst (Xdr profile b.0) (append_assoc t more b.1) b.2)
 
-all_there : (n : ℕ) (list : List Ace) (t : List ℕ) → Border (at_kind n list) t → length list ≡ n → BeginsSpelling t
-all_there n list t b e =
-    let h = shape (at_kind n list) t b in (
+all_there : (profile : Profile) (n : ℕ) (list : List Ace) (t : List ℕ) → Border profile (at_kind n list) t
+    → length list ≡ n → BeginsSpelling profile t
+all_there profile n list t b e =
+    let h = shape profile (at_kind n list) t b in (
       list,
       [],
       record {
@@ -130,62 +159,83 @@ all_there n list t b e =
       },
     )
 
-fill : (todo n : ℕ) (list : List Ace) (t : List ℕ) → length list + todo ≡ n → Border (at_kind n list) t → BeginsSpelling t
-fill zero n list t e b = all_there n list t b (omega (arith, e))
-fill (suc todo) n list t e b =
-    let h = shape (at_kind n list) t b in
-    longer t (piece filler) (fill todo n (list ++ filler ∷ []) (t ++ piece filler) (omega (arith, e, length-append list (filler ∷ [])))
-    (border_after n list t filler b (omega (arith, e)) filler_is (omega (arith, h.0.light, no_ones))))
+fill : (profile : Profile) (todo n : ℕ) (list : List Ace) (t : List ℕ) → length list + todo ≡ n
+    → Border profile (at_kind n list) t → BeginsSpelling profile t
+fill profile zero n list t e b = all_there profile n list t b (omega (arith, e))
+fill profile (suc todo) n list t e b =
+    let h = shape profile (at_kind n list) t b in
+    longer profile t (piece filler) (fill profile todo n (list ++ filler ∷ []) (t ++ piece filler)
+    (omega (arith, e, length-append list (filler ∷ [])))
+    (border_after profile n list t filler b (omega (arith, e)) (filler_is profile) (omega (arith, h.0.light, no_ones))))
 
-from_kind : (n : ℕ) (list : List Ace) (t : List ℕ) → Border (at_kind n list) t → BeginsSpelling t
-from_kind n list t b = let h = shape (at_kind n list) t b in fill (n - length list) n list t (omega (arith, h.1)) b
+from_kind : (profile : Profile) (n : ℕ) (list : List Ace) (t : List ℕ) → Border profile (at_kind n list) t
+    → BeginsSpelling profile t
+from_kind profile n list t b = let h = shape profile (at_kind n list) t b in
+    fill profile (n - length list) n list t (omega (arith, h.1)) b
 
-from_padding : (n : ℕ) (list : List Ace) (k : Kind) (f m : ℕ) (w t : List ℕ) → Border (at_padding n list k f m w) t → BeginsSpelling t
-from_padding n list k f m w t b = longer t _ (from_kind n _ _ (padded n list k f m w t b))
+from_padding : (profile : Profile) (n : ℕ) (list : List Ace) (k : Kind) (f m : ℕ) (w t : List ℕ)
+    → Border profile (at_padding n list k f m w) t → BeginsSpelling profile t
+from_padding profile n list k f m w t b = longer profile t _ (from_kind profile n _ _ (padded n list k f m w t b))
 
-from_who : (n : ℕ) (list : List Ace) (k : Kind) (f m l : ℕ) (t : List ℕ) → 1 ≤ l → l ≤ 1024 → Border (at_who n list k f m l) t → BeginsSpelling t
-from_who n list k f m l t some short b =
-    let same : Border (at_who n list k f m (length (letters l))) t = subst (λ (x : ℕ). Border (at_who n list k f m x) t) (sym (letters_len l)) b in
-    longer t (letters l) (from_padding n list k f m (letters l) (t ++ letters l) (named n list k f m (letters l) t same (letters_are_who l some short)))
+from_who : (profile : Profile) (n : ℕ) (list : List Ace) (k : Kind) (f m l : ℕ) (t : List ℕ) → 1 ≤ l → l ≤ longest_who
+    → Border profile (at_who n list k f m l) t → BeginsSpelling profile t
+from_who profile n list k f m l t some short b =
+    let same : Border profile (at_who n list k f m (length (letters l))) t =
+    subst (λ (x : ℕ). Border profile (at_who n list k f m x) t) (sym (letters_len l)) b in
+    longer profile t (letters l) (from_padding profile n list k f m (letters l) (t ++ letters l)
+    (named n list k f m (letters l) t same (letters_are_who l some short)))
 
-from_len : (n : ℕ) (list : List Ace) (k : Kind) (f m : ℕ) (t : List ℕ) → Border (at_len n list k f m) t → BeginsSpelling t
-from_len n list k f m t b = longer t (word 1) (from_who n list k f m 1 (t ++ word 1) (omega arith) (omega arith) (measured n list k f m 1 t b (omega arith) (omega arith)))
+from_len : (profile : Profile) (n : ℕ) (list : List Ace) (k : Kind) (f m : ℕ) (t : List ℕ)
+    → Border profile (at_len n list k f m) t → BeginsSpelling profile t
+from_len profile n list k f m t b =
+    longer profile t (word 1) (from_who profile n list k f m 1 (t ++ word 1) (omega arith) (omega arith)
+    (measured n list k f m 1 t b (omega arith) (omega arith)))
 
-from_mask : (n : ℕ) (list : List Ace) (k : Kind) (f : ℕ) (t : List ℕ) → Border (at_mask n list k f) t → BeginsSpelling t
-from_mask n list k f t b =
-    let h = shape (at_mask n list k f) t b in
-    longer t (word 0) (from_len n list k f 0 (t ++ word 0) (masked n list k f 0 t b refl (omega (arith, h.0.light, no_ones))))
+from_mask : (profile : Profile) (n : ℕ) (list : List Ace) (k : Kind) (f : ℕ) (t : List ℕ)
+    → Border profile (at_mask n list k f) t → BeginsSpelling profile t
+from_mask profile n list k f t b =
+    let h = shape profile (at_mask n list k f) t b in
+    longer profile t (word 0) (from_len profile n list k f 0 (t ++ word 0)
+    (masked n list k f 0 t b refl (omega (arith, h.0.light, no_ones))))
 
-from_flags : (n : ℕ) (list : List Ace) (k : Kind) (t : List ℕ) → Border (at_flags n list k) t → BeginsSpelling t
-from_flags n list k t b = longer t (word 0) (from_mask n list k 0 (t ++ word 0) (flagged n list k 0 t b (omega arith)))
+from_flags : (profile : Profile) (n : ℕ) (list : List Ace) (k : Kind) (t : List ℕ)
+    → Border profile (at_flags n list k) t → BeginsSpelling profile t
+from_flags profile n list k t b =
+    longer profile t (word 0) (from_mask profile n list k 0 (t ++ word 0) (flagged n list k 0 t b refl))
 
 -- what the length of a who may be
-abbrev WhoBounds : Stage → Type 0
-WhoBounds (at_who n list k f m l) = (1 ≤ l) × (l ≤ 1024)
+abbrev pub WhoBounds : Stage → Type 0
+WhoBounds (at_who n list k f m l) = (1 ≤ l) × (l ≤ longest_who)
 WhoBounds _ = Unit {0}
 
-who_bounds : (s : Stage) (t : List ℕ) → Border s t → WhoBounds s
-who_bounds _ _ (measured n list k f m l t b some short) = (some, short)
-who_bounds _ _ (named n list k f m w t b is) = tt
-who_bounds _ _ start = tt
-who_bounds _ _ (counted n le) = tt
-who_bounds _ _ (typed n list k t b lt) = tt
-who_bounds _ _ (flagged n list k f t b is) = tt
-who_bounds _ _ (masked n list k f m t b is light) = tt
-who_bounds _ _ (padded n list k f m w t b) = tt
+-- a border keeps the bounds of a who
+pub who_bounds : (profile : Profile) (s : Stage) (t : List ℕ) → Border profile s t → WhoBounds s
+who_bounds profile _ _ (measured n list k f m l t b some short) = (some, short)
+who_bounds profile _ _ (named n list k f m w t b is) = tt
+who_bounds profile _ _ start = tt
+who_bounds profile _ _ (counted n le) = tt
+who_bounds profile _ _ (typed n list k t b lt) = tt
+who_bounds profile _ _ (flagged n list k f t b is) = tt
+who_bounds profile _ _ (masked n list k f m t b is light) = tt
+who_bounds profile _ _ (padded n list k f m w t b) = tt
 
 -- a text up to a border begins the spelling of an accepted list
-pub begins : (s : Stage) (t : List ℕ) → Border s t → BeginsSpelling t
-begins at_count t b =
-    subst BeginsSpelling (sym (shape at_count t b)) (longer [] (word 0) (from_kind 0 [] (word 0) (counted 0 (omega arith))))
-begins (at_kind n list) t b = from_kind n list t b
-begins (at_flags n list k) t b = from_flags n list k t b
-begins (at_mask n list k f) t b = from_mask n list k f t b
-begins (at_len n list k f m) t b = from_len n list k f m t b
-begins (at_who n list k f m l) t b = let h = who_bounds (at_who n list k f m l) t b in from_who n list k f m l t h.0 h.1 b
-begins (at_padding n list k f m w) t b = from_padding n list k f m w t b
+pub begins : (profile : Profile) (s : Stage) (t : List ℕ) → Border profile s t → BeginsSpelling profile t
+begins profile at_count t b =
+    subst (BeginsSpelling profile) (sym (shape profile at_count t b))
+    (longer profile [] (word 0) (from_kind profile 0 [] (word 0) (counted 0 (omega arith))))
+begins profile (at_kind n list) t b = from_kind profile n list t b
+begins profile (at_flags n list k) t b = from_flags profile n list k t b
+begins profile (at_mask n list k f) t b = from_mask profile n list k f t b
+begins profile (at_len n list k f m) t b = from_len profile n list k f m t b
+begins profile (at_who n list k f m l) t b = let h = who_bounds profile (at_who n list k f m l) t b in
+    from_who profile n list k f m l t h.0 h.1 b
+begins profile (at_padding n list k f m w) t b = from_padding profile n list k f m w t b
 
 -- the bytes before a fault begin one
-pub fault_begins : (bytes : List ℕ) (offset : ℕ) (r : Reason) → IsFault bytes offset r → BeginsSpelling (take offset bytes)
-fault_begins bytes offset r f =
-    subst BeginsSpelling (sym (ap (take offset) f.parts ∙ take_at f.front f.rest offset f.here)) (begins f.stage f.front f.border)
+pub fault_begins : (profile : Profile) (bytes : List ℕ) (offset : ℕ) (r : Reason) → IsFault profile bytes offset r
+    → BeginsSpelling profile (take offset bytes)
+fault_begins profile bytes offset r fault =
+    let f = fault.1 in
+    subst (BeginsSpelling profile) (sym (ap (take offset) f.parts ∙ take_at f.front f.rest offset f.here))
+    (begins profile f.stage f.front f.border)

@@ -1,4 +1,5 @@
 pub mod Text
+pub mod Within
 pub mod Loop
 pub mod Fields
 pub mod Lists
@@ -11,3 +12,11 @@ pub mod Push
 pub mod Completion
 pub mod Weights
 pub mod OneFault
+pub mod Scanning
+pub mod Streaming
+pub mod Pieces
+pub mod Exactly
+pub mod Held
+pub mod Cutting
+pub mod Decoding
+pub mod FirstWord

@@ -1,6 +1,7 @@
 -- Reading ACEs one after the other, as a loop does.
 use Rattle.std.proofs.Common.{◌≡◌, ℕ, suc, ◌-◌, ◌+◌, ◌≤◌, ◌<◌, List, ◌∷◌, Result, Ok, Err, refl, sym, ◌∙◌, arith}
 use Rattle.std.specs.Prelude.{count_ones}
+use Rattle.acl_perm.specs.Profile.{Profile}
 use Rattle.acl_nfs4.specs.declared.fault.Fault.{Fault}
 use Rattle.acl_nfs4.specs.Ace.{Ace}
 use Rattle.acl_nfs4.specs.Reading.{◌>>=◌, Place, ace_at, aces_at, ending}
@@ -9,25 +10,34 @@ forget : (a : Ace) (read : Result (List Ace × Place) Fault) → ending (read >>
 forget a (Ok x) = refl
 forget a (Err f) = refl
 
-pub goes_on : (count i w : ℕ) (p : Place) (a : Ace) (q : Place) (total : Result Place Fault) → i < count → ace_at w p ≡ Ok (a, q)
-    → ending (aces_at (count - i) w p) ≡ total → ending (aces_at (count - (i + 1)) (w + count_ones a.mask) q) ≡ total
+-- a turn that reads an ACE
+pub goes_on : (profile : Profile) (count i w : ℕ) (p : Place) (a : Ace) (q : Place) (total : Result Place Fault)
+    → i < count → ace_at profile w p ≡ Ok (a, q)
+    → ending (aces_at profile (count - i) w p) ≡ total
+    → ending (aces_at profile (count - (i + 1)) (w + count_ones a.mask) q) ≡ total
 unfolding aces_at
-goes_on count i w p a q total lt h so_far =
+goes_on profile count i w p a q total lt h so_far =
     let k : count - i ≡ suc (count - (i + 1)) = omega arith in
-    let one : ending (aces_at (count - i) w p) ≡ ending (aces_at (count - (i + 1)) (w + count_ones a.mask) q) = rw (k, h) (forget a (aces_at (count - (i + 1)) (w + count_ones a.mask) q)) in
+    let one : ending (aces_at profile (count - i) w p)
+    ≡ ending (aces_at profile (count - (i + 1)) (w + count_ones a.mask) q) =
+    rw (k, h) (forget a (aces_at profile (count - (i + 1)) (w + count_ones a.mask) q)) in
     sym one ∙ so_far
 
-pub ends : (count i w : ℕ) (p : Place) (f : Fault) (total : Result Place Fault) → i < count → ace_at w p ≡ Err f
-    → ending (aces_at (count - i) w p) ≡ total → total ≡ Err f
+-- a turn that meets a fault
+pub ends : (profile : Profile) (count i w : ℕ) (p : Place) (f : Fault) (total : Result Place Fault) → i < count
+    → ace_at profile w p ≡ Err f
+    → ending (aces_at profile (count - i) w p) ≡ total → total ≡ Err f
 unfolding aces_at
-ends count i w p f total lt h so_far =
+ends profile count i w p f total lt h so_far =
     let k : count - i ≡ suc (count - (i + 1)) = omega arith in
-    let one : ending (aces_at (count - i) w p) ≡ Err f = rw (k, h) refl in
+    let one : ending (aces_at profile (count - i) w p) ≡ Err f = rw (k, h) refl in
     sym so_far ∙ one
 
-pub is_done : (count i w : ℕ) (p : Place) (total : Result Place Fault) → count ≤ i → ending (aces_at (count - i) w p) ≡ total → total ≡ Ok p
+-- no turn is left
+pub is_done : (profile : Profile) (count i w : ℕ) (p : Place) (total : Result Place Fault) → count ≤ i
+    → ending (aces_at profile (count - i) w p) ≡ total → total ≡ Ok p
 unfolding aces_at
-is_done count i w p total le so_far =
+is_done profile count i w p total le so_far =
     let k : count - i ≡ 0 = omega arith in
-    let one : ending (aces_at (count - i) w p) ≡ Ok p = rw k refl in
+    let one : ending (aces_at profile (count - i) w p) ≡ Ok p = rw k refl in
     sym so_far ∙ one

@@ -8,7 +8,7 @@ use Rattle.std.proofs.lemmas.Bool.{cases_lt, lt-ltb, le-ltb}
 use Rattle.std.proofs.lemmas.List.{length-drop}
 use Rattle.std.proofs.lemmas.List.Sums.{prefix_len-le-length}
 use Rattle.std.proofs.lemmas.List.Splits.{slice_split_first, slice_split_at, slice_split_none, length-slice_split, join_with_byte-slice_split}
-use Rattle.acl_perm.specs.Bits.{has_bit, IsUnion}
+use Rattle.acl_perm.specs.Bits.{has_bit}
 use Rattle.std.specs.List.{All, AllByRecursion}
 use Rattle.std.proofs.lemmas.List.Elements.{All-from_recursion}
 use Rattle.std.proofs.lemmas.Option.{option_and_then_some}
@@ -16,7 +16,8 @@ use Rattle.std.proofs.lemmas.Slice.Eq.{bytes_eq-Decides}
 use Rattle.std.proofs.lemmas.Nat.{or_comm}
 use Rattle.acl_perm.proofs.Sets.{has_bit-or, same_set, no_bit}
 use Rattle.acl_perm.specs.declared.mask.Mask.{Mask}
-use Rattle.acl_nfs4.specs.Rights.{Right, rights, is_name_of, bit_named, rights_named, no_rights, SpellsMask, mask_named, IsCut, parts_after}
+use Rattle.acl_nfs4.specs.Rights.{Right, rights, is_name_of, bit_named, rights_named, no_rights, SpellsMask, mask_named}
+use Rattle.acl_nfs4.specs.RightsTable.{IsCut, parts_after}
 
 abbrev is_bar : ℕ → Bool
 is_bar b = eqb b 0x7c
@@ -26,10 +27,12 @@ pub record Found (xs : List ℕ) (i : ℕ) : Type 0 where
   pub in_range : i < length xs
   pub first : position_or_len is_bar xs ≡ i
 
+-- what a search for a bar answered
 abbrev pub Says : List ℕ → Option ℕ → Type 0
 Says xs None = position_or_len is_bar xs ≡ length xs
 Says xs (Some i) = Found xs i
 
+-- the search for a bar is right
 pub place : (xs : List ℕ) → Says xs (position is_bar xs)
 place xs =
     let le = prefix_len-le-length (λ x. not (is_bar x)) xs in
@@ -41,78 +44,97 @@ place xs =
 split_none : (xs : List ℕ) → position_or_len is_bar xs ≡ length xs → slice_split is_bar xs ≡ xs ∷ []
 split_none [] h = refl
 split_none (x ∷ xs) h =
-    elim (is_bar x) as (λ b. cond (not b) (1 + position_or_len is_bar xs) 0 ≡ suc (length xs) → cond b ([] ∷ slice_split is_bar xs) (onto_first x (slice_split is_bar xs)) ≡ (x ∷ xs) ∷ []) [
+    elim (is_bar x) as (λ b. cond (not b) (1 + position_or_len is_bar xs) 0 ≡ suc (length xs)
+    → cond b ([] ∷ slice_split is_bar xs) (onto_first x (slice_split is_bar xs)) ≡ (x ∷ xs) ∷ []) [
       | true ↦ λ e. absurd (omega (arith, e))
       | false ↦ λ e. ap (onto_first x) (split_none xs (omega (arith, e)))
     ] h
 
+-- a field without a bar is cut at its end
 pub cut_none : (field : List ℕ) → Says field None → IsCut field field None
 cut_none field h = record { parts = split_none field h; shorter = omega arith }
 
-pub cut_some : (field rest : List ℕ) (i : ℕ) → Says field (Some i) → rest ≡ drop (i + 1) field → IsCut field (take i field) (Some rest)
+-- a field with a bar is cut there
+pub cut_some : (field rest : List ℕ) (i : ℕ) → Says field (Some i) → rest ≡ drop (i + 1) field
+    → IsCut field (take i field) (Some rest)
 cut_some field rest i h e =
     let lt = h.in_range in
     let split : slice_split is_bar field ≡ take i field ∷ slice_split is_bar (drop (i + 1) field) =
-    slice_split_first is_bar field 0 (omega (arith, h.first)) ∙ ap (λ (n : ℕ). take n field ∷ slice_split is_bar (drop (n + 1) field)) h.first in
-    let made : IsCut field (take i field) (Some (drop (i + 1) field)) = record { parts = split; shorter = omega (arith, length-drop (i + 1) field) } in
+    slice_split_first is_bar field 0 (omega (arith, h.first))
+    ∙ ap (λ (n : ℕ). take n field ∷ slice_split is_bar (drop (n + 1) field)) h.first in
+    let made : IsCut field (take i field) (Some (drop (i + 1) field)) =
+    record { parts = split; shorter = omega (arith, length-drop (i + 1) field) } in
     rw e made
 
 -- ---- the union so far, and what is left
 
+-- the union of three sets
 pub or_assoc : (a b c : ℕ) → bit_or (bit_or a b) c ≡ bit_or a (bit_or b c)
 or_assoc a b c = same_set _ _ (λ k. has_bit-or (bit_or a b) c k ∙ ap (λ (x : Bool). x || has_bit c k) (has_bit-or a b k)
-    ∙ bool_or_assoc (has_bit a k) (has_bit b k) (has_bit c k) ∙ sym (ap (λ (x : Bool). has_bit a k || x) (has_bit-or b c k)) ∙ sym (has_bit-or a (bit_or b c) k)) where
+    ∙ bool_or_assoc (has_bit a k) (has_bit b k) (has_bit c k)
+    ∙ sym (ap (λ (x : Bool). has_bit a k || x) (has_bit-or b c k)) ∙ sym (has_bit-or a (bit_or b c) k)) where
       bool_or_assoc : (x y z : Bool) → ((x || y) || z) ≡ (x || (y || z))
       bool_or_assoc true y z = refl
       bool_or_assoc false y z = refl
 
-pub same_union : (m n u : ℕ) → IsUnion m n u → u ≡ bit_or m n
-same_union m n u is = same_set u (bit_or m n) (λ k. is k ∙ sym (has_bit-or m n k))
-
+-- the union with no set
 pub or_zero : (a : ℕ) → bit_or a 0 ≡ a
-or_zero a = same_set _ _ (λ k. has_bit-or a 0 k ∙ ap (λ (x : Bool). has_bit a k || x) (no_bit k) ∙ or_false (has_bit a k)) where
-  or_false : (x : Bool) → (x || false) ≡ x
-  or_false true = refl
-  or_false false = refl
+or_zero a = same_set _ _ (λ k. has_bit-or a 0 k ∙ ap (λ (x : Bool). has_bit a k || x) (no_bit k)
+    ∙ or_false (has_bit a k)) where
+      or_false : (x : Bool) → (x || false) ≡ x
+      or_false true = refl
+      or_false false = refl
 
 -- what is named by what is left, together with the rights so far
 abbrev pub rights_from : ℕ → Option (List ℕ) → Option ℕ
 rights_from so_far after = option_map (bit_or so_far) (rights_named (parts_after after))
 
 -- one more word
-joined_rights : (so_far bit : ℕ) (r : Option ℕ) → option_map (bit_or so_far) (option_map (bit_or bit) r) ≡ option_map (bit_or (bit_or so_far bit)) r
+joined_rights : (so_far bit : ℕ) (r : Option ℕ)
+    → option_map (bit_or so_far) (option_map (bit_or bit) r) ≡ option_map (bit_or (bit_or so_far bit)) r
 joined_rights so_far bit None = refl
 joined_rights so_far bit (Some m) = ap (λ (n : ℕ). Some n) (sym (or_assoc so_far bit m))
 
-pub goes_on : (so_far : ℕ) (field word : List ℕ) (after : Option (List ℕ)) (bit : ℕ) (total : Option ℕ) → IsCut field word after → bit_named word ≡ Some bit
+-- one more word
+pub goes_on : (so_far : ℕ) (field word : List ℕ) (after : Option (List ℕ)) (bit : ℕ) (total : Option ℕ)
+    → IsCut field word after → bit_named word ≡ Some bit
     → rights_from so_far (Some field) ≡ total → rights_from (bit_or so_far bit) after ≡ total
 goes_on so_far field word after bit total c named e =
     sym (joined_rights so_far bit (rights_named (parts_after after)))
-    ∙ sym (ap (λ (o : Option ℕ). option_map (bit_or so_far) (option_and_then (λ b. option_map (bit_or b) (rights_named (parts_after after))) o)) named)
+    ∙ sym (ap (λ (o : Option ℕ). option_map (bit_or so_far)
+    (option_and_then (λ b. option_map (bit_or b) (rights_named (parts_after after))) o)) named)
     ∙ sym (ap (λ (ws : List (List ℕ)). option_map (bit_or so_far) (rights_named ws)) c.parts) ∙ e
 
+-- no word is left
 pub ends : (so_far : ℕ) (total : Option ℕ) → rights_from so_far None ≡ total → Some so_far ≡ total
 ends so_far total e = ap (λ (n : ℕ). Some n) (sym (or_zero so_far)) ∙ e
 
 -- one turn of the loop over a field
-pub next_left : (so_far bit u : ℕ) (field word : List ℕ) (after rest : Option (List ℕ)) (total : Option ℕ) → IsUnion so_far bit u → IsCut field word after → Some bit ≡ bit_named word → rest ≡ Some field
+pub next_left : (so_far bit u : ℕ) (field word : List ℕ) (after rest : Option (List ℕ)) (total : Option ℕ)
+    → u ≡ bit_or so_far bit → IsCut field word after → Some bit ≡ bit_named word → rest ≡ Some field
     → rights_from so_far rest ≡ total → rights_from u after ≡ total
 next_left so_far bit u field word after rest total joined c named is e =
-    ap (λ (n : ℕ). rights_from n after) (same_union so_far bit u joined)
+    ap (λ (n : ℕ). rights_from n after) joined
     ∙ goes_on so_far field word after bit total c (sym named) (sym (ap (rights_from so_far) is) ∙ e)
 
-pub nothing_left : (so_far : ℕ) (rest : Option (List ℕ)) (total : Option ℕ) → rest ≡ None → rights_from so_far rest ≡ total → Some so_far ≡ total
+-- no turn is left
+pub nothing_left : (so_far : ℕ) (rest : Option (List ℕ)) (total : Option ℕ) → rest ≡ None
+    → rights_from so_far rest ≡ total → Some so_far ≡ total
 nothing_left so_far rest total is e = ends so_far total (sym (ap (rights_from so_far) is) ∙ e)
 
-pub stops : (so_far : ℕ) (field word : List ℕ) (after : Option (List ℕ)) (total : Option ℕ) → IsCut field word after → bit_named word ≡ None
+-- a word that names no right
+pub stops : (so_far : ℕ) (field word : List ℕ) (after : Option (List ℕ)) (total : Option ℕ) → IsCut field word after
+    → bit_named word ≡ None
     → rights_from so_far (Some field) ≡ total → None ≡ total
 stops so_far field word after total c named e =
-    sym (ap (λ (o : Option ℕ). option_map (bit_or so_far) (option_and_then (λ b. option_map (bit_or b) (rights_named (parts_after after))) o)) named)
+    sym (ap (λ (o : Option ℕ). option_map (bit_or so_far)
+    (option_and_then (λ b. option_map (bit_or b) (rights_named (parts_after after))) o)) named)
     ∙ sym (ap (λ (ws : List (List ℕ)). option_map (bit_or so_far) (rights_named ws)) c.parts) ∙ e
 
 zero_or : (m : ℕ) → bit_or 0 m ≡ m
 zero_or m = or_comm 0 m ∙ or_zero m
 
+-- before the first word
 pub begins : (field : List ℕ) → rights_from 0 (Some field) ≡ rights_named (slice_split is_bar field)
 begins field = same (rights_named (slice_split is_bar field)) where
   same : (r : Option ℕ) → option_map (bit_or 0) r ≡ r
@@ -140,26 +162,32 @@ same_bytes xs ys e = search (rules, bytes_eq-Decides xs ys, e)
 name_whole : (word : List ℕ) (r : Right) → has_whole_names r ≡ true → is_name_of word r ≡ true → is_whole word ≡ true
 name_whole word r whole named =
     let w = and_true (is_whole r.name) (option_map_or is_whole r.second true) whole in
-    elim (bytes_eq word r.name) as (λ b. bytes_eq word r.name ≡ b → (b || option_map_or (bytes_eq word) r.second false) ≡ true → is_whole word ≡ true) [
+    elim (bytes_eq word r.name) as (λ b. bytes_eq word r.name ≡ b
+    → (b || option_map_or (bytes_eq word) r.second false) ≡ true → is_whole word ≡ true) [
       | true ↦ λ e h. ap is_whole (same_bytes word r.name e) ∙ w.0
       | false ↦ λ e h. second word r.second w.1 h
     ] refl named where
-      second : (word : List ℕ) (o : Option (List ℕ)) → option_map_or is_whole o true ≡ true → option_map_or (bytes_eq word) o false ≡ true → is_whole word ≡ true
+      second : (word : List ℕ) (o : Option (List ℕ)) → option_map_or is_whole o true ≡ true
+          → option_map_or (bytes_eq word) o false ≡ true → is_whole word ≡ true
       second word None p q = absurd cc
       second word (Some name) p q = ap is_whole (same_bytes word name q) ∙ p
 
-found_whole : (word : List ℕ) (rows : List Right) (r : Right) → list_all has_whole_names rows ≡ true → find (is_name_of word) rows ≡ Some r → is_whole word ≡ true
+found_whole : (word : List ℕ) (rows : List Right) (r : Right) → list_all has_whole_names rows ≡ true
+    → find (is_name_of word) rows ≡ Some r → is_whole word ≡ true
 found_whole word [] r whole e = absurd cc
 found_whole word (row ∷ rows) r whole e =
     let w = and_true (has_whole_names row) (list_all has_whole_names rows) whole in
-    elim (is_name_of word row) as (λ b. is_name_of word row ≡ b → cond b (Some row) (find (is_name_of word) rows) ≡ Some r → is_whole word ≡ true) [
+    elim (is_name_of word row) as (λ b. is_name_of word row ≡ b
+    → cond b (Some row) (find (is_name_of word) rows) ≡ Some r → is_whole word ≡ true) [
       | true ↦ λ named f. name_whole word row w.0 named
       | false ↦ λ named f. found_whole word rows r w.1 f
     ] refl e
 
+-- a word that names a right has no bar
 pub word_whole : (word : List ℕ) (bit : ℕ) → bit_named word ≡ Some bit → is_whole word ≡ true
 word_whole word bit e = among (find (is_name_of word) rights) refl e where
-  among : (o : Option Right) → find (is_name_of word) rights ≡ o → option_map (λ r. r.bit) o ≡ Some bit → is_whole word ≡ true
+  among : (o : Option Right) → find (is_name_of word) rights ≡ o → option_map (λ r. r.bit) o ≡ Some bit
+      → is_whole word ≡ true
   among None is f = absurd cc
   among (Some r) is f = found_whole word rights r whole_rights is
 
@@ -178,11 +206,14 @@ map_some f None y e go = absurd cc
 map_some f (Some m) y e go = go m refl
 
 -- the words are the parts of what they are joined to
-pub split_joined : (word : List ℕ) (words : List (List ℕ)) (mask : ℕ) → rights_named (word ∷ words) ≡ Some mask → slice_split is_bar (join_with_byte 0x7c (word ∷ words)) ≡ word ∷ words
+pub split_joined : (word : List ℕ) (words : List (List ℕ)) (mask : ℕ) → rights_named (word ∷ words) ≡ Some mask
+    → slice_split is_bar (join_with_byte 0x7c (word ∷ words)) ≡ word ∷ words
 split_joined word [] mask e =
-    option_and_then_some (λ bit. option_map (bit_or bit) (Some 0)) (bit_named word) mask e (λ bit named _. slice_split_none is_bar word (apart word (word_whole word bit named)))
+    option_and_then_some (λ bit. option_map (bit_or bit) (Some 0)) (bit_named word) mask e
+    (λ bit named _. slice_split_none is_bar word (apart word (word_whole word bit named)))
 split_joined word (next ∷ words) mask e =
-    option_and_then_some (λ bit. option_map (bit_or bit) (rights_named (next ∷ words))) (bit_named word) mask e (λ bit named rest.
+    option_and_then_some (λ bit. option_map (bit_or bit) (rights_named (next ∷ words))) (bit_named word) mask e
+    (λ bit named rest.
     map_some (bit_or bit) (rights_named (next ∷ words)) mask rest (λ m others.
     slice_split_at is_bar word 0x7c (join_with_byte 0x7c (next ∷ words)) (apart word (word_whole word bit named)) refl
     ∙ ap (λ (ws : List (List ℕ)). word ∷ ws) (split_joined next words m others)))
@@ -190,31 +221,44 @@ split_joined word (next ∷ words) mask e =
 -- ---- the relation and the function
 
 some_parts : (field : List ℕ) → slice_split is_bar field ≢ []
-some_parts field e = let none : length (slice_split is_bar field) ≡ 0 = ap length e in omega (arith, length-slice_split is_bar field, none)
+some_parts field e = let none : length (slice_split is_bar field) ≡ 0 = ap length e in
+    omega (arith, length-slice_split is_bar field, none)
 
+-- words that name rights, joined by bars
 pub spelled : (field : List ℕ) (mask : ℕ) → mask_named field ≡ Some mask → SpellsMask field mask
 unfolding mask_named
 spelled field mask e =
-    elim (bytes_eq field no_rights) as (λ b. bytes_eq field no_rights ≡ b → cond b (Some 0) (rights_named (slice_split is_bar field)) ≡ Some mask → SpellsMask field mask) [
+    elim (bytes_eq field no_rights) as (λ b. bytes_eq field no_rights ≡ b
+    → cond b (Some 0) (rights_named (slice_split is_bar field)) ≡ Some mask → SpellsMask field mask) [
       | true ↦ λ same given. inl (same_bytes field no_rights same, some_is given)
-      | false ↦ λ other given. inr (slice_split is_bar field, some_parts field, sym (join_with_byte-slice_split 0x7c field), given)
+      | false ↦ λ other given. inr (
+        slice_split is_bar field,
+        some_parts field,
+        sym (join_with_byte-slice_split 0x7c field),
+        given,
+      )
     ] refl e where
       some_is : Some 0 ≡ Some mask → mask ≡ 0
       some_is h = cc
 
-words_again : (field : List ℕ) (mask : ℕ) (words : List (List ℕ)) → words ≢ [] → field ≡ join_with_byte 0x7c words → rights_named words ≡ Some mask → mask_named field ≡ Some mask
+words_again : (field : List ℕ) (mask : ℕ) (words : List (List ℕ)) → words ≢ [] → field ≡ join_with_byte 0x7c words
+    → rights_named words ≡ Some mask → mask_named field ≡ Some mask
 unfolding mask_named
 words_again field mask [] some joined named = absurd (some refl)
 words_again field mask (word ∷ words) some joined named =
-    let parts : slice_split is_bar field ≡ word ∷ words = ap (slice_split is_bar) joined ∙ split_joined word words mask named in
+    let parts : slice_split is_bar field ≡ word ∷ words =
+    ap (slice_split is_bar) joined ∙ split_joined word words mask named in
     let given : rights_named (slice_split is_bar field) ≡ Some mask = ap rights_named parts ∙ named in
-    elim (bytes_eq field no_rights) as (λ b. bytes_eq field no_rights ≡ b → cond b (Some 0) (rights_named (slice_split is_bar field)) ≡ Some mask) [
-      | true ↦ λ same. absurd (none_named (sym (ap (λ (text : List ℕ). rights_named (slice_split is_bar text)) (same_bytes field no_rights same)) ∙ given))
+    elim (bytes_eq field no_rights) as (λ b. bytes_eq field no_rights ≡ b
+    → cond b (Some 0) (rights_named (slice_split is_bar field)) ≡ Some mask) [
+      | true ↦ λ same. absurd (none_named (sym (ap (λ (text : List ℕ). rights_named (slice_split is_bar text))
+          (same_bytes field no_rights same)) ∙ given))
       | false ↦ λ other. given
     ] refl where
       none_named : None ≡ Some mask → ⊥
       none_named h = cc
 
+-- a field that spells a mask names it
 pub named_again : (field : List ℕ) (mask : ℕ) → SpellsMask field mask → mask_named field ≡ Some mask
 unfolding mask_named
 named_again field mask (inl s) = rw (s.0, s.1) refl
@@ -222,11 +266,15 @@ named_again field mask (inr s) = words_again field mask s.0 s.1 s.2 s.3
 
 -- ---- what `read_mask` answers, seen as the number of its mask
 
-pub answers_spelled : (field : List ℕ) (r : Option Mask) → option_map (λ m. m.bits) r ≡ mask_named field → IfSome r (λ m. SpellsMask field m.bits)
+-- what is answered is spelled
+pub answers_spelled : (field : List ℕ) (r : Option Mask) → option_map (λ m. m.bits) r ≡ mask_named field
+    → IfSome r (λ m. SpellsMask field m.bits)
 answers_spelled field None given = tt
 answers_spelled field (Some m) given = spelled field m.bits (sym given)
 
-pub answers_only : (field : List ℕ) (r : Option Mask) (mask : ℕ) → option_map (λ m. m.bits) r ≡ mask_named field → SpellsMask field mask → IsSomeAnd r (λ m. m.bits ≡ mask)
+-- what is spelled is answered
+pub answers_only : (field : List ℕ) (r : Option Mask) (mask : ℕ) → option_map (λ m. m.bits) r ≡ mask_named field
+    → SpellsMask field mask → IsSomeAnd r (λ m. m.bits ≡ mask)
 answers_only field None mask given s = absurd (nothing (given ∙ named_again field mask s)) where
   nothing : None ≡ Some mask → ⊥
   nothing h = cc

@@ -1,10 +1,21 @@
 -- A text has at most one fault, and none where a value stands at its front.
-use Rattle.std.proofs.Common.{◌≡◌, ℕ, List, [], ◌++◌, length, refl, sym, ap, ◌∙◌, arith}
-use Rattle.std.proofs.lemmas.List.{append-nil, length-append}
+use Rattle.std.proofs.Common.{◌≡◌, ℕ, ◌+◌, ◌<◌, ◌≤◌, List, [], ◌++◌, length, take, Err, refl, sym, ap, subst, ◌∙◌, arith, inl, inr}
+use Rattle.std.specs.Prelude.{Option, None, Some, option_map}
+use Rattle.std.proofs.lemmas.Bool.{cases_lt}
+use Rattle.std.proofs.Math.Seq.{take-append-add}
+use Rattle.std.proofs.lemmas.List.{append-nil, length-append, length-take, take-take}
+use Rattle.acl_perm.specs.Profile.{Profile}
 use Rattle.acl_nfs4.specs.Ace.{Ace}
+use Rattle.acl_nfs4.specs.Within.{IsProfile}
 use Rattle.acl_nfs4.specs.Spelling.{Xdr}
 use Rattle.acl_nfs4.specs.Reading.{value_at}
-use Rattle.acl_nfs4.specs.Fault.{IsFault, IsWholeFault}
+use Rattle.acl_nfs4.specs.Fault.{Stage, Border, size, refuses, IsOwed, IsFirstFault, IsFault, IsWholeFault}
+use Rattle.acl_nfs4.specs.Fault.Stage.{count as at_count, kind as at_kind, flags as at_flags, mask as at_mask, len as at_len, who as at_who, padding as at_padding}
+use Rattle.acl_nfs4.specs.Fields.{unless, who_reason}
+use Rattle.acl_nfs4.specs.Who.{who_fault}
+use Rattle.acl_nfs4.specs.declared.who.WhoFault.{WhoFault}
+use Rattle.acl_nfs4.specs.declared.who.WhoFault.TheVariants as who
+use Rattle.acl_nfs4.specs.declared.fault.Reason.TheVariants.{Truncated}
 use Rattle.acl_nfs4.specs.Fault.IsWholeFault.{of_value, behind}
 use Rattle.acl_nfs4.specs.declared.fault.Fault.{Fault}
 use Rattle.acl_nfs4.specs.declared.fault.Reason.{Reason}
@@ -13,28 +24,166 @@ use Rattle.acl_nfs4.proofs.Body.{apart, one, value_of}
 use Rattle.acl_nfs4.proofs.Faults.{err_is}
 use Rattle.acl_nfs4.proofs.Resume.{answers_fault}
 
-pub one_fault : (bytes : List ℕ) (o p : ℕ) (r q : Reason) → IsFault bytes o r → IsFault bytes p q → (o ≡ p) × (r ≡ q)
-one_fault bytes o p r q f g =
-    let same : record { offset = o; reason = r } ≡ record { offset = p; reason = q } = err_is _ _ (value_at bytes) (answers_fault bytes o r f) (answers_fault bytes p q g) in
+-- no who is refused as cut short
+pub no_such_reason : (fault : Option WhoFault) (bytes : List ℕ)
+    → unless (option_map who_reason fault) bytes ≡ Err Truncated → ⊥
+no_such_reason None bytes e = absurd cc
+no_such_reason (Some who.Length) bytes e = absurd cc
+no_such_reason (Some who.Utf8) bytes e = absurd cc
+no_such_reason (Some who.Control) bytes e = absurd cc
+no_such_reason (Some who.Special) bytes e = absurd cc
+
+-- no field refuses what it holds as cut short
+pub never_truncated : (profile : Profile) (s : Stage) (bytes : List ℕ) → refuses profile s bytes Truncated → ⊥
+never_truncated profile at_count bytes h = grind arith
+never_truncated profile (at_kind n list) bytes h = grind arith
+never_truncated profile (at_flags n list k) bytes h = grind arith
+never_truncated profile (at_mask n list k f) bytes h = grind arith
+never_truncated profile (at_len n list k f m) bytes h = grind arith
+never_truncated profile (at_who n list k f m l) bytes h = no_such_reason (who_fault bytes) bytes h
+never_truncated profile (at_padding n list k f m w) bytes h = grind arith
+
+kept_front : (bytes front rest : List ℕ) (o k : ℕ) → bytes ≡ front ++ rest → length front ≡ o
+    → take (o + k) bytes ≡ front ++ take k rest
+kept_front bytes front rest o k parts here =
+    ap (λ (n : ℕ). take (n + k) bytes) (sym here) ∙ ap (take (length front + k)) parts ∙ take-append-add front rest k
+
+-- the place and the reason of a fault
+pub one_place : (profile : Profile) (bytes : List ℕ) (o q : ℕ) (r s : Reason) → IsProfile profile
+    → IsFault profile bytes o r → IsFault profile bytes q s → (o ≡ q) × (r ≡ s)
+one_place profile bytes o q r s ok f g =
+    let same : record { offset = o; reason = r } ≡ record { offset = q; reason = s } =
+    err_is _ _ (value_at profile bytes) (answers_fault profile bytes o r ok f) (answers_fault profile bytes q s ok g) in
     (ap (λ (x : Fault). x.offset) same, ap (λ (x : Fault). x.reason) same)
 
+-- the text cut inside the refused field is cut short
+cut_short : (profile : Profile) (bytes : List ℕ) (o k : ℕ) (s : Stage) (front rest : List ℕ) → bytes ≡ front ++ rest
+    → Border profile s front → length front ≡ o → IsOwed s → k < size s → size s ≤ length rest
+    → IsFault profile (take (o + k) bytes) o Truncated
+cut_short profile bytes o k s front rest parts border here owed lt le =
+    let n : length (take k rest) ≡ k = omega (arith, length-take k rest, lt, le) in (
+      o + length (take k rest),
+      record {
+        stage = s;
+        front = front;
+        rest = take k rest;
+        more = length (take k rest);
+        parts = kept_front bytes front rest o k parts here;
+        border = border;
+        here = here;
+        owed = owed;
+        some = omega (arith, lt);
+        breaks = inl (omega (arith, n, lt), refl, refl);
+        ends = refl;
+      },
+    )
+
+-- the text cut behind the refused field is refused as before
+cut_behind : (profile : Profile) (bytes : List ℕ) (o k : ℕ) (r : Reason) (s : Stage) (front rest : List ℕ)
+    → bytes ≡ front ++ rest → Border profile s front → length front ≡ o → IsOwed s → 0 < size s → size s ≤ k
+    → size s ≤ length rest → refuses profile s (take (size s) rest) r → IsFault profile (take (o + k) bytes) o r
+cut_behind profile bytes o k r s front rest parts border here owed some le long h =
+    let n : size s ≤ length (take k rest) = omega (arith, length-take k rest, le, long) in (
+      o + size s,
+      record {
+        stage = s;
+        front = front;
+        rest = take k rest;
+        more = size s;
+        parts = kept_front bytes front rest o k parts here;
+        border = border;
+        here = here;
+        owed = owed;
+        some = some;
+        breaks = inr (n, refl, subst (λ (x : List ℕ). refuses profile s x r) (sym (take-take (size s) k rest le)) h);
+        ends = refl;
+      },
+    )
+
+-- of two refusals none ends before the other
+no_later : (profile : Profile) (bytes : List ℕ) (o : ℕ) (r : Reason) (s u : Stage) (x xs y ys : List ℕ)
+    → IsProfile profile → bytes ≡ x ++ xs → Border profile s x → length x ≡ o → IsOwed s → 0 < size s
+    → size s ≤ length xs → refuses profile s (take (size s) xs) r → bytes ≡ y ++ ys → Border profile u y
+    → length y ≡ o → IsOwed u → size u ≤ length ys → size s < size u → ⊥
+no_later profile bytes o r s u x xs y ys ok p b here owed some long h q c there due wide lt =
+    let first = cut_behind profile bytes o (size s) r s x xs p b here owed some (omega arith) long h in
+    let second = cut_short profile bytes o (size s) u y ys q c there due lt wide in
+    let same = one_place profile (take (o + size s) bytes) o o r Truncated ok first second in
+    never_truncated profile s (take (size s) xs)
+    (subst (λ (e : Reason). refuses profile s (take (size s) xs) e) same.1 h)
+
 -- a value at the front leaves no fault
-pub value_or_fault : (bytes : List ℕ) (list : List Ace) (text rest : List ℕ) (o : ℕ) (r : Reason) → Xdr list text → bytes ≡ text ++ rest → IsFault bytes o r → ⊥
-value_or_fault bytes list text rest o r x e f =
-    apart (value_at bytes) (list, length text) _ (ap value_at e ∙ value_of (text ++ rest) _ (read_again list text rest x)) (answers_fault bytes o r f)
+pub value_or_fault : (profile : Profile) (bytes : List ℕ) (list : List Ace) (text rest : List ℕ) (o : ℕ) (r : Reason)
+    → IsProfile profile → Xdr profile list text → bytes ≡ text ++ rest → IsFault profile bytes o r → ⊥
+value_or_fault profile bytes list text rest o r ok x e f =
+    apart (value_at profile bytes) (list, length text) _
+    (ap (value_at profile) e ∙ value_of profile (text ++ rest) _ (read_again profile list text rest ok x))
+    (answers_fault profile bytes o r ok f)
 
-one_end : (a b : List Ace) (s t x y bytes : List ℕ) → Xdr a s → Xdr b t → bytes ≡ s ++ x → bytes ≡ t ++ y → length s ≡ length t
-one_end a b s t x y bytes p q d e = ap length (one a b s t x y p q (sym d ∙ e)).1
+one_end : (profile : Profile) (a b : List Ace) (s t x y bytes : List ℕ) → IsProfile profile → Xdr profile a s
+    → Xdr profile b t → bytes ≡ s ++ x → bytes ≡ t ++ y → length s ≡ length t
+one_end profile a b s t x y bytes ok p q d e = ap length (one profile a b s t x y ok p q (sym d ∙ e)).1
 
-pub one_whole_fault : (bytes : List ℕ) (o p : ℕ) (r q : Reason) → IsWholeFault bytes o r → IsWholeFault bytes p q → (o ≡ p) × (r ≡ q)
-one_whole_fault bytes _ _ _ _ (of_value o r f) (of_value p q g) = one_fault bytes o p r q f g
-one_whole_fault bytes _ _ _ _ (of_value o r f) (behind list text rest x e some) = absurd (value_or_fault bytes list text rest o r x e f)
-one_whole_fault bytes _ _ _ _ (behind list text rest x e some) (of_value p q g) = absurd (value_or_fault bytes list text rest p q x e g)
-one_whole_fault bytes _ _ _ _ (behind a s t x d m) (behind b u v y e n) = (one_end a b s u t v bytes x y d e, refl)
+same_end : (profile : Profile) (bytes : List ℕ) (o q t u : ℕ) (r s : Reason) → IsProfile profile → o ≡ q → r ≡ s
+    → IsFirstFault profile bytes o t r → IsFirstFault profile bytes q u s → t ≡ u
+same_end profile bytes o q t u r s ok oq rs f g =
+    elim f.breaks [
+      | inl a ↦ elim g.breaks [
+        | inl b ↦ omega (
+          arith,
+          oq,
+          f.here,
+          g.here,
+          f.ends,
+          g.ends,
+          a.1,
+          b.1,
+          ap length f.parts,
+          ap length g.parts,
+          length-append f.front f.rest,
+          length-append g.front g.rest,
+        )
+        | inr b ↦ absurd (never_truncated profile g.stage _
+            (subst (λ (e : Reason). refuses profile g.stage (take (size g.stage) g.rest) e) (sym rs ∙ a.2) b.2))
+      ]
+      | inr a ↦ elim g.breaks [
+        | inl b ↦ absurd (never_truncated profile f.stage _
+            (subst (λ (e : Reason). refuses profile f.stage (take (size f.stage) f.rest) e) (rs ∙ b.2) a.2))
+        | inr b ↦ elim (cases_lt (size f.stage) (size g.stage)) [
+          | inl lt ↦ absurd (no_later profile bytes o r f.stage g.stage f.front f.rest g.front g.rest ok f.parts
+              f.border f.here f.owed f.some a.0 a.2 g.parts g.border (g.here ∙ sym oq) g.owed b.0 lt)
+          | inr ge ↦ elim (cases_lt (size g.stage) (size f.stage)) [
+            | inl lt ↦ absurd (no_later profile bytes o s g.stage f.stage g.front g.rest f.front f.rest ok g.parts
+                g.border (g.here ∙ sym oq) g.owed g.some b.0 b.2 f.parts f.border f.here f.owed a.0 lt)
+            | inr le ↦ omega (arith, oq, a.1, b.1, f.ends, g.ends, ge, le)
+          ]
+        ]
+      ]
+    ]
+
+-- a text has one first fault, and one place where what is taken ends
+pub one_fault : (profile : Profile) (bytes : List ℕ) (o q t u : ℕ) (r s : Reason) → IsProfile profile
+    → IsFirstFault profile bytes o t r → IsFirstFault profile bytes q u s → (o ≡ q) × (t ≡ u) × (r ≡ s)
+one_fault profile bytes o q t u r s ok f g =
+    let place = one_place profile bytes o q r s ok (t, f) (u, g) in
+    (place.0, same_end profile bytes o q t u r s ok place.0 place.1 f g, place.1)
+
+-- at most one fault of a text that is to be one value
+pub one_whole_fault : (profile : Profile) (bytes : List ℕ) (o q : ℕ) (r s : Reason) → IsProfile profile
+    → IsWholeFault profile bytes o r → IsWholeFault profile bytes q s → (o ≡ q) × (r ≡ s)
+one_whole_fault profile bytes _ _ _ _ ok (of_value o r f) (of_value q s g) = one_place profile bytes o q r s ok f g
+one_whole_fault profile bytes _ _ _ _ ok (of_value o r f) (behind list text rest x e some) =
+    absurd (value_or_fault profile bytes list text rest o r ok x e f)
+one_whole_fault profile bytes _ _ _ _ ok (behind list text rest x e some) (of_value q s g) =
+    absurd (value_or_fault profile bytes list text rest q s ok x e g)
+one_whole_fault profile bytes _ _ _ _ ok (behind a s t x d m) (behind b u v y e n) =
+    (one_end profile a b s u t v bytes ok x y d e, refl)
 
 -- a spelling has no fault as a whole
-pub whole_or_fault : (bytes : List ℕ) (list : List Ace) (o : ℕ) (r : Reason) → Xdr list bytes → IsWholeFault bytes o r → ⊥
-whole_or_fault bytes list _ _ x (of_value o r f) = value_or_fault bytes list bytes [] o r x (sym (append-nil bytes)) f
-whole_or_fault bytes list _ _ x (behind b u v y e n) =
-    let same : length bytes ≡ length u = one_end list b bytes u [] v bytes x y (sym (append-nil bytes)) e in
+pub whole_or_fault : (profile : Profile) (bytes : List ℕ) (list : List Ace) (o : ℕ) (r : Reason) → IsProfile profile
+    → Xdr profile list bytes → IsWholeFault profile bytes o r → ⊥
+whole_or_fault profile bytes list _ _ ok x (of_value o r f) =
+    value_or_fault profile bytes list bytes [] o r ok x (sym (append-nil bytes)) f
+whole_or_fault profile bytes list _ _ ok x (behind b u v y e n) =
+    let same : length bytes ≡ length u = one_end profile list b bytes u [] v bytes ok x y (sym (append-nil bytes)) e in
     omega (arith, same, ap length e, length-append u v, n)

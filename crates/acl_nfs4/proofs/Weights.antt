@@ -17,7 +17,8 @@ digit_is : (d : ℕ) → d < 2 → cond (eqb d 1) 1 0 ≡ d
 digit_is d lt = grind arith
 
 -- the bits from one place higher are those of the half
-shifted : (k a n : ℕ) → count_by (has_bit n) (range_with_len (a + 1) k) ≡ count_by (has_bit (n / 2)) (range_with_len a k)
+shifted : (k a n : ℕ) → count_by (has_bit n) (range_with_len (a + 1) k)
+    ≡ count_by (has_bit (n / 2)) (range_with_len a k)
 shifted zero a n = refl
 shifted (suc k) a n =
     sum_by-cons (λ i. cond (has_bit n i) 1 0) (a + 1) (range_with_len (a + 1 + 1) k)
@@ -28,6 +29,7 @@ shifted (suc k) a n =
     one_higher : (n a : ℕ) → bit_at n (a + 1) ≡ bit_at (n / 2) a
     one_higher n a = let e : a + 1 ≡ suc a = omega arith in ap (bit_at n) e ∙ bit_at-suc n a
 
+-- the ones of a number are its bits
 pub ones_are_bits : (k n : ℕ) → n < 2 ^ k → count_ones n ≡ count_by (has_bit n) (range_with_len 0 k)
 ones_are_bits zero n lt = omega (arith, ones-le 0 n lt)
 ones_are_bits (suc k) n lt =
@@ -41,10 +43,13 @@ ones_are_bits (suc k) n lt =
     halved : (n k : ℕ) → n < 2 ^ suc k → n / 2 < 2 ^ k
     halved n k lt = omega (arith, lt)
 
+-- the ones of a mask are its bits
 pub bits_counted : (mask : ℕ) → mask < 2 ^ 32 → count_ones mask ≡ length (bits_of mask)
 bits_counted mask lt = ones_are_bits 32 mask lt ∙ sym (length-filter (has_bit mask) (range_with_len 0 32))
 
-pub weight_counts : (list : List Ace) (place : ℕ) → AllByRecursion (λ a. a.mask < 2 ^ 32) list → weight list ≡ length (pairs_from place list)
+-- the weight counts the pairs of a place and a bit
+pub weight_counts : (list : List Ace) (place : ℕ) → AllByRecursion (λ a. a.mask < 2 ^ 32) list
+    → weight list ≡ length (pairs_from place list)
 weight_counts [] place each = refl
 weight_counts (a ∷ list) place each =
     let here : List (ℕ × ℕ) = map (λ bit. (place, bit)) (bits_of a.mask) in

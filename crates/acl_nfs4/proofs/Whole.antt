@@ -1,6 +1,7 @@
 -- A value and nothing more, from what is said of a value at the front.
-use Rattle.std.proofs.Common.{◌≡◌, ℕ, ◌<◌, ◌≤◌, List, [], ◌++◌, length, take, drop, refl, sym, ap, subst, arith}
-use Rattle.std.proofs.lemmas.List.{append-nil, length-append, length-drop, length-take, take-append-drop, take_all}
+use Rattle.std.proofs.Common.{◌≡◌, ℕ, ◌<◌, List, [], ◌++◌, length, take, drop, refl, sym, ap, subst, arith}
+use Rattle.std.proofs.lemmas.List.{append-nil, length-append, length-drop, length-take, take-append-drop}
+use Rattle.acl_perm.specs.Profile.{Profile}
 use Rattle.acl_nfs4.specs.Ace.{Ace}
 use Rattle.acl_nfs4.specs.Spelling.{Xdr}
 use Rattle.acl_nfs4.specs.Fault.{IsFault, IsWholeFault}
@@ -9,38 +10,47 @@ use Rattle.acl_nfs4.specs.declared.fault.Fault.{Fault}
 use Rattle.acl_nfs4.specs.declared.fault.Reason.{Reason}
 use Rattle.acl_nfs4.specs.declared.fault.Reason.TheVariants.{TrailingBytes}
 
-abbrev pub OneAtFront : List ℕ → List Ace → ℕ → Type 0
-OneAtFront bytes view len = (list : List Ace) (text rest : List ℕ) → Xdr list text → bytes ≡ text ++ rest → (view ≡ list) × (len ≡ length text)
+-- whatever stands at the front is this list, with so many bytes
+abbrev pub OneAtFront : Profile → List ℕ → List Ace → ℕ → Type 0
+OneAtFront profile bytes view len = (list : List Ace) (text rest : List ℕ) → Xdr profile list text
+    → bytes ≡ text ++ rest → (view ≡ list) × (len ≡ length text)
 
 whole_front : (bytes : List ℕ) → bytes ≡ bytes ++ []
 whole_front bytes = sym (append-nil bytes)
 
-pub is_whole : (bytes : List ℕ) (view : List Ace) (len : ℕ) → length bytes ≤ len → Xdr view (take len bytes) → Xdr view bytes
-is_whole bytes view len le x = subst (Xdr view) (take_all len bytes le) x
-
 -- more follows, so the whole is no value
-pub not_whole : (bytes : List ℕ) (view list : List Ace) (len : ℕ) → len < length bytes → OneAtFront bytes view len → Xdr list bytes → ⊥
-not_whole bytes view list len lt one x = let e = one list bytes [] x (whole_front bytes) in omega (arith, e.1)
+pub not_whole : (profile : Profile) (bytes : List ℕ) (view list : List Ace) (len : ℕ) → len < length bytes
+    → OneAtFront profile bytes view len → Xdr profile list bytes → ⊥
+not_whole profile bytes view list len lt one x = let e = one list bytes [] x (whole_front bytes) in omega (arith, e.1)
 
-pub trails : (bytes : List ℕ) (view : List Ace) (len : ℕ) → len < length bytes → Xdr view (take len bytes) → IsWholeFault bytes len TrailingBytes
-trails bytes view len lt x =
+-- what stands behind the list is the fault
+pub trails : (profile : Profile) (bytes : List ℕ) (view : List Ace) (len : ℕ) → len < length bytes
+    → Xdr profile view (take len bytes) → IsWholeFault profile bytes len TrailingBytes
+trails profile bytes view len lt x =
     let at : length (take len bytes) ≡ len = omega (arith, length-take len bytes) in
-    subst (λ (n : ℕ). IsWholeFault bytes n TrailingBytes) at
-    (behind view (take len bytes) (drop len bytes) x (sym (take-append-drop len bytes)) (omega (arith, length-drop len bytes)))
+    subst (λ (n : ℕ). IsWholeFault profile bytes n TrailingBytes) at
+    (behind view (take len bytes) (drop len bytes) x (sym (take-append-drop len bytes))
+    (omega (arith, length-drop len bytes)))
 
-pub same_list : (bytes : List ℕ) (view list : List Ace) (len : ℕ) → OneAtFront bytes view len → Xdr list bytes → view ≡ list
-same_list bytes view list len one x = (one list bytes [] x (whole_front bytes)).0
+-- where nothing more follows, the list is the one that is spelled
+pub same_list : (profile : Profile) (bytes : List ℕ) (view list : List Ace) (len : ℕ)
+    → OneAtFront profile bytes view len → Xdr profile list bytes → view ≡ list
+same_list profile bytes view list len one x = (one list bytes [] x (whole_front bytes)).0
 
 -- where a value stands at the front, the one fault of the whole is what trails it
-pub one_trailing : (bytes : List ℕ) (view : List Ace) (len offset : ℕ) (r : Reason) → OneAtFront bytes view len → ((o : ℕ) (q : Reason) → IsFault bytes o q → ⊥) → IsWholeFault bytes offset r
+pub one_trailing : (profile : Profile) (bytes : List ℕ) (view : List Ace) (len offset : ℕ) (r : Reason)
+    → OneAtFront profile bytes view len → ((o : ℕ) (q : Reason) → IsFault profile bytes o q → ⊥)
+    → IsWholeFault profile bytes offset r
     → (len ≡ offset) × (TrailingBytes ≡ r) × (len < length bytes)
-one_trailing bytes view len offset r one none (of_value o q f) = absurd (none o q f)
-one_trailing bytes view len offset r one none (behind list text rest x e some) =
+one_trailing profile bytes view len offset r one none (of_value o q f) = absurd (none o q f)
+one_trailing profile bytes view len offset r one none (behind list text rest x e some) =
     let at = one list text rest x e in
     (at.1, refl, omega (arith, at.1, ap length e, length-append text rest))
 
 -- where no value stands at the front, the one fault of the whole is that of the value
-pub one_of_value : (bytes : List ℕ) (fault : Fault) (offset : ℕ) (r : Reason) → ((list : List Ace) (text rest : List ℕ) → Xdr list text → bytes ≡ text ++ rest → ⊥)
-    → ((o : ℕ) (q : Reason) → IsFault bytes o q → fault ≡ record { offset = o; reason = q }) → IsWholeFault bytes offset r → fault ≡ record { offset = offset; reason = r }
-one_of_value bytes fault offset r none one (of_value o q f) = one o q f
-one_of_value bytes fault offset r none one (behind list text rest x e some) = absurd (none list text rest x e)
+pub one_of_value : (profile : Profile) (bytes : List ℕ) (fault : Fault) (offset : ℕ) (r : Reason)
+    → ((list : List Ace) (text rest : List ℕ) → Xdr profile list text → bytes ≡ text ++ rest → ⊥)
+    → ((o : ℕ) (q : Reason) → IsFault profile bytes o q → fault ≡ record { offset = o; reason = q })
+    → IsWholeFault profile bytes offset r → fault ≡ record { offset = offset; reason = r }
+one_of_value profile bytes fault offset r none one (of_value o q f) = one o q f
+one_of_value profile bytes fault offset r none one (behind list text rest x e some) = absurd (none list text rest x e)

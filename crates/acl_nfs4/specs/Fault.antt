@@ -1,16 +1,19 @@
 -- The first fault of a text, said without reading it: where its fields end, and what the next one breaks. The layout is
 -- that of RFC 4506, sections 4.2, 4.11 and 4.13, over RFC 8881, section 6.2.1; the reasons are this library's own.
 use Rattle.std.specs.Prelude.{◌≡◌, ℕ, ◌+◌, ◌≤◌, ◌<◌, List, [], ◌∷◌, ◌++◌, length, take, replicate, count_ones, Err, ◌⊎◌}
-use Rattle.acl_perm.specs.Bits.{IsMask, IsFlags}
+use Rattle.acl_perm.specs.Profile.{Profile}
 use Rattle.acl_nfs4.specs.Ace.{Ace}
+use Rattle.acl_nfs4.specs.Limits.{most_aces, most_weight, longest_who}
 use Rattle.acl_nfs4.specs.Who.{IsWho}
+use Rattle.acl_nfs4.specs.Within.{IsWithin}
 use Rattle.acl_nfs4.specs.Spelling.{word, kind_number, pad_len, weight, Xdr}
 use Rattle.acl_nfs4.specs.Fields.{number, count_of, kind_of, flags_of, mask_of, who_len_of, who_of, padding_of}
 use Rattle.acl_perm.specs.declared.kind.Kind.{Kind}
 use Rattle.acl_nfs4.specs.declared.fault.Reason.{Reason}
 use Rattle.acl_nfs4.specs.declared.fault.Reason.TheVariants.{Truncated, TrailingBytes}
 
--- the field that stands next, with what the fields before it hold: the number of ACEs, those that are whole, and the fields of the one being read
+-- the field that stands next, with what the fields before it hold: the number of ACEs, those that are whole, and the
+-- fields of the one being read
 pub data Stage : Type 0 where
   count : Stage
   kind : (n : ℕ) (list : List Ace) → Stage
@@ -20,16 +23,29 @@ pub data Stage : Type 0 where
   who : (n : ℕ) (list : List Ace) (k : Kind) (f m l : ℕ) → Stage
   padding : (n : ℕ) (list : List Ace) (k : Kind) (f m : ℕ) (who : List ℕ) → Stage
 
--- a text whose fields are all accepted, and what stands next: a line for each row of the layout
-pub data Border : Stage → List ℕ → Type 0 where
-  start : Border count []
-  counted : (n : ℕ) → n ≤ 65536 → Border (kind n []) (word n)
-  typed : (n : ℕ) (list : List Ace) (k : Kind) (t : List ℕ) → Border (kind n list) t → length list < n → Border (flags n list k) (t ++ word (kind_number k))
-  flagged : (n : ℕ) (list : List Ace) (k : Kind) (f : ℕ) (t : List ℕ) → Border (flags n list k) t → IsFlags f → Border (mask n list k f) (t ++ word f)
-  masked : (n : ℕ) (list : List Ace) (k : Kind) (f m : ℕ) (t : List ℕ) → Border (mask n list k f) t → IsMask m → weight list + count_ones m ≤ 65536 → Border (len n list k f m) (t ++ word m)
-  measured : (n : ℕ) (list : List Ace) (k : Kind) (f m l : ℕ) (t : List ℕ) → Border (len n list k f m) t → 1 ≤ l → l ≤ 1024 → Border (who n list k f m l) (t ++ word l)
-  named : (n : ℕ) (list : List Ace) (k : Kind) (f m : ℕ) (w t : List ℕ) → Border (who n list k f m (length w)) t → IsWho w → Border (padding n list k f m w) (t ++ w)
-  padded : (n : ℕ) (list : List Ace) (k : Kind) (f m : ℕ) (w t : List ℕ) → Border (padding n list k f m w) t → Border (kind n (list ++ record { kind = k; flags = f; mask = m; who = w } ∷ [])) (t ++ replicate (pad_len (length w)) 0)
+-- a text whose fields are all accepted, and what stands next: a case for each row of the layout
+pub data Border (p : Profile) : Stage → List ℕ → Type 0 where
+  start : Border p count []
+  counted : (n : ℕ) → n ≤ most_aces → Border p (kind n []) (word n)
+  typed : (n : ℕ) (list : List Ace) (k : Kind) (t : List ℕ)
+      → Border p (kind n list) t → length list < n
+      → Border p (flags n list k) (t ++ word (kind_number k))
+  flagged : (n : ℕ) (list : List Ace) (k : Kind) (f : ℕ) (t : List ℕ)
+      → Border p (flags n list k) t → IsWithin p.flags f
+      → Border p (mask n list k f) (t ++ word f)
+  masked : (n : ℕ) (list : List Ace) (k : Kind) (f m : ℕ) (t : List ℕ)
+      → Border p (mask n list k f) t → IsWithin p.masks m → weight list + count_ones m ≤ most_weight
+      → Border p (len n list k f m) (t ++ word m)
+  measured : (n : ℕ) (list : List Ace) (k : Kind) (f m l : ℕ) (t : List ℕ)
+      → Border p (len n list k f m) t → 1 ≤ l → l ≤ longest_who
+      → Border p (who n list k f m l) (t ++ word l)
+  named : (n : ℕ) (list : List Ace) (k : Kind) (f m : ℕ) (w t : List ℕ)
+      → Border p (who n list k f m (length w)) t → IsWho w
+      → Border p (padding n list k f m w) (t ++ w)
+  padded : (n : ℕ) (list : List Ace) (k : Kind) (f m : ℕ) (w t : List ℕ)
+      → Border p (padding n list k f m w) t
+      → Border p (kind n (list ++ record { kind = k; flags = f; mask = m; who = w } ∷ []))
+      (t ++ replicate (pad_len (length w)) 0)
 
 -- how many bytes the next field has, 0 where none stands
 abbrev pub size : Stage → ℕ
@@ -42,37 +58,53 @@ size (who n list k f m l) = l
 size (padding n list k f m w) = pad_len (length w)
 
 -- the next field, if it holds these bytes, is refused so
-abbrev pub refuses : Stage → List ℕ → Reason → Type 0
-refuses count bytes r = count_of (number bytes) ≡ Err r
-refuses (kind n list) bytes r = kind_of (number bytes) ≡ Err r
-refuses (flags n list k) bytes r = flags_of (number bytes) ≡ Err r
-refuses (mask n list k f) bytes r = mask_of (weight list) (number bytes) ≡ Err r
-refuses (len n list k f m) bytes r = who_len_of (number bytes) ≡ Err r
-refuses (who n list k f m l) bytes r = who_of bytes ≡ Err r
-refuses (padding n list k f m w) bytes r = padding_of bytes ≡ Err r
+abbrev pub refuses : Profile → Stage → List ℕ → Reason → Type 0
+refuses p count bytes r = count_of (number bytes) ≡ Err r
+refuses p (kind n list) bytes r = kind_of (number bytes) ≡ Err r
+refuses p (flags n list k) bytes r = flags_of p (number bytes) ≡ Err r
+refuses p (mask n list k f) bytes r = mask_of p (weight list) (number bytes) ≡ Err r
+refuses p (len n list k f m) bytes r = who_len_of (number bytes) ≡ Err r
+refuses p (who n list k f m l) bytes r = who_of bytes ≡ Err r
+refuses p (padding n list k f m w) bytes r = padding_of bytes ≡ Err r
 
 -- a field must stand there
 abbrev pub IsOwed : Stage → Type 0
+IsOwed count = Unit {0}
 IsOwed (kind n list) = length list < n
-IsOwed _ = Unit {0}
+IsOwed (flags n list k) = Unit {0}
+IsOwed (mask n list k f) = Unit {0}
+IsOwed (len n list k f m) = Unit {0}
+IsOwed (who n list k f m l) = Unit {0}
+IsOwed (padding n list k f m w) = Unit {0}
 
--- the text ends inside the next field, or the field is whole and refused
-abbrev pub Breaks : Stage → List ℕ → Reason → Type 0
-Breaks s rest r = ((length rest < size s) × (r ≡ Truncated)) ⊎ ((size s ≤ length rest) × refuses s (take (size s) rest) r)
+-- the rest of the text ends inside the next field, and all of it is taken, or the field is whole and refused, and what
+-- is taken ends where it does
+abbrev pub Breaks : Profile → Stage → List ℕ → ℕ → Reason → Type 0
+Breaks p s rest n r = ((length rest < size s) × (n ≡ length rest) × (r ≡ Truncated))
+    ⊎ ((size s ≤ length rest) × (n ≡ size s) × refuses p s (take (size s) rest) r)
 
--- the first fault of a text: accepted fields up to a border, where one of at least one byte is owed and breaks
-pub record IsFault (bytes : List ℕ) (offset : ℕ) (r : Reason) : Type 0 where
+-- the first fault of a text: accepted fields up to a border, where one of at least one byte is owed and breaks; and how
+-- many bytes of the text are taken when that is known
+pub record IsFirstFault (p : Profile) (bytes : List ℕ) (offset taken : ℕ) (r : Reason) : Type 0 where
   pub stage : Stage
   pub front : List ℕ
   pub rest : List ℕ
+  pub more : ℕ
   pub parts : bytes ≡ front ++ rest
-  pub border : Border stage front
+  pub border : Border p stage front
   pub here : length front ≡ offset
   pub owed : IsOwed stage
   pub some : 0 < size stage
-  pub breaks : Breaks stage rest r
+  pub breaks : Breaks p stage rest more r
+  pub ends : offset + more ≡ taken
+
+-- the first fault of a text
+abbrev pub IsFault : Profile → List ℕ → ℕ → Reason → Type 0
+IsFault p bytes offset r = (taken : ℕ) × IsFirstFault p bytes offset taken r
 
 -- the first fault of a text that is to be one value and nothing more: that of its value, or the first byte behind it
-pub data IsWholeFault (bytes : List ℕ) : ℕ → Reason → Type 0 where
-  of_value : (offset : ℕ) (r : Reason) → IsFault bytes offset r → IsWholeFault bytes offset r
-  behind : (list : List Ace) (text rest : List ℕ) → Xdr list text → bytes ≡ text ++ rest → 0 < length rest → IsWholeFault bytes (length text) TrailingBytes
+pub data IsWholeFault (p : Profile) (bytes : List ℕ) : ℕ → Reason → Type 0 where
+  of_value : (offset : ℕ) (r : Reason) → IsFault p bytes offset r → IsWholeFault p bytes offset r
+  behind : (list : List Ace) (text rest : List ℕ)
+      → Xdr p list text → bytes ≡ text ++ rest → 0 < length rest
+      → IsWholeFault p bytes (length text) TrailingBytes

@@ -1,15 +1,19 @@
--- What each field of the XDR layout may hold, and how it is refused where it holds anything else: the table of faults,
--- field by field, each with its conditions in the order in which they are judged.
-use Rattle.std.specs.Prelude.{ℕ, ◌+◌, List, Result, Ok, Err, nat_lt, ◌==◌, ◌||◌, not, if◌then◌else◌, count_ones, bit_and}
+-- What each field of the XDR layout may hold (RFC 8881, section 6.2.1), and how it is refused where it holds anything
+-- else: the table of faults, field by field, each with its conditions in the order in which they are judged. The limits
+-- and the reasons are this library's own.
+use Rattle.std.specs.Prelude.{ℕ, ◌+◌, List, Result, Ok, Err, Option, None, Some, option_map, nat_lt, ◌==◌, not, if◌then◌else◌, count_ones}
 use Rattle.std.specs.Int.{w32, from_be_bytes}
-use Rattle.std.specs.Str.{is_utf8}
 use Rattle.std.specs.List.{list_all}
-use Rattle.acl_perm.specs.Bits.{all_rights}
-use Rattle.acl_nfs4.specs.Who.{is_plain, is_unknown_special}
+use Rattle.acl_perm.specs.Profile.{Profile}
+use Rattle.acl_nfs4.specs.Limits.{most_aces, most_weight}
+use Rattle.acl_nfs4.specs.Who.{is_no_who_len, who_fault}
+use Rattle.acl_nfs4.specs.Within.{is_within}
 use Rattle.acl_perm.specs.declared.kind.Kind.{Kind}
 use Rattle.acl_perm.specs.declared.kind.Kind.TheVariants.{Deny, Allow}
 use Rattle.acl_nfs4.specs.declared.fault.Reason.{Reason}
 use Rattle.acl_nfs4.specs.declared.fault.Reason.TheVariants.{TooManyAces, AuditOrAlarm, AceType, FlagBits, MaskBits, TooHeavy, WhoLength, WhoUtf8, WhoControl, SpecialWho, Padding}
+use Rattle.acl_nfs4.specs.declared.who.WhoFault.{WhoFault}
+use Rattle.acl_nfs4.specs.declared.who.WhoFault.TheVariants as who
 
 -- the number that four bytes spell
 abbrev pub number : List ℕ → ℕ
@@ -17,29 +21,42 @@ number bytes = from_be_bytes w32 bytes
 
 -- the number of ACEs
 abbrev pub count_of : ℕ → Result ℕ Reason
-count_of n = if nat_lt 65536 n then Err TooManyAces else Ok n
+count_of n = if nat_lt most_aces n then Err TooManyAces else Ok n
 
 -- the type; AUDIT is 2 and ALARM is 3
 abbrev pub kind_of : ℕ → Result Kind Reason
-kind_of n = if n == 0 then Ok Allow else (if n == 1 then Ok Deny else (if nat_lt n 4 then Err AuditOrAlarm else Err AceType))
+kind_of n = if n == 0 then Ok Allow
+    else (if n == 1 then Ok Deny
+    else (if nat_lt n 4 then Err AuditOrAlarm else Err AceType))
 
 -- the flags
-abbrev pub flags_of : ℕ → Result ℕ Reason
-flags_of n = if nat_lt n 256 then Ok n else Err FlagBits
+abbrev pub flags_of : Profile → ℕ → Result ℕ Reason
+flags_of p n = if is_within p.flags n then Ok n else Err FlagBits
 
 -- the mask, after ACEs of this weight
-abbrev pub mask_of : ℕ → ℕ → Result ℕ Reason
-mask_of weight n = if not (bit_and n all_rights == n) then Err MaskBits else (if nat_lt 65536 (weight + count_ones n) then Err TooHeavy else Ok n)
+abbrev pub mask_of : Profile → ℕ → ℕ → Result ℕ Reason
+mask_of p weight n = if not (is_within p.masks n) then Err MaskBits
+    else (if nat_lt most_weight (weight + count_ones n) then Err TooHeavy else Ok n)
 
 -- the length of the who
 abbrev pub who_len_of : ℕ → Result ℕ Reason
-who_len_of n = if n == 0 || nat_lt 1024 n then Err WhoLength else Ok n
+who_len_of n = if is_no_who_len n then Err WhoLength else Ok n
+
+-- the reason that names a fault of a who
+abbrev pub who_reason : WhoFault → Reason
+who_reason who.Length = WhoLength
+who_reason who.Utf8 = WhoUtf8
+who_reason who.Control = WhoControl
+who_reason who.Special = SpecialWho
+
+-- a value, unless there is a reason to refuse it
+abbrev pub unless : {A : Type 0} → Option Reason → A → Result A Reason
+unless None x = Ok x
+unless (Some r) x = Err r
 
 -- the who
 abbrev pub who_of : List ℕ → Result (List ℕ) Reason
-who_of bytes = if not (is_utf8 bytes) then Err WhoUtf8
-    else (if not (list_all is_plain bytes) then Err WhoControl
-    else (if is_unknown_special bytes then Err SpecialWho else Ok bytes))
+who_of bytes = unless (option_map who_reason (who_fault bytes)) bytes
 
 -- the padding
 abbrev pub padding_of : List ℕ → Result (Unit {0}) Reason

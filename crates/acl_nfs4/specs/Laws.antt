@@ -2,12 +2,13 @@
 use Rattle.std.specs.Prelude.{ℕ, ◌+◌, List, [], ◌∷◌, ◌++◌, map}
 use Rattle.std.specs.List.{filter, range_with_len}
 use Rattle.acl_perm.specs.Bits.{has_bit}
+use Rattle.acl_perm.specs.Profile.{Profile}
 use Rattle.acl_nfs4.specs.Ace.{Ace}
 use Rattle.acl_nfs4.specs.Spelling.{Xdr}
 
 -- the text is a beginning of the spelling of some accepted list
-abbrev pub BeginsSpelling : List ℕ → Type 0
-BeginsSpelling text = (list : List Ace) × (rest : List ℕ) × Xdr list (text ++ rest)
+abbrev pub BeginsSpelling : Profile → List ℕ → Type 0
+BeginsSpelling p text = (list : List Ace) × (rest : List ℕ) × Xdr p list (text ++ rest)
 
 -- the bits of a mask, a word, in rising order
 abbrev pub bits_of : ℕ → List ℕ

@@ -1,5 +1,7 @@
 pub mod Ace
+pub mod Limits
 pub mod Who
+pub mod Within
 pub mod Spelling
 pub mod Fields
 pub mod Fault
@@ -10,4 +12,7 @@ pub mod Rights
 pub mod RightsTable
 pub mod Owned
 pub mod Push
+pub mod Appending
 pub mod Laws
+pub mod Stream
+pub mod Progress

@@ -1,6 +1,6 @@
 -- The names of the access rights (RFC 8881, section 6.2.1.3.1, without `ACE4_`), and the field of the text form that
 -- names a mask.
-use Rattle.std.specs.Prelude.{◌≡◌, ◌≢◌, ◌⊎◌, ◌||◌, ◌+◌, ◌<◌, length, ℕ, List, [], ◌∷◌, Bool, false, Option, Some, None, codes, find, option_map, bit_or, if◌then◌else◌, ◌==◌}
+use Rattle.std.specs.Prelude.{◌≡◌, ◌≢◌, ◌⊎◌, ◌||◌, ℕ, List, [], ◌∷◌, Bool, false, Option, Some, None, codes, find, option_map, bit_or, if◌then◌else◌, ◌==◌}
 use Rattle.std.specs.List.{join_with_byte, slice_split}
 use Rattle.std.specs.Option.{option_and_then, option_map_or}
 use Rattle.std.specs.Str.{bytes_eq}
@@ -11,9 +11,11 @@ pub record Right : Type 0 where
   pub name : List ℕ
   pub second : Option (List ℕ)
 
+-- a row of one name
 abbrev pub right : ℕ → List ℕ → Right
 right bit name = record { bit = bit; name = name; second = None }
 
+-- a row of two names
 abbrev pub right_or : ℕ → List ℕ → List ℕ → Right
 right_or bit name second = record { bit = bit; name = name; second = Some second }
 
@@ -63,17 +65,3 @@ SpellsMask field mask =
 -- the mask that a field names; `SpellsMask` says which, and this computes it
 unfoldable pub mask_named : List ℕ → Option ℕ
 mask_named field = if bytes_eq field no_rights then Some 0 else rights_named (slice_split (λ b. b == 0x7c) field)
-
--- the parts of what is left of a field, and a measure of it
-abbrev pub parts_after : Option (List ℕ) → List (List ℕ)
-parts_after None = []
-parts_after (Some field) = slice_split (λ b. b == 0x7c) field
-
-abbrev pub size_after : Option (List ℕ) → ℕ
-size_after None = 0
-size_after (Some field) = length field + 1
-
--- a field is cut at its first `|`: the part before it, and what stands after it, where there is one
-pub record IsCut (field word : List ℕ) (after : Option (List ℕ)) : Type 0 where
-  pub parts : slice_split (λ b. b == 0x7c) field ≡ word ∷ parts_after after
-  pub shorter : size_after after < length field + 1

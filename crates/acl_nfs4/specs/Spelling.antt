@@ -1,11 +1,13 @@
 -- The one spelling of a list of ACEs as XDR (RFC 4506, sections 4.2, 4.10, 4.11 and 4.13, over the types of RFC 8881,
 -- section 6.2.1), and which lists have one.
-use Rattle.std.specs.Prelude.{if◌then◌else◌, ◌≡◌, ℕ, ◌-◌, ◌%◌, ◌≤◌, List, ◌++◌, length, replicate, count_ones, sum_by, ◌==◌}
+use Rattle.std.specs.Prelude.{◌≡◌, ℕ, ◌-◌, ◌%◌, ◌≤◌, List, ◌++◌, length, replicate, count_ones, sum_by}
 use Rattle.std.specs.List.{flat_map, AllByRecursion}
 use Rattle.std.specs.Int.{w32, to_be_bytes}
-use Rattle.acl_perm.specs.Bits.{IsMask, IsFlags}
+use Rattle.acl_perm.specs.Profile.{Profile}
 use Rattle.acl_nfs4.specs.Ace.{Ace}
+use Rattle.acl_nfs4.specs.Limits.{most_aces, most_weight}
 use Rattle.acl_nfs4.specs.Who.{IsWho}
+use Rattle.acl_nfs4.specs.Within.{IsWithin}
 use Rattle.acl_perm.specs.declared.kind.Kind.{Kind}
 use Rattle.acl_perm.specs.declared.kind.Kind.TheVariants.{Deny, Allow}
 
@@ -25,33 +27,34 @@ pad_len n = (4 - n % 4) % 4
 -- the bytes of an ACE: the words of its type, flags, mask and who's length, the who, and zero bytes up to a multiple
 -- of four
 abbrev pub piece : Ace → List ℕ
-piece a = word (kind_number a.kind) ++ word a.flags ++ word a.mask ++ word (length a.who) ++ a.who ++ replicate (pad_len (length a.who)) 0
+piece a = word (kind_number a.kind) ++ word a.flags ++ word a.mask ++ word (length a.who) ++ a.who
+    ++ replicate (pad_len (length a.who)) 0
 
 -- the bytes of a list: the word of its length, and the pieces of its ACEs in order
 abbrev pub spelling : List Ace → List ℕ
 spelling list = word (length list) ++ flat_map piece list
 
--- the flags, the mask and the who are ones that may stand there
-pub record IsAce (a : Ace) : Type 0 where
-  pub flags : IsFlags a.flags
-  pub mask : IsMask a.mask
+-- the flags and the mask are ones of the profile, and the who is one that may stand there
+pub record IsAce (p : Profile) (a : Ace) : Type 0 where
+  pub flags : IsWithin p.flags a.flags
+  pub mask : IsWithin p.masks a.mask
   pub who : IsWho a.who
 
 -- the number of mask bits that are set, over all ACEs
 abbrev pub weight : List Ace → ℕ
 weight list = sum_by (λ a. count_ones a.mask) list
 
--- a list within the limits of this library
-pub record IsAccepted (list : List Ace) : Type 0 where
-  pub count : length list ≤ 65536
-  pub weight : weight list ≤ 65536
-  pub each : AllByRecursion IsAce list
+-- a list within the profile and the limits of this library
+pub record IsAccepted (p : Profile) (list : List Ace) : Type 0 where
+  pub count : length list ≤ most_aces
+  pub weight : weight list ≤ most_weight
+  pub each : AllByRecursion (IsAce p) list
 
 -- the list is accepted, and the bytes are its spelling
-pub record Xdr (list : List Ace) (bytes : List ℕ) : Type 0 where
-  pub accepted : IsAccepted list
+pub record Xdr (p : Profile) (list : List Ace) (bytes : List ℕ) : Type 0 where
+  pub accepted : IsAccepted p list
   pub spelled : bytes ≡ spelling list
 
--- the type of a number that is one
-abbrev pub kind_from : ℕ → Kind
-kind_from n = if n == 0 then Allow else Deny
+-- the sets of every flag word and of every mask are ones of the profile
+abbrev pub Fits : Profile → List Ace → Type 0
+Fits p list = AllByRecursion (λ a. IsWithin p.flags a.flags × IsWithin p.masks a.mask) list

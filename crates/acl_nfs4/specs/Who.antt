@@ -1,10 +1,13 @@
 -- The who of an ACE (RFC 8881, section 6.2.1.5): which bytes may stand there, and whom they name.
-use Rattle.std.specs.Prelude.{ℕ, ◌-◌, ◌≤◌, List, length, slice_index, codes, IsTrue, ◌==◌, ◌||◌, ◌&&◌, nat_le, Bool, not, if◌then◌else◌}
+use Rattle.std.specs.Prelude.{◌≡◌, ℕ, ◌-◌, List, length, slice_index, codes, ◌==◌, ◌||◌, ◌&&◌, nat_le, nat_lt, Bool, not, if◌then◌else◌, Option, None, Some}
 use Rattle.std.specs.List.{list_all}
 use Rattle.std.specs.Str.{is_utf8, bytes_eq}
-use Rattle.acl_perm.specs.Bits.{has_bit}
-use Rattle.acl_perm.specs.Principal.{Subject, owner, user, group, group_named, everyone}
+use Rattle.acl_perm.specs.Bits.{has_bit, identifier_group}
+use Rattle.acl_perm.specs.Principal.{Principal, owner, user, group, group_named, everyone}
 use Rattle.acl_nfs4.specs.Ace.{Ace}
+use Rattle.acl_nfs4.specs.Limits.{longest_who}
+use Rattle.acl_nfs4.specs.declared.who.WhoFault.{WhoFault}
+use Rattle.acl_nfs4.specs.declared.who.WhoFault.TheVariants.{Length, Utf8, Control, Special}
 
 -- a byte that is no control byte
 abbrev pub is_plain : ℕ → Bool
@@ -14,12 +17,15 @@ is_plain b = nat_le 0x20 b && not (b == 0x7f)
 abbrev pub ends_in_at : List ℕ → Bool
 ends_in_at who = slice_index who (length who - 1) == 0x40
 
+-- the special identifier of the owner
 abbrev pub owner_name : List ℕ
 owner_name = codes "OWNER@"
 
+-- the special identifier of the owning group
 abbrev pub group_name : List ℕ
 group_name = codes "GROUP@"
 
+-- the special identifier of everyone
 abbrev pub everyone_name : List ℕ
 everyone_name = codes "EVERYONE@"
 
@@ -31,18 +37,25 @@ is_special who = bytes_eq who owner_name || bytes_eq who group_name || bytes_eq 
 abbrev pub is_unknown_special : List ℕ → Bool
 is_unknown_special who = ends_in_at who && not (is_special who)
 
+-- a number of bytes that no who has
+abbrev pub is_no_who_len : ℕ → Bool
+is_no_who_len n = n == 0 || nat_lt longest_who n
+
+-- the first condition on a who that bytes break, in the order in which they are judged
+abbrev pub who_fault : List ℕ → Option WhoFault
+who_fault who = if is_no_who_len (length who) then Some Length
+    else (if not (is_utf8 who) then Some Utf8
+    else (if not (list_all is_plain who) then Some Control
+    else (if is_unknown_special who then Some Special else None)))
+
 -- what may stand as a who
-pub record IsWho (who : List ℕ) : Type 0 where
-  pub some : 1 ≤ length who
-  pub short : length who ≤ 1024
-  pub utf8 : IsTrue (is_utf8 who)
-  pub plain : IsTrue (list_all is_plain who)
-  pub known : IsTrue (not (is_unknown_special who))
+abbrev pub IsWho : List ℕ → Type 0
+IsWho who = who_fault who ≡ None
 
 -- whom an ACE names: the three special identifiers whatever the flag IDENTIFIER_GROUP says, else a group where it is
 -- set and a user where it is not
-abbrev pub subject_of : Ace → Subject
-subject_of a = if bytes_eq a.who owner_name then owner
+abbrev pub principal_of : Ace → Principal
+principal_of a = if bytes_eq a.who owner_name then owner
     else (if bytes_eq a.who group_name then group
     else (if bytes_eq a.who everyone_name then everyone
-    else (if has_bit a.flags 6 then group_named a.who else user a.who)))
+    else (if has_bit a.flags identifier_group then group_named a.who else user a.who)))

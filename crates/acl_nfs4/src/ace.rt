@@ -1,5 +1,5 @@
 ghost use Rattle.std.specs.Prelude.{◌≡◌};
-ghost use Rattle.acl_perm.specs.Principal.{subject};
+ghost use Rattle.acl_perm.specs.Principal.{principal};
 
 use acl_perm::{Flags, Kind, Mask, Principal};
 
@@ -14,12 +14,13 @@ pub struct AceRef<'a> {
 
 impl<'a> AceRef<'a> {
     ghost use Rattle.acl_nfs4.specs.Ace.{ace};
-    ghost use Rattle.acl_nfs4.specs.Who.{subject_of};
+    ghost use Rattle.acl_nfs4.specs.Who.{principal_of};
 
     /// Whom the ACE names: `OWNER@`, `GROUP@` and `EVERYONE@` whatever IDENTIFIER_GROUP says, else a group where it
     /// is set, and a user where it is not (RFC 8881, section 6.2.1.5).
+    #[inline(always)]
     pub fn principal(&self) -> Principal<'a>
-        ensures { subject result ≡ subject_of (ace self.now) }
+        ensures { principal result ≡ principal_of (ace self.now) }
     {
         if self.who == b"OWNER@".as_slice() {
             Principal::Owner

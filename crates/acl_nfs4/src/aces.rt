@@ -1,6 +1,8 @@
 ghost use Rattle.std.specs.Prelude.{◌≡◌, ◌+◌, ◌≤◌, ℕ, List, ◌++◌, length, take, drop};
+ghost use Rattle.acl_perm.specs.Profile.{full};
 ghost use Rattle.acl_nfs4.specs.Ace.{Ace, ace};
-ghost use Rattle.acl_nfs4.specs.Spelling.{piece, kind_from, IsAce};
+ghost use Rattle.acl_nfs4.specs.Reading.{kind_from};
+ghost use Rattle.acl_nfs4.specs.Spelling.{piece, IsAce};
 ghost use Rattle.acl_nfs4.specs.Fields.{number};
 ghost use Rattle.acl_nfs4.specs.Body.{BeginsWithAce};
 
@@ -24,7 +26,8 @@ fn kind_named(number: u32) -> Kind
 
 fn first_ace(bytes: &[u8]) -> (AceRef<'_>, &[u8])
     requires { BeginsWithAce bytes.now }
-    ensures { (a : Ace) (more : List ℕ) → IsAce a → bytes.now ≡ piece a ++ more → (ace result.0 ≡ a) × (result.1.now ≡ more) }
+    ensures { (a : Ace) (more : List ℕ) → IsAce full a → bytes.now ≡ piece a ++ more
+        → (ace result.0 ≡ a) × (result.1.now ≡ more) }
 {
     let kind = kind_named(word_in(bytes, 0));
     let flags = Flags {
@@ -35,15 +38,15 @@ fn first_ace(bytes: &[u8]) -> (AceRef<'_>, &[u8])
     };
     let len = word_in(bytes, 12) as usize;
     let (_, after) = bytes.split_at(16);
-    let (who, after) = after.split_at(len);
-    let (_, after) = after.split_at((4 - len % 4) % 4);
+    let (who, _) = after.split_at(len);
+    let (_, rest) = bytes.split_at((len + 19) / 4 * 4);
     let ace = AceRef {
         kind,
         flags,
         mask,
         who,
     };
-    (ace, after)
+    (ace, rest)
 }
 
 /// The ACEs of a list in order.
@@ -66,12 +69,16 @@ impl<'a> Model for Aces<'a> {
 }
 
 impl<'a> Iterator for Aces<'a> {
+    ghost use Rattle.std.specs.Prelude.{IfSome};
     ghost use Rattle.std.specs.Iterator.{YieldsFirstBy, item_count};
+    ghost use Rattle.acl_perm.specs.Profile.{full};
     ghost use Rattle.acl_nfs4.specs.Ace.{ace};
+    ghost use Rattle.acl_nfs4.specs.Spelling.{IsAce};
 
     type Item = AceRef<'a>;
 
-    ghost next_gives = { YieldsFirstBy ace (λ rest. rest) };
+    ghost next_gives = { λ old item new. YieldsFirstBy ace (λ rest. rest) old item new
+        × IfSome item (λ a. IsAce full (ace a)) };
 
     ghost remaining = { item_count (λ rest. rest) };
 

@@ -1,18 +1,25 @@
 //! The owned list.
-ghost use Rattle.std.specs.Prelude.{◌≡◌, ◌<◌, ◌≤◌, ◌↔◌, IsTrue, IfOk, OnOk, OnErr, None};
+ghost use Rattle.std.specs.Prelude.{◌≡◌, ◌<◌, ◌≤◌, ◌↔◌, IsTrue, IfOk, OnOk, OnErr, None, option_map};
 ghost use Rattle.std.specs.Prelude.{[], ◌∷◌, ◌++◌, length, replicate};
 ghost use Rattle.acl_nfs4.specs.Ace.{ace};
-ghost use Rattle.acl_nfs4.specs.Spelling.{piece, word, kind_number, IsAccepted};
+ghost use Rattle.acl_nfs4.specs.Spelling.{piece, word, kind_number, IsAccepted, Fits};
 ghost use Rattle.acl_nfs4.specs.Spelling as spelled;
 ghost use Rattle.acl_nfs4.specs.Owned.{same_list};
-ghost use Rattle.acl_nfs4.specs.Push.{who_refusal, push_refusal, Judges, PushAnswers, Extended, IsBeginning};
+ghost use Rattle.acl_nfs4.specs.Push.{who_refusal, push_refusal, PushAnswers};
+ghost use Rattle.acl_nfs4.specs.Appending.{Extended, IsBeginning};
+ghost use Rattle.acl_nfs4.specs.Limits.{most_weight, longest_who};
+ghost use Rattle.acl_nfs4.specs.Reading.{Judges};
+ghost use Rattle.acl_nfs4.specs.Who.{who_fault};
+ghost use Rattle.acl_nfs4.specs.Within.{IsWithin};
+ghost use Rattle.acl_perm.specs.Profile.{full, profile_of};
 
 use crate::ace::AceRef;
 use crate::aces::Aces;
+use crate::limits::{MOST_ACES, MOST_WEIGHT};
 use crate::push_fault::PushFault;
 use crate::view::AclView;
-use crate::who::{has_at, is_plain_text, is_special_who, is_text};
-use acl_perm::Kind;
+use crate::who::{WhoFault, judge};
+use acl_perm::{Kind, Profile};
 use byteorder::{BigEndian, ByteOrder};
 use std::alloc::{AllocError, Global};
 use std::marker::Model;
@@ -76,12 +83,21 @@ impl Acl {
     pub fn aces(&self) -> Aces<'_>
         ensures same { result ≡ self.now }
         // Every list of this type is accepted.
-        ensures accepted { IsAccepted self.now }
+        ensures accepted { IsAccepted full self.now }
     {
         Aces {
             left: self.count,
             rest: &self.body,
         }
+    }
+
+    /// Whether the profile has every flag and every right of every ACE, in time linear in the bytes, without memory.
+    pub fn fits(&self, profile: Profile) -> bool
+        ensures exact { IsTrue result ↔ Fits (profile_of profile) self.now }
+        // A list that fits a profile is one that is accepted under it.
+        ensures accepted { IsTrue result ↔ IsAccepted (profile_of profile) self.now }
+    {
+        fit(self.aces(), profile)
     }
 
     /// The same list again, in time linear in its bytes and with one allocation.
@@ -117,16 +133,16 @@ impl Acl {
         // A fault is the first condition that refuses; memory is wanted only where none does.
         ensures fault { PushAnswers result (push_refusal self.old (ace item.entry)) }
         // What is taken leaves the list accepted.
-        ensures accepted { OnOk result (IsAccepted (self.old ++ ace item.entry ∷ [])) }
+        ensures accepted { OnOk result (IsAccepted full (self.old ++ ace item.entry ∷ [])) }
         // What would leave the list accepted is not refused.
-        ensures only { IsAccepted (self.old ++ ace item.entry ∷ [])
+        ensures only { IsAccepted full (self.old ++ ace item.entry ∷ [])
             → push_refusal self.old (ace item.entry) ≡ None }
     {
-        if self.count >= 65536 {
+        if self.count >= MOST_ACES {
             return Err(PushFault::TooManyAces);
         }
         let bits = item.mask.bits().count_ones();
-        if self.weight + bits > 65536 {
+        if self.weight + bits > MOST_WEIGHT {
             return Err(PushFault::TooHeavy);
         }
         judge_who(item.who)?;
@@ -142,21 +158,23 @@ impl Acl {
 }
 
 fn judge_who(who: &[u8]) -> Result<(), PushFault>
-    ensures { Judges result (who_refusal who.now) }
+    ensures { Judges result (option_map who_refusal (who_fault who.now)) }
 {
-    if who.is_empty() || who.len() > 1024 {
-        return Err(PushFault::WhoLength);
+    match judge(who) {
+        Ok(()) => Ok(()),
+        Err(fault) => Err(who_refusal(fault)),
     }
-    if !is_text(who) {
-        return Err(PushFault::WhoUtf8);
+}
+
+fn who_refusal(fault: WhoFault) -> PushFault
+    ensures { result ≡ who_refusal fault }
+{
+    match fault {
+        WhoFault::Length => PushFault::WhoLength,
+        WhoFault::Utf8 => PushFault::WhoUtf8,
+        WhoFault::Control => PushFault::WhoControl,
+        WhoFault::Special => PushFault::SpecialWho,
     }
-    if !is_plain_text(who) {
-        return Err(PushFault::WhoControl);
-    }
-    if has_at(who) && !is_special_who(who) {
-        return Err(PushFault::SpecialWho);
-    }
-    Ok(())
 }
 
 // The word of a number at the end.
@@ -170,7 +188,7 @@ fn append_word(body: &mut Vec<u8>, number: u32) -> Result<(), AllocError>
 
 // The piece of an ACE at the end, or a beginning of it.
 fn append_fields(body: &mut Vec<u8>, item: AceRef<'_>) -> Result<(), AllocError>
-    requires { length item.who.now ≤ 1024 }
+    requires { length item.who.now ≤ longest_who }
     ensures ok { OnOk result (body.new.items ≡ body.old.items ++ piece (ace item.entry)) }
     ensures err { OnErr result (IsBeginning body.old.items body.new.items) }
 {
@@ -206,7 +224,7 @@ fn zeros(count: usize) -> &'static [u8]
 
 // The piece of an ACE at the end, or nothing.
 fn append_piece(body: &mut Vec<u8>, item: AceRef<'_>) -> Result<(), AllocError>
-    requires { length item.who.now ≤ 1024 }
+    requires { length item.who.now ≤ longest_who }
     ensures { Extended body.old.items body.new.items (piece (ace item.entry)) result }
 {
     let len = body.len();
@@ -219,8 +237,27 @@ fn append_piece(body: &mut Vec<u8>, item: AceRef<'_>) -> Result<(), AllocError>
     }
 }
 
+#[tactic(auto, using(crate::proofs::Within::tests))]
+fn fits_ace(ace: &AceRef<'_>, profile: Profile) -> bool
+    ensures { IsTrue result
+        ↔ (IsWithin profile.flags.bits ace.now.flags.bits × IsWithin profile.masks.bits ace.now.mask.bits) }
+{
+    profile.flags.contains(ace.flags) && profile.masks.contains(ace.mask)
+}
+
+fn fit(aces: Aces<'_>, profile: Profile) -> bool
+    ensures { IsTrue result ↔ Fits (profile_of profile) aces.entry }
+{
+    for ace in aces {
+        if !fits_ace(&ace, profile) {
+            return false;
+        }
+    }
+    true
+}
+
 fn weight_of(aces: Aces<'_>) -> u32
-    requires { spelled.weight aces ≤ 65536 }
+    requires { spelled.weight aces ≤ most_weight }
     ensures { result ≡ spelled.weight aces.entry }
 {
     let mut weight = 0;

@@ -1,9 +1,9 @@
-ghost use Rattle.std.specs.Prelude.{◌≡◌, ◌+◌, ◌<◌, ◌^◌, length};
+ghost use Rattle.std.specs.Prelude.{◌≤◌, length};
 
-/// How many bytes were read, and those that are left.
+/// The bytes that are left, and how many there were.
 #[derive(Drop)]
 pub(crate) struct Cursor<'a> {
-    pub at: u64,
+    pub len: usize,
     pub rest: &'a [u8],
-    ghost fits: { at + length rest.now < 2 ^ 64 },
+    ghost within: { length rest.now ≤ len },
 }

@@ -1,43 +1,65 @@
 //! Laws of the spelling.
 
-ghost use Rattle.std.specs.Prelude.{◌≡◌, ◌<◌, ◌++◌, ◌^◌, ℕ, List, length, take};
-ghost use Rattle.std.specs.List.{AllByRecursion};
+ghost use Rattle.std.specs.Prelude.{◌≡◌, ◌↔◌, ◌<◌, ◌++◌, ◌^◌, ℕ, List, length, take};
+ghost use Rattle.std.specs.List.{AllByRecursion, concat};
 ghost use Rattle.acl_nfs4.specs.Ace.{Ace};
-ghost use Rattle.acl_nfs4.specs.Spelling.{Xdr, weight};
-ghost use Rattle.acl_nfs4.specs.Fault.{Border, IsFault, IsWholeFault, Stage};
+ghost use Rattle.acl_nfs4.specs.Spelling.{Fits, IsAccepted, Xdr, weight};
+ghost use Rattle.acl_nfs4.specs.Within.{IsProfile};
+ghost use Rattle.acl_perm.specs.Profile.{Profile, full};
+ghost use Rattle.acl_nfs4.specs.Fault.{Border, IsFault, IsFirstFault, IsWholeFault, Stage};
 ghost use Rattle.acl_nfs4.specs.Laws.{BeginsSpelling, pairs_of};
 ghost use Rattle.acl_nfs4.specs.declared.fault.Reason.{Reason};
+ghost use Rattle.std.specs.Prelude.{[]};
+ghost use Rattle.acl_nfs4.specs.Stream.{Feeds, FeedsEach, SameOrFails, Standing, more, together};
+ghost use Rattle.acl_nfs4.specs.declared.fed.Fed.{Fed};
 
-/// No spelling begins another, and none spells two lists.
+/// No spelling begins another, and none spells two lists, whatever the profile.
 pub fn one_spelling()
-    ensures { (a b : List Ace) (s t x y : List ℕ) → Xdr a s → Xdr b t → s ++ x ≡ t ++ y → (a ≡ b) × (s ≡ t) }
+    ensures { (p : Profile) (a b : List Ace) (s t x y : List ℕ) → IsProfile p → Xdr p a s → Xdr p b t
+        → s ++ x ≡ t ++ y → (a ≡ b) × (s ≡ t) }
+{}
+
+/// A list is accepted under a profile exactly if it is accepted under the full one and fits the profile.
+pub fn accepted_where_it_fits()
+    ensures { (p : Profile) (list : List Ace) → IsProfile p
+        → IsAccepted p list ↔ (IsAccepted full list × Fits p list) }
 {}
 
 /// What stands before a field begins the spelling of some accepted list, and so do the bytes before a fault.
 pub fn faults_break_spellings()
-    ensures border { (stage : Stage) (text : List ℕ) → Border stage text → BeginsSpelling text }
-    ensures fault { (bytes : List ℕ) (offset : ℕ) (r : Reason) → IsFault bytes offset r
-        → BeginsSpelling (take offset bytes) }
+    ensures border { (p : Profile) (stage : Stage) (text : List ℕ) → Border p stage text → BeginsSpelling p text }
+    ensures fault { (p : Profile) (bytes : List ℕ) (offset : ℕ) (r : Reason) → IsFault p bytes offset r
+        → BeginsSpelling p (take offset bytes) }
 {}
 
 /// At most one fault fits a text, and none where a spelling stands at its front.
 pub fn one_fault()
-    ensures one { (bytes : List ℕ) (o p : ℕ) (r q : Reason) → IsFault bytes o r
-        → IsFault bytes p q → (o ≡ p) × (r ≡ q) }
-    ensures none { (bytes : List ℕ) (list : List Ace) (text rest : List ℕ) (o : ℕ) (r : Reason)
-        → Xdr list text → bytes ≡ text ++ rest → IsFault bytes o r → ⊥ }
+    ensures one { (p : Profile) (bytes : List ℕ) (o q t u : ℕ) (r s : Reason) → IsProfile p
+        → IsFirstFault p bytes o t r → IsFirstFault p bytes q u s → (o ≡ q) × (t ≡ u) × (r ≡ s) }
+    ensures none { (p : Profile) (bytes : List ℕ) (list : List Ace) (text rest : List ℕ) (o : ℕ) (r : Reason)
+        → IsProfile p → Xdr p list text → bytes ≡ text ++ rest → IsFault p bytes o r → ⊥ }
 {}
 
 /// At most one fault fits a text that is to be one spelling and nothing more, and none where it is one.
 pub fn one_whole_fault()
-    ensures one { (bytes : List ℕ) (o p : ℕ) (r q : Reason) → IsWholeFault bytes o r
-        → IsWholeFault bytes p q → (o ≡ p) × (r ≡ q) }
-    ensures none { (bytes : List ℕ) (list : List Ace) (o : ℕ) (r : Reason) → Xdr list bytes
-        → IsWholeFault bytes o r → ⊥ }
+    ensures one { (p : Profile) (bytes : List ℕ) (o q : ℕ) (r s : Reason) → IsProfile p → IsWholeFault p bytes o r
+        → IsWholeFault p bytes q s → (o ≡ q) × (r ≡ s) }
+    ensures none { (p : Profile) (bytes : List ℕ) (list : List Ace) (o : ℕ) (r : Reason) → IsProfile p
+        → Xdr p list bytes → IsWholeFault p bytes o r → ⊥ }
 {}
 
 /// The weight of a list is the number of pairs of a place in it and a bit that the ACE there has.
 pub fn weight_counts_pairs()
     ensures { (list : List Ace) → AllByRecursion (λ a. a.mask < 2 ^ 32) list
         → weight list ≡ length (pairs_of list) }
+{}
+
+/// How a stream is cut into pieces plays no part: pieces that are fed one after the other to a new `Feed` are answered
+/// as all of them at once, and leave it as all of them at once. One of the two may be refused memory.
+pub fn any_cutting()
+    ensures together { (p : Profile) (pieces : List (List ℕ)) (answers : List Fed) (new : Standing)
+        → FeedsEach (more p []) pieces answers new → Feeds (more p []) (concat pieces) (together pieces answers) new }
+    ensures once { (p : Profile) (pieces : List (List ℕ)) (answers : List Fed) (new : Standing) (once : Fed)
+        (now : Standing) → IsProfile p → FeedsEach (more p []) pieces answers new
+        → Feeds (more p []) (concat pieces) once now → SameOrFails (together pieces answers) new once now }
 {}

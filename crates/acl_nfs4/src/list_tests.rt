@@ -1,5 +1,6 @@
 use super::*;
-use std::alloc::AllocError;
+use std::alloc::{AllocError, Global};
+use std::process::Abort;
 use std::test::*;
 
 // An ACE as its type, flags, mask and who.
@@ -41,8 +42,8 @@ fn item((kind, flags, mask, who): Row) -> Option<AceRef<'static>> {
     })
 }
 
-fn built(rt: &HostRuntime, rows: &[Row]) -> Result<Acl, PushFault> {
-    let mut list = Acl::new(rt.alloc());
+fn built(alloc: Global, rows: &[Row]) -> Result<Acl, PushFault> {
+    let mut list = Acl::new(alloc);
     for row in rows {
         if let Some(ace) = item(*row) {
             list.push(ace)?;
@@ -71,8 +72,8 @@ fn append_ace(bytes: &mut Vec<u8>, (kind, flags, mask, who): Row) -> Result<(), 
     Ok(())
 }
 
-fn spelled(rt: &HostRuntime, rows: &[Row]) -> Result<Vec<u8>, AllocError> {
-    let mut bytes = Vec::new(rt.alloc());
+fn spelled(alloc: Global, rows: &[Row]) -> Result<Vec<u8>, AllocError> {
+    let mut bytes = Vec::new(alloc);
     append_word(&mut bytes, word_of(rows.len()))?;
     for row in rows {
         append_ace(&mut bytes, *row)?;
@@ -101,67 +102,120 @@ fn shows(aces: Aces<'_>, rows: &[Row]) -> bool {
     at == rows.len()
 }
 
-#[test]
-fn a_copy_is_the_same_list(rt: HostRuntime) {
-    for rows in LISTS {
-        let Ok(list) = built(&rt, rows) else {
-            return;
-        };
-        if let Ok(copy) = list.copy(rt.alloc()) {
-            assert!(rt; copy == list);
-            assert!(rt; shows(copy.aces(), rows));
-        }
-        assert!(rt; shows(list.aces(), rows));
+// Tables answer Memory where they meet it. Each runs twice: once with Memory for an answer, and in a test named
+// `ample..` without.
+fn passes(answer: Result<(), PushFault>) -> bool {
+    matches!(answer, Ok(()) | Err(PushFault::Memory))
+}
+
+fn kept<T>(answer: Result<T, AllocError>) -> Result<T, PushFault> {
+    match answer {
+        Ok(value) => Ok(value),
+        Err(_) => Err(PushFault::Memory),
     }
 }
 
-#[test]
-fn a_list_from_a_view_is_what_the_view_shows(rt: HostRuntime) -> Result<(), Fail> {
+// A copy is the same list.
+fn copies(rt: &impl Abort, alloc: Global) -> Result<(), PushFault> {
     for rows in LISTS {
-        let Ok(bytes) = spelled(&rt, rows) else {
-            return Ok(());
-        };
-        let view = AclView::parse_whole(&bytes)?;
-        let Ok(expected) = built(&rt, rows) else {
-            return Ok(());
-        };
-        if let Ok(list) = Acl::from_view(rt.alloc(), &view) {
+        let list = built(alloc, rows)?;
+        let copy = kept(list.copy(alloc))?;
+        assert!(rt; copy == list);
+        assert!(rt; shows(copy.aces(), rows));
+        assert!(rt; shows(list.aces(), rows));
+    }
+    Ok(())
+}
+
+#[test]
+fn a_copy_is_the_same_list(rt: HostRuntime) {
+    assert!(rt; passes(copies(&rt, rt.alloc())));
+}
+
+#[test]
+fn ample_copies(rt: HostRuntime) {
+    assert!(rt; copies(&rt, rt.alloc()).is_ok());
+}
+
+// A list from a view is what the view shows.
+fn views(rt: &impl Abort, alloc: Global) -> Result<(), PushFault> {
+    for rows in LISTS {
+        let bytes = kept(spelled(alloc, rows))?;
+        let expected = built(alloc, rows)?;
+        let view = AclView::parse_whole(&bytes);
+        assert!(rt; view.is_ok());
+        if let Ok(view) = view {
+            let list = kept(Acl::from_view(alloc, &view))?;
             assert!(rt; list == expected);
             assert_eq!(rt; list.len(), rows.len());
             assert_eq!(rt; list.weight(), expected.weight());
             assert!(rt; shows(list.aces(), rows));
+            assert!(rt; shows(view.aces(), rows));
         }
-        assert!(rt; shows(view.aces(), rows));
+    }
+    Ok(())
+}
+
+#[test]
+fn a_list_from_a_view_is_what_the_view_shows(rt: HostRuntime) {
+    assert!(rt; passes(views(&rt, rt.alloc())));
+}
+
+#[test]
+fn ample_views(rt: HostRuntime) {
+    assert!(rt; views(&rt, rt.alloc()).is_ok());
+}
+
+// What is answered where an ACE with this mask and who is pushed, and what the list then shows.
+fn pushed(
+    rt: &impl Abort,
+    alloc: Global,
+    mask: u32,
+    who: &'static [u8],
+    answer: Result<(), PushFault>,
+) -> Result<(), PushFault> {
+    let row = (Kind::Allow, 0, mask, who);
+    let mut list = built(alloc, &[EVERYONE])?;
+    if let Some(ace) = item(row) {
+        let pushed = list.push(ace);
+        if pushed == Err(PushFault::Memory) {
+            return pushed;
+        }
+        assert_eq!(rt; pushed, answer);
+        let both = [EVERYONE, row];
+        let (after, _) = both.split_at(if answer.is_ok() { 2 } else { 1 });
+        assert!(rt; shows(list.aces(), after));
+    }
+    Ok(())
+}
+
+// A push is judged by its who.
+fn pushes(rt: &impl Abort, alloc: Global) -> Result<(), PushFault> {
+    let rows: [(&'static [u8], Result<(), PushFault>); 9] = [
+        (b"", Err(PushFault::WhoLength)),
+        (&[b'a'; 1024], Ok(())),
+        (&[0xff; 1025], Err(PushFault::WhoLength)),
+        (b"\xff\x09", Err(PushFault::WhoUtf8)),
+        (b"\x09@", Err(PushFault::WhoControl)),
+        (b"\xc3\xa9\x7f", Err(PushFault::WhoControl)),
+        (b"owner@", Err(PushFault::SpecialWho)),
+        (b"OWNER@x", Ok(())),
+        (b"OWNER@", Ok(())),
+    ];
+    for (who, answer) in rows {
+        pushed(rt, alloc, 1, who, answer)?;
     }
     Ok(())
 }
 
 #[test]
 fn a_push_is_judged_by_its_who(rt: HostRuntime) {
-    let rows: [(&'static [u8], Result<(), PushFault>); 6] = [
-        (b"", Err(PushFault::WhoLength)),
-        (b"\xff", Err(PushFault::WhoUtf8)),
-        (b"\x09@", Err(PushFault::WhoControl)),
-        (b"owner@", Err(PushFault::SpecialWho)),
-        (b"OWNER@x", Ok(())),
-        (b"OWNER@", Ok(())),
-    ];
-    for (who, answer) in rows {
-        let row = (Kind::Allow, 0, 1, who);
-        let Some(ace) = item(row) else {
-            return;
-        };
-        let Ok(mut list) = built(&rt, &[EVERYONE]) else {
-            return;
-        };
-        let pushed = list.push(ace);
-        assert!(rt; pushed == answer || pushed == Err(PushFault::Memory) && answer.is_ok());
-        if pushed.is_ok() {
-            assert!(rt; shows(list.aces(), &[EVERYONE, row]));
-        } else {
-            assert!(rt; shows(list.aces(), &[EVERYONE]));
-        }
-    }
+    assert!(rt; passes(pushes(&rt, rt.alloc())));
+}
+
+#[test]
+fn ample_pushes(rt: HostRuntime) {
+    assert!(rt; pushes(&rt, rt.alloc()).is_ok());
 }
 
 #[test]
@@ -172,35 +226,109 @@ fn a_name_that_begins_like_the_owner_is_a_user(rt: HostRuntime) {
     assert_eq!(rt; ace.principal(), Principal::User(b"OWNER@x"));
 }
 
-#[test]
-fn a_full_list_takes_no_ace_whatever_its_who(rt: HostRuntime) {
-    let mut list = Acl::new(rt.alloc());
-    let (Some(light), Some(nameless)) = (
-        item((Kind::Allow, 0, 0, b"a")),
-        item((Kind::Allow, 0, 0, b"")),
-    ) else {
-        return;
-    };
-    assert!(rt; list.is_empty());
-    for _ in 0..65_536u32 {
-        let Ok(()) = list.push(light) else {
-            return;
-        };
+// Which profiles a list fits: the full one, the narrow one, and one of no right and no flag.
+fn fitting(rt: &impl Abort, alloc: Global) -> Result<(), PushFault> {
+    let rows: [(u32, u32, [bool; 3]); 8] = [
+        (0, 0, [true, true, true]),
+        (0, 1, [true, true, false]),
+        (0x01, 0, [true, true, false]),
+        (0, 0x200, [true, false, false]),
+        (0, 0x400, [true, false, false]),
+        (0x80, 1, [true, false, false]),
+        (0x40, 1, [true, true, false]),
+        (0x7f, 0x001f_01ff, [true, true, false]),
+    ];
+    let none = Profile::new(Mask::NONE, Flags::NONE);
+    for (flags, mask, [full, narrow, no]) in rows {
+        let list = built(
+            alloc,
+            &[(Kind::Allow, 0, 0, b"a"), (Kind::Deny, flags, mask, b"b")],
+        )?;
+        assert_eq!(rt; list.len(), 2);
+        assert_eq!(rt; list.fits(Profile::FULL), full, "{flags} {mask}");
+        assert_eq!(rt; list.fits(Profile::NARROW), narrow, "{flags} {mask}");
+        assert_eq!(rt; list.fits(none), no, "{flags} {mask}");
     }
+    Ok(())
+}
+
+#[test]
+fn a_list_fits_the_profile_of_its_bits(rt: HostRuntime) {
+    assert!(rt; passes(fitting(&rt, rt.alloc())));
+}
+
+#[test]
+fn ample_profiles(rt: HostRuntime) {
+    assert!(rt; fitting(&rt, rt.alloc()).is_ok());
+}
+
+// A list with so many of the same ACE.
+fn repeated(alloc: Global, count: u32, row: Row) -> Result<Acl, PushFault> {
+    let mut list = Acl::new(alloc);
+    if let Some(ace) = item(row) {
+        for _ in 0..count {
+            list.push(ace)?;
+        }
+    }
+    Ok(list)
+}
+
+// What is judged before the who: the number of ACEs, and then the weight.
+#[test]
+fn ample_memory_for_full_lists(rt: HostRuntime) -> Result<(), Fail> {
+    let mut list = repeated(rt.alloc(), 65_536, (Kind::Allow, 0, 0, b"a"))?;
+    let nameless = item((Kind::Allow, 0, 1, b"")).ok_or("an ACE")?;
     assert_eq!(rt; list.push(nameless), Err(PushFault::TooManyAces));
     assert_eq!(rt; list.len(), 65_536);
     assert_eq!(rt; list.weight(), 0);
+    let copy = list.copy(rt.alloc())?;
+    assert!(rt; copy == list);
+    let mut heavy = repeated(rt.alloc(), 4_096, (Kind::Allow, 0, 0x001f_07ff, b"a"))?;
+    assert_eq!(rt; heavy.weight(), 65_536);
+    assert_eq!(rt; heavy.push(nameless), Err(PushFault::TooHeavy));
+    let empty = item((Kind::Allow, 0, 0, b"")).ok_or("an ACE")?;
+    assert_eq!(rt; heavy.push(empty), Err(PushFault::WhoLength));
+    assert_eq!(rt; heavy.len(), 4_096);
+    Ok(())
 }
 
-// Fails where an allocation is refused, unlike the tests above.
 #[test]
-fn ample_memory_suffices(rt: HostRuntime) -> Result<(), Fail> {
-    for rows in LISTS {
-        let list = built(&rt, rows)?;
-        let copy = list.copy(rt.alloc())?;
-        let bytes = spelled(&rt, rows)?;
-        let seen = Acl::from_view(rt.alloc(), &AclView::parse_whole(&bytes)?)?;
-        assert!(rt; copy == list && seen == list);
+fn ample_memory_for_the_view_of_a_full_list(rt: HostRuntime) -> Result<(), Fail> {
+    let row = (Kind::Deny, 0x40, 1, b"staff".as_slice());
+    let mut bytes = Vec::new(rt.alloc());
+    append_word(&mut bytes, 65_536)?;
+    for _ in 0..65_536u32 {
+        append_ace(&mut bytes, row)?;
+    }
+    let list = Acl::from_view(rt.alloc(), &AclView::parse_whole(&bytes)?)?;
+    assert_eq!(rt; list.len(), 65_536);
+    assert_eq!(rt; list.weight(), 65_536);
+    assert!(rt; list == repeated(rt.alloc(), 65_536, row)?);
+    Ok(())
+}
+
+#[test]
+fn ample_memory_past_a_megabyte(rt: HostRuntime) -> Result<(), Fail> {
+    let list = repeated(rt.alloc(), 1_100, (Kind::Allow, 0, 0, &[b'a'; 1024]))?;
+    assert_eq!(rt; list.len(), 1_100);
+    let copy = list.copy(rt.alloc())?;
+    assert!(rt; copy == list);
+    Ok(())
+}
+
+#[test]
+fn ample_memory_for_the_line_of_each_refusal(rt: HostRuntime) -> Result<(), Fail> {
+    let rows = [
+        (PushFault::TooManyAces, "TooManyAces"),
+        (PushFault::TooHeavy, "TooHeavy"),
+        (PushFault::WhoLength, "WhoLength"),
+        (PushFault::WhoUtf8, "WhoUtf8"),
+        (PushFault::WhoControl, "WhoControl"),
+        (PushFault::SpecialWho, "SpecialWho"),
+        (PushFault::Memory, "Memory"),
+    ];
+    for (fault, line) in rows {
+        assert_eq!(rt; fault.to_string(rt.alloc())?.as_str(), line);
     }
     Ok(())
 }

@@ -1,5 +1,6 @@
 use super::*;
 use std::alloc::{AllocError, Global};
+use std::process::Abort;
 use std::test::Fail;
 
 // One ACE: ALLOW, no flag, READ_DATA, EVERYONE@.
@@ -108,29 +109,119 @@ fn a_list_that_is_cut_is_truncated(rt: HostRuntime) -> Result<(), Fail> {
     Ok(())
 }
 
-// So many times ALLOW with all rights for EVERYONE@.
-fn full(alloc: Global, count: u32) -> Result<Vec<u8>, AllocError> {
+// So many times ALLOW with the same mask for EVERYONE@.
+fn repeated(alloc: Global, count: u32, mask: u32) -> Result<Vec<u8>, AllocError> {
     let mut bytes = Vec::new(alloc);
     bytes.extend_from_slice(&count.to_be_bytes())?;
     for _ in 0..count {
-        bytes.extend_from_slice(b"\0\0\0\0\0\0\0\0\0\x1f\x07\xff\0\0\0\x09EVERYONE@\0\0\0")?;
+        bytes.extend_from_slice(&[0; 8])?;
+        bytes.extend_from_slice(&mask.to_be_bytes())?;
+        bytes.extend_from_slice(b"\0\0\0\x09EVERYONE@\0\0\0")?;
     }
     Ok(bytes)
 }
 
+// The weight of a list is limited, after the bits of its masks.
+fn weights(rt: &impl Abort, alloc: Global) -> Result<(), AllocError> {
+    let rows = [
+        (Profile::FULL, 4_096, 0x001f_07ff, None),
+        (
+            Profile::FULL,
+            4_097,
+            0x001f_07ff,
+            fault(114_700, Reason::TooHeavy),
+        ),
+        (
+            Profile::NARROW,
+            4_096,
+            0x001f_07ff,
+            fault(12, Reason::MaskBits),
+        ),
+        (Profile::NARROW, 4_681, 0x001f_01ff, None),
+        (
+            Profile::NARROW,
+            4_682,
+            0x001f_01ff,
+            fault(131_080, Reason::TooHeavy),
+        ),
+    ];
+    for (profile, count, mask, expected) in rows {
+        let bytes = repeated(alloc, count, mask)?;
+        let found = AclView::parse_whole_with(&bytes, profile);
+        assert!(rt;
+            expected.is_some() || found.is_ok_and(|view| view.aces().count() == count as usize)
+        );
+        assert_eq!(rt;
+            AclView::parse_with(&bytes, profile).err(),
+            expected,
+            "{count}"
+        );
+    }
+    Ok(())
+}
+
 #[test]
-fn the_weight_of_a_list_is_limited(rt: HostRuntime) -> Result<(), Fail> {
-    let Ok(most) = full(rt.alloc(), 4096) else {
-        return Ok(());
-    };
-    assert_eq!(rt; AclView::parse(&most)?.0.aces().count(), 4096);
-    let Ok(more) = full(rt.alloc(), 4097) else {
-        return Ok(());
-    };
-    assert_eq!(rt;
-        AclView::parse(&more).err(),
-        fault(114_700, Reason::TooHeavy)
-    );
+fn the_weight_of_a_list_is_limited(rt: HostRuntime) {
+    let _ = weights(&rt, rt.alloc());
+}
+
+#[test]
+fn ample_memory_for_weights(rt: HostRuntime) {
+    assert!(rt; weights(&rt, rt.alloc()).is_ok());
+}
+
+// The one ACE with words replaced, under the narrow profile and under the full one.
+#[test]
+fn a_profile_refuses_the_bits_that_it_lacks(rt: HostRuntime) {
+    let rows: [(usize, &[u8], Option<Fault>); 6] = [
+        (12, &[0, 0, 2, 0], fault(12, Reason::MaskBits)),
+        (12, &[0, 0, 4, 0], fault(12, Reason::MaskBits)),
+        (12, &[0, 0x1f, 1, 0xff], None),
+        (8, &[0, 0, 0, 0x80], fault(8, Reason::FlagBits)),
+        (8, &[0, 0, 0, 0x40], None),
+        (8, &[0, 0, 0, 0x7f], None),
+    ];
+    for (at, bytes, narrow) in rows {
+        let longer = with(at, bytes);
+        let (whole, _) = longer.split_at(32);
+        assert_eq!(rt;
+            AclView::parse_with(whole, Profile::NARROW).err(),
+            narrow,
+            "{at}"
+        );
+        assert_eq!(rt;
+            AclView::parse_whole_with(whole, Profile::NARROW).err(),
+            narrow,
+            "{at}"
+        );
+        assert!(rt; AclView::parse_with(whole, Profile::FULL).is_ok());
+        assert!(rt; AclView::parse_whole(whole).is_ok());
+    }
+}
+
+#[test]
+fn ample_memory_for_the_line_of_each_fault(rt: HostRuntime) -> Result<(), Fail> {
+    let rows = [
+        (Reason::Truncated, "Truncated at byte 7"),
+        (Reason::TooManyAces, "TooManyAces at byte 7"),
+        (Reason::AuditOrAlarm, "AuditOrAlarm at byte 7"),
+        (Reason::AceType, "AceType at byte 7"),
+        (Reason::FlagBits, "FlagBits at byte 7"),
+        (Reason::MaskBits, "MaskBits at byte 7"),
+        (Reason::TooHeavy, "TooHeavy at byte 7"),
+        (Reason::WhoLength, "WhoLength at byte 7"),
+        (Reason::WhoUtf8, "WhoUtf8 at byte 7"),
+        (Reason::WhoControl, "WhoControl at byte 7"),
+        (Reason::SpecialWho, "SpecialWho at byte 7"),
+        (Reason::Padding, "Padding at byte 7"),
+        (Reason::TrailingBytes, "TrailingBytes at byte 7"),
+        (Reason::Read, "Read at byte 7"),
+        (Reason::Memory, "Memory at byte 7"),
+    ];
+    for (reason, line) in rows {
+        let fault = Fault { offset: 7, reason };
+        assert_eq!(rt; fault.to_string(rt.alloc())?.as_str(), line);
+    }
     Ok(())
 }
 

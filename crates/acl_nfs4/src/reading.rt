@@ -1,32 +1,55 @@
-ghost use Rattle.std.specs.Prelude.{◌≡◌, ℕ, ◌+◌, ◌-◌, ◌<◌, ◌≤◌, ◌^◌, length, Ok, IfOk, count_ones};
+ghost use Rattle.std.specs.Prelude.{◌≡◌, ℕ, ◌+◌, ◌-◌, ◌<◌, ◌≤◌, ◌^◌, length, Ok, IfOk, count_ones, false};
+ghost use Rattle.acl_perm.specs.Profile.{profile_of};
 ghost use Rattle.acl_nfs4.specs.Fields.{count_of, kind_of, flags_of, mask_of, who_len_of, who_of, padding_of};
-ghost use Rattle.acl_nfs4.specs.Reading.{Gives, Place, field, word_field, ace_at, aces_at, ending};
+ghost use Rattle.acl_nfs4.specs.Limits.{most_aces, most_weight};
+ghost use Rattle.acl_nfs4.specs.Reading.{Gives, Place, Placed, field, word_field, ace_at, aces_at, ending};
 ghost use Rattle.acl_nfs4.specs.Spelling.{pad_len};
+ghost use Rattle.acl_nfs4.specs.Who.{is_no_who_len};
 ghost use Rattle.acl_nfs4.specs.Cursor.{place};
 ghost use Rattle.acl_nfs4.specs.Ace.{ace};
 
 use crate::ace::AceRef;
 use crate::cursor::Cursor;
 use crate::fault::{Fault, Reason};
-use crate::who::{is_zero, judge};
-use acl_perm::{Flags, Kind, Mask};
+use crate::judges;
+use acl_perm::{Flags, Kind, Mask, Profile};
 use byteorder::{BigEndian, ByteOrder};
 
+// How many bytes were read: worked out where it is wanted, since only a fault wants it.
+#[inline(always)]
+fn offset_of(cursor: &Cursor<'_>) -> u64
+    ensures { result ≡ (place cursor.now).at }
+{
+    (cursor.len - cursor.rest.len()) as u64
+}
+
+// What a field gives, or its fault at its first byte.
+#[inline(always)]
+fn placed<T>(offset: u64, judged: Result<T, Reason>) -> Result<T, Fault>
+    ensures { Placed offset judged result }
+{
+    match judged {
+        Ok(value) => Ok(value),
+        Err(reason) => Err(Fault { offset, reason }),
+    }
+}
+
+#[inline(always)]
 fn bytes<'a>(cursor: &mut Cursor<'a>, n: usize) -> Result<&'a [u8], Fault>
     ensures { Gives (λ x. (x.now, place cursor.new)) result (field n (λ bytes. Ok bytes) (place cursor.old)) }
 {
     if cursor.rest.len() < n {
         return Err(Fault {
-            offset: cursor.at,
+            offset: offset_of(cursor),
             reason: Reason::Truncated,
         });
     }
     let (front, rest) = cursor.rest.split_at(n);
-    cursor.at += n as u64;
     cursor.rest = rest;
     Ok(front)
 }
 
+#[inline(always)]
 fn word(cursor: &mut Cursor<'_>) -> Result<u32, Fault>
     ensures { Gives (λ x. (x, place cursor.new)) result (word_field (λ n. Ok n) (place cursor.old)) }
 {
@@ -34,106 +57,74 @@ fn word(cursor: &mut Cursor<'_>) -> Result<u32, Fault>
     Ok(BigEndian::read_u32(front))
 }
 
+#[inline(always)]
 fn kind(cursor: &mut Cursor<'_>) -> Result<Kind, Fault>
     ensures { Gives (λ x. (x, place cursor.new)) result (word_field kind_of (place cursor.old)) }
 {
-    let offset = cursor.at;
-    match word(cursor)? {
-        0 => Ok(Kind::Allow),
-        1 => Ok(Kind::Deny),
-        2 | 3 => Err(Fault {
-            offset,
-            reason: Reason::AuditOrAlarm,
-        }),
-        _ => Err(Fault {
-            offset,
-            reason: Reason::AceType,
-        }),
-    }
+    let offset = offset_of(cursor);
+    placed(offset, judges::kind_of(word(cursor)?))
 }
 
-fn flags(cursor: &mut Cursor<'_>) -> Result<Flags, Fault>
-    ensures { Gives (λ x. (x.bits, place cursor.new)) result (word_field flags_of (place cursor.old)) }
+#[inline(always)]
+fn flags(cursor: &mut Cursor<'_>, profile: Profile) -> Result<Flags, Fault>
+    ensures { Gives (λ x. (x.bits, place cursor.new)) result
+        (word_field (flags_of (profile_of profile)) (place cursor.old)) }
 {
-    let offset = cursor.at;
-    match Flags::new(word(cursor)?) {
-        Some(flags) => Ok(flags),
-        None => Err(Fault {
-            offset,
-            reason: Reason::FlagBits,
-        }),
-    }
+    let offset = offset_of(cursor);
+    placed(offset, judges::flags_of(word(cursor)?, profile))
 }
 
-fn mask(cursor: &mut Cursor<'_>, weight: u32) -> Result<Mask, Fault>
-    requires { weight ≤ 65536 }
-    ensures exact { Gives (λ x. (x.bits, place cursor.new)) result (word_field (mask_of weight) (place cursor.old)) }
-    ensures light { IfOk result (λ x. weight + count_ones x.bits ≤ 65536) }
+#[inline(always)]
+fn mask(cursor: &mut Cursor<'_>, weight: u32, profile: Profile) -> Result<Mask, Fault>
+    requires { weight ≤ most_weight }
+    ensures exact { Gives (λ x. (x.bits, place cursor.new)) result
+        (word_field (mask_of (profile_of profile) weight) (place cursor.old)) }
+    ensures light { IfOk result (λ x. weight + count_ones x.bits ≤ most_weight) }
 {
-    let offset = cursor.at;
-    let number = word(cursor)?;
-    match Mask::new(number) {
-        None => Err(Fault {
-            offset,
-            reason: Reason::MaskBits,
-        }),
-        Some(_) if weight + number.count_ones() > 65536 => Err(Fault {
-            offset,
-            reason: Reason::TooHeavy,
-        }),
-        Some(mask) => Ok(mask),
-    }
+    let offset = offset_of(cursor);
+    placed(offset, judges::mask_of(word(cursor)?, weight, profile))
 }
 
+#[inline(always)]
 fn who_len(cursor: &mut Cursor<'_>) -> Result<usize, Fault>
-    ensures { Gives (λ x. (x, place cursor.new)) result (word_field who_len_of (place cursor.old)) }
+    ensures exact { Gives (λ x. (x, place cursor.new)) result (word_field who_len_of (place cursor.old)) }
+    ensures some { IfOk result (λ x. is_no_who_len x ≡ false) }
 {
-    let offset = cursor.at;
-    let number = word(cursor)?;
-    if number == 0 || number > 1024 {
-        return Err(Fault {
-            offset,
-            reason: Reason::WhoLength,
-        });
-    }
-    Ok(number as usize)
+    let offset = offset_of(cursor);
+    placed(offset, judges::who_len_of(word(cursor)?))
 }
 
+#[inline(always)]
 fn who<'a>(cursor: &mut Cursor<'a>, len: usize) -> Result<&'a [u8], Fault>
+    requires { is_no_who_len len ≡ false }
     ensures { Gives (λ x. (x.now, place cursor.new)) result (field len who_of (place cursor.old)) }
 {
-    let offset = cursor.at;
-    let who = bytes(cursor, len)?;
-    match judge(who) {
-        Ok(()) => Ok(who),
-        Err(reason) => Err(Fault { offset, reason }),
-    }
+    let offset = offset_of(cursor);
+    placed(offset, judges::who_of(bytes(cursor, len)?))
 }
 
+#[inline(always)]
 fn padding(cursor: &mut Cursor<'_>, len: usize) -> Result<(), Fault>
     ensures { Gives (λ _. (tt, place cursor.new)) result (field (pad_len len) padding_of (place cursor.old)) }
 {
-    let offset = cursor.at;
-    let padding = bytes(cursor, (4 - len % 4) % 4)?;
-    if is_zero(padding) {
-        Ok(())
-    } else {
-        Err(Fault {
-            offset,
-            reason: Reason::Padding,
-        })
-    }
+    let offset = offset_of(cursor);
+    placed(
+        offset,
+        judges::padding_of(bytes(cursor, (4 - len % 4) % 4)?),
+    )
 }
 
 #[tactic(auto, unfolding(crate::specs::Reading::ace_at))]
-pub(crate) fn next_ace<'a>(cursor: &mut Cursor<'a>, weight: u32) -> Result<AceRef<'a>, Fault>
-    requires { weight ≤ 65536 }
-    ensures exact { Gives (λ x. (ace x, place cursor.new)) result (ace_at weight (place cursor.old)) }
-    ensures light { IfOk result (λ x. weight + count_ones x.mask.bits ≤ 65536) }
+#[inline(always)]
+fn fields<'a>(cursor: &mut Cursor<'a>, weight: u32, profile: Profile) -> Result<AceRef<'a>, Fault>
+    requires { weight ≤ most_weight }
+    ensures exact { Gives (λ x. (ace x, place cursor.new)) result
+        (ace_at (profile_of profile) weight (place cursor.old)) }
+    ensures light { IfOk result (λ x. weight + count_ones x.mask.bits ≤ most_weight) }
 {
     let kind = kind(cursor)?;
-    let flags = flags(cursor)?;
-    let mask = mask(cursor, weight)?;
+    let flags = flags(cursor, profile)?;
+    let mask = mask(cursor, weight, profile)?;
     let len = who_len(cursor)?;
     let who = who(cursor, len)?;
     padding(cursor, len)?;
@@ -145,27 +136,41 @@ pub(crate) fn next_ace<'a>(cursor: &mut Cursor<'a>, weight: u32) -> Result<AceRe
     })
 }
 
-pub(crate) fn count(cursor: &mut Cursor<'_>) -> Result<u32, Fault>
-    ensures exact { Gives (λ x. (x, place cursor.new)) result (word_field count_of (place cursor.old)) }
-    ensures small { IfOk result (λ x. x ≤ 65536) }
+// An ACE. Both ways are the same: behind the test that its four words are there, the compiler leaves out the test of
+// each.
+#[inline(always)]
+pub(crate) fn next_ace<'a>(
+    cursor: &mut Cursor<'a>,
+    weight: u32,
+    profile: Profile,
+) -> Result<AceRef<'a>, Fault>
+    requires { weight ≤ most_weight }
+    ensures exact { Gives (λ x. (ace x, place cursor.new)) result
+        (ace_at (profile_of profile) weight (place cursor.old)) }
+    ensures light { IfOk result (λ x. weight + count_ones x.mask.bits ≤ most_weight) }
 {
-    let offset = cursor.at;
-    let count = word(cursor)?;
-    if count > 65536 {
-        return Err(Fault {
-            offset,
-            reason: Reason::TooManyAces,
-        });
+    if cursor.rest.len() < 16 {
+        return fields(cursor, weight, profile);
     }
-    Ok(count)
+    fields(cursor, weight, profile)
 }
 
-pub(crate) fn skip_aces(cursor: &mut Cursor<'_>, count: u32) -> Result<(), Fault>
-    ensures { Gives (λ _. place cursor.new) result (ending (aces_at count 0 (place cursor.old))) }
+pub(crate) fn count(cursor: &mut Cursor<'_>) -> Result<u32, Fault>
+    ensures exact { Gives (λ x. (x, place cursor.new)) result (word_field count_of (place cursor.old)) }
+    ensures small { IfOk result (λ x. x ≤ most_aces) }
+{
+    let offset = offset_of(cursor);
+    placed(offset, judges::count_of(word(cursor)?))
+}
+
+#[inline(always)]
+pub(crate) fn skip_aces(cursor: &mut Cursor<'_>, count: u32, profile: Profile) -> Result<(), Fault>
+    ensures { Gives (λ _. place cursor.new) result
+        (ending (aces_at (profile_of profile) count 0 (place cursor.old))) }
 {
     let mut weight = 0;
     for _ in 0..count {
-        let ace = next_ace(cursor, weight)?;
+        let ace = next_ace(cursor, weight, profile)?;
         weight += ace.mask.bits().count_ones();
     }
     Ok(())

@@ -1,8 +1,8 @@
 //! The names of the access rights.
 ghost use Rattle.std.specs.Prelude.{◌≡◌, ◌==◌, ℕ, IfSome, IsSomeAnd, find, option_copied, option_map, position};
 ghost use Rattle.std.specs.List.{slice_split};
-ghost use Rattle.acl_nfs4.specs.Rights.{IsCut, SpellsMask, bit_named, is_name_of, mask_named, rights_named};
-ghost use Rattle.acl_nfs4.specs.RightsTable.{row_of};
+ghost use Rattle.acl_nfs4.specs.Rights.{SpellsMask, bit_named, is_name_of, mask_named, rights_named};
+ghost use Rattle.acl_nfs4.specs.RightsTable.{IsCut, row_of};
 
 use acl_perm::Mask;
 

@@ -1,68 +1,109 @@
-ghost use Rattle.std.specs.Prelude.{◌≡◌, ◌↔◌, ◌==◌, ℕ, ◌+◌, ◌-◌, ◌<◌, ◌≤◌, length, Ok, IsTrue};
+ghost use Rattle.std.specs.Prelude.{◌≡◌, ◌≤◌, length, false};
 ghost use Rattle.std.specs.Str.{is_utf8};
 ghost use Rattle.std.specs.List.{list_all};
-ghost use Rattle.acl_nfs4.specs.Fields.{who_of};
-ghost use Rattle.acl_nfs4.specs.Reading.{Gives};
-ghost use Rattle.acl_nfs4.specs.Who.{is_plain, ends_in_at, is_special};
+ghost use Rattle.acl_nfs4.specs.Reading.{Judges, is_plain_ascii, text_fault};
+ghost use Rattle.acl_nfs4.specs.Who.{ends_in_at, is_plain, is_special, is_no_who_len, who_fault};
 
-use crate::fault::Reason;
+use crate::limits::LONGEST_WHO;
+
+/// What keeps bytes from being a who, in the order in which it is judged.
+#[derive(Clone, Copy)]
+pub(crate) enum WhoFault {
+    Length,
+    Utf8,
+    Control,
+    Special,
+}
 
 #[tactic(auto, using(crate::proofs::Text::text_tests))]
-pub(crate) fn is_text(bytes: &[u8]) -> bool
+fn is_text(bytes: &[u8]) -> bool
     ensures { result ≡ is_utf8 bytes.now }
 {
-    // Most names are ASCII, which is told faster.
-    if bytes.is_ascii() {
-        return true;
-    }
     match str::from_utf8(bytes) {
         Ok(_) => true,
         Err(_) => false,
     }
 }
 
-pub(crate) fn is_plain_byte(byte: u8) -> bool
+fn is_plain_byte(byte: u8) -> bool
     ensures { result ≡ is_plain byte }
 {
     byte >= 0x20 && byte != 0x7f
 }
 
-pub(crate) fn is_plain_text(bytes: &[u8]) -> bool
+fn is_plain_text(bytes: &[u8]) -> bool
     ensures { result ≡ list_all is_plain bytes.now }
 {
     bytes.iter().all(|byte| is_plain_byte(*byte))
 }
 
-pub(crate) fn is_zero(bytes: &[u8]) -> bool
-    ensures { result ≡ list_all (λ b. b == 0) bytes.now }
+#[inline(always)]
+fn is_plain_ascii(bytes: &[u8]) -> bool
+    ensures { result ≡ list_all is_plain_ascii bytes.now }
 {
-    bytes.iter().all(|byte| *byte == 0)
+    bytes.iter().all(|byte| *byte >= 0x20 && *byte < 0x7f)
 }
 
-pub(crate) fn has_at(who: &[u8]) -> bool
+#[inline(always)]
+fn has_at(who: &[u8]) -> bool
+    requires { 1 ≤ length who.now }
     ensures { result ≡ ends_in_at who.now }
 {
-    matches!(who, [.., b'@'])
+    who[who.len() - 1] == b'@'
 }
 
-pub(crate) fn is_special_who(who: &[u8]) -> bool
+#[inline(never)]
+fn is_special_who(who: &[u8]) -> bool
     ensures { result ≡ is_special who.now }
 {
     who == b"OWNER@".as_slice() || who == b"GROUP@".as_slice() || who == b"EVERYONE@".as_slice()
 }
 
+/// Whether no who has so many bytes.
+#[inline(always)]
+pub(crate) fn is_no_who_len(len: usize) -> bool
+    ensures { result ≡ is_no_who_len len }
+{
+    len == 0 || len > LONGEST_WHO
+}
+
 /// Refuses what can't be a who.
-pub(crate) fn judge(who: &[u8]) -> Result<(), Reason>
-    ensures { Gives (λ _. who.now) result (who_of who.now) }
+pub(crate) fn judge(who: &[u8]) -> Result<(), WhoFault>
+    ensures { Judges result (who_fault who.now) }
+{
+    if is_no_who_len(who.len()) {
+        return Err(WhoFault::Length);
+    }
+    judge_text(who)
+}
+
+// Refuses what isn't UTF-8, and what has a control byte.
+#[inline(never)]
+fn judge_bytes(who: &[u8]) -> Result<(), WhoFault>
+    ensures { Judges result (text_fault who.now) }
 {
     if !is_text(who) {
-        return Err(Reason::WhoUtf8);
+        return Err(WhoFault::Utf8);
     }
     if !is_plain_text(who) {
-        return Err(Reason::WhoControl);
+        return Err(WhoFault::Control);
+    }
+    Ok(())
+}
+
+/// Refuses what can't be a who of this length.
+#[tactic(auto, using(crate::proofs::Text::plain_ascii))]
+#[inline(always)]
+pub(crate) fn judge_text(who: &[u8]) -> Result<(), WhoFault>
+    requires { is_no_who_len (length who.now) ≡ false }
+    ensures { Judges result (who_fault who.now) }
+{
+    // Most names are plain ASCII, which one pass tells.
+    if !is_plain_ascii(who) {
+        judge_bytes(who)?;
     }
     if has_at(who) && !is_special_who(who) {
-        return Err(Reason::SpecialWho);
+        return Err(WhoFault::Special);
     }
     Ok(())
 }

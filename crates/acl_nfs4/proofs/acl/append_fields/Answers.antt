@@ -11,4 +11,5 @@ returns-clause-ok c = fields_appended c.args.body.now.items _ _ _ _ _ _ (ace c.a
     (c.in_ok-append_word-3.ensures ∙ ap (λ (n : ℕ). c.append_word-2.new.body.items ++ word n) c.bits-2.ensures.value)
     c.in_ok-append_word-4.ensures
     c.in_ok-extend_from_slice.ensures.items
-    (c.in_ok-extend_from_slice-2.ensures.items ∙ ap (λ (t : List ℕ). c.extend_from_slice.new.self.items ++ t) c.zeros.ensures)
+    (c.in_ok-extend_from_slice-2.ensures.items
+    ∙ ap (λ (t : List ℕ). c.extend_from_slice.new.self.items ++ t) c.zeros.ensures)

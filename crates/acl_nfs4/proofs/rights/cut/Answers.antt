@@ -5,8 +5,10 @@ use Rattle.acl_nfs4.proofs.rights.cut.Goals as goal
 
 pub returns-in-Some : goal.returns-in-Some
 returns-in-Some c =
-    cut_some c.args.field.now _ c.in-Some.place (subst (Says c.args.field.now) (sym c.bar_in.ensures ∙ c.in-Some.is) (place c.args.field.now)) (take_rest c.args.field.now (c.in-Some.place + 1))
+    cut_some c.args.field.now _ c.in-Some.place (subst (Says c.args.field.now) (sym c.bar_in.ensures ∙ c.in-Some.is)
+    (place c.args.field.now)) (take_rest c.args.field.now (c.in-Some.place + 1))
 
 pub returns-in-None : goal.returns-in-None
 returns-in-None c =
-    cut_none c.args.field.now (subst (Says c.args.field.now) (sym c.bar_in.ensures ∙ c.in-None.is) (place c.args.field.now))
+    cut_none c.args.field.now (subst (Says c.args.field.now) (sym c.bar_in.ensures ∙ c.in-None.is)
+    (place c.args.field.now))

@@ -9,7 +9,8 @@ invariant_of-union c = record { within = c.loop-rest.invariant.within }
 pub loop-rest-preserved : goal.loop-rest-preserved
 loop-rest-preserved c = record {
   within = c.union-mask.result.within;
-  left = next_left c.loop-rest.mask.0 c.in_ok-right_named.field-0.bits _ _ _ _ _ _ c.union-mask.ensures c.cut.ensures c.in_ok-right_named.ensures (ap option_copied c.in-Some.is) c.loop-rest.invariant.left;
+  left = next_left c.loop-rest.mask.0 c.in_ok-right_named.field-0.bits _ _ _ _ _ _ c.union-mask.ensures.value
+      c.cut.ensures c.in_ok-right_named.ensures (ap option_copied c.in-Some.is) c.loop-rest.invariant.left;
 }
 
 pub invariant_of-mask : goal.invariant_of-mask

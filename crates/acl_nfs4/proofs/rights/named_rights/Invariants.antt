@@ -2,7 +2,8 @@ use Rattle.std.proofs.Common.{◌≡◌}
 use Rattle.std.specs.Prelude.{◌==◌, option_copied}
 use Rattle.std.specs.List.{slice_split}
 use Rattle.acl_perm.specs.Bits.{IsMask}
-use Rattle.acl_nfs4.specs.Rights.{rights_named, size_after}
+use Rattle.acl_nfs4.specs.Rights.{rights_named}
+use Rattle.acl_nfs4.specs.RightsTable.{size_after}
 use Rattle.acl_nfs4.proofs.Names.{rights_from}
 use Rattle.acl_nfs4.proofs.rights.named_rights.Given as goal
 

@@ -1,0 +1,15 @@
+use Rattle.std.proofs.Common.{arith, refl}
+use Rattle.acl_perm.specs.Profile.{profile_of}
+use Rattle.acl_nfs4.proofs.Streaming.{text_short, no_progress}
+use Rattle.acl_nfs4.proofs.Within.{code_profile}
+use Rattle.acl_nfs4.proofs.feed.Feed.with_profile.Goals as goal
+
+pub invariant_of-result : goal.invariant_of-result
+invariant_of-result c = rw c.new.ensures (record {
+  profile = code_profile c.args.profile (omega arith);
+  cut = text_short (profile_of c.args.profile) _ (λ i. omega arith) (omega arith);
+  why = refl;
+  progress = no_progress (profile_of c.args.profile) _;
+  next = λ long. absurd (omega arith);
+  bytes = λ i. omega arith;
+})

@@ -1,0 +1,128 @@
+-- A stream that comes in pieces, and what a call that reads it answers (this library's own; the layout is that of
+-- RFC 4506 over RFC 8881, section 6.2.1).
+use Rattle.std.specs.Prelude.{◌≡◌, ◌≢◌, ◌⊎◌, ℕ, ◌+◌, ◌-◌, ◌<◌, ◌≤◌, List, [], ◌∷◌, ◌++◌, length, take, Result, Ok, Err}
+use Rattle.std.specs.List.{flat_map}
+use Rattle.acl_perm.specs.Profile.{Profile}
+use Rattle.acl_nfs4.specs.Ace.{Ace}
+use Rattle.acl_nfs4.specs.Spelling.{Xdr, piece, word}
+use Rattle.acl_nfs4.specs.Limits.{longest_who}
+use Rattle.acl_nfs4.specs.Fault.{IsFault, IsFirstFault}
+use Rattle.acl_nfs4.specs.declared.fault.Fault.{Fault}
+use Rattle.acl_nfs4.specs.declared.fault.Reason.TheVariants.{Truncated, Read, Memory}
+use Rattle.acl_nfs4.specs.declared.fed.Fed.{Fed}
+use Rattle.acl_nfs4.specs.declared.fed.Fed.TheVariants.{More, Done, Refused}
+
+-- a text that ends before its value does
+abbrev pub IsCut : Profile → List ℕ → Type 0
+IsCut p text = (o : ℕ) × IsFault p text o Truncated
+
+-- what a feed stands for: the stream so far, which is cut short; or the list that it began with; or its fault
+pub data Standing : Type 0 where
+  more : (p : Profile) (stream : List ℕ) → Standing
+  done : (list : List Ace) → Standing
+  refused : (fault : Fault) → Standing
+
+-- a growth was refused
+abbrev pub no_memory : Fault
+no_memory = record { offset = 0; reason = Memory }
+
+-- a growth was refused, or the text has this fault and isn't cut short
+abbrev pub Refuses : Profile → List ℕ → Fault → Type 0
+Refuses p text f = (f ≡ no_memory) ⊎ (IsFault p text f.offset f.reason × (f.reason ≢ Truncated))
+
+-- the answer to one more piece, and what the feed stands for then: the stream is cut short, or begins with a value that
+-- ends in this piece, or has a fault; a list and a fault are kept
+abbrev pub Feeds : Standing → List ℕ → Fed → Standing → Type 0
+Feeds (more p s) piece More new = (new ≡ more p (s ++ piece)) × IsCut p (s ++ piece)
+Feeds (more p s) piece (Done taken) new =
+    (list : List Ace) × (new ≡ done list) × (taken ≤ length piece) × Xdr p list (s ++ take taken piece)
+Feeds (more p s) piece (Refused f) new = (new ≡ refused f) × Refuses p (s ++ piece) f
+Feeds (done list) piece More new = ⊥
+Feeds (done list) piece (Done taken) new = (new ≡ done list) × (taken ≡ 0)
+Feeds (done list) piece (Refused f) new = ⊥
+Feeds (refused f) piece More new = ⊥
+Feeds (refused f) piece (Done taken) new = ⊥
+Feeds (refused f) piece (Refused g) new = (new ≡ refused f) × (g ≡ f)
+
+-- this answer, or that a growth was refused
+abbrev pub IsFedOrFails : Fed → Fed → Type 0
+IsFedOrFails answer expected = (answer ≡ expected) ⊎ (answer ≡ Refused no_memory)
+
+-- the answer at a stream of which n bytes came before the piece, by what the stream is
+pub record FedExactly (p : Profile) (stream : List ℕ) (n : ℕ) (answer : Fed) : Type 0 where
+  pub cut : (o : ℕ) → IsFault p stream o Truncated → IsFedOrFails answer More
+  pub whole : (list : List Ace) (text rest : List ℕ) → Xdr p list text → stream ≡ text ++ rest
+      → IsFedOrFails answer (Done (length text - n))
+  pub fault : (f : Fault) → IsFault p stream f.offset f.reason → f.reason ≢ Truncated
+      → IsFedOrFails answer (Refused f)
+
+-- what is left where no more pieces come: the list, that the stream is cut short, or the fault
+abbrev pub Finishes : Standing → Result (List Ace) Fault → Type 0
+Finishes (more p s) (Ok list) = ⊥
+Finishes (more p s) (Err f) = (f.reason ≡ Truncated) × IsFault p s f.offset f.reason
+Finishes (done list) result = result ≡ Ok list
+Finishes (refused f) result = result ≡ Err f
+
+-- ---- what is held
+
+-- a stream of whole ACEs and less than the longest ACE behind them, or of less than the word of their number
+abbrev pub HoldsLittle : List ℕ → Type 0
+HoldsLittle s = (length s < 4)
+    ⊎ ((n : ℕ) × (list : List Ace) × (tail : List ℕ) × (s ≡ (word n ++ flat_map piece list) ++ tail)
+    × (length tail < 16 + longest_who))
+
+-- a feed that asks for more holds little beyond whole ACEs
+abbrev pub IsSmall : Standing → Type 0
+IsSmall (more p s) = HoldsLittle s
+IsSmall (done list) = Unit {0}
+IsSmall (refused f) = Unit {0}
+
+-- ---- many pieces
+
+-- pieces are fed one after the other, with these answers, and then the feed stands for this
+abbrev pub FeedsEach : Standing → List (List ℕ) → List Fed → Standing → Type 0
+FeedsEach old [] [] new = new ≡ old
+FeedsEach old [] (answer ∷ answers) new = ⊥
+FeedsEach old (piece ∷ pieces) [] new = ⊥
+FeedsEach old (piece ∷ pieces) (answer ∷ answers) new =
+    (now : Standing) × Feeds old piece answer now × FeedsEach now pieces answers new
+
+-- an answer to what follows a piece of n bytes as one to both together
+abbrev pub further : ℕ → Fed → Fed
+further n More = More
+further n (Done taken) = Done (n + taken)
+further n (Refused f) = Refused f
+
+-- the answers to pieces as one to all of them together: the first that isn't More
+abbrev pub together : List (List ℕ) → List Fed → Fed
+together [] answers = More
+together (piece ∷ pieces) [] = More
+together (piece ∷ pieces) (More ∷ answers) = further (length piece) (together pieces answers)
+together (piece ∷ pieces) (Done taken ∷ answers) = Done taken
+together (piece ∷ pieces) (Refused f ∷ answers) = Refused f
+
+-- one of two answers is that a growth was refused, or they are the same, and so is what the feed stands for then
+abbrev pub SameOrFails : Fed → Standing → Fed → Standing → Type 0
+SameOrFails a x b y = (a ≡ Refused no_memory) ⊎ ((b ≡ Refused no_memory) ⊎ ((a ≡ b) × (x ≡ y)))
+
+-- ---- reading from a source
+
+-- what a decoder answers that took just this text: the list that it spells; at the end of the input that it is cut
+-- short; that a read failed, at the field where the text is cut short; that a growth was refused; or the fault of the
+-- text, of which the refused field is the last
+abbrev pub Decodes : Profile → List ℕ → Type 0 → Result (List Ace) Fault → Type 0
+Decodes p given at_end (Ok list) = Xdr p list given
+Decodes p given at_end (Err f) = ((f.reason ≡ Truncated) × IsFault p given f.offset Truncated × at_end)
+    ⊎ (((f.reason ≡ Read) × IsFault p given f.offset Truncated)
+    ⊎ ((f ≡ no_memory)
+    ⊎ (IsFirstFault p given f.offset (length given) f.reason × (f.reason ≢ Truncated))))
+
+-- the list, or a fault of the device or of memory
+abbrev pub IsOrFails : Result (List Ace) Fault → List Ace → Type 0
+IsOrFails (Ok found) list = found ≡ list
+IsOrFails (Err f) list = (f.reason ≡ Read) ⊎ (f ≡ no_memory)
+
+-- this fault, or one of the device or of memory
+abbrev pub FaultsOrFails : Result (List Ace) Fault → Fault → Type 0
+FaultsOrFails (Ok found) fault = ⊥
+FaultsOrFails (Err f) fault = (f ≡ fault) ⊎ ((f.reason ≡ Read) ⊎ (f ≡ no_memory))

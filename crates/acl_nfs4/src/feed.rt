@@ -1,0 +1,286 @@
+//! A value that comes in pieces.
+ghost use Rattle.std.specs.Prelude.{◌≡◌, ℕ, ◌+◌, ◌≤◌, ◌<◌, ◌^◌, ◌++◌, List, [], length, take, drop};
+ghost use Rattle.acl_perm.specs.Profile.{Profile as Allowed, full, profile_of};
+ghost use Rattle.acl_nfs4.specs.Stream.{FedExactly, Feeds, Finishes, IsCut, IsSmall, more};
+ghost use Rattle.acl_nfs4.specs.Progress.{InField, IsBytes, IsFeed, IsProgress, Judged, ReadStands, standing, stream_len};
+
+use crate::aces::word_in;
+use crate::acl::Acl;
+use crate::fault::{Fault, Reason};
+use crate::fed::Fed;
+use crate::limits::{LONGEST_WHO, MOST_ACES};
+use crate::scan::{Progress, scan};
+use crate::stream::Text;
+use acl_perm::Profile;
+use std::alloc::Global;
+use std::marker::Model;
+
+// A piece is taken by so many bytes at a time, so that no more than these are kept in vain.
+const CHUNK: usize = 4096;
+
+#[derive(Clone, Copy)]
+pub(crate) enum Stage {
+    Open(Fault),
+    Done,
+    Refused(Fault),
+}
+
+/// A value of which a part has come. It holds the whole ACEs that came so far and the fields so far of the one that is
+/// being read.
+#[derive(Drop)]
+pub struct Feed {
+    profile: Profile,
+    stage: Stage,
+    progress: Progress,
+    text: Text,
+}
+
+impl Model for Feed {
+    ghost use Rattle.acl_perm.specs.Profile.{profile_of};
+    ghost use Rattle.acl_nfs4.specs.Stream.{Standing};
+    ghost use Rattle.acl_nfs4.specs.Progress.{IsFeed, standing};
+
+    ghost Value = { Standing };
+
+    ghost view = { λ s. standing (profile_of s.profile) s.stage s.progress s.text };
+
+    ghost invariant = { λ s. IsFeed (profile_of s.profile) s.stage s.progress s.text };
+}
+
+// Where a text ends, from where it was judged to.
+fn judge(text: &Text, from: Progress, profile: Profile) -> (Progress, Option<Fault>)
+    requires { IsProgress (profile_of profile) text.now from }
+    ensures progress { IsProgress (profile_of profile) text.now result.0 }
+    ensures judged { Judged (profile_of profile) text.now result.0 result.1 }
+    ensures bytes { IsBytes text.now }
+    ensures fits { length text.now < 2 ^ 64 }
+{
+    match text.count() {
+        None => {
+            let fault = Fault {
+                offset: 0,
+                reason: Reason::Truncated,
+            };
+            (from, Some(fault))
+        }
+        Some(count) => {
+            if count > MOST_ACES {
+                let fault = Fault {
+                    offset: 0,
+                    reason: Reason::TooManyAces,
+                };
+                return (from, Some(fault));
+            }
+            scan(text.body(), count, from, profile)
+        }
+    }
+}
+
+// One more piece of a text that is cut short.
+fn advance(
+    text: &mut Text,
+    piece: &[u8],
+    from: Progress,
+    profile: Profile,
+) -> (Stage, Progress, Fed)
+    requires progress { IsProgress (profile_of profile) text.old from }
+    requires cut { IsCut (profile_of profile) text.old }
+    ensures feed { IsFeed (profile_of profile) result.0 result.1 text.new }
+    ensures feeds { Feeds (more (profile_of profile) text.old) piece.now result.2
+        (standing (profile_of profile) result.0 result.1 text.new) }
+{
+    let before = text.len();
+    match text.extend(piece) {
+        Err(_) => {
+            let fault = Fault {
+                offset: 0,
+                reason: Reason::Memory,
+            };
+            (Stage::Refused(fault), from, Fed::Refused(fault))
+        }
+        Ok(()) => {
+            let (progress, end) = judge(text, from, profile);
+            match end {
+                None => {
+                    text.cut(progress.used);
+                    let fed = Fed::Done {
+                        taken: 4 + progress.used - before,
+                    };
+                    (Stage::Done, progress, fed)
+                }
+                Some(fault) => match fault.reason {
+                    Reason::Truncated => (Stage::Open(fault), progress, Fed::More),
+                    _ => (Stage::Refused(fault), progress, Fed::Refused(fault)),
+                },
+            }
+        }
+    }
+}
+
+// How many bytes an ACE that is cut short lacks to the end of the field that is being read.
+fn missing(tail: &[u8]) -> usize
+    ensures some { 0 < result }
+    ensures small { result ≤ 1024 }
+    ensures inside { (k : ℕ) → k < result → InField tail.now (length tail.now + k) }
+{
+    let held = tail.len();
+    if held < 16 {
+        return 4 - held % 4;
+    }
+    let len = word_in(tail, 12) as usize;
+    let end = if held < 16 + len {
+        16 + len
+    } else {
+        16 + len + (4 - len % 4) % 4
+    };
+    if held < end {
+        (end - held).min(LONGEST_WHO)
+    } else {
+        1
+    }
+}
+
+impl Feed {
+    /// Nothing has come yet. It takes no memory.
+    pub fn new(alloc: Global) -> Feed
+        ensures { result ≡ more full [] }
+    {
+        Feed::with_profile(alloc, Profile::FULL)
+    }
+
+    /// Nothing has come yet of a list whose flags and masks the profile has. It takes no memory.
+    pub fn with_profile(alloc: Global, profile: Profile) -> Feed
+        ensures { result ≡ more (profile_of profile) [] }
+    {
+        let fault = Fault {
+            offset: 0,
+            reason: Reason::Truncated,
+        };
+        Feed {
+            profile,
+            stage: Stage::Open(fault),
+            progress: Progress {
+                seen: 0,
+                used: 0,
+                weight: 0,
+            },
+            text: Text::new(alloc),
+        }
+    }
+
+    // Takes a piece whole, and then drops what doesn't belong to the value.
+    fn take(&mut self, piece: &[u8]) -> Fed
+        ensures { Feeds self.old piece.now result self.new }
+    {
+        match self.stage {
+            Stage::Done => Fed::Done { taken: 0 },
+            Stage::Refused(fault) => Fed::Refused(fault),
+            Stage::Open(_) => {
+                let (stage, progress, fed) = advance(
+                    &mut self.text,
+                    piece,
+                    self.progress,
+                    self.profile,
+                );
+                self.stage = stage;
+                self.progress = progress;
+                fed
+            }
+        }
+    }
+
+    /// Takes the next piece of the stream. Beside the piece it takes the memory of what belongs to the list: no count
+    /// and no length makes it ask for memory before the bytes are there. After `Done` and `Refused` nothing changes.
+    pub fn feed(&mut self, piece: &[u8]) -> Fed
+        ensures feeds { Feeds self.old piece.now result self.new }
+        // The answer is told by what the stream is, however it is cut into pieces.
+        ensures exactly { (p : Allowed) (s : List ℕ) → self.old ≡ more p s
+            → FedExactly p (s ++ piece.now) (length s) result }
+        // Beyond whole ACEs little is held.
+        ensures held { IsSmall self.new }
+    {
+        match self.stage {
+            Stage::Open(_) => self.take_all(piece),
+            _ => self.take(piece),
+        }
+    }
+
+    fn take_all(&mut self, piece: &[u8]) -> Fed
+        ensures { Feeds self.old piece.now result self.new }
+    {
+        let mut taken = 0usize;
+        while piece.len() - taken > CHUNK {
+            let (_, rest) = piece.split_at(taken);
+            let (chunk, _) = rest.split_at(CHUNK);
+            match self.take(chunk) {
+                Fed::More => taken += CHUNK,
+                Fed::Done { taken: more } => {
+                    return Fed::Done {
+                        taken: taken + more,
+                    };
+                }
+                Fed::Refused(fault) => return Fed::Refused(fault),
+            }
+        }
+        let (_, rest) = piece.split_at(taken);
+        match self.take(rest) {
+            Fed::More => Fed::More,
+            Fed::Done { taken: more } => Fed::Done {
+                taken: taken + more,
+            },
+            Fed::Refused(fault) => Fed::Refused(fault),
+        }
+    }
+
+    // How many bytes the field that is being read lacks.
+    pub(crate) fn wanted(&self) -> usize
+        ensures some { 0 < result }
+        ensures small { result ≤ 1024 }
+        ensures cut { (p : Allowed) (s x : List ℕ) → self.now ≡ more p s → IsBytes x → length x < result
+            → IsCut p (s ++ x) }
+        ensures long { stream_len self.now < 2 ^ 64 }
+    {
+        match self.stage {
+            Stage::Open(_) => {
+                let len = self.text.len();
+                if len < 4 {
+                    return 4 - len;
+                }
+                let (_, tail) = self.text.body().split_at(self.progress.used);
+                missing(tail)
+            }
+            _ => 1,
+        }
+    }
+
+    // The fault of a read that failed: it stands where the text is cut short.
+    pub(crate) fn read_fault(&self) -> Fault
+        ensures { ReadStands self.now result }
+    {
+        match self.stage {
+            Stage::Open(fault) => Fault {
+                offset: fault.offset,
+                reason: Reason::Read,
+            },
+            _ => Fault {
+                offset: 0,
+                reason: Reason::Read,
+            },
+        }
+    }
+
+    /// The list, where the stream ends here: else that it is cut short, or the fault that was told. It takes no memory.
+    pub fn finish(self) -> Result<Acl, Fault>
+        ensures { Finishes self result }
+    {
+        match self.stage {
+            Stage::Open(fault) => Err(fault),
+            Stage::Refused(fault) => Err(fault),
+            Stage::Done => Ok(Acl {
+                count: self.progress.seen,
+                weight: self.progress.weight,
+                body: self.text.into_body(),
+            }),
+        }
+    }
+}

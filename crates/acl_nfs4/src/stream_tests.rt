@@ -1,0 +1,190 @@
+use super::*;
+use std::alloc::Global;
+use std::test::Fail;
+
+// One ACE: ALLOW, no flag, READ_DATA, EVERYONE@.
+const ONE: [u8; 32] = [
+    0, 0, 0, 1, 0, 0, 0, 0, 0, 0, 0, 0, 0, 0, 0, 1, 0, 0, 0, 9, 0x45, 0x56, 0x45, 0x52, 0x59, 0x4f,
+    0x4e, 0x45, 0x40, 0, 0, 0,
+];
+
+// Three ACEs: ALLOW READ_DATA of OWNER@, DENY WRITE_DATA of bob, ALLOW WRITE_DATA of OWNER@.
+const THREE: [u8; 72] = [
+    0, 0, 0, 3, 0, 0, 0, 0, 0, 0, 0, 0, 0, 0, 0, 1, 0, 0, 0, 6, 0x4f, 0x57, 0x4e, 0x45, 0x52, 0x40,
+    0, 0, 0, 0, 0, 1, 0, 0, 0, 0, 0, 0, 0, 2, 0, 0, 0, 3, 0x62, 0x6f, 0x62, 0, 0, 0, 0, 0, 0, 0, 0,
+    0, 0, 0, 0, 2, 0, 0, 0, 6, 0x4f, 0x57, 0x4e, 0x45, 0x52, 0x40, 0, 0,
+];
+
+fn fault(offset: u64, reason: Reason) -> Fault {
+    Fault { offset, reason }
+}
+
+fn parsed(alloc: Global, bytes: &[u8]) -> Result<Acl, Fault> {
+    let (view, _) = AclView::parse(bytes)?;
+    match Acl::from_view(alloc, &view) {
+        Ok(list) => Ok(list),
+        Err(_) => Err(fault(0, Reason::Memory)),
+    }
+}
+
+// From reads of at most so many bytes each, of which so many don't fail.
+fn decoded(alloc: Global, bytes: &[u8], calls: u64, step: usize) -> Result<Acl, Fault> {
+    decode(alloc, &mut Counted::new(Fused::new(bytes, calls, step)))
+}
+
+// In two pieces, of which the first is so long.
+fn fed(alloc: Global, bytes: &[u8], first: usize) -> Result<Acl, Fault> {
+    let mut feed = Feed::new(alloc);
+    let (front, back) = bytes.split_at(first.min(bytes.len()));
+    let _ = feed.feed(front);
+    let _ = feed.feed(back);
+    feed.finish()
+}
+
+fn same(rt: &HostRuntime, bytes: &[u8], first: usize) -> bool {
+    let fault = parsed(rt.alloc(), bytes).err();
+    decoded(rt.alloc(), bytes, u64::MAX, 7).err() == fault
+        && fed(rt.alloc(), bytes, first).err() == fault
+}
+
+// Each beginning of a list, and a list with each byte damaged in each way.
+#[test]
+fn ample_reading_decoding_and_feeding_agree(rt: HostRuntime) {
+    for len in 0..72usize {
+        let (front, _) = THREE.split_at(len.min(72));
+        assert!(rt; same(&rt, front, len / 2), "{len} bytes");
+        let fault = fed(rt.alloc(), front, 5).err();
+        assert!(rt; fault.is_some_and(|fault| fault.reason == Reason::Truncated));
+        let (front, _) = ONE.split_at(len.min(31));
+        assert!(rt; same(&rt, front, 30), "{len} bytes");
+    }
+    for place in 0..72usize {
+        for byte in 0..=255u8 {
+            let mut damaged = THREE;
+            if let Some(at) = damaged.get_mut(place) {
+                *at = byte;
+            }
+            assert!(rt; same(&rt, &damaged, place), "{byte} at {place}");
+        }
+    }
+}
+
+// However a list is cut, the bytes that belong to it are told, and later pieces change nothing.
+#[test]
+fn ample_lists_are_fed_in_any_two_pieces(rt: HostRuntime) -> Result<(), Fail> {
+    let list = parsed(rt.alloc(), &THREE)?;
+    for first in 0..72usize {
+        let mut feed = Feed::new(rt.alloc());
+        let (front, back) = THREE.split_at(first.min(72));
+        assert_eq!(rt; feed.feed(front), Fed::More);
+        assert_eq!(rt;
+            feed.feed(back),
+            Fed::Done {
+                taken: 72usize.saturating_sub(first)
+            }
+        );
+        assert_eq!(rt; feed.feed(back), Fed::Done { taken: 0 });
+        assert!(rt; feed.finish()? == list);
+    }
+    Ok(())
+}
+
+#[test]
+fn ample_pieces_are_answered(rt: HostRuntime) {
+    let mut feed = Feed::new(rt.alloc());
+    let (front, _) = ONE.split_at(30);
+    assert_eq!(rt; feed.feed(&[]), Fed::More);
+    assert_eq!(rt; feed.feed(front), Fed::More);
+    assert_eq!(rt; feed.feed(&[0, 0, 0xff]), Fed::Done { taken: 2 });
+    assert_eq!(rt; feed.feed(&[1, 2]), Fed::Done { taken: 0 });
+    let mut feed = Feed::new(rt.alloc());
+    let (front, _) = ONE.split_at(29);
+    assert_eq!(rt; feed.feed(front), Fed::More);
+    assert_eq!(rt; feed.feed(&[1]), Fed::More);
+    assert_eq!(rt;
+        feed.feed(&[0, 0]),
+        Fed::Refused(fault(29, Reason::Padding))
+    );
+    assert_eq!(rt;
+        feed.feed(&[0, 0]),
+        Fed::Refused(fault(29, Reason::Padding))
+    );
+    assert_eq!(rt; feed.finish().err(), Some(fault(29, Reason::Padding)));
+    let mut feed = Feed::new(rt.alloc());
+    assert_eq!(rt; feed.feed(&[0, 0, 0, 0]), Fed::Done { taken: 4 });
+}
+
+// Two lists in one source: each is taken, and no byte of what follows it, whatever a read gives at most.
+#[test]
+fn ample_sources_are_read_no_further_than_the_list(rt: HostRuntime) -> Result<(), Fail> {
+    let mut both = Vec::new(rt.alloc());
+    both.extend_from_slice(&ONE)?;
+    both.extend_from_slice(&THREE)?;
+    for step in [1, 3, 4096usize] {
+        let mut source = Counted::new(Fused::new(both.as_slice(), u64::MAX, step));
+        assert!(rt; decode(rt.alloc(), &mut source)? == parsed(rt.alloc(), &ONE)?);
+        assert!(rt; decode(rt.alloc(), &mut source)? == parsed(rt.alloc(), &THREE)?);
+        assert_eq!(rt;
+            decode(rt.alloc(), &mut source).err(),
+            Some(fault(0, Reason::Truncated))
+        );
+    }
+    Ok(())
+}
+
+// A read that fails is told at the field that was being read, as the end of the input there would be.
+#[test]
+fn ample_failed_reads_are_told_where_they_came(rt: HostRuntime) {
+    for calls in 0..72usize {
+        let (front, _) = THREE.split_at(calls.min(72));
+        let cut = parsed(rt.alloc(), front).err();
+        let told = decoded(rt.alloc(), &THREE, calls as u64, 1).err();
+        assert_eq!(rt; told.map(|fault| fault.reason), Some(Reason::Read));
+        assert_eq!(rt;
+            told.map(|fault| fault.offset),
+            cut.map(|fault| fault.offset)
+        );
+    }
+}
+
+// A sink that takes so many bytes and then fails holds just these.
+#[test]
+fn ample_lists_are_written_up_to_the_failure(rt: HostRuntime) -> Result<(), Fail> {
+    let list = parsed(rt.alloc(), &THREE)?;
+    for calls in 0..=72u64 {
+        let mut room = [0xffu8; 72];
+        let mut sink = Counted::new(Fused::new(room.as_mut_slice(), calls, 1));
+        let written = list.encode(&mut sink);
+        assert_eq!(rt;
+            written.err().map(|fault| fault.written),
+            (calls < 72).then_some(calls)
+        );
+        let (front, back) = room.split_at((calls as usize).min(72));
+        assert!(rt; THREE.starts_with(front) && back.iter().all(|byte| *byte == 0xff));
+    }
+    Ok(())
+}
+
+// No count makes a call ask for memory: with the first request refused, this is still answered by what the bytes are.
+#[test]
+fn a_count_alone_takes_no_memory(rt: HostRuntime) {
+    let told = decoded(rt.alloc(), &[0, 1, 0, 0], u64::MAX, 4).err();
+    assert_eq!(rt; told, Some(fault(4, Reason::Truncated)));
+    let told = decoded(rt.alloc(), &[0, 1, 0, 1], u64::MAX, 1).err();
+    assert_eq!(rt; told, Some(fault(0, Reason::TooManyAces)));
+}
+
+// Where memory is refused, a feed says so for good.
+#[test]
+fn a_feed_keeps_its_want_of_memory(rt: HostRuntime) {
+    let mut feed = Feed::new(rt.alloc());
+    match feed.feed(&THREE) {
+        Fed::Done { taken } => assert_eq!(rt; taken, 72),
+        Fed::Refused(told) => {
+            assert_eq!(rt; told, fault(0, Reason::Memory));
+            assert_eq!(rt; feed.feed(&THREE), Fed::Refused(told));
+            assert_eq!(rt; feed.finish().err(), Some(told));
+        }
+        Fed::More => assert!(rt; false),
+    }
+}
