@@ -1,2 +1,6 @@
 pub mod Members
-pub mod Step
+pub mod Columns
+pub mod Scans
+pub mod Same
+pub mod Children
+pub mod Classes

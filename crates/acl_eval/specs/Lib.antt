@@ -1,2 +1,9 @@
 pub mod Situation
+pub mod Column
 pub mod Grant
+pub mod Scan
+pub mod Laws
+pub mod Names
+pub mod Inheritance
+pub mod ListMode
+pub mod Settled

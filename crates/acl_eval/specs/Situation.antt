@@ -1,18 +1,23 @@
--- What an object and a requester show.
+-- What an object and a requester show, and the situation of both (this library's own types, in the words of RFC 8881,
+-- section 6.2.1.5).
 use Rattle.std.specs.Prelude.{ℕ, List, map}
 use Rattle.acl_perm.specs.Situation.{Situation}
 use Rattle.acl_eval.specs.declared.situation.Object.{Object}
 use Rattle.acl_eval.specs.declared.situation.Requester.{Requester}
 
+-- the name of the object's owner
 abbrev pub owner_of : Object → List ℕ
 owner_of object = object.owner.now
 
+-- the name of the object's owning group
 abbrev pub owning_group_of : Object → List ℕ
 owning_group_of object = object.group.now
 
+-- the name of the requester
 abbrev pub user_of : Requester → List ℕ
 user_of requester = requester.user.now
 
+-- the names of the requester's groups
 abbrev pub groups_of : Requester → List (List ℕ)
 groups_of requester = map (λ g. g.now) requester.groups.now
 

@@ -1,10 +1,22 @@
-//! Who may do what under a list of ACEs.
+//! Who may do what under a list of ACEs, what a new object inherits of it, and its mode.
 #![tactic(auto)]
 
+#[cfg(test)]
+mod child_tests;
+#[cfg(test)]
+mod example;
 mod grant;
+mod inherit;
+pub mod laws;
+mod mode;
 mod situation;
+#[cfg(test)]
+mod speed;
+mod standing;
 #[cfg(test)]
 mod tests;
 
 pub use grant::grants;
+pub use inherit::{ChildKind, child};
+pub use mode::mode_of;
 pub use situation::{Object, Requester};

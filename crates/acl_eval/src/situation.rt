@@ -2,11 +2,7 @@
 ghost use Rattle.std.specs.Prelude.{◌≡◌, ◌<◌, ◌↔◌, IfSome, IsSome, All, length, map};
 ghost use Rattle.std.specs.List.{list_any};
 ghost use Rattle.std.specs.Str.{bytes_eq};
-ghost use Rattle.acl_perm.specs.Principal.{subject};
-ghost use Rattle.acl_perm.specs.Situation.{matches};
-ghost use Rattle.acl_eval.specs.Situation.{groups_of, owner_of, owning_group_of, situation, user_of};
-
-use acl_perm::Principal;
+ghost use Rattle.acl_eval.specs.Situation.{groups_of, owner_of, owning_group_of, user_of};
 
 /// What is asked for: an object's owner and its owning group.
 #[derive(Clone, Copy, Debug)]
@@ -27,6 +23,18 @@ impl<'a> Object<'a> {
         } else {
             Some(Object { owner, group })
         }
+    }
+
+    pub(crate) fn owner(&self) -> &'a [u8]
+        ensures { result.now ≡ owner_of self.now }
+    {
+        self.owner
+    }
+
+    pub(crate) fn group(&self) -> &'a [u8]
+        ensures { result.now ≡ owning_group_of self.now }
+    {
+        self.group
     }
 }
 
@@ -54,9 +62,22 @@ impl<'a> Requester<'a> {
         }
     }
 
-    // Whether the user is in the group. It goes over the groups.
+    pub(crate) fn user(&self) -> &'a [u8]
+        ensures { result.now ≡ user_of self.now }
+    {
+        self.user
+    }
+
+    /// Whether this is the user.
+    pub(crate) fn is_user(&self, name: &[u8]) -> bool
+        ensures { result ≡ bytes_eq (user_of self.now) name.now }
+    {
+        self.user == name
+    }
+
+    /// Whether the user is in the group. It goes over the groups.
     #[tactic(auto, using(crate::proofs::Members::any_now))]
-    fn is_in(&self, name: &[u8]) -> bool
+    pub(crate) fn is_in(&self, name: &[u8]) -> bool
         ensures { result ≡ list_any (bytes_eq name.now) (groups_of self.now) }
     {
         is_member(self.groups, name)
@@ -67,21 +88,4 @@ fn is_member(groups: &[&[u8]], name: &[u8]) -> bool
     ensures { result ≡ list_any (λ g. bytes_eq name.now g.now) groups.now }
 {
     groups.iter().any(|group| name == *group)
-}
-
-/// Whether a principal speaks of the requester.
-pub(crate) fn is_match(
-    principal: Principal<'_>,
-    object: &Object<'_>,
-    requester: &Requester<'_>,
-) -> bool
-    ensures { result ≡ matches (situation object.now requester.now) (subject principal.entry) }
-{
-    match principal {
-        Principal::Owner => requester.user == object.owner,
-        Principal::User(name) => requester.user == name,
-        Principal::Group => requester.is_in(object.group),
-        Principal::GroupNamed(name) => requester.is_in(name),
-        Principal::Everyone => true,
-    }
 }

@@ -3,6 +3,8 @@ use acl_nfs4::AclView;
 use acl_perm::Mask;
 use std::test::Fail;
 
+const NONE: &[u8; 4] = b"\0\0\0\0";
+
 // ALLOW READ_DATA OWNER@, DENY WRITE_DATA bob, ALLOW WRITE_DATA OWNER@.
 const THREE: &[u8; 72] = b"\0\0\0\x03\
     \0\0\0\0\0\0\0\0\0\0\0\x01\0\0\0\x06OWNER@\0\0\
@@ -15,37 +17,96 @@ const INHERIT_ONLY: &[u8; 28] = b"\0\0\0\x01\0\0\0\0\0\0\0\x09\0\0\0\x01\0\0\0\x
 // ALLOW READ_DATA GROUP@, with IDENTIFIER_GROUP.
 const OWNING_GROUP: &[u8; 28] = b"\0\0\0\x01\0\0\0\0\0\0\0\x40\0\0\0\x01\0\0\0\x06GROUP@\0\0";
 
+// DENY READ_DATA the group guest, with FILE_INHERIT and INHERIT_ONLY, DENY READ_DATA the group users, and ALLOW
+// READ_DATA EVERYONE@.
+const GROUP_NAMED: &[u8; 80] = b"\0\0\0\x03\
+    \0\0\0\x01\0\0\0\x49\0\0\0\x01\0\0\0\x05guest\0\0\0\
+    \0\0\0\x01\0\0\0\x40\0\0\0\x01\0\0\0\x05users\0\0\0\
+    \0\0\0\0\0\0\0\0\0\0\0\x01\0\0\0\x09EVERYONE@\0\0\0";
+
+// DENY READ_DATA x-long-name@a, ALLOW READ_DATA y-long-name@a.
+const LONG_NAMES: &[u8; 68] = b"\0\0\0\x02\
+    \0\0\0\x01\0\0\0\0\0\0\0\x01\0\0\0\x0dx-long-name@a\0\0\0\
+    \0\0\0\0\0\0\0\0\0\0\0\x01\0\0\0\x0dy-long-name@a\0\0\0";
+
+fn is_granted(
+    bytes: &[u8],
+    owner: &str,
+    requester: &Requester<'_>,
+    bits: u32,
+) -> Result<bool, Fail> {
+    let list = AclView::parse_whole(bytes)?;
+    let object = Object::new(owner.as_bytes(), b"staff").ok_or("names")?;
+    let mask = Mask::new(bits).ok_or("rights")?;
+    Ok(grants(list.aces(), &object, requester, mask))
+}
+
 #[test]
 fn the_first_match_decides(rt: HostRuntime) -> Result<(), Fail> {
-    let rows: [(&[u8], &str, &str, &[&[u8]], u32, bool); 10] = [
-        (THREE, "bob", "bob", &[], 2, false),
-        (THREE, "alice", "alice", &[], 2, true),
-        (THREE, "bob", "bob", &[], 1, true),
-        (THREE, "alice", "bob", &[b"staff"], 1, false),
-        (THREE, "alice", "bob", &[], 0, true),
-        (b"\0\0\0\0", "alice", "alice", &[], 1, false),
-        (INHERIT_ONLY, "bob", "alice", &[], 1, false),
+    let rows: [(&[u8], &str, &str, u32, bool); 11] = [
+        (THREE, "bob", "bob", 2, false),
+        (THREE, "alice", "alice", 2, true),
+        // What was allowed is not denied by a later ACE.
+        (THREE, "bob", "bob", 1, true),
+        // Both bits of a request, by two ACEs, and one of them denied.
+        (THREE, "alice", "alice", 3, true),
+        (THREE, "bob", "bob", 3, false),
+        // A bit that no ACE decides.
+        (THREE, "alice", "alice", 7, false),
+        (THREE, "alice", "bob", 1, false),
+        // The empty request.
+        (THREE, "alice", "bob", 0, true),
+        (NONE, "alice", "alice", 0, true),
+        (NONE, "alice", "alice", 1, false),
+        (INHERIT_ONLY, "bob", "alice", 1, false),
+    ];
+    for (bytes, owner, user, bits, granted) in rows {
+        let requester = Requester::new(user.as_bytes(), &[b"staff"]).ok_or("names")?;
+        let answer = is_granted(bytes, owner, &requester, bits)?;
+        assert_eq!(rt; answer, granted, "{user} of {owner}, {bits}");
+    }
+    Ok(())
+}
+
+#[test]
+fn names_say_who_is_meant(rt: HostRuntime) -> Result<(), Fail> {
+    let rows: [(&[u8], &str, &str, &[&[u8]], bool); 16] = [
+        // A user and an owner that are named like OWNER@.
+        (THREE, "bob", "OWNER@", &[], false),
+        (THREE, "OWNER@", "OWNER@", &[], true),
+        // The owning group, staff, is one that the requester names, also twice, and never its own by itself.
+        (OWNING_GROUP, "bob", "alice", &[b"staff"], true),
         (
             OWNING_GROUP,
             "bob",
             "alice",
             &[b"users", b"staff", b"staff"],
-            1,
             true,
         ),
-        (OWNING_GROUP, "bob", "alice", &[b"GROUP@"], 1, false),
-        (OWNING_GROUP, "bob", "alice", &[], 1, false),
+        (OWNING_GROUP, "bob", "alice", &[b"GROUP@"], false),
+        (OWNING_GROUP, "bob", "alice", &[], false),
+        (OWNING_GROUP, "bob", "GROUP@", &[], false),
+        // Users and groups are apart, and so are names that begin or end alike.
+        (GROUP_NAMED, "bob", "alice", &[b"staff", b"users"], false),
+        (GROUP_NAMED, "bob", "alice", &[b"users", b"users"], false),
+        (
+            GROUP_NAMED,
+            "bob",
+            "alice",
+            &[b"staff", b"superusers", b"use"],
+            true,
+        ),
+        (GROUP_NAMED, "bob", "users", &[], true),
+        (GROUP_NAMED, "bob", "alice", &[b"guest"], true),
+        (LONG_NAMES, "bob", "x-long-name@a", &[], false),
+        (LONG_NAMES, "bob", "y-long-name@a", &[], true),
+        (LONG_NAMES, "bob", "z-long-name@a", &[], false),
+        (LONG_NAMES, "bob", "long-name@a", &[], false),
     ];
-    for (bytes, owner, user, groups, bits, granted) in rows {
-        let list = AclView::parse_whole(bytes)?;
-        let object = Object::new(owner.as_bytes(), b"staff").ok_or("names")?;
+    for (bytes, owner, user, groups, granted) in rows {
         let requester = Requester::new(user.as_bytes(), groups).ok_or("names")?;
-        let mask = Mask::new(bits).ok_or("rights")?;
-        assert_eq!(rt;
-            grants(list.aces(), &object, &requester, mask),
-            granted,
-            "{user} of {owner}"
-        );
+        let answer = is_granted(bytes, owner, &requester, 1)?;
+        assert_eq!(rt; answer, granted, "{user} of {owner}");
     }
     Ok(())
 }
@@ -54,7 +115,9 @@ fn the_first_match_decides(rt: HostRuntime) -> Result<(), Fail> {
 fn an_empty_name_is_none(rt: HostRuntime) {
     assert!(rt; Object::new(b"", b"staff").is_none());
     assert!(rt; Object::new(b"alice", b"").is_none());
+    assert!(rt; Object::new(b"alice", b"staff").is_some());
     assert!(rt; Requester::new(b"", &[]).is_none());
     assert!(rt; Requester::new(b"alice", &[b"staff", b""]).is_none());
+    assert!(rt; Requester::new(b"alice", &[]).is_some());
     assert!(rt; Requester::new(b"alice", &[b"staff", b"staff"]).is_some());
 }

@@ -1,0 +1,231 @@
+-- The list of a child, and what of its parent's it keeps.
+use Rattle.std.proofs.Common.{◌≡◌, ℕ, ◌+◌, ◌*◌, ◌≤◌, Bool, true, false, eqb, List, [], ◌∷◌, ◌++◌, length, refl, sym, ap, subst, ◌∙◌, arith}
+use Rattle.std.specs.Prelude.{bit_and, bit_or, not, count_ones, Option, None, Some, IsTrue, ◌&&◌, ◌||◌}
+use Rattle.std.specs.List.{AllByRecursion}
+use Rattle.std.specs.Int.{bit_at}
+use Rattle.std.proofs.lemmas.Bool.{eqb-true}
+use Rattle.std.proofs.lemmas.Nat.{and_comm}
+use Rattle.std.proofs.lemmas.Nat.Bits.{and_pow}
+use Rattle.std.proofs.lemmas.List.{length-append}
+use Rattle.acl_perm.proofs.Sets.{bit_test, has_bit-and, has_bit-or, same_set}
+use Rattle.acl_perm.specs.Bits.{has_bit, inherit_only}
+use Rattle.acl_perm.specs.Profile.{Profile}
+use Rattle.acl_nfs4.specs.Ace.{Ace}
+use Rattle.acl_nfs4.specs.Spelling.{Fits, IsAccepted, IsAce, weight}
+use Rattle.acl_nfs4.specs.Within.{IsWithin}
+use Rattle.acl_nfs4.proofs.Lists.{weight-cons}
+use Rattle.acl_eval.specs.declared.inherit.ChildKind.{ChildKind}
+use Rattle.acl_eval.specs.declared.inherit.ChildKind.TheVariants.{File, Directory}
+use Rattle.acl_eval.specs.Inheritance.{child_flags, children, ends, goes_on, waits, with_flags, file_inherit, directory_inherit, no_propagate_inherit}
+
+-- the test of bit 0
+pub tests_file : (n : ℕ) → not (eqb (bit_and n 1) 0) ≡ has_bit n 0
+tests_file n = bit_test n 0 1 refl (omega arith)
+
+-- the test of bit 1
+pub tests_directory : (n : ℕ) → not (eqb (bit_and n 2) 0) ≡ has_bit n 1
+tests_directory n = bit_test n 1 2 refl (omega arith)
+
+-- the test of bit 2
+pub tests_no_propagate : (n : ℕ) → not (eqb (bit_and n 4) 0) ≡ has_bit n 2
+tests_no_propagate n = bit_test n 2 4 refl (omega arith)
+
+pub ruleset flag_tests = (tests_file, tests_directory, tests_no_propagate)
+
+-- ---- flags within a set
+
+both_kept : (f c s : Bool) → (f && s) ≡ f → ((f && c) && s) ≡ (f && c)
+both_kept false c s e = refl
+both_kept true false s e = refl
+both_kept true true s e = e
+
+either_kept : (g e s : Bool) → (g && s) ≡ g → (e && s) ≡ e → ((g || e) && s) ≡ (g || e)
+either_kept true e s p q = p
+either_kept false e s p q = q
+
+bit_within : (set n k : ℕ) → IsWithin set n → (has_bit n k && has_bit set k) ≡ has_bit n k
+bit_within set n k is = sym (has_bit-and n set k) ∙ ap (λ (m : ℕ). has_bit m k) is
+
+-- a part of what lies within a set does
+pub part_within : (set n c : ℕ) → IsWithin set n → IsWithin set (bit_and n c)
+part_within set n c is = same_set _ _ (λ k.
+    has_bit-and (bit_and n c) set k ∙ ap (λ (b : Bool). b && has_bit set k) (has_bit-and n c k)
+    ∙ both_kept (has_bit n k) (has_bit c k) (has_bit set k) (bit_within set n k is) ∙ sym (has_bit-and n c k))
+
+-- and so does what two parts have
+pub union_within : (set m n : ℕ) → IsWithin set m → IsWithin set n → IsWithin set (bit_or m n)
+union_within set m n p q = same_set _ _ (λ k.
+    has_bit-and (bit_or m n) set k ∙ ap (λ (b : Bool). b && has_bit set k) (has_bit-or m n k)
+    ∙ either_kept (has_bit m k) (has_bit n k) (has_bit set k) (bit_within set m k p) (bit_within set n k q)
+    ∙ sym (has_bit-or m n k))
+
+-- a set with INHERIT_ONLY has that flag
+pub inherit_only_within : (set : ℕ) → has_bit set inherit_only ≡ true → IsWithin set 8
+inherit_only_within set h = and_comm 8 set ∙ and_pow set 3
+    ∙ ap (λ (d : ℕ). d * 8) (eqb-true (bit_at set 3) 1 h)
+
+some_is : {A : Type 0} (x y : A) → Some x ≡ Some y → x ≡ y
+some_is x y e = cc
+
+-- the flags of an ACE of the child lie within a set with INHERIT_ONLY within which those of the parent's lie
+pub child_within : (set : ℕ) (kind : ChildKind) (flags f : ℕ) → has_bit set inherit_only ≡ true → IsWithin set flags
+    → child_flags kind flags ≡ Some f → IsWithin set f
+child_within set kind flags f h is e =
+    by kind (has_bit flags file_inherit) (has_bit flags directory_inherit) (has_bit flags no_propagate_inherit)
+    refl refl refl e
+  where
+    ends_in : Some (ends flags) ≡ Some f → IsWithin set f
+    ends_in q = subst (IsWithin set) (some_is _ _ q) (part_within set flags 0x70 is)
+
+    goes_on_in : Some (goes_on flags) ≡ Some f → IsWithin set f
+    goes_on_in q = subst (IsWithin set) (some_is _ _ q) (part_within set flags 0x77 is)
+
+    waits_in : Some (waits flags) ≡ Some f → IsWithin set f
+    waits_in q = subst (IsWithin set) (some_is _ _ q)
+        (union_within set (goes_on flags) 8 (part_within set flags 0x77 is) (inherit_only_within set h))
+
+    by : (kind : ChildKind) (p d n : Bool) → has_bit flags file_inherit ≡ p → has_bit flags directory_inherit ≡ d
+        → has_bit flags no_propagate_inherit ≡ n → child_flags kind flags ≡ Some f → IsWithin set f
+    by File true d n pe de ne e = ends_in (sym (rw pe refl) ∙ e)
+    by File false d n pe de ne e = let none : child_flags File flags ≡ None = rw pe refl in absurd cc
+    by Directory p true true pe de ne e = ends_in (sym (rw (de, ne) refl) ∙ e)
+    by Directory p true false pe de ne e = goes_on_in (sym (rw (de, ne) refl) ∙ e)
+    by Directory p false true pe de ne e =
+        let none : child_flags Directory flags ≡ None = rw (de, ne) refl in absurd cc
+    by Directory true false false pe de ne e = waits_in (sym (rw (de, ne, pe) refl) ∙ e)
+    by Directory false false false pe de ne e =
+        let none : child_flags Directory flags ≡ None = rw (de, ne, pe) refl in absurd cc
+
+-- ---- a whole list
+
+-- an ACE that the child has, and one that it hasn't
+pub child_has : (kind : ChildKind) (a : Ace) (list : List Ace) (f : ℕ) → child_flags kind a.flags ≡ Some f
+    → children kind (a ∷ list) ≡ with_flags a f ∷ children kind list
+child_has kind a list f e = rw e refl
+
+-- an ACE that the child lacks
+pub child_lacks : (kind : ChildKind) (a : Ace) (list : List Ace) → child_flags kind a.flags ≡ None
+    → children kind (a ∷ list) ≡ children kind list
+child_lacks kind a list e = rw e refl
+
+each_child : (P : Ace → Type 0) (kind : ChildKind) (list : List Ace)
+    → ((a : Ace) (f : ℕ) → child_flags kind a.flags ≡ Some f → P a → P (with_flags a f))
+    → AllByRecursion P list → AllByRecursion P (children kind list)
+each_child P kind [] step each = tt
+each_child P kind (a ∷ list) step each = by (each_child P kind list step each.1) (child_flags kind a.flags) refl
+  where
+    by : AllByRecursion P (children kind list) → (o : Option ℕ) → child_flags kind a.flags ≡ o
+        → AllByRecursion P (children kind (a ∷ list))
+    by rest None e = subst (AllByRecursion P) (sym (child_lacks kind a list e)) rest
+    by rest (Some f) e = subst (AllByRecursion P) (sym (child_has kind a list f e)) (step a f e each.0, rest)
+
+-- the child has no more ACEs
+pub fewer : (kind : ChildKind) (list : List Ace) → length (children kind list) ≤ length list
+fewer kind [] = omega arith
+fewer kind (a ∷ list) = by (fewer kind list) (child_flags kind a.flags) refl
+  where
+    by : length (children kind list) ≤ length list → (o : Option ℕ) → child_flags kind a.flags ≡ o
+        → length (children kind (a ∷ list)) ≤ length (a ∷ list)
+    by rest None e = let l = ap length (child_lacks kind a list e) in omega (arith, rest, l)
+    by rest (Some f) e = let l = ap length (child_has kind a list f e) in omega (arith, rest, l)
+
+-- and no more mask bits
+pub lighter : (kind : ChildKind) (list : List Ace) → weight (children kind list) ≤ weight list
+lighter kind [] = omega arith
+lighter kind (a ∷ list) = by (lighter kind list) (child_flags kind a.flags) refl
+  where
+    by : weight (children kind list) ≤ weight list → (o : Option ℕ) → child_flags kind a.flags ≡ o
+        → weight (children kind (a ∷ list)) ≤ weight (a ∷ list)
+    by rest None e = let l = ap weight (child_lacks kind a list e) in
+        omega (arith, rest, l, weight-cons a list)
+    by rest (Some f) e =
+        let l : weight (children kind (a ∷ list)) ≡ count_ones a.mask + weight (children kind list) =
+        ap weight (child_has kind a list f e) ∙ weight-cons (with_flags a f) (children kind list) in
+        omega (arith, rest, l, weight-cons a list)
+
+-- the child of a list that fits a profile with INHERIT_ONLY fits it
+pub child_fits : (p : Profile) (kind : ChildKind) (list : List Ace) → IsTrue (has_bit p.flags inherit_only)
+    → Fits p list → Fits p (children kind list)
+child_fits p kind list h each =
+    each_child (λ a. IsWithin p.flags a.flags × IsWithin p.masks a.mask) kind list
+    (λ a f e is. (child_within p.flags kind a.flags f h is.0 e, is.1)) each
+
+-- the child of an accepted list is accepted
+pub child_accepted : (p : Profile) (kind : ChildKind) (list : List Ace) → IsTrue (has_bit p.flags inherit_only)
+    → IsAccepted p list → IsAccepted p (children kind list)
+child_accepted p kind list h ok = record {
+  count = omega (arith, fewer kind list, ok.count);
+  weight = omega (arith, lighter kind list, ok.weight);
+  each = each_child (IsAce p) kind list
+      (λ a f e is. record { flags = child_within p.flags kind a.flags f h is.flags e; mask = is.mask; who = is.who })
+      ok.each;
+}
+
+each_front : (P : Ace → Type 0) (front back : List Ace) → AllByRecursion P (front ++ back) → AllByRecursion P front
+each_front P [] back each = tt
+each_front P (a ∷ front) back each = (each.0, each_front P front back each.1)
+
+-- the front of an accepted list is accepted
+pub front_accepted : (p : Profile) (front back : List Ace) → IsAccepted p (front ++ back) → IsAccepted p front
+front_accepted p front back ok = record {
+  count = omega (arith, ok.count, length-append front back);
+  weight = omega (arith, ok.weight, weight_front front back);
+  each = each_front (IsAce p) front back ok.each;
+}
+  where
+    weight_front : (front back : List Ace) → weight front ≤ weight (front ++ back)
+    weight_front [] back = omega arith
+    weight_front (a ∷ front) back =
+        omega (arith, weight_front front back, weight-cons a front, weight-cons a (front ++ back))
+
+-- one more ACE moves from what is to come to what the child has
+pub moved : (done rest : List Ace) (a : Ace) → (done ++ a ∷ []) ++ rest ≡ done ++ a ∷ rest
+moved [] rest a = refl
+moved (b ∷ done) rest a = ap (λ (t : List Ace). b ∷ t) (moved done rest a)
+
+-- ---- the table, row by row
+
+-- a file has an ACE with FILE_INHERIT
+pub file_inherited : (flags : ℕ) → has_bit flags file_inherit ≡ true → child_flags File flags ≡ Some (ends flags)
+file_inherited flags f = rw f refl
+
+-- and no other
+pub file_absent : (flags : ℕ) → has_bit flags file_inherit ≡ false → child_flags File flags ≡ None
+file_absent flags f = rw f refl
+
+-- a directory has an ACE that ends in it
+pub directory_ended : (flags : ℕ) → has_bit flags no_propagate_inherit ≡ true → has_bit flags directory_inherit ≡ true
+    → child_flags Directory flags ≡ Some (ends flags)
+directory_ended flags n d = rw (d, n) refl
+
+-- not one that ends before it
+pub directory_ended_before : (flags : ℕ) → has_bit flags no_propagate_inherit ≡ true
+    → has_bit flags directory_inherit ≡ false → child_flags Directory flags ≡ None
+directory_ended_before flags n d = rw (d, n) refl
+
+-- one that is handed on
+pub directory_inherited : (flags : ℕ) → has_bit flags no_propagate_inherit ≡ false
+    → has_bit flags directory_inherit ≡ true → child_flags Directory flags ≡ Some (goes_on flags)
+directory_inherited flags n d = rw (d, n) refl
+
+-- one for files alone, which waits
+pub directory_for_files : (flags : ℕ) → has_bit flags no_propagate_inherit ≡ false
+    → has_bit flags directory_inherit ≡ false → has_bit flags file_inherit ≡ true
+    → child_flags Directory flags ≡ Some (waits flags)
+directory_for_files flags n d f = rw (d, n, f) refl
+
+-- and no other
+pub directory_absent : (flags : ℕ) → has_bit flags no_propagate_inherit ≡ false
+    → has_bit flags directory_inherit ≡ false → has_bit flags file_inherit ≡ false
+    → child_flags Directory flags ≡ None
+directory_absent flags n d f = rw (d, n, f) refl
+
+pub ruleset table = (
+  file_inherited,
+  file_absent,
+  directory_ended,
+  directory_ended_before,
+  directory_inherited,
+  directory_for_files,
+  directory_absent,
+)

@@ -1,0 +1,79 @@
+-- Lists that grant the same.
+use Rattle.std.proofs.Common.{◌≡◌, ℕ, ◌^◌, Bool, true, false, List, refl, sym, ap, subst, ◌∙◌, arith, inl, inr}
+use Rattle.std.proofs.lemmas.Bool.{cases_eq, eqb-true}
+use Rattle.std.proofs.lemmas.Nat.Bits.{bit_at-pow_same, bit_at-pow_other}
+use Rattle.std.specs.Prelude.{◌↔◌, IsTrue}
+use Rattle.std.specs.Int.{bit_at}
+use Rattle.acl_perm.specs.Bits.{has_bit, IsSubset}
+use Rattle.acl_perm.specs.Situation.{Situation, IsSituation}
+use Rattle.acl_perm.specs.declared.kind.Kind.{Kind}
+use Rattle.acl_perm.specs.declared.kind.Kind.TheVariants.{Deny, Allow}
+use Rattle.acl_nfs4.specs.Ace.{Ace}
+use Rattle.acl_eval.specs.Column.{column, SameVerdicts}
+use Rattle.acl_eval.specs.Grant.{Grant, SameGrants, grants_bit, is_allow}
+use Rattle.acl_eval.specs.Laws.{IsEquivalence}
+
+-- granting the same is an equivalence
+pub equivalence : (rights : ℕ) → IsEquivalence (SameGrants rights)
+equivalence rights = record {
+  reflexive = λ list s valid request within. (λ g. g, λ g. g);
+  symmetric = λ list other same s valid request within. let both = same s valid request within in (both.1, both.0);
+  transitive = λ list other third same then s valid request within.
+      let both = same s valid request within in
+      let more = then s valid request within in
+      (λ g. more.0 (both.0 g), λ g. both.1 (more.1 g));
+}
+
+one_bit : (k : ℕ) → has_bit (2 ^ k) k ≡ true
+one_bit k = rw (bit_at-pow_same k) refl
+
+only_bit : (k i : ℕ) → has_bit (2 ^ k) i ≡ true → i ≡ k
+only_bit k i h = elim (cases_eq i k) [
+  | inl e ↦ e
+  | inr n ↦ absurd (let zero = bit_at-pow_other k i n in let one = eqb-true (bit_at (2 ^ k) i) 1 h in omega arith)
+]
+
+same_truth : (x y : Bool) → (x ≡ true → y ≡ true) → (y ≡ true → x ≡ true) → x ≡ y
+same_truth true y f g = sym (f refl)
+same_truth false true f g = g refl
+same_truth false false f g = refl
+
+same_kind : (x y : Kind) → is_allow x ≡ is_allow y → x ≡ y
+same_kind Deny Deny e = refl
+same_kind Allow Allow e = refl
+same_kind Deny Allow e = absurd cc
+same_kind Allow Deny e = absurd cc
+
+-- a request of one bit is granted exactly if the bit is
+grant_one : (list : List Ace) (s : Situation) (k : ℕ) → Grant list s (2 ^ k) ↔ (grants_bit list s k ≡ true)
+grant_one list s k = (
+  λ g. g k (one_bit k),
+  λ g i h. subst (λ (n : ℕ). grants_bit list s n ≡ true) (sym (only_bit k i h)) g,
+)
+
+-- lists grant the same exactly if they grant each bit alike
+pub by_bits : (rights : ℕ) (list other : List Ace) → SameGrants rights list other
+    ↔ ((s : Situation) → IsSituation s → (bit : ℕ) → IsTrue (has_bit rights bit)
+    → grants_bit list s bit ≡ grants_bit other s bit)
+by_bits rights list other = (
+  λ same s valid bit has.
+      let inside : IsSubset (2 ^ bit) rights =
+      λ i h. subst (λ (n : ℕ). has_bit rights n ≡ true) (sym (only_bit bit i h)) has in
+      let both = same s valid (2 ^ bit) inside in
+      let here = grant_one list s bit in
+      let there = grant_one other s bit in
+      same_truth _ _ (λ g. there.0 (both.0 (here.1 g))) (λ g. here.0 (both.1 (there.1 g))),
+  λ alike s valid request within. (
+    λ g bit h. sym (alike s valid bit (within bit h)) ∙ g bit h,
+    λ g bit h. alike s valid bit (within bit h) ∙ g bit h,
+  ),
+)
+
+-- lists grant the same exactly if their columns decide alike
+pub by_columns : (rights : ℕ) (list other : List Ace) → SameGrants rights list other
+    ↔ ((bit : ℕ) → IsTrue (has_bit rights bit) → SameVerdicts (column list bit) (column other bit))
+by_columns rights list other =
+    let bits = by_bits rights list other in (
+      λ same bit has s valid. same_kind _ _ (bits.0 same s valid bit has),
+      λ alike. bits.1 (λ s valid bit has. ap is_allow (alike bit has s valid)),
+    )

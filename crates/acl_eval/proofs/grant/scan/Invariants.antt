@@ -1,0 +1,13 @@
+use Rattle.std.specs.Prelude.{◌≡◌, ◌≢◌}
+use Rattle.acl_eval.specs.Situation.{situation}
+use Rattle.acl_eval.specs.Scan.{scan}
+use Rattle.acl_eval.proofs.grant.scan.Given as goal
+
+-- what is left is decided by the rest of the list as the request is by all of it
+abbrev pub invariant-loop-ace : goal.invariant-loop-ace
+invariant-loop-ace l =
+    (goal.iterator-loop-ace).can_next l.ace-iterator ×
+    (goal.iterator-loop-ace).is_finite l.ace-iterator ×
+    (l.left ≢ 0) ×
+    (scan l.ace-iterator (situation l.standing.object l.standing.requester) l.left
+    ≡ scan l.fn.aces (situation l.standing.object l.standing.requester) l.fn.left)

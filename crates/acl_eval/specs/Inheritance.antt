@@ -1,0 +1,56 @@
+-- What an object that is created takes from the list of its parent: this library's own table, in the manner of RFC
+-- 8881, section 6.4. The flags are those of its section 6.2.1.4.1.
+use Rattle.std.specs.Prelude.{ℕ, bit_and, bit_or, if◌then◌else◌, List, filter_map, Option, None, Some, option_map}
+use Rattle.acl_perm.specs.Bits.{has_bit}
+use Rattle.acl_nfs4.specs.Ace.{Ace}
+use Rattle.acl_eval.specs.declared.inherit.ChildKind.{ChildKind}
+use Rattle.acl_eval.specs.declared.inherit.ChildKind.TheVariants.{File, Directory}
+
+-- the bit of the flag FILE_INHERIT
+abbrev pub file_inherit : ℕ
+file_inherit = 0
+
+-- the bit of the flag DIRECTORY_INHERIT
+abbrev pub directory_inherit : ℕ
+directory_inherit = 1
+
+-- the bit of the flag NO_PROPAGATE_INHERIT
+abbrev pub no_propagate_inherit : ℕ
+no_propagate_inherit = 2
+
+-- the bit of the flag INHERITED
+abbrev pub inherited : ℕ
+inherited = 7
+
+-- the ACE is handed on no further: of the flags 0x10, 0x20 and IDENTIFIER_GROUP stay, which say nothing of inheritance
+abbrev pub ends : ℕ → ℕ
+ends flags = bit_and flags 0x70
+
+-- the ACE is handed on, and takes part: all flags stay but INHERIT_ONLY and INHERITED
+abbrev pub goes_on : ℕ → ℕ
+goes_on flags = bit_and flags 0x77
+
+-- the ACE is handed on, and takes no part: INHERIT_ONLY is set
+abbrev pub waits : ℕ → ℕ
+waits flags = bit_or (goes_on flags) 0x08
+
+-- the flags of an ACE of the parent in the child, or none where the child doesn't have the ACE
+abbrev pub child_flags : ChildKind → ℕ → Option ℕ
+child_flags File flags = if has_bit flags file_inherit then Some (ends flags) else None
+child_flags Directory flags =
+    if has_bit flags directory_inherit
+    then (if has_bit flags no_propagate_inherit then Some (ends flags) else Some (goes_on flags))
+    else (if has_bit flags no_propagate_inherit then None
+    else (if has_bit flags file_inherit then Some (waits flags) else None))
+
+-- an ACE with other flags
+abbrev pub with_flags : Ace → ℕ → Ace
+with_flags a flags = record { kind = a.kind; flags = flags; mask = a.mask; who = a.who }
+
+-- an ACE of the parent in the child
+abbrev pub child_ace : ChildKind → Ace → Option Ace
+child_ace kind a = option_map (with_flags a) (child_flags kind a.flags)
+
+-- the list of the child: what it has of each ACE, in order
+abbrev pub children : ChildKind → List Ace → List Ace
+children kind list = filter_map (child_ace kind) list

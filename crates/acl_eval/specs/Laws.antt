@@ -1,0 +1,7 @@
+-- What the laws of the evaluation say (RFC 8881, section 6.2.1).
+
+-- a relation of each thing to itself, both ways, and onward
+pub record IsEquivalence {X : Type 0} (same : X → X → Type 0) : Type 0 where
+  pub reflexive : (x : X) → same x x
+  pub symmetric : (x y : X) → same x y → same y x
+  pub transitive : (x y z : X) → same x y → same y z → same x z

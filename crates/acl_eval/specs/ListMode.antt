@@ -1,0 +1,46 @@
+-- The mode of a list (RFC 8881, section 6.3.2): what it grants the owner, the group and others, as file mode bits.
+use Rattle.std.specs.Prelude.{ℕ, ◌+◌, Bool, true, false, ◌&&◌, if◌then◌else◌, List}
+use Rattle.acl_perm.specs.Mode.{mode_of_parts}
+use Rattle.acl_perm.specs.Principal.{Principal, owner, user, group, group_named, everyone}
+use Rattle.acl_nfs4.specs.Ace.{Ace}
+use Rattle.acl_eval.specs.Column.{column, verdict}
+use Rattle.acl_eval.specs.Grant.{is_allow}
+
+-- ACEs of `OWNER@` and of `EVERYONE@` decide for the owner
+abbrev pub is_for_owner : Principal → Bool
+is_for_owner owner = true
+is_for_owner (user name) = false
+is_for_owner group = false
+is_for_owner (group_named name) = false
+is_for_owner everyone = true
+
+-- those of `GROUP@` and of `EVERYONE@` for the group
+abbrev pub is_for_group : Principal → Bool
+is_for_group owner = false
+is_for_group (user name) = false
+is_for_group group = true
+is_for_group (group_named name) = false
+is_for_group everyone = true
+
+-- those of `EVERYONE@` alone for others
+abbrev pub is_for_others : Principal → Bool
+is_for_others owner = false
+is_for_others (user name) = false
+is_for_others group = false
+is_for_others (group_named name) = false
+is_for_others everyone = true
+
+-- the ACEs whose principal passes the test grant the bit
+abbrev pub is_granted_by : (Principal → Bool) → List Ace → ℕ → Bool
+is_granted_by test list bit = is_allow (verdict test (column list bit))
+
+-- the permissions of a set of rights: read by READ_DATA (bit 0), write by WRITE_DATA and APPEND_DATA (bits 1 and 2)
+-- together, execute by EXECUTE (bit 5)
+abbrev pub perm_of : (ℕ → Bool) → ℕ
+perm_of granted = (if granted 0 then 4 else 0) + (if granted 1 && granted 2 then 2 else 0)
+    + (if granted 5 then 1 else 0)
+
+-- the mode of what is granted to the owner, the group and others
+abbrev pub mode_of_list : List Ace → ℕ
+mode_of_list list = mode_of_parts (perm_of (is_granted_by is_for_owner list))
+    (perm_of (is_granted_by is_for_group list)) (perm_of (is_granted_by is_for_others list))

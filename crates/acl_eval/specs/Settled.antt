@@ -1,0 +1,11 @@
+-- What is known of a class of a mode before the rest of a list is gone over (this library's own): words that only code
+-- needs.
+use Rattle.std.specs.Prelude.{ℕ, Bool, ◌&&◌, ◌||◌, List}
+use Rattle.acl_perm.specs.Bits.{has_bit}
+use Rattle.acl_perm.specs.Principal.{Principal}
+use Rattle.acl_nfs4.specs.Ace.{Ace}
+use Rattle.acl_eval.specs.ListMode.{is_granted_by}
+
+-- the bit is granted already, or left to the rest, which grants it
+abbrev pub settled : (Principal → Bool) → ℕ → ℕ → List Ace → ℕ → Bool
+settled test granted left list bit = has_bit granted bit || (has_bit left bit && is_granted_by test list bit)

@@ -1,0 +1,162 @@
+use super::*;
+use acl_nfs4::{AceRef, Acl, AclView, Flags, Kind, PushFault};
+use acl_perm::Mask;
+use std::alloc::Global;
+use std::process::Abort;
+use std::test::Fail;
+
+// An ACE as its type, flags, mask and who.
+type Row = (Kind, u32, u32, &'static [u8]);
+
+// A parent, what is created, and the child.
+type Creation = (Row, ChildKind, Option<Row>);
+
+static CREATIONS: [Creation; 10] = [
+    (
+        (Kind::Allow, 0x01, 1, b"alice"),
+        ChildKind::Directory,
+        Some((Kind::Allow, 0x09, 1, b"alice")),
+    ),
+    (
+        (Kind::Allow, 0x09, 1, b"alice"),
+        ChildKind::File,
+        Some((Kind::Allow, 0, 1, b"alice")),
+    ),
+    ((Kind::Allow, 0x05, 1, b"alice"), ChildKind::Directory, None),
+    (
+        (Kind::Allow, 0x0e, 1, b"alice"),
+        ChildKind::Directory,
+        Some((Kind::Allow, 0, 1, b"alice")),
+    ),
+    (
+        (Kind::Allow, 0x8b, 1, b"GROUP@"),
+        ChildKind::File,
+        Some((Kind::Allow, 0, 1, b"GROUP@")),
+    ),
+    (
+        (Kind::Allow, 0x8b, 1, b"GROUP@"),
+        ChildKind::Directory,
+        Some((Kind::Allow, 0x03, 1, b"GROUP@")),
+    ),
+    ((Kind::Deny, 0x52, 2, b"staff"), ChildKind::File, None),
+    (
+        (Kind::Deny, 0x52, 2, b"staff"),
+        ChildKind::Directory,
+        Some((Kind::Deny, 0x52, 2, b"staff")),
+    ),
+    ((Kind::Allow, 0x08, 1, b"alice"), ChildKind::Directory, None),
+    ((Kind::Allow, 0x00, 1, b"alice"), ChildKind::File, None),
+];
+
+fn built(alloc: Global, rows: &[Row]) -> Result<Acl, PushFault> {
+    let mut list = Acl::new(alloc);
+    for (kind, flags, mask, who) in rows {
+        if let (Some(flags), Some(mask)) = (Flags::new(*flags), Mask::new(*mask)) {
+            list.push(AceRef {
+                kind: *kind,
+                flags,
+                mask,
+                who: *who,
+            })?;
+        }
+    }
+    Ok(list)
+}
+
+fn child_of(alloc: Global, parent: &Acl, kind: ChildKind) -> Result<Acl, PushFault> {
+    match child(alloc, parent, kind) {
+        Ok(list) => Ok(list),
+        Err(_) => Err(PushFault::Memory),
+    }
+}
+
+fn created(rt: &impl Abort, alloc: Global) -> Result<(), PushFault> {
+    for (row, kind, expected) in CREATIONS {
+        let parent = built(alloc, &[row])?;
+        let list = child_of(alloc, &parent, kind)?;
+        let wanted = match expected {
+            Some(row) => built(alloc, &[row])?,
+            None => Acl::new(alloc),
+        };
+        assert!(rt; list == wanted);
+    }
+    Ok(())
+}
+
+#[test]
+fn a_child_inherits(rt: HostRuntime) {
+    assert!(rt; matches!(created(&rt, rt.alloc()), Ok(()) | Err(PushFault::Memory)));
+}
+
+#[test]
+fn ample_children(rt: HostRuntime) {
+    assert!(rt; created(&rt, rt.alloc()).is_ok());
+}
+
+fn may_alice_read(list: &Acl) -> Result<bool, Fail> {
+    let object = Object::new(b"bob", b"staff").ok_or("a name is empty")?;
+    let requester = Requester::new(b"alice", &[]).ok_or("a name is empty")?;
+    let read = Mask::new(1).ok_or("no such right")?;
+    Ok(grants(list.aces(), &object, &requester, read))
+}
+
+// An ACE that only files inherit waits in a new directory for the files in it.
+#[test]
+fn ample_directories_wait_for_files(rt: HostRuntime) -> Result<(), Fail> {
+    let parent = built(rt.alloc(), &[(Kind::Allow, 0x01, 1, b"alice")])?;
+    let directory = child_of(rt.alloc(), &parent, ChildKind::Directory)?;
+    let file = child_of(rt.alloc(), &directory, ChildKind::File)?;
+    assert_eq!(rt; may_alice_read(&directory)?, false, "the directory");
+    assert_eq!(rt; may_alice_read(&file)?, true, "the file");
+    Ok(())
+}
+
+// DENY WRITE_DATA OWNER@, ALLOW READ_DATA, WRITE_DATA and APPEND_DATA EVERYONE@.
+const NO_WRITE: &[u8; 56] = b"\0\0\0\x02\
+    \0\0\0\x01\0\0\0\0\0\0\0\x02\0\0\0\x06OWNER@\0\0\
+    \0\0\0\0\0\0\0\0\0\0\0\x07\0\0\0\x09EVERYONE@\0\0\0";
+
+static MODES: [(&[Row], u16); 3] = [
+    (
+        &[
+            (Kind::Deny, 0, 2, b"OWNER@"),
+            (Kind::Allow, 0, 7, b"EVERYONE@"),
+        ],
+        0o466,
+    ),
+    (
+        &[
+            (Kind::Allow, 0, 1, b"OWNER@"),
+            (Kind::Deny, 0, 1, b"EVERYONE@"),
+            (Kind::Allow, 0x08, 6, b"GROUP@"),
+            (Kind::Allow, 0, 0x20, b"EVERYONE@"),
+        ],
+        0o511,
+    ),
+    (&[], 0),
+];
+
+#[test]
+fn the_mode_of_a_view(rt: HostRuntime) -> Result<(), Fail> {
+    let list = AclView::parse_whole(NO_WRITE)?;
+    assert_eq!(rt; mode_of(list.aces()).bits(), 0o466u16, "mode");
+    Ok(())
+}
+
+fn modes(rt: &impl Abort, alloc: Global) -> Result<(), PushFault> {
+    for (rows, mode) in MODES {
+        let list = built(alloc, rows)?;
+        assert!(rt; mode_of(list.aces()).bits() == mode);
+    }
+    Ok(())
+}
+
+#[test]
+fn the_mode_of_a_list(rt: HostRuntime) {
+    assert!(rt; matches!(modes(&rt, rt.alloc()), Ok(()) | Err(PushFault::Memory)));
+}
+
+#[test]
+fn ample_modes(rt: HostRuntime) {
+    assert!(rt; modes(&rt, rt.alloc()).is_ok());
+}

@@ -1,0 +1,68 @@
+//! Laws of the evaluation.
+ghost use Rattle.std.specs.Prelude.{◌≡◌, ◌↔◌, ℕ, List, IsTrue, None, Some, false, true};
+ghost use Rattle.acl_perm.specs.Bits.{has_bit, IsMask, inherit_only};
+ghost use Rattle.acl_perm.specs.Situation.{IsSituation, Situation};
+ghost use Rattle.acl_perm.specs.Profile.{Profile};
+ghost use Rattle.acl_nfs4.specs.Ace.{Ace};
+ghost use Rattle.acl_nfs4.specs.Spelling.{IsAccepted};
+ghost use Rattle.acl_eval.specs.Column.{SameVerdicts, column};
+ghost use Rattle.acl_eval.specs.Grant.{Grant, SameGrants, grants_bit};
+ghost use Rattle.acl_eval.specs.Inheritance.{child_flags, children, directory_inherit, ends, file_inherit, goes_on, no_propagate_inherit, waits};
+ghost use Rattle.acl_eval.specs.Laws.{IsEquivalence};
+ghost use Rattle.acl_eval.specs.declared.inherit.ChildKind.{ChildKind};
+ghost use Rattle.acl_eval.specs.declared.inherit.ChildKind.TheVariants.{Directory, File};
+ghost use Rattle.acl_eval.specs.Scan.{scan};
+
+/// Whether two lists grant the same is an equivalence, within each set of rights.
+#[tactic(auto, using(crate::proofs::Same::equivalence))]
+pub fn same_grants_is_an_equivalence()
+    ensures { (rights : ℕ) → IsEquivalence (SameGrants rights) }
+{}
+
+/// Two lists grant the same within a set of rights exactly if each bit of it is granted alike in every situation, and
+/// exactly if its columns decide alike.
+pub fn same_grants_bit_by_bit()
+    ensures bits { (rights : ℕ) (list other : List Ace) → SameGrants rights list other
+        ↔ ((s : Situation) → IsSituation s → (bit : ℕ) → IsTrue (has_bit rights bit)
+        → grants_bit list s bit ≡ grants_bit other s bit) }
+    ensures columns { (rights : ℕ) (list other : List Ace) → SameGrants rights list other
+        ↔ ((bit : ℕ) → IsTrue (has_bit rights bit) → SameVerdicts (column list bit) (column other bit)) }
+{}
+
+/// Going over the list ACE by ACE, as RFC 8881, section 6.2.1, words it, grants a request exactly if each of its bits
+/// is granted by itself.
+#[tactic(auto, using(crate::proofs::Scans::scan_is))]
+pub fn scan_is_bit_by_bit()
+    ensures { (list : List Ace) (s : Situation) (request : ℕ) → IsMask request
+        → IsTrue (scan list s request) ↔ Grant list s request }
+{}
+
+/// The flags of an ACE in a new file: none of inheritance, where the ACE has FILE_INHERIT, and else the ACE is absent.
+#[tactic(auto, using(crate::proofs::Children::table))]
+pub fn files_inherit()
+    ensures inherited { (flags : ℕ) → has_bit flags file_inherit ≡ true → child_flags File flags ≡ Some (ends flags) }
+    ensures absent { (flags : ℕ) → has_bit flags file_inherit ≡ false → child_flags File flags ≡ None }
+{}
+
+/// The flags of an ACE in a new directory, by whether it has NO_PROPAGATE_INHERIT, DIRECTORY_INHERIT and FILE_INHERIT.
+#[tactic(auto, using(crate::proofs::Children::table))]
+pub fn directories_inherit()
+    ensures ended { (flags : ℕ) → has_bit flags no_propagate_inherit ≡ true
+        → has_bit flags directory_inherit ≡ true → child_flags Directory flags ≡ Some (ends flags) }
+    ensures ended_before { (flags : ℕ) → has_bit flags no_propagate_inherit ≡ true
+        → has_bit flags directory_inherit ≡ false → child_flags Directory flags ≡ None }
+    ensures inherited { (flags : ℕ) → has_bit flags no_propagate_inherit ≡ false
+        → has_bit flags directory_inherit ≡ true → child_flags Directory flags ≡ Some (goes_on flags) }
+    ensures for_files { (flags : ℕ) → has_bit flags no_propagate_inherit ≡ false
+        → has_bit flags directory_inherit ≡ false → has_bit flags file_inherit ≡ true
+        → child_flags Directory flags ≡ Some (waits flags) }
+    ensures absent { (flags : ℕ) → has_bit flags no_propagate_inherit ≡ false
+        → has_bit flags directory_inherit ≡ false → has_bit flags file_inherit ≡ false
+        → child_flags Directory flags ≡ None }
+{}
+
+/// The child of an accepted list is accepted, under each profile with INHERIT_ONLY.
+pub fn children_are_accepted()
+    ensures { (p : Profile) (kind : ChildKind) (list : List Ace) → IsTrue (has_bit p.flags inherit_only)
+        → IsAccepted p list → IsAccepted p (children kind list) }
+{}
