@@ -1,83 +1,392 @@
 -- Command lines that are written out, as the definitions compute them.
-use Rattle.std.proofs.Common.{◌≡◌, ◌∷◌, [], None, Some, refl, codes}
+use Rattle.std.proofs.Common.{◌≡◌, ◌∷◌, [], ℕ, List, None, Some, false, true, refl, codes}
 use Rattle.clap.proofs.OnLiterals.{clap_on_literals}
-use Rattle.aclck.specs.Line.{is_taken, rows_at}
-use Rattle.aclck.specs.CheckNfs.{check_nfs_app, check_nfs_values_at}
-use Rattle.aclck.specs.Task.{check_nfs, task_of}
-use Rattle.aclck.specs.Values.{mask_value}
+use Rattle.clap.specs.Words.{Text, first_of}
+use Rattle.acl_perm.specs.Profile.{Profile, full, narrow}
 use Rattle.acl_nfs4.specs.Rights.{mask_named}
+use Rattle.acl_posix.specs.Names.{no_names}
+use Rattle.aclck.specs.Line.{Term, app_from, default, flag, is_given, is_taken, optional, rows_at}
+use Rattle.aclck.specs.CheckNfs.{check_nfs_in}
+use Rattle.aclck.specs.ShowPosix.{form_value, show_posix_in}
+use Rattle.aclck.specs.CheckPosix.{check_posix_in}
+use Rattle.aclck.specs.Chmod.{chmod_in}
+use Rattle.aclck.specs.Create.{create_in}
+use Rattle.aclck.specs.NameWords.{named_id, names_value}
+use Rattle.aclck.specs.NameWords as words
+use Rattle.aclck.specs.PosixValues.{id_value, ids_value, mode_value, want_value}
+use Rattle.aclck.specs.declared.posix.Form.TheVariants as form
+use Rattle.aclck.specs.Task.{Task, calc_mask, check_nfs, check_posix, chmod, create, show_posix, task_named, task_of}
+use Rattle.aclck.specs.Values.{mask_value, profile_value}
+
+-- ---- `check-nfs`
+
+-- the task of an owner o and an owning group g
+abbrev check : Text → Text → List Text → ℕ → Profile → Task
+check owner user groups mask profile = check_nfs (record {
+  object = record { owner = owner; group = codes "g" };
+  requester = record { user = user; groups = groups };
+  mask = mask;
+  profile = profile;
+})
 
 -- an option and its value in two words
-plain : task_of (codes "check-nfs" ∷ codes "--owner" ∷ codes "o" ∷ codes "--group" ∷ codes "g" ∷ codes "--user" ∷ codes "u" ∷ codes "--mask" ∷ codes "READ_DATA" ∷ []) ≡ Some (check_nfs (record { owner = codes "o"; group = codes "g"; user = codes "u"; mask = 1; groups = [] }))
-unfolding clap_on_literals is_taken rows_at check_nfs_values_at check_nfs_app mask_value mask_named
+plain :
+    task_of (codes "check-nfs" ∷ codes "--owner" ∷ codes "o" ∷ codes "--group" ∷ codes "g"
+    ∷ codes "--user" ∷ codes "u" ∷
+    codes "--mask" ∷ codes "READ_DATA" ∷ [])
+    ≡ Some (check (codes "o") (codes "u") [] 1 full)
+unfolding clap_on_literals is_taken rows_at app_from task_named check_nfs_in mask_value mask_named profile_value
 plain = refl
 
 -- in one word, cut at the first equals sign; groups may stand anywhere
-attached : task_of (codes "check-nfs" ∷ codes "a" ∷ codes "--owner=o=p" ∷ codes "b" ∷ codes "--group=g" ∷ codes "--user=u" ∷ codes "--mask=EXECUTE|ADD_FILE" ∷ codes "c" ∷ []) ≡ Some (check_nfs (record { owner = codes "o=p"; group = codes "g"; user = codes "u"; mask = 34; groups = codes "a" ∷ codes "b" ∷ codes "c" ∷ [] }))
-unfolding clap_on_literals is_taken rows_at check_nfs_values_at check_nfs_app mask_value mask_named
+attached :
+    task_of (codes "check-nfs" ∷ codes "a" ∷ codes "--owner=o=p" ∷ codes "b" ∷ codes "--group=g" ∷ codes "--user=u" ∷
+    codes "--mask=EXECUTE|ADD_FILE" ∷ codes "c" ∷ [])
+    ≡ Some (check (codes "o=p") (codes "u") (codes "a" ∷ codes "b" ∷ codes "c" ∷ []) 34 full)
+unfolding clap_on_literals is_taken rows_at app_from task_named check_nfs_in mask_value mask_named profile_value
 attached = refl
 
 -- `none` is the empty mask
-none_asked : task_of (codes "check-nfs" ∷ codes "--owner=o" ∷ codes "--group=g" ∷ codes "--user=u" ∷ codes "--mask=none" ∷ []) ≡ Some (check_nfs (record { owner = codes "o"; group = codes "g"; user = codes "u"; mask = 0; groups = [] }))
-unfolding clap_on_literals is_taken rows_at check_nfs_values_at check_nfs_app mask_value mask_named
-none_asked = refl
+no_rights :
+    task_of (codes "check-nfs" ∷ codes "--owner=o" ∷ codes "--group=g" ∷ codes "--user=u" ∷ codes "--mask=none" ∷ [])
+    ≡ Some (check (codes "o") (codes "u") [] 0 full)
+unfolding clap_on_literals is_taken rows_at app_from task_named check_nfs_in mask_value mask_named profile_value
+no_rights = refl
 
 -- a dash alone is no mask here
-dash : task_of (codes "check-nfs" ∷ codes "--owner=o" ∷ codes "--group=g" ∷ codes "--user=u" ∷ codes "--mask=-" ∷ []) ≡ None
-unfolding clap_on_literals is_taken rows_at check_nfs_values_at check_nfs_app mask_value mask_named
+dash :
+    task_of (codes "check-nfs" ∷ codes "--owner=o" ∷ codes "--group=g" ∷ codes "--user=u" ∷ codes "--mask=-" ∷ [])
+    ≡ None
+unfolding clap_on_literals is_taken rows_at app_from task_named check_nfs_in mask_value mask_named profile_value
 dash = refl
 
 -- a name that is no right
-unknown_right : task_of (codes "check-nfs" ∷ codes "--owner=o" ∷ codes "--group=g" ∷ codes "--user=u" ∷ codes "--mask=NOTHING" ∷ []) ≡ None
-unfolding clap_on_literals is_taken rows_at check_nfs_values_at check_nfs_app mask_value mask_named
+unknown_right :
+    task_of (codes "check-nfs" ∷ codes "--owner=o" ∷ codes "--group=g" ∷ codes "--user=u" ∷ codes "--mask=NOTHING" ∷ [])
+    ≡ None
+unfolding clap_on_literals is_taken rows_at app_from task_named check_nfs_in mask_value mask_named profile_value
 unknown_right = refl
+
+-- the narrow profile
+narrow_profile :
+    task_of (codes "check-nfs" ∷ codes "--owner=o" ∷ codes "--group=g" ∷ codes "--user=u" ∷ codes "--mask=READ_DATA" ∷
+    codes "--profile" ∷ codes "narrow" ∷ [])
+    ≡ Some (check (codes "o") (codes "u") [] 1 narrow)
+unfolding clap_on_literals is_taken rows_at app_from task_named check_nfs_in mask_value mask_named profile_value
+narrow_profile = refl
+
+-- the full profile, which is also the one where none is given; WRITE_RETENTION is one of its rights
+full_profile :
+    task_of (codes "check-nfs" ∷ codes "--owner=o" ∷ codes "--group=g" ∷ codes "--user=u" ∷ codes "--profile=full" ∷
+    codes "--mask=WRITE_RETENTION" ∷ [])
+    ≡ Some (check (codes "o") (codes "u") [] 512 full)
+unfolding clap_on_literals is_taken rows_at app_from task_named check_nfs_in mask_value mask_named profile_value
+full_profile = refl
+
+-- a right that the profile has not
+outside_the_profile :
+    task_of (codes "check-nfs" ∷ codes "--owner=o" ∷ codes "--group=g" ∷ codes "--user=u" ∷
+    codes "--mask=WRITE_RETENTION|READ_DATA" ∷ codes "--profile=narrow" ∷ [])
+    ≡ None
+unfolding clap_on_literals is_taken rows_at app_from task_named check_nfs_in mask_value mask_named profile_value
+outside_the_profile = refl
+
+-- a word that names no profile
+unknown_profile :
+    task_of (codes "check-nfs" ∷ codes "--owner=o" ∷ codes "--group=g" ∷ codes "--user=u" ∷ codes "--mask=none" ∷
+    codes "--profile=wide" ∷ [])
+    ≡ None
+unfolding clap_on_literals is_taken rows_at app_from task_named check_nfs_in mask_value mask_named profile_value
+unknown_profile = refl
 
 -- an option that has to be there is missing
 no_owner : task_of (codes "check-nfs" ∷ codes "--group=g" ∷ codes "--user=u" ∷ codes "--mask=none" ∷ []) ≡ None
-unfolding clap_on_literals is_taken rows_at check_nfs_values_at check_nfs_app mask_value mask_named
+unfolding clap_on_literals is_taken rows_at app_from task_named check_nfs_in mask_value mask_named profile_value
 no_owner = refl
 
 -- an empty name is no name
-empty_name : task_of (codes "check-nfs" ∷ codes "--owner=" ∷ codes "--group=g" ∷ codes "--user=u" ∷ codes "--mask=none" ∷ []) ≡ None
-unfolding clap_on_literals is_taken rows_at check_nfs_values_at check_nfs_app mask_value mask_named
+empty_name :
+    task_of (codes "check-nfs" ∷ codes "--owner=" ∷ codes "--group=g" ∷ codes "--user=u" ∷ codes "--mask=none" ∷ [])
+    ≡ None
+unfolding clap_on_literals is_taken rows_at app_from task_named check_nfs_in mask_value mask_named profile_value
 empty_name = refl
 
 -- nor is an empty group
-empty_group : task_of (codes "check-nfs" ∷ codes "--owner=o" ∷ codes "--group=g" ∷ codes "--user=u" ∷ codes "--mask=none" ∷ codes "" ∷ []) ≡ None
-unfolding clap_on_literals is_taken rows_at check_nfs_values_at check_nfs_app mask_value mask_named
+empty_group :
+    task_of (codes "check-nfs" ∷ codes "--owner=o" ∷ codes "--group=g" ∷ codes "--user=u"
+    ∷ codes "--mask=none" ∷ codes "" ∷ [])
+    ≡ None
+unfolding clap_on_literals is_taken rows_at app_from task_named check_nfs_in mask_value mask_named profile_value
 empty_group = refl
 
 -- a value that begins with a hyphen is none as a word of its own
-hyphen : task_of (codes "check-nfs" ∷ codes "--owner" ∷ codes "-x" ∷ codes "--group=g" ∷ codes "--user=u" ∷ codes "--mask=none" ∷ []) ≡ None
-unfolding clap_on_literals is_taken rows_at check_nfs_values_at check_nfs_app mask_value mask_named
+hyphen :
+    task_of (codes "check-nfs" ∷ codes "--owner" ∷ codes "-x" ∷ codes "--group=g"
+    ∷ codes "--user=u" ∷ codes "--mask=none" ∷ [])
+    ≡ None
+unfolding clap_on_literals is_taken rows_at app_from task_named check_nfs_in mask_value mask_named profile_value
 hyphen = refl
 
 -- and is one behind the equals sign; after two hyphens every word is a group
-hyphen_attached : task_of (codes "check-nfs" ∷ codes "--owner=-x" ∷ codes "--group=g" ∷ codes "--user=u" ∷ codes "--mask=none" ∷ codes "--" ∷ codes "--help" ∷ codes "-" ∷ []) ≡ Some (check_nfs (record { owner = codes "-x"; group = codes "g"; user = codes "u"; mask = 0; groups = codes "--help" ∷ codes "-" ∷ [] }))
-unfolding clap_on_literals is_taken rows_at check_nfs_values_at check_nfs_app mask_value mask_named
+hyphen_attached :
+    task_of (codes "check-nfs" ∷ codes "--owner=-x" ∷ codes "--group=g" ∷ codes "--user=u" ∷ codes "--mask=none" ∷
+    codes "--" ∷ codes "--help" ∷ codes "-" ∷ [])
+    ≡ Some (check (codes "-x") (codes "u") (codes "--help" ∷ codes "-" ∷ []) 0 full)
+unfolding clap_on_literals is_taken rows_at app_from task_named check_nfs_in mask_value mask_named profile_value
 hyphen_attached = refl
 
 -- a word that asks for help is an unknown argument
-help : task_of (codes "check-nfs" ∷ codes "--owner=o" ∷ codes "--group=g" ∷ codes "--user=u" ∷ codes "--mask=none" ∷ codes "--help" ∷ []) ≡ None
-unfolding clap_on_literals is_taken rows_at check_nfs_values_at check_nfs_app mask_value mask_named
+help :
+    task_of (codes "check-nfs" ∷ codes "--owner=o" ∷ codes "--group=g" ∷ codes "--user=u" ∷ codes "--mask=none" ∷
+    codes "--help" ∷ [])
+    ≡ None
+unfolding clap_on_literals is_taken rows_at app_from task_named check_nfs_in mask_value mask_named profile_value
 help = refl
 
 -- a short one too
-short_help : task_of (codes "check-nfs" ∷ codes "--owner=o" ∷ codes "--group=g" ∷ codes "--user=u" ∷ codes "--mask=none" ∷ codes "-h" ∷ []) ≡ None
-unfolding clap_on_literals is_taken rows_at check_nfs_values_at check_nfs_app mask_value mask_named
+short_help :
+    task_of (codes "check-nfs" ∷ codes "--owner=o" ∷ codes "--group=g" ∷ codes "--user=u" ∷ codes "--mask=none" ∷
+    codes "-h" ∷ [])
+    ≡ None
+unfolding clap_on_literals is_taken rows_at app_from task_named check_nfs_in mask_value mask_named profile_value
 short_help = refl
 
 -- an option that is given twice
-twice : task_of (codes "check-nfs" ∷ codes "--owner=o" ∷ codes "--owner=o" ∷ codes "--group=g" ∷ codes "--user=u" ∷ codes "--mask=none" ∷ []) ≡ None
-unfolding clap_on_literals is_taken rows_at check_nfs_values_at check_nfs_app mask_value mask_named
+twice :
+    task_of (codes "check-nfs" ∷ codes "--owner=o" ∷ codes "--owner=o" ∷ codes "--group=g" ∷ codes "--user=u" ∷
+    codes "--mask=none" ∷ [])
+    ≡ None
+unfolding clap_on_literals is_taken rows_at app_from task_named check_nfs_in mask_value mask_named profile_value
 twice = refl
 
 -- a first word that names no command
 other_command : task_of (codes "help" ∷ []) ≡ None
-unfolding clap_on_literals is_taken rows_at check_nfs_values_at check_nfs_app mask_value mask_named
+unfolding clap_on_literals is_taken rows_at app_from task_named check_nfs_in mask_value mask_named profile_value
 other_command = refl
 
 -- and no word at all
-no_word : task_of ([]) ≡ None
-unfolding clap_on_literals is_taken rows_at check_nfs_values_at check_nfs_app mask_value mask_named
+no_word : task_of [] ≡ None
+unfolding clap_on_literals is_taken rows_at app_from task_named check_nfs_in mask_value mask_named profile_value
 no_word = refl
+
+-- ---- `show-posix`
+
+-- the canonical form is the one where none is given
+shown_alone :
+    task_of (codes "show-posix" ∷ [])
+    ≡ Some (show_posix (record { form = form.Canonical; names = no_names }))
+unfolding clap_on_literals is_taken rows_at app_from task_named show_posix_in form_value names_value named_id id_value
+shown_alone = refl
+
+-- digits alone are no name
+name_of_digits :
+    task_of (codes "show-posix" ∷ codes "u:12=5" ∷ [])
+    ≡ None
+unfolding clap_on_literals is_taken rows_at app_from task_named show_posix_in form_value names_value named_id id_value
+name_of_digits = refl
+
+-- nor is the empty word
+no_name :
+    task_of (codes "show-posix" ∷ codes "u:=5" ∷ [])
+    ≡ None
+unfolding clap_on_literals is_taken rows_at app_from task_named show_posix_in form_value names_value named_id id_value
+no_name = refl
+
+-- a name is cut at its last equals sign; an id may begin with zeros
+last_equals_sign : named_id (codes "u:a=b=0005") ≡ Some (record { half = words.users; name = codes "a=b"; id = 5 })
+unfolding named_id id_value
+last_equals_sign = refl
+
+-- a group name may have a colon
+colon_in_a_name : named_id (codes "g:a:b=7") ≡ Some (record { half = words.groups; name = codes "a:b"; id = 7 })
+unfolding named_id id_value
+colon_in_a_name = refl
+
+-- another form than the one where none is given
+shown_short :
+    task_of (codes "show-posix" ∷ codes "--form=short" ∷ [])
+    ≡ Some (show_posix (record { form = form.Short; names = no_names }))
+unfolding clap_on_literals is_taken rows_at app_from task_named show_posix_in form_value names_value named_id id_value
+shown_short = refl
+
+-- a word that names no form
+unknown_form :
+    task_of (codes "show-posix" ∷ codes "--form=long" ∷ [])
+    ≡ None
+unfolding clap_on_literals is_taken rows_at app_from task_named show_posix_in form_value names_value named_id id_value
+unknown_form = refl
+
+-- ---- `check-posix`
+
+-- the task of owner 1, group 2 and user 3 without names
+abbrev check_ids : List ℕ → ℕ → Task
+check_ids groups want = check_posix (record {
+  object = record { user = 1; group = 2 };
+  requester = record { user = 3; groups = groups };
+  want = want;
+  names = no_names;
+})
+
+-- groups stand with commas between them, and letters in any order
+ids :
+    task_of (codes "check-posix" ∷ codes "--owner=1" ∷ codes "--group=2" ∷ codes "--user=3"
+    ∷ codes "--groups=50,060" ∷ codes "--want=xr" ∷ [])
+    ≡ Some (check_ids (50 ∷ 60 ∷ []) 5)
+unfolding clap_on_literals is_taken rows_at app_from task_named check_posix_in ids_value want_value
+    names_value named_id id_value
+ids = refl
+
+-- without `--groups` there are none; `none` is the empty request
+no_groups :
+    task_of (codes "check-posix" ∷ codes "--owner=001" ∷ codes "--group=2" ∷ codes "--user=3"
+    ∷ codes "--want=none" ∷ [])
+    ≡ Some (check_ids [] 0)
+unfolding clap_on_literals is_taken rows_at app_from task_named check_posix_in ids_value want_value
+    names_value named_id id_value
+no_groups = refl
+
+-- an empty item is no id
+empty_item :
+    task_of (codes "check-posix" ∷ codes "--owner=1" ∷ codes "--group=2" ∷ codes "--user=3"
+    ∷ codes "--groups=50,,60" ∷ codes "--want=r" ∷ [])
+    ≡ None
+unfolding clap_on_literals is_taken rows_at app_from task_named check_posix_in ids_value want_value
+    names_value named_id id_value
+empty_item = refl
+
+-- a letter that is given twice
+letter_twice :
+    task_of (codes "check-posix" ∷ codes "--owner=1" ∷ codes "--group=2" ∷ codes "--user=3" ∷ codes "--want=rr" ∷ [])
+    ≡ None
+unfolding clap_on_literals is_taken rows_at app_from task_named check_posix_in ids_value want_value
+    names_value named_id id_value
+letter_twice = refl
+
+-- 4294967295 is no id
+id_too_large :
+    task_of (codes "check-posix" ∷ codes "--owner=4294967295" ∷ codes "--group=2" ∷ codes "--user=3"
+    ∷ codes "--want=r" ∷ [])
+    ≡ None
+unfolding clap_on_literals is_taken rows_at app_from task_named check_posix_in ids_value want_value
+    names_value named_id id_value
+id_too_large = refl
+
+-- ---- `calc-mask`, `chmod` and `create`
+
+-- no name at all
+masked_alone :
+    task_of (codes "calc-mask" ∷ [])
+    ≡ Some (calc_mask no_names)
+unfolding clap_on_literals is_taken rows_at app_from task_named names_value named_id id_value
+masked_alone = refl
+
+-- no option at all is taken
+masked_with_option :
+    task_of (codes "calc-mask" ∷ codes "--mode=7" ∷ [])
+    ≡ None
+unfolding clap_on_literals is_taken rows_at app_from task_named names_value named_id id_value
+masked_with_option = refl
+
+-- a word that is no name
+masked_with_stray :
+    task_of (codes "calc-mask" ∷ codes "staff=7" ∷ [])
+    ≡ None
+unfolding clap_on_literals is_taken rows_at app_from task_named names_value named_id id_value
+masked_with_stray = refl
+
+-- a mode may begin with a zero
+octal :
+    task_of (codes "chmod" ∷ codes "--mode=0660" ∷ [])
+    ≡ Some (chmod (record { mode = 432; names = no_names }))
+unfolding clap_on_literals is_taken rows_at app_from task_named chmod_in mode_value names_value named_id id_value
+octal = refl
+
+-- but has at most four digits
+five_digits :
+    task_of (codes "chmod" ∷ codes "--mode=00660" ∷ [])
+    ≡ None
+unfolding clap_on_literals is_taken rows_at app_from task_named chmod_in mode_value names_value named_id id_value
+five_digits = refl
+
+-- 1000 is above 777
+mode_too_large :
+    task_of (codes "chmod" ∷ codes "--mode=1000" ∷ [])
+    ≡ None
+unfolding clap_on_literals is_taken rows_at app_from task_named chmod_in mode_value names_value named_id id_value
+mode_too_large = refl
+
+-- a directory
+created_directory :
+    task_of (codes "create" ∷ codes "--mode=640" ∷ codes "--umask=077" ∷ codes "--dir" ∷ [])
+    ≡ Some (create (record { mode = 416; umask = 63; is_directory = true; names = no_names }))
+unfolding clap_on_literals is_taken rows_at app_from task_named create_in mode_value names_value named_id id_value
+created_directory = refl
+
+-- a file
+created_file :
+    task_of (codes "create" ∷ codes "--umask" ∷ codes "22" ∷ codes "--mode" ∷ codes "666" ∷ [])
+    ≡ Some (create (record { mode = 438; umask = 18; is_directory = false; names = no_names }))
+unfolding clap_on_literals is_taken rows_at app_from task_named create_in mode_value names_value named_id id_value
+created_file = refl
+
+-- the umask has to be there
+no_umask :
+    task_of (codes "create" ∷ codes "--mode=640" ∷ [])
+    ≡ None
+unfolding clap_on_literals is_taken rows_at app_from task_named create_in mode_value names_value named_id id_value
+no_umask = refl
+
+-- ---- arguments of other kinds, in a command x that has them
+
+-- a flag, an option that may be absent, and one with a default
+abbrev terms : List Term
+terms = flag (codes "quiet") ∷ optional (codes "name") ∷ default (codes "unit") (codes "ace") ∷ []
+
+-- a flag that is given
+flag_there : is_given (codes "quiet") (rows_at (app_from (codes "x") terms) (codes "x" ∷ codes "--quiet" ∷ []))
+    ≡ true
+unfolding clap_on_literals is_taken rows_at app_from
+flag_there = refl
+
+-- and one that is not
+flag_absent : is_given (codes "quiet") (rows_at (app_from (codes "x") terms) (codes "x" ∷ []))
+    ≡ false
+unfolding clap_on_literals is_taken rows_at app_from
+flag_absent = refl
+
+-- an option that is given
+name_there : first_of (codes "name") (rows_at (app_from (codes "x") terms) (codes "x" ∷ codes "--name=n" ∷ []))
+    ≡ Some (codes "n")
+unfolding clap_on_literals is_taken rows_at app_from
+name_there = refl
+
+-- and one that is not
+name_absent : first_of (codes "name") (rows_at (app_from (codes "x") terms) (codes "x" ∷ []))
+    ≡ None
+unfolding clap_on_literals is_taken rows_at app_from
+name_absent = refl
+
+-- a default that is not used
+unit_there : first_of (codes "unit") (rows_at (app_from (codes "x") terms)
+    (codes "x" ∷ codes "--unit" ∷ codes "bit" ∷ []))
+    ≡ Some (codes "bit")
+unfolding clap_on_literals is_taken rows_at app_from
+unit_there = refl
+
+-- and one that is
+unit_absent : first_of (codes "unit") (rows_at (app_from (codes "x") terms) (codes "x" ∷ []))
+    ≡ Some (codes "ace")
+unfolding clap_on_literals is_taken rows_at app_from
+unit_absent = refl
+
+-- a flag takes no value
+flag_with_value : is_taken (app_from (codes "x") terms) (codes "x" ∷ codes "--quiet=true" ∷ [])
+    ≡ false
+unfolding clap_on_literals is_taken rows_at app_from
+flag_with_value = refl
+
+-- a word that no argument takes
+stray : is_taken (app_from (codes "x") terms) (codes "x" ∷ codes "y" ∷ [])
+    ≡ false
+unfolding clap_on_literals is_taken rows_at app_from
+stray = refl

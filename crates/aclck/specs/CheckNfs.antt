@@ -1,68 +1,116 @@
--- The command line of `check-nfs`, and what its words spell.
-use Rattle.std.specs.Prelude.{◌≡◌, ◌&&◌, [], List, ℕ, Option, Some, None, Bool, codes, map, unwrap_or, if◌then◌else◌}
+-- `check-nfs`: its words, and what it makes of an input (this library's own, over RFC 8881, section 6.2.1).
+use Rattle.std.specs.Prelude.{◌≡◌, ◌∷◌, ◌&&◌, ◌↔◌, [], List, ℕ, Option, Some, None, codes, if◌then◌else◌}
 use Rattle.std.specs.Option.{option_and_then, option_map}
-use Rattle.clap.specs.Words.{App, Row, Text, all_of, first_of, with_rule}
+use Rattle.clap.specs.Words.{Row, Text, first_of}
+use Rattle.acl_perm.specs.Profile.{Profile, profile_of}
 use Rattle.acl_perm.specs.Situation.{Situation}
-use Rattle.aclck.specs.Line.{is_taken, plain_app, required_rule, rows_at, words_rule}
-use Rattle.aclck.specs.Values.{are_names, is_name, mask_value}
-use Rattle.aclck.specs.declared.args.check_nfs.CheckNfsArgs.{CheckNfsArgs}
+use Rattle.acl_perm.specs.declared.mask.Mask.{Mask}
+use Rattle.acl_perm.specs.declared.profile.Profile.{Profile as HeldProfile}
+use Rattle.acl_nfs4.specs.Ace.{Ace}
+use Rattle.acl_nfs4.specs.Spelling.{Xdr}
+use Rattle.acl_eval.specs.Grant.{Grant}
+use Rattle.acl_eval.specs.Situation.{groups_of, owner_of, owning_group_of, user_of}
+use Rattle.acl_eval.specs.declared.situation.Object.{Object}
+use Rattle.acl_eval.specs.declared.situation.Requester.{Requester}
+use Rattle.aclck.specs.Line.{Term, any_words, default, required}
+use Rattle.aclck.specs.Values.{are_names, is_name, mask_within, profile_value}
+use Rattle.aclck.specs.Answer.{Answer, IsXdrFault, decision_line, done, refused}
+use Rattle.aclck.specs.declared.answer.Outcome.{Outcome}
+use Rattle.aclck.specs.declared.answer.Outcome.TheVariants as outcome
+use Rattle.aclck.specs.declared.task.check_nfs.CheckNfs.{CheckNfs}
 
--- `check-nfs --owner NAME --group NAME --user NAME --mask MASK [GROUPS..]`
-unfoldable pub check_nfs_app : App
-check_nfs_app = with_rule
-    (with_rule
-    (with_rule
-    (with_rule (with_rule (plain_app (codes "check-nfs")) (required_rule (codes "owner"))) (required_rule (codes "group")))
-    (required_rule (codes "user")))
-    (required_rule (codes "mask")))
-    (words_rule (codes "groups"))
+-- ---- words
 
--- an object's owner and owning group, a requester's user and groups, and a request
-pub record CheckNfsValues : Type 0 where
+-- `check-nfs --owner NAME --group NAME --user NAME --mask MASK [--profile full|narrow] [GROUPS..]`
+abbrev pub check_nfs_terms : List Term
+check_nfs_terms = required (codes "owner") ∷ required (codes "group") ∷ required (codes "user")
+    ∷ required (codes "mask") ∷ default (codes "profile") (codes "full") ∷ any_words ∷ []
+
+-- whose object it is
+pub record ObjectNames : Type 0 where
   pub owner : Text
   pub group : Text
+
+-- who asks
+pub record RequesterNames : Type 0 where
   pub user : Text
-  pub mask : ℕ
   pub groups : List Text
 
--- the requester asks of the object
-abbrev pub asked : CheckNfsValues → Situation
-asked v = record { owner_name = v.owner; owning_group = v.group; user_name = v.user; groups = v.groups }
+-- who asks of what, for which rights, and what a list may have
+pub record CheckNfsValues : Type 0 where
+  pub object : ObjectNames
+  pub requester : RequesterNames
+  pub mask : ℕ
+  pub profile : Profile
 
--- each name has at least one byte
-abbrev pub is_named : CheckNfsValues → Bool
-is_named v = is_name v.owner && is_name v.group && is_name v.user && are_names v.groups
+-- an object's owner and group, where both are names
+abbrev pub object_named : Option Text → Option Text → Option ObjectNames
+object_named owner group = option_and_then (λ owner_name. option_and_then (λ group_name.
+    if is_name owner_name && is_name group_name
+    then Some (record { owner = owner_name; group = group_name }) else None) group) owner
 
--- the values, where all of them are there and the mask is one
-abbrev pub check_nfs_values : Option Text → Option Text → Option Text → Option Text → List Text → Option CheckNfsValues
-check_nfs_values owner group user mask groups =
-    option_and_then (λ o. option_and_then (λ g. option_and_then (λ u. option_map (λ m. record {
-      owner = o;
-      group = g;
-      user = u;
-      mask = m;
-      groups = groups;
-    }) (option_and_then mask_value mask)) user) group) owner
+-- a user and its groups, where all are names
+abbrev pub requester_named : Option Text → List Text → Option RequesterNames
+requester_named user groups = option_and_then (λ user_name.
+    if is_name user_name && are_names groups
+    then Some (record { user = user_name; groups = groups }) else None) user
 
--- the values that the rows of a parse spell, where the mask is one
-abbrev pub check_nfs_values_in : List Row → Option CheckNfsValues
-check_nfs_values_in rows = check_nfs_values (first_of (codes "owner") rows) (first_of (codes "group") rows) (first_of (codes "user") rows)
-    (first_of (codes "mask") rows) (unwrap_or (all_of (codes "groups") rows) [])
+-- the values, where all are there and the profile has the rights of the mask
+abbrev pub check_nfs_values :
+    Option ObjectNames → Option RequesterNames → Option Text → Option Profile → Option CheckNfsValues
+check_nfs_values object requester mask profile =
+    option_and_then (λ whose. option_and_then (λ who. option_and_then (λ allowed. option_map (λ rights.
+    record { object = whose; requester = who; mask = rights; profile = allowed })
+    (option_and_then (mask_within allowed.masks) mask)) profile) requester) object
 
--- the same, where no name is empty
-abbrev pub named_values : CheckNfsValues → Option CheckNfsValues
-named_values v = if is_named v then Some v else None
+-- the values that the rows of a parse and the words that are no option's spell
+unfoldable pub check_nfs_in : List Row → List Text → Option CheckNfsValues
+check_nfs_in rows groups = check_nfs_values
+    (object_named (first_of (codes "owner") rows) (first_of (codes "group") rows))
+    (requester_named (first_of (codes "user") rows) groups)
+    (first_of (codes "mask") rows)
+    (option_and_then profile_value (first_of (codes "profile") rows))
 
--- the values that the words spell, where the command takes them and the mask is one
-unfoldable pub check_nfs_values_at : List Text → Option CheckNfsValues
-check_nfs_values_at words = if is_taken check_nfs_app words then check_nfs_values_in (rows_at check_nfs_app words) else None
+-- the names that an object has
+abbrev pub object_names : Object → ObjectNames
+object_names object = record { owner = owner_of object; group = owning_group_of object }
+
+-- the names that a requester has
+abbrev pub requester_names : Requester → RequesterNames
+requester_names requester = record { user = user_of requester; groups = groups_of requester }
+
+-- the values that a call is given
+abbrev pub values_of : Object → Requester → Mask → HeldProfile → CheckNfsValues
+values_of object requester mask profile = record {
+  object = object_names object;
+  requester = requester_names requester;
+  mask = mask.bits;
+  profile = profile_of profile;
+}
 
 -- the values that the program holds
-abbrev pub values_of : CheckNfsArgs → CheckNfsValues
-values_of a = record {
-  owner = a.owner.now;
-  group = a.group.now;
-  user = a.user.now;
-  mask = a.mask.bits;
-  groups = map (λ g. g.now) a.groups.items;
+abbrev pub check_nfs_held : CheckNfs → CheckNfsValues
+check_nfs_held task = values_of task.object task.requester task.mask task.profile
+
+-- ---- the answer
+
+-- the requester asks of the object
+abbrev pub situation_of : CheckNfsValues → Situation
+situation_of values = record {
+  owner_name = values.object.owner;
+  owning_group = values.object.group;
+  user_name = values.requester.user;
+  groups = values.requester.groups;
 }
+
+-- the input is one accepted list of the profile and nothing more, and the outcome says whether that list grants the
+-- request
+pub record Decides (values : CheckNfsValues) (input : List ℕ) (o : Outcome) : Type 0 where
+  pub list : List Ace
+  pub spelled : Xdr values.profile list input
+  pub answer : (o ≡ outcome.Yes) ↔ Grant list (situation_of values) values.mask
+
+-- the outcome with the line that tells it, or a fault that the input has
+abbrev pub CheckNfsAnswer : CheckNfsValues → List ℕ → Answer → Type 0
+CheckNfsAnswer values input (done o text) = Decides values input o × (text ≡ decision_line o)
+CheckNfsAnswer values input (refused f) = IsXdrFault values.profile input f

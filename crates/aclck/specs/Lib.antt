@@ -1,6 +1,15 @@
 pub mod Line
 pub mod Values
+pub mod PosixValues
+pub mod NameWords
+pub mod Answer
+pub mod PosixAnswer
+pub mod ShowPosix
 pub mod CheckNfs
-pub mod Faults
-pub mod Run
+pub mod CheckPosix
+pub mod CalcMask
+pub mod Chmod
+pub mod Create
 pub mod Task
+pub mod Command
+pub mod Laws

@@ -1,9 +1,67 @@
--- A command's own command line, by `clap`'s functions for simple commands.
-use Rattle.std.specs.Prelude.{◌∷◌, [], List, Some, Bool, false, true}
-use Rattle.clap.specs.Words.{App, Kinds, Row, Rule, Text, fault_of, matches_of, new_app, new_rule}
+-- A command's own command line, by `clap`'s functions for simple commands (this library's own).
+use Rattle.std.specs.Prelude.{◌≡◌, ◌∷◌, [], List, Option, Some, None, Bool, Result, Ok, Err, codes, false, if◌then◌else◌, map, not, true, unwrap_or}
+use Rattle.std.specs.Option.{option_map_or}
+use Rattle.std.specs.List.{list_any}
+use Rattle.std.specs.Str.{bytes_eq}
+use Rattle.clap.specs.Words.{App, Kinds, Row, Rule, Text, all_of, fault_of, first_of, matches_of, new_app, new_rule}
 use Rattle.clap.specs.Simple.{on_top}
-use Rattle.clap.specs.declared.builder.ArgAction.TheVariants.{Append}
+use Rattle.clap.specs.declared.builder.ArgAction.TheVariants.{Append, SetTrue}
+use Rattle.aclck.specs.declared.line.LineFault.{LineFault}
+use Rattle.aclck.specs.declared.line.LineFault.TheVariants as line
+use Rattle.aclck.specs.declared.line.Argument.{Argument}
+use Rattle.aclck.specs.declared.line.Argument.TheVariants as argument
 
+-- ---- arguments
+
+-- an argument of a command
+pub data Term : Type 0 where
+  required : Text → Term
+  optional : Text → Term
+  default : Text → Text → Term
+  flag : Text → Term
+  any_words : Term
+
+-- what the program holds
+abbrev pub term : Argument → Term
+term (argument.Required name) = required name.now
+term (argument.Optional name) = optional name.now
+term (argument.Default name value) = default name.now value.now
+term (argument.Flag name) = flag name.now
+term argument.Words = any_words
+
+-- `clap`'s rule for it: `--NAME VALUE` which has to be there, which may be absent, which is VALUE where it is absent;
+-- `--NAME`; any number of words
+abbrev pub rule_from : Term → Rule
+rule_from (required name) = record (new_rule name) { long = Some name; required = true }
+rule_from (optional name) = record (new_rule name) { long = Some name }
+rule_from (default name value) = record (new_rule name) { long = Some name; defaults = value ∷ [] }
+rule_from (flag name) = record (new_rule name) { long = Some name; action = Some SetTrue }
+rule_from any_words = record (new_rule (codes "words")) { action = Some Append }
+
+-- it takes words
+abbrev pub is_rest : Term → Bool
+is_rest (required name) = false
+is_rest (optional name) = false
+is_rest (default name value) = false
+is_rest (flag name) = false
+is_rest any_words = true
+
+-- at most one argument takes words
+abbrev pub is_sound : List Term → Bool
+is_sound [] = true
+is_sound (t ∷ ts) = if is_rest t then not (list_any is_rest ts) else is_sound ts
+
+-- ---- commands
+
+-- a command with no arguments that adds no `--help`
+abbrev pub plain_app : Text → App
+plain_app name = on_top (λ s. record s { disable_help_flag = true }) (new_app name)
+
+-- the command of this name with these arguments
+unfoldable pub app_from : Text → List Term → App
+app_from name terms = on_top (λ s. record s { rules = map rule_from terms }) (plain_app name)
+
+-- no kind of fault at all
 abbrev pub is_none_of : Kinds → Bool
 is_none_of [] = true
 is_none_of (k ∷ ks) = false
@@ -16,14 +74,18 @@ is_taken app words = is_none_of (fault_of app words)
 unfoldable pub rows_at : App → List Text → List Row
 rows_at app words = matches_of app words
 
--- a command with no arguments that adds no `--help`
-abbrev pub plain_app : Text → App
-plain_app name = on_top (λ s. record s { disable_help_flag = true }) (new_app name)
+-- ---- values
 
--- `--NAME VALUE`, which has to be there
-abbrev pub required_rule : Text → Rule
-required_rule name = record (new_rule name) { long = Some name; required = true }
+-- the answer of a call that reads values: those that are expected, or usage where there are none
+abbrev pub Reads : {X V : Type 0} → (X → V) → Option V → Result X LineFault → Type 0
+Reads held expected (Ok x) = expected ≡ Some (held x)
+Reads held expected (Err line.Usage) = expected ≡ None
+Reads held expected (Err line.Memory) = Unit {0}
 
--- any number of words
-abbrev pub words_rule : Text → Rule
-words_rule name = record (new_rule name) { action = Some Append }
+-- the words that are no option's
+abbrev pub words_of : List Row → List Text
+words_of rows = unwrap_or (all_of (codes "words") rows) []
+
+-- the flag was given
+abbrev pub is_given : Text → List Row → Bool
+is_given id rows = option_map_or (λ text. bytes_eq text (codes "true")) (first_of id rows) false

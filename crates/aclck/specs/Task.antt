@@ -1,88 +1,103 @@
--- What the words of the command line ask for, and what comes of it.
-use Rattle.std.specs.Prelude.{◌≡◌, ◌==◌, [], ◌∷◌, List, ℕ, Option, Some, None, Bool, true, false, codes, ⊤, if◌then◌else◌, IsSomeAnd, IfSome, Result, Ok, Err}
+-- The commands: what the words of the command line ask for, and what comes of it (this library's own).
+use Rattle.std.specs.Prelude.{◌∷◌, [], List, ℕ, Option, None, Bool, false, codes, find, is_some, if◌then◌else◌}
 use Rattle.std.specs.Option.{option_and_then, option_map}
 use Rattle.std.specs.Str.{bytes_eq}
-use Rattle.std.specs.Io.KnownBytes.{Appends}
-use Rattle.clap.specs.Words.{Text}
-use Rattle.acl_nfs4.specs.Fault.{IsWholeFault}
-use Rattle.acl_nfs4.specs.declared.fault.Fault.{Fault}
-use Rattle.aclck.specs.CheckNfs.{CheckNfsValues, asked, check_nfs_values_at, named_values}
-use Rattle.aclck.specs.Run.{Decides, decision_line}
-use Rattle.aclck.specs.declared.command.Name.{Name}
-use Rattle.aclck.specs.declared.command.Name.TheVariants as name
-use Rattle.aclck.specs.declared.command.CommandFault.{CommandFault}
-use Rattle.aclck.specs.declared.command.CommandFault.TheVariants as command
-use Rattle.aclck.specs.declared.engine.Outcome.{Outcome}
-use Rattle.aclck.specs.declared.engine.Outcome.TheVariants as outcome
-use Rattle.aclck.specs.declared.engine.RunFault.{RunFault}
-use Rattle.aclck.specs.declared.engine.RunFault.TheVariants as fault
+use Rattle.clap.specs.Words.{App, Row, Text}
+use Rattle.aclck.specs.Line.{Term, app_from, is_taken, rows_at, words_of}
+use Rattle.aclck.specs.Answer.{Answer}
+use Rattle.aclck.specs.CheckNfs.{CheckNfsAnswer, CheckNfsValues, check_nfs_held, check_nfs_in, check_nfs_terms}
+use Rattle.aclck.specs.ShowPosix.{ShowPosixAnswer, ShowPosixValues, show_posix_held, show_posix_in, show_posix_terms}
+use Rattle.aclck.specs.CheckPosix.{CheckPosixAnswer, CheckPosixValues, check_posix_held, check_posix_in, check_posix_terms}
+use Rattle.aclck.specs.CalcMask.{CalcMaskAnswer, calc_mask_in, calc_mask_terms}
+use Rattle.aclck.specs.Chmod.{ChmodAnswer, ChmodValues, chmod_held, chmod_in, chmod_terms}
+use Rattle.aclck.specs.Create.{CreateAnswer, CreateValues, create_held, create_in, create_terms}
+use Rattle.acl_posix.specs.Names.{Table}
+use Rattle.aclck.specs.declared.task.Name.{Name}
+use Rattle.aclck.specs.declared.task.Name.TheVariants as name
+use Rattle.aclck.specs.declared.task.Task.{Task as HeldTask}
+use Rattle.aclck.specs.declared.task.Task.TheVariants as held
+
+-- ---- the tables, with a row a command
+
+-- the commands
+abbrev pub names : List Name
+names = name.ShowPosix ∷ name.CheckPosix ∷ name.CalcMask ∷ name.Chmod ∷ name.Create ∷ name.CheckNfs ∷ []
+
+-- the word that names a command
+abbrev pub word_of : Name → Text
+word_of name.ShowPosix = codes "show-posix"
+word_of name.CheckPosix = codes "check-posix"
+word_of name.CalcMask = codes "calc-mask"
+word_of name.Chmod = codes "chmod"
+word_of name.Create = codes "create"
+word_of name.CheckNfs = codes "check-nfs"
+
+-- its arguments
+abbrev pub terms_of : Name → List Term
+terms_of name.ShowPosix = show_posix_terms
+terms_of name.CheckPosix = check_posix_terms
+terms_of name.CalcMask = calc_mask_terms
+terms_of name.Chmod = chmod_terms
+terms_of name.Create = create_terms
+terms_of name.CheckNfs = check_nfs_terms
+
+-- a command with its values
+pub data Task : Type 0 where
+  show_posix : ShowPosixValues → Task
+  check_posix : CheckPosixValues → Task
+  calc_mask : Table → Task
+  chmod : ChmodValues → Task
+  create : CreateValues → Task
+  check_nfs : CheckNfsValues → Task
+
+-- the values that the rows of a parse and the words that are no option's spell
+abbrev pub task_in : Name → List Row → List Text → Option Task
+task_in name.ShowPosix rows words = option_map show_posix (show_posix_in rows)
+task_in name.CheckPosix rows words = option_map check_posix (check_posix_in rows)
+task_in name.CalcMask rows words = option_map calc_mask (calc_mask_in rows)
+task_in name.Chmod rows words = option_map chmod (chmod_in rows)
+task_in name.Create rows words = option_map create (create_in rows)
+task_in name.CheckNfs rows words = option_map check_nfs (check_nfs_in rows words)
+
+-- what a task makes of an input
+unfoldable pub Answers : Task → List ℕ → Answer → Type 0
+Answers (show_posix v) = ShowPosixAnswer v
+Answers (check_posix v) = CheckPosixAnswer v
+Answers (calc_mask known) = CalcMaskAnswer known
+Answers (chmod v) = ChmodAnswer v
+Answers (create v) = CreateAnswer v
+Answers (check_nfs v) = CheckNfsAnswer v
+
+-- the task that the program holds
+abbrev pub task_held : HeldTask → Task
+task_held (held.ShowPosix v) = show_posix (show_posix_held v)
+task_held (held.CheckPosix v) = check_posix (check_posix_held v)
+task_held (held.CalcMask known) = calc_mask known
+task_held (held.Chmod v) = chmod (chmod_held v)
+task_held (held.Create v) = create (create_held v)
+task_held (held.CheckNfs v) = check_nfs (check_nfs_held v)
 
 -- ---- words
 
 -- the command that a first word names
 abbrev pub command_named : Text → Option Name
-command_named word = if bytes_eq word (codes "check-nfs") then Some name.CheckNfs else None
+command_named word = find (λ n. bytes_eq (word_of n) word) names
 
--- a command with its values
-pub data Task : Type 0 where
-  check_nfs : CheckNfsValues → Task
+-- the definition of a command's words
+abbrev pub app_named : Name → App
+app_named n = app_from (word_of n) (terms_of n)
 
-abbrev pub task_named : Name → List Text → Option Task
-task_named name.CheckNfs words = option_map check_nfs (option_and_then named_values (check_nfs_values_at words))
+-- what the words of this command ask for; nothing where it does not take them, or a value is bad
+unfoldable pub task_named : Name → List Text → Option Task
+task_named n words = if is_taken (app_named n) words
+    then task_in n (rows_at (app_named n) words) (words_of (rows_at (app_named n) words)) else None
 
--- what the words ask for; nothing where the first names no command, the command does not take them, or a value is bad
+-- what the words ask for; nothing where the first names no command
 abbrev pub task_of : List Text → Option Task
 task_of [] = None
 task_of (word ∷ words) = option_and_then (λ n. task_named n (word ∷ words)) (command_named word)
 
--- ---- what comes of it
-
--- the task ran over this input to this outcome, and its line was written
-abbrev pub Ran : Task → List ℕ → Outcome → Option (List ℕ) → Option (List ℕ) → Type 0
-Ran (check_nfs v) input o held holds = Decides input (asked v) v.mask o × Appends held holds (decision_line o)
-
--- the task refuses the input with this fault, which the input has
-abbrev pub Refuses : Task → List ℕ → Fault → Type 0
-Refuses (check_nfs v) input f = IsWholeFault input f.offset f.reason
-
--- the task refuses the input
-abbrev pub IsRefused : Task → List ℕ → Type 0
-IsRefused task input = (f : Fault) × Refuses task input f
-
--- a fault of the words
-abbrev pub IsUsage : CommandFault → Type 0
-IsUsage command.Usage = ⊤
-IsUsage _ = ⊥
-
--- a fault of the output
-abbrev pub IsCommandWrite : CommandFault → Type 0
-IsCommandWrite (command.Run (fault.Write w)) = ⊤
-IsCommandWrite _ = ⊥
-
--- the outcome that a status of 0 or 1 tells
-abbrev pub outcome_at : ℕ → Outcome
-outcome_at status = if status == 0 then outcome.Yes else outcome.No
-
--- 2 for a refused input, 3 for usage, 4 for a device or memory
-abbrev pub status_of : CommandFault → ℕ
-status_of command.Usage = 3
-status_of (command.Run (fault.Nfs f)) = 2
-status_of (command.Run _) = 4
-
--- what a fault says of the words and the input
-abbrev pub Faults : Option Task → Option (List ℕ) → CommandFault → Type 0
-Faults task known command.Usage = task ≡ None
-Faults task known (command.Run (fault.Nfs f)) = IsSomeAnd task (λ t. IfSome known (λ input. Refuses t input f))
-Faults task known _ = ⊤
-
--- the answer of a command whose words ask for this task, over a source with these bytes
-abbrev pub Performs : Option Task → Option (List ℕ) → Option (List ℕ) → Option (List ℕ) → Result Outcome CommandFault → Type 0
-Performs task known held holds (Ok o) = IsSomeAnd task (λ t. IfSome known (λ input. Ran t input o held holds))
-Performs task known held holds (Err e) = Faults task known e
-
--- at an outcome, at usage and at a refused input no read and no write failed
-abbrev pub CountsFailures : ℕ → ℕ → ℕ → ℕ → Result Outcome CommandFault → Type 0
-CountsFailures reads reads_after writes writes_after (Ok o) = (reads_after ≡ reads) × (writes_after ≡ writes)
-CountsFailures reads reads_after writes writes_after (Err command.Usage) = (reads_after ≡ reads) × (writes_after ≡ writes)
-CountsFailures reads reads_after writes writes_after (Err (command.Run (fault.Nfs f))) = (reads_after ≡ reads) × (writes_after ≡ writes)
-CountsFailures reads reads_after writes writes_after (Err _) = ⊤
+-- the first word names a command
+abbrev pub is_command : List Text → Bool
+is_command [] = false
+is_command (word ∷ words) = is_some (command_named word)

@@ -1,33 +1,19 @@
-//! The commands, by their words.
-ghost use Rattle.std.specs.Prelude.{◌≡◌, ◌⊎◌, ◌<◌, ◌≤◌, IfErr, IfSome, IsSome, IsSomeAnd, None, map};
-ghost use Rattle.aclck.specs.Task.{CountsFailures, IsCommandWrite, IsRefused, IsUsage, Performs, Ran, command_named, outcome_at, status_of, task_named, task_of};
+//! The program over a source and sinks.
+ghost use Rattle.std.specs.Prelude.{◌≡◌, ◌⊎◌, ◌<◌, ◌≤◌, IfErr, IsSome, None, Err, OnOk, false, map, true};
+ghost use Rattle.std.specs.Io.KnownBytes.{IsAtEnd};
+ghost use Rattle.acl_perm.specs.Devices.{failures_after, one_more};
+ghost use Rattle.clap.specs.Words.{found_of, rows_of};
+ghost use Rattle.aclck.specs.Line.{words_of};
+ghost use Rattle.aclck.specs.Task.{is_command, task_in, task_of};
+ghost use Rattle.aclck.specs.Command.{IsBegun, IsDone, IsRefused, Performs, has_failed, is_read_fault, is_write_fault, outcome_at, status_of};
 
-use crate::args::check_nfs::check_nfs_args;
-use crate::engine::check_nfs::run_check_nfs;
-use crate::engine::{Outcome, RunFault};
-use crate::line::LineFault;
+use crate::answer::{Outcome, RunFault};
+use crate::line::{LineFault, words_in};
+use crate::task::{Name, Task};
 use acl_perm::{Sink, Source, put_all};
+use clap::ArgMatches;
 use std::alloc::Global;
 use std::io::Write;
-
-/// A command.
-#[derive(Clone, Copy, Debug, PartialEq, Eq)]
-pub enum Name {
-    CheckNfs,
-}
-
-impl Name {
-    // The command that a word names.
-    fn of(word: &str) -> Option<Name>
-        ensures { result ≡ command_named word.now }
-    {
-        if word == "check-nfs" {
-            Some(Name::CheckNfs)
-        } else {
-            None
-        }
-    }
-}
 
 /// Why a command line came to nothing.
 #[derive(Clone, Copy, Debug, PartialEq, Eq)]
@@ -37,14 +23,27 @@ pub enum CommandFault {
     Run(RunFault),
 }
 
+impl From<LineFault> for CommandFault {
+    ghost use Rattle.std.specs.Prelude.{◌≡◌};
+    ghost use Rattle.aclck.specs.Command.{command_fault_of};
+
+    ghost from_gives = { λ fault command. command ≡ command_fault_of fault };
+
+    fn from(fault: LineFault) -> CommandFault {
+        match fault {
+            LineFault::Usage => CommandFault::Usage,
+            LineFault::Memory => CommandFault::Run(RunFault::Memory),
+        }
+    }
+}
+
 impl CommandFault {
     fn status(self) -> u8
         ensures { result ≡ status_of self }
     {
         match self {
             CommandFault::Usage => 3,
-            CommandFault::Run(RunFault::Nfs(_)) => 2,
-            CommandFault::Run(_) => 4,
+            CommandFault::Run(fault) => { if fault.is_refusal() { 2 } else { 4 } }
         }
     }
 }
@@ -61,35 +60,56 @@ pub fn command<S: Source, K: Sink, E: Sink>(
 ) -> u8
     // Below 3 the words ask for a task.
     ensures named { result < 3 → IsSome (task_of (map (λ w. w.now) words.entry.now)) }
-    // At 0 and 1 it ran to its end, and what was written is its output.
-    ensures done { result < 2 → IsSomeAnd (task_of (map (λ w. w.now) words.entry.now)) (λ task.
-        IfSome (S.remaining source.old) (λ input.
-        Ran task input (outcome_at result) (K.contents out.old) (K.contents out.new))) }
+    // At 0 and 1 it ran to its end, and what was written is the text of its answer.
+    ensures done { result < 2 → IsDone (task_of (map (λ w. w.now) words.entry.now))
+        (S.remaining source.old) (K.contents out.old) (K.contents out.new) (outcome_at result) }
+    ensures whole { result < 2 → IsAtEnd (S.remaining source.new) }
     // At 2 the input has a fault.
-    ensures refused { result ≡ 2 → IsSomeAnd (task_of (map (λ w. w.now) words.entry.now)) (λ task.
-        IfSome (S.remaining source.old) (λ input. IsRefused task input)) }
+    ensures refused { result ≡ 2 → IsRefused (task_of (map (λ w. w.now) words.entry.now))
+        (S.remaining source.old) }
     // At 3 the words ask for nothing, and no input was read.
     ensures usage { result ≡ 3 → task_of (map (λ w. w.now) words.entry.now) ≡ None }
     ensures unread { result ≡ 3 → source.new ≡ source.old }
+    // Where the first word names no command, or is none, nothing takes memory.
+    ensures unnamed { is_command (map (λ w. w.now) words.entry.now) ≡ false → result ≡ 3 }
 
     // At 2 and 3 nothing was written.
     ensures unwritten { 2 ≤ result → result ≤ 3 → out.new ≡ out.old }
-    // Below 4 no read and no write failed.
+    // At 4 nothing was written, or a proper beginning of the text of the task's answer, and then one write failed.
+    ensures begun { result ≡ 4 → (out.new ≡ out.old)
+        ⊎ ((K.failure_count out.new ≡ one_more (K.failure_count out.old))
+        × IsBegun (task_of (map (λ w. w.now) words.entry.now)) (S.remaining source.old)
+        (K.contents out.old) (K.contents out.new)) }
+    // Below 4 no read and no write failed, and at 4 at most one of both together.
     ensures none_failed { result < 4 → (S.failure_count source.new ≡ S.failure_count source.old)
         × (K.failure_count out.new ≡ K.failure_count out.old) }
+    ensures one_read { (S.failure_count source.new ≡ S.failure_count source.old)
+        ⊎ (S.failure_count source.new ≡ one_more (S.failure_count source.old)) }
+    ensures one_write { (K.failure_count out.new ≡ K.failure_count out.old)
+        ⊎ (K.failure_count out.new ≡ one_more (K.failure_count out.old)) }
+    ensures one_device { (S.failure_count source.new ≡ S.failure_count source.old)
+        ⊎ (K.failure_count out.new ≡ K.failure_count out.old) }
+    // At 0 and 1 nothing is told.
+    ensures untold { result < 2 → err.new ≡ err.old }
     ensures known { result ≤ 4 }
 {
     match perform(alloc, words, source, out) {
         Ok(Outcome::Yes) => 0,
         Ok(Outcome::No) => 1,
-        Err(fault) => {
-            report(err, fault);
-            fault.status()
-        }
+        Err(fault) => fail(err, fault),
     }
 }
 
+/// The exit status of a fault. One line on `err` says why.
+pub(crate) fn fail<E: Sink>(err: &mut E, fault: CommandFault) -> u8
+    ensures { result ≡ status_of fault }
+{
+    report(err, fault);
+    fault.status()
+}
+
 // Runs the command that the words name.
+#[tactic(auto, unfolding(crate::specs::Task::task_named))]
 fn perform<'a, S: Source, K: Sink>(
     alloc: Global,
     words: &'a [&'a str],
@@ -98,45 +118,50 @@ fn perform<'a, S: Source, K: Sink>(
 ) -> Result<Outcome, CommandFault>
     ensures performs { Performs (task_of (map (λ w. w.now) words.entry.now)) (S.remaining source.old)
         (K.contents out.old) (K.contents out.new) result }
-    ensures unread { IfErr result (λ e. IsUsage e → source.new ≡ source.old) }
-    ensures unwritten { IfErr result (λ e. IsCommandWrite e ⊎ (out.new ≡ out.old)) }
-    ensures none_failed { CountsFailures (S.failure_count source.old) (S.failure_count source.new)
-        (K.failure_count out.old) (K.failure_count out.new) result }
+    ensures whole { OnOk result (IsAtEnd (S.remaining source.new)) }
+    ensures unread { result ≡ Err CommandFault.Usage → source.new ≡ source.old }
+    ensures unnamed { is_command (map (λ w. w.now) words.entry.now) ≡ false
+        → result ≡ Err CommandFault.Usage }
+    ensures unwritten { IfErr result (λ e. (is_write_fault e ≡ true) ⊎ (out.new ≡ out.old)) }
+    ensures reads { S.failure_count source.new
+        ≡ failures_after (S.failure_count source.old) (has_failed is_read_fault result) }
+    ensures writes { K.failure_count out.new
+        ≡ failures_after (K.failure_count out.old) (has_failed is_write_fault result) }
 {
     let Some(word) = words.first() else {
         return Err(CommandFault::Usage);
     };
-    match Name::of(word) {
-        None => Err(CommandFault::Usage),
-        Some(Name::CheckNfs) => perform_check_nfs(alloc, words, source, out),
-    }
+    let Some(name) = Name::of(word) else {
+        return Err(CommandFault::Usage);
+    };
+    let matches = name.matches(alloc, words)?;
+    perform_named(alloc, name, &matches, source, out)
 }
 
-fn perform_check_nfs<'a, S: Source, K: Sink>(
+// Runs a command at what it takes from the words.
+fn perform_named<S: Source, K: Sink>(
     alloc: Global,
-    words: &'a [&'a str],
+    name: Name,
+    matches: &ArgMatches<'_>,
     source: &mut S,
     out: &mut K,
 ) -> Result<Outcome, CommandFault>
-    ensures performs { Performs (task_named Name.CheckNfs (map (λ w. w.now) words.entry.now)) (S.remaining source.old)
-        (K.contents out.old) (K.contents out.new) result }
-    ensures unread { IfErr result (λ e. IsUsage e → source.new ≡ source.old) }
-    ensures unwritten { IfErr result (λ e. IsCommandWrite e ⊎ (out.new ≡ out.old)) }
-    ensures none_failed { CountsFailures (S.failure_count source.old) (S.failure_count source.new)
-        (K.failure_count out.old) (K.failure_count out.new) result }
+    ensures performs { Performs
+        (task_in name (rows_of (found_of matches.now)) (words_of (rows_of (found_of matches.now))))
+        (S.remaining source.old) (K.contents out.old) (K.contents out.new) result }
+    ensures whole { OnOk result (IsAtEnd (S.remaining source.new)) }
+    ensures unread { result ≡ Err CommandFault.Usage → source.new ≡ source.old }
+    ensures unwritten { IfErr result (λ e. (is_write_fault e ≡ true) ⊎ (out.new ≡ out.old)) }
+    ensures reads { S.failure_count source.new
+        ≡ failures_after (S.failure_count source.old) (has_failed is_read_fault result) }
+    ensures writes { K.failure_count out.new
+        ≡ failures_after (K.failure_count out.old) (has_failed is_write_fault result) }
 {
-    let args = match check_nfs_args(alloc, words) {
-        Ok(args) => args,
-        Err(LineFault::Usage) => return Err(CommandFault::Usage),
-        Err(LineFault::Memory) => return Err(CommandFault::Run(RunFault::Memory)),
+    let Ok(texts) = words_in(alloc, matches) else {
+        return Err(CommandFault::Run(RunFault::Memory));
     };
-    let Some((object, requester)) = args.asked() else {
-        return Err(CommandFault::Usage);
-    };
-    match run_check_nfs(alloc, source, out, &object, &requester, args.mask) {
-        Ok(outcome) => Ok(outcome),
-        Err(fault) => Err(CommandFault::Run(fault)),
-    }
+    let task = Task::read(alloc, name, matches, texts.as_slice())?;
+    task.run(alloc, source, out).map_err(CommandFault::Run)
 }
 
 // One line on the fault, made without memory. A fault of `err` changes nothing.

@@ -1,11 +1,28 @@
 //! The words of a command, by `clap`'s rule for a simple command.
-ghost use Rattle.std.specs.Prelude.{◌≡◌, ◌≢◌, [], IfErr, IfOk, OnOk, false, map, option_map, true, unwrap_or};
-ghost use Rattle.clap.specs.Words.{all_of, app_of, first_of, found_of, is_simple, is_simple_and_free, kind_of, rows_of, rule_of, with_rule};
-ghost use Rattle.aclck.specs.Line.{is_taken, plain_app, required_rule, rows_at, words_rule};
+ghost use Rattle.std.specs.Prelude.{◌≡◌, ◌≢◌, IfErr, IfOk, OnOk, codes, false, map, option_map, true};
+ghost use Rattle.std.specs.Option.{option_map_or};
+ghost use Rattle.std.specs.Str.{bytes_eq};
+ghost use Rattle.clap.specs.Words.{app_of, first_of, found_of, is_simple_and_free, kind_of, rows_of, rule_of, with_rule};
+ghost use Rattle.aclck.specs.Line.{app_from, is_given, is_taken, plain_app, rows_at, rule_from, term, words_of};
 
 use clap::error::ErrorKind;
 use clap::{Arg, ArgAction, ArgMatches, Command};
-use std::alloc::{AllocError, Global};
+use std::alloc::{AllocError, AllocFailed, Global};
+
+/// An argument of a command.
+#[derive(Clone, Copy, Debug)]
+pub enum Argument {
+    /// `--NAME VALUE`, which has to be there.
+    Required(&'static str),
+    /// `--NAME VALUE`, which may be absent.
+    Optional(&'static str),
+    /// `--NAME VALUE`, which is the second text where it is absent.
+    Default(&'static str, &'static str),
+    /// `--NAME`.
+    Flag(&'static str),
+    /// Any number of words.
+    Words,
+}
 
 /// Why words ask for nothing.
 #[derive(Clone, Copy, Debug, PartialEq, Eq)]
@@ -25,13 +42,71 @@ impl From<AllocError> for LineFault {
     }
 }
 
+impl<T: Drop> From<AllocFailed<T>> for LineFault {
+    ghost use Rattle.std.specs.Prelude.{◌≡◌};
+    ghost use Rattle.aclck.specs.declared.line.LineFault.TheVariants.{Memory};
+
+    ghost from_gives = { λ _ fault. fault ≡ Memory };
+
+    fn from(_: AllocFailed<T>) -> LineFault {
+        LineFault::Memory
+    }
+}
+
+// An argument as `clap` has it.
+fn arg_of<'a>(alloc: Global, argument: Argument) -> Arg<'a>
+    ensures rule { rule_of result ≡ rule_from (term argument) }
+    ensures local { result.global ≡ false }
+{
+    match argument {
+        Argument::Required(name) => Arg::new(alloc, name).long(name).required(true),
+        Argument::Optional(name) => Arg::new(alloc, name).long(name),
+        Argument::Default(name, value) => Arg::new(alloc, name).long(name).default_value(value),
+        Argument::Flag(name) => Arg::new(alloc, name).long(name).action(ArgAction::SetTrue),
+        Argument::Words => Arg::new(alloc, "words").action(ArgAction::Append),
+    }
+}
+
+// The command with one more argument.
+fn with_argument<'a>(
+    alloc: Global,
+    command: Command<'a>,
+    argument: Argument,
+) -> Result<Command<'a>, AllocError>
+    ensures { IfOk result (λ c.
+        app_of c ≡ with_rule (app_of command.entry) (rule_from (term argument))) }
+{
+    command.arg(arg_of(alloc, argument))
+}
+
+// A command with no arguments, for which words that ask for help are unknown arguments.
+fn plain_command<'a>(alloc: Global, name: &'a str) -> Command<'a>
+    ensures { app_of result ≡ plain_app name.entry.now }
+{
+    Command::new(alloc, name).disable_help_flag(true)
+}
+
+/// The command of a name with the arguments of a table.
+pub(crate) fn command_from<'a>(
+    alloc: Global,
+    name: &'a str,
+    table: &[Argument],
+) -> Result<Command<'a>, AllocError>
+    ensures { IfOk result (λ c. app_of c ≡ app_from name.entry.now (map term table.now)) }
+{
+    let mut command = plain_command(alloc, name);
+    for argument in table {
+        command = with_argument(alloc, command, *argument)?;
+    }
+    Ok(command)
+}
+
 /// What a simple command takes from the words, of which the first stands in the place of the program's name.
 pub(crate) fn parse<'a>(
     command: Command<'a>,
     words: &'a [&'a str],
 ) -> Result<ArgMatches<'a>, LineFault>
-    requires simple { is_simple (app_of command) ≡ true }
-    requires free { is_simple_and_free (app_of command) ≡ true }
+    requires { is_simple_and_free (app_of command) ≡ true }
     ensures ok { IfOk result (λ m. rows_of (found_of m)
         ≡ rows_at (app_of command.entry) (map (λ w. w.now) words.entry.now)) }
     ensures taken { OnOk result
@@ -55,78 +130,37 @@ fn line_fault(error: &clap::Error) -> LineFault
     }
 }
 
-/// A command with no arguments, for which words that ask for help are unknown arguments.
-pub(crate) fn new_command<'a>(alloc: Global, name: &'a str) -> Command<'a>
-    ensures { app_of result ≡ plain_app name.entry.now }
-{
-    Command::new(alloc, name).disable_help_flag(true)
-}
-
-// The command with one more argument.
-fn with_arg<'a>(command: Command<'a>, arg: Arg<'a>) -> Result<Command<'a>, AllocError>
-    requires { arg.global ≡ false }
-    ensures { IfOk result (λ c. app_of c ≡ with_rule (app_of command.entry) (rule_of arg.entry)) }
-{
-    command.arg(arg)
-}
-
-// `--NAME VALUE`, which has to be there.
-fn required_option<'a>(alloc: Global, name: &'a str) -> Arg<'a>
-    ensures rule { rule_of result ≡ required_rule name.entry.now }
-    ensures local { result.global ≡ false }
-{
-    Arg::new(alloc, name).long(name).required(true)
-}
-
-// Any number of words.
-fn positionals<'a>(alloc: Global, name: &'a str) -> Arg<'a>
-    ensures rule { rule_of result ≡ words_rule name.entry.now }
-    ensures local { result.global ≡ false }
-{
-    Arg::new(alloc, name).action(ArgAction::Append)
-}
-
-/// The command with `--NAME VALUE`, which has to be there.
-pub(crate) fn with_required<'a>(
-    alloc: Global,
-    command: Command<'a>,
-    name: &'a str,
-) -> Result<Command<'a>, AllocError>
-    ensures { IfOk result (λ c.
-        app_of c ≡ with_rule (app_of command.entry) (required_rule name.entry.now)) }
-{
-    with_arg(command, required_option(alloc, name))
-}
-
-/// The command with any number of words.
-pub(crate) fn with_positionals<'a>(
-    alloc: Global,
-    command: Command<'a>,
-    name: &'a str,
-) -> Result<Command<'a>, AllocError>
-    ensures { IfOk result (λ c.
-        app_of c ≡ with_rule (app_of command.entry) (words_rule name.entry.now)) }
-{
-    with_arg(command, positionals(alloc, name))
-}
-
-/// The first value of an argument.
+/// The first value of an option.
 pub(crate) fn text_of<'a>(matches: &ArgMatches<'a>, id: &str) -> Option<&'a str>
     ensures { option_map (λ s. s.now) result ≡ first_of id.now (rows_of (found_of matches.now)) }
 {
     matches.get_str(id)
 }
 
-/// All values of an argument.
-pub(crate) fn texts_of<'a>(
+/// Whether a flag was given.
+pub(crate) fn is_set(matches: &ArgMatches<'_>, id: &str) -> bool
+    ensures { result ≡ is_given id.now (rows_of (found_of matches.now)) }
+{
+    is_true(text_of(matches, id))
+}
+
+fn is_true(text: Option<&str>) -> bool
+    ensures { result ≡ option_map_or (λ t. bytes_eq t (codes "true")) (option_map (λ s. s.now) text.entry) false }
+{
+    match text {
+        Some(text) => text == "true",
+        None => false,
+    }
+}
+
+/// The words that are no option's.
+pub(crate) fn words_in<'a>(
     alloc: Global,
     matches: &ArgMatches<'a>,
-    id: &str,
 ) -> Result<Vec<&'a [u8]>, AllocError>
-    ensures { IfOk result (λ v. map (λ g. g.now) v.items
-        ≡ unwrap_or (all_of id.now (rows_of (found_of matches.now))) []) }
+    ensures { IfOk result (λ v. map (λ g. g.now) v.items ≡ words_of (rows_of (found_of matches.now))) }
 {
-    match matches.get_strs(id) {
+    match matches.get_strs("words") {
         Some(texts) => bytes_of(alloc, texts),
         None => Ok(Vec::new(alloc)),
     }

@@ -1,16 +1,25 @@
 //! Checks, converts and compares access control lists on standard input.
 #![tactic(auto)]
 
-mod args;
+mod answer;
 mod command;
-mod engine;
+pub mod laws;
 mod line;
+mod name_words;
+mod posix;
+#[cfg(test)]
+mod posix_tests;
+mod posix_values;
+mod task;
 #[cfg(test)]
 mod tests;
 mod values;
 
-use acl_perm::{Counted, put_all};
-use command::command;
+use acl_perm::{Counted, Sink, Source};
+use answer::RunFault;
+use command::{CommandFault, command, fail};
+use line::LineFault;
+use std::alloc::Global;
 use std::process::ExitCode;
 use std::{env, io};
 
@@ -18,30 +27,32 @@ fn main(rt: HostRuntime) -> ExitCode {
     let mut source = Counted::new(rt.stdin());
     let mut out = Counted::new(rt.stdout());
     let mut err = Counted::new(rt.stderr());
-    let alloc = rt.alloc();
-    let args = match env::args(&rt) {
-        Ok(args) => args,
-        Err(e) if e.kind() == io::ErrorKind::OutOfMemory => {
-            let _ = put_all(&mut err, b"aclck: out of memory\n");
-            return ExitCode::from(4);
-        }
-        Err(_) => {
-            let _ = put_all(&mut err, b"aclck: usage\n");
-            return ExitCode::from(3);
-        }
+    let status = match collect_words(&rt) {
+        Ok(words) => run_words(rt.alloc(), &words, &mut source, &mut out, &mut err),
+        Err(fault) => fail(&mut err, CommandFault::from(fault)),
     };
-    let Ok(args) = args.skip(1).collect::<Vec<String>>(alloc) else {
-        let _ = put_all(&mut err, b"aclck: out of memory\n");
-        return ExitCode::from(4);
-    };
-    let Ok(words) = args
-        .iter()
-        .map(|word| word.as_str())
-        .collect::<Vec<&str>>(alloc)
-    else {
-        let _ = put_all(&mut err, b"aclck: out of memory\n");
-        return ExitCode::from(4);
-    };
-    let status = command(alloc, words.as_slice(), &mut source, &mut out, &mut err);
     ExitCode::from(status)
+}
+
+// The words of the command line without the program's name.
+fn collect_words(rt: &HostRuntime) -> Result<Vec<String>, LineFault> {
+    match env::args(rt) {
+        Ok(args) => Ok(args.skip(1).collect::<Vec<String>>(rt.alloc())?),
+        Err(e) if e.kind() == io::ErrorKind::OutOfMemory => Err(LineFault::Memory),
+        Err(_) => Err(LineFault::Usage),
+    }
+}
+
+fn run_words<S: Source, K: Sink, E: Sink>(
+    alloc: Global,
+    words: &[String],
+    source: &mut S,
+    out: &mut K,
+    err: &mut E,
+) -> u8 {
+    let texts = words.iter().map(|word| word.as_str());
+    match texts.collect::<Vec<&str>>(alloc) {
+        Ok(texts) => command(alloc, texts.as_slice(), source, out, err),
+        Err(_) => fail(err, CommandFault::Run(RunFault::Memory)),
+    }
 }

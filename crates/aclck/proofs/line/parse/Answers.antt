@@ -1,12 +1,12 @@
 use Rattle.aclck.proofs.LineLemmas.{refused_from, rows_from, taken_from}
-use Rattle.std.proofs.Common.{ap, sym, ◌∙◌}
 use Rattle.aclck.proofs.line.parse.Goals as goal
 
 pub returns-in-Ok-clause-ok : goal.returns-in-Ok-clause-ok
-returns-in-Ok-clause-ok c = rows_from _ _ _ c.requires.simple c.in-Ok.ensures.matches
+returns-in-Ok-clause-ok c = rows_from _ _ _ c.requires c.in-Ok.ensures.matches
 
 pub returns-in-Ok-clause-taken : goal.returns-in-Ok-clause-taken
-returns-in-Ok-clause-taken c = taken_from _ _ c.requires.free c.in-Ok.ensures.kinds
+returns-in-Ok-clause-taken c = taken_from _ _ c.requires c.in-Ok.ensures.kinds
 
 pub returns-in-Err-clause-usage : goal.returns-in-Err-clause-usage
-returns-in-Err-clause-usage c = λ usage. refused_from _ _ c.in-Err.error c.requires.free c.in-Err.ensures.kinds (c.line_fault.ensures.usage usage)
+returns-in-Err-clause-usage c = λ usage.
+    refused_from _ _ c.in-Err.error c.requires c.in-Err.ensures.kinds (c.line_fault.ensures.usage usage)

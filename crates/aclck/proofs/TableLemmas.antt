@@ -1,0 +1,85 @@
+-- Any table with at most one argument that takes words makes a command of which `clap`'s exact clauses speak.
+use Rattle.std.proofs.Common.{◌≡◌, ◌∙◌, ◌+◌, ℕ, Bool, true, false, cond, not, List, [], ◌∷◌, ap, map, sym, refl, subst}
+use Rattle.std.specs.Prelude.{◌&&◌, count_by, is_some}
+use Rattle.std.specs.List.{list_all, list_any}
+use Rattle.std.proofs.lemmas.List.Sums.{sum_by-cons}
+use Rattle.clap.specs.Words.{Rule, Text, is_simple_and_free}
+use Rattle.clap.specs.Simple.{filled, filled_from, index_after, with_index}
+use Rattle.clap.specs.Walk.{is_early_multiple}
+use Rattle.acl_perm.proofs.Bools.{not_true}
+use Rattle.aclck.specs.Line.{Term, any_words, app_from, default, flag, is_rest, is_sound, optional, required, rule_from}
+
+simple_rules : (terms : List Term) → list_all (λ a. a.is_simple) (map rule_from terms) ≡ true
+simple_rules [] = refl
+simple_rules (required name ∷ ts) = simple_rules ts
+simple_rules (optional name ∷ ts) = simple_rules ts
+simple_rules (default name value ∷ ts) = simple_rules ts
+simple_rules (flag name ∷ ts) = simple_rules ts
+simple_rules (any_words ∷ ts) = simple_rules ts
+
+simple_filled : (terms : List Term) (i : ℕ) → list_all (λ a. a.is_simple) (filled_from i (map rule_from terms)) ≡ true
+simple_filled [] i = refl
+simple_filled (required name ∷ ts) i = simple_filled ts _
+simple_filled (optional name ∷ ts) i = simple_filled ts _
+simple_filled (default name value ∷ ts) i = simple_filled ts _
+simple_filled (flag name ∷ ts) i = simple_filled ts _
+simple_filled (any_words ∷ ts) i = simple_filled ts _
+
+free_filled : (terms : List Term) (i : ℕ) → list_all (λ a. a.is_free) (filled_from i (map rule_from terms)) ≡ true
+free_filled [] i = refl
+free_filled (required name ∷ ts) i = free_filled ts _
+free_filled (optional name ∷ ts) i = free_filled ts _
+free_filled (default name value ∷ ts) i = free_filled ts _
+free_filled (flag name ∷ ts) i = free_filled ts _
+free_filled (any_words ∷ ts) i = free_filled ts _
+
+none_early : (terms : List Term) (i n : ℕ) → list_any is_rest terms ≡ false
+    → list_any (is_early_multiple n) (filled_from i (map rule_from terms)) ≡ false
+none_early [] i n none = refl
+none_early (required name ∷ ts) i n none = none_early ts _ n none
+none_early (optional name ∷ ts) i n none = none_early ts _ n none
+none_early (default name value ∷ ts) i n none = none_early ts _ n none
+none_early (flag name ∷ ts) i n none = none_early ts _ n none
+none_early (any_words ∷ ts) i n none = absurd cc
+
+-- how many rules have a place of their own among the words
+abbrev placed : List Rule → ℕ
+placed rules = count_by (λ a. is_some a.index) rules
+
+none_placed : (terms : List Term) (i : ℕ) → list_any is_rest terms ≡ false
+    → placed (filled_from i (map rule_from terms)) ≡ 0
+none_placed [] i none = refl
+none_placed (required name ∷ ts) i none = none_placed ts _ none
+none_placed (optional name ∷ ts) i none = none_placed ts _ none
+none_placed (default name value ∷ ts) i none = none_placed ts _ none
+none_placed (flag name ∷ ts) i none = none_placed ts _ none
+none_placed (any_words ∷ ts) i none = absurd cc
+
+one_early : (terms : List Term) (n : ℕ) → is_sound terms ≡ true
+    → n ≡ placed (filled_from 1 (map rule_from terms))
+    → list_any (is_early_multiple n) (filled_from 1 (map rule_from terms)) ≡ false
+one_early [] n sound e = refl
+one_early (required name ∷ ts) n sound e = one_early ts n sound e
+one_early (optional name ∷ ts) n sound e = one_early ts n sound e
+one_early (default name value ∷ ts) n sound e = one_early ts n sound e
+one_early (flag name ∷ ts) n sound e = one_early ts n sound e
+one_early (any_words ∷ ts) n sound e =
+    let none = not_true (list_any is_rest ts) sound in
+    let left = filled_from (index_after 1 (filled (rule_from any_words))) (map rule_from ts) in
+    let one : n ≡ 1 = e
+    ∙ sum_by-cons (λ a. cond (is_some a.index) 1 0) (with_index 1 (filled (rule_from any_words))) left
+    ∙ ap (λ (k : ℕ). 1 + k) (none_placed ts _ none) in
+    subst (λ (k : ℕ). list_any (is_early_multiple k) (filled_from 1 (map rule_from (any_words ∷ ts))) ≡ false)
+    (sym one) (none_early ts (index_after 1 (filled (rule_from any_words))) 1 none)
+
+shape : (a b c d : Bool) → a ≡ true → b ≡ true → c ≡ false → d ≡ true
+    → (((a && true) && ((b && not c) && true)) && (d && true)) ≡ true
+shape a b c d ea eb ec ed = rw (ea, eb, ec, ed) refl
+
+-- each such table makes a command of which `clap`'s clauses say all
+pub is_free_from : (name : Text) (terms : List Term) → is_sound terms ≡ true
+    → is_simple_and_free (app_from name terms) ≡ true
+unfolding app_from
+is_free_from name terms sound =
+    shape _ _ _ _ (simple_rules terms) (simple_filled terms 1)
+    (one_early terms (placed (filled_from 1 (map rule_from terms))) sound refl) (free_filled terms 1)

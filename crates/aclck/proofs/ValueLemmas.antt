@@ -1,0 +1,48 @@
+-- What `parse` reads of digits.
+use Rattle.std.proofs.Common.{◌≡◌, ◌∙◌, ◌≤◌, ◌<◌, ◌^◌, ℕ, true, List, [], ◌∷◌, ap, arith, get_or, length, sym, subst}
+use Rattle.std.specs.Prelude.{◌==◌, ◌≢◌, MatchResult, Result, Ok, Err, not}
+use Rattle.std.specs.Char.{digit_value, is_digit}
+use Rattle.std.specs.List.{list_all}
+use Rattle.std.specs.Str.Parse.{AllDigits, IsNumeral, ParsesUnsigned, digits_value, without_leading_plus}
+use Rattle.std.proofs.lemmas.Bool.{ltb-true}
+use Rattle.std.proofs.lemmas.Str.Parse.{without_leading_plus_none}
+use Rattle.acl_perm.proofs.Bools.{and_true}
+use Rattle.aclck.specs.PosixValues.{are_digits}
+
+all_digits : (radix : ℕ) (bs : List ℕ) → list_all (λ b. is_digit b radix) bs ≡ true → AllDigits radix bs
+all_digits radix [] h = tt
+all_digits radix (b ∷ bs) h =
+    let both = and_true (is_digit b radix) (list_all (λ d. is_digit d radix) bs) h in
+    (ltb-true (digit_value b) radix both.0, all_digits radix bs both.1)
+
+plus_is_none : (radix b : ℕ) → b ≡ 43 → digit_value b < radix → 36 < radix
+plus_is_none radix b e below = subst (λ n. digit_value n < radix) e below
+
+no_plus : (radix : ℕ) (bs : List ℕ) → radix ≤ 10 → 0 < length bs → AllDigits radix bs → get_or bs 0 0 ≢ 43
+no_plus radix [] low some h = absurd (omega (arith, some))
+no_plus radix (b ∷ bs) low some h = λ e. omega (arith, low, plus_is_none radix b e h.0)
+
+some_byte : (bs : List ℕ) → not (length bs == 0) ≡ true → 0 < length bs
+some_byte [] h = absurd cc
+some_byte (b ∷ bs) h = omega arith
+
+numeral : (radix : ℕ) (bs : List ℕ) → are_digits radix bs ≡ true → IsNumeral radix bs
+numeral radix bs h =
+    let both = and_true (not (length bs == 0)) (list_all (λ b. is_digit b radix) bs) h in
+    (some_byte bs both.0, all_digits radix bs both.1)
+
+plain : (radix : ℕ) (bs : List ℕ) → radix ≤ 10 → are_digits radix bs ≡ true → without_leading_plus bs ≡ bs
+plain radix bs low h = let all = numeral radix bs h in without_leading_plus_none bs (no_plus radix bs low all.0 all.1)
+
+-- digits are read as their value, or it does not fit
+pub parsed : {E : Type 0} (k radix : ℕ) (bs : List ℕ) (r : Result ℕ E) → radix ≤ 10 → are_digits radix bs ≡ true
+    → ParsesUnsigned k radix bs r → MatchResult r (λ v. v ≡ digits_value radix bs) (λ _. 2 ^ k ≤ digits_value radix bs)
+parsed k radix bs (Ok v) low h read = read.1 ∙ ap (digits_value radix) (plain radix bs low h)
+parsed k radix bs (Err e) low h read =
+    let same = plain radix bs low h in
+    let large : ¬ (digits_value radix bs < 2 ^ k) = λ small.
+    read (
+      subst (IsNumeral radix) (sym same) (numeral radix bs h),
+      subst (λ ds. digits_value radix ds < 2 ^ k) (sym same) small,
+    ) in
+    omega (arith, large)

@@ -1,0 +1,11 @@
+use Rattle.std.proofs.Common.{◌∙◌}
+use Rattle.aclck.proofs.LineLemmas.{no_terms, one_more_argument}
+use Rattle.aclck.proofs.line.command_from.Goals as goal
+
+pub loop-argument-init : goal.loop-argument-init
+loop-argument-init c = c.plain_command-command.ensures ∙ no_terms _
+
+pub loop-argument-preserved : goal.loop-argument-preserved
+loop-argument-preserved c =
+    one_more_argument _ _ _ c.args.table.now c.loop-argument.argument-index _ c.loop-argument.invariant
+    c.in_ok-command.ensures c.loop-argument-test.true

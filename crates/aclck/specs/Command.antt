@@ -1,0 +1,61 @@
+-- What the exit status of the program tells (this library's own).
+use Rattle.std.specs.Prelude.{◌≡◌, ◌==◌, ◌⊎◌, List, ℕ, Option, None, Bool, false, if◌then◌else◌, IsSomeAnd, Result, Ok, Err}
+use Rattle.aclck.specs.Answer.{Begins, Fails, Finishes, Refuses, is_read, is_refusal, is_write}
+use Rattle.aclck.specs.Task.{Answers, Task}
+use Rattle.aclck.specs.declared.answer.Outcome.{Outcome}
+use Rattle.aclck.specs.declared.answer.Outcome.TheVariants as outcome
+use Rattle.aclck.specs.declared.answer.RunFault.{RunFault}
+use Rattle.aclck.specs.declared.answer.RunFault.TheVariants as fault
+use Rattle.aclck.specs.declared.line.LineFault.{LineFault}
+use Rattle.aclck.specs.declared.line.LineFault.TheVariants as line
+use Rattle.aclck.specs.declared.command.CommandFault.{CommandFault}
+use Rattle.aclck.specs.declared.command.CommandFault.TheVariants as command
+
+-- the faults of words as the program tells them
+abbrev pub command_fault_of : LineFault → CommandFault
+command_fault_of line.Usage = command.Usage
+command_fault_of line.Memory = command.Run fault.Memory
+
+-- the outcome that a status of 0 or 1 tells
+abbrev pub outcome_at : ℕ → Outcome
+outcome_at status = if status == 0 then outcome.Yes else outcome.No
+
+-- 2 for a refused input, 3 for usage, 4 for a device or memory
+abbrev pub status_of : CommandFault → ℕ
+status_of command.Usage = 3
+status_of (command.Run f) = if is_refusal f then 2 else 4
+
+-- some input that the task refuses
+abbrev pub IsRefused : Option Task → Option (List ℕ) → Type 0
+IsRefused task known = IsSomeAnd task (λ t. (f : RunFault) × Refuses (Answers t) known f)
+
+-- a proper beginning of a text of the task was written
+abbrev pub IsBegun : Option Task → Option (List ℕ) → Option (List ℕ) → Option (List ℕ) → Type 0
+IsBegun task known held holds = IsSomeAnd task (λ t. (n : ℕ) × Begins (Answers t) known held holds n)
+
+-- the task ran to its end
+abbrev pub IsDone : Option Task → Option (List ℕ) → Option (List ℕ) → Option (List ℕ) → Outcome → Type 0
+IsDone task known held holds o = IsSomeAnd task (λ t. Finishes (Answers t) known held holds o)
+
+-- the answer of a command whose words ask for this task
+abbrev pub Performs : Option Task → Option (List ℕ) → Option (List ℕ) → Option (List ℕ)
+    → Result Outcome CommandFault → Type 0
+Performs task known held holds (Ok o) = IsDone task known held holds o
+Performs task known held holds (Err command.Usage) = task ≡ None
+Performs task known held holds (Err (command.Run f)) =
+    (f ≡ fault.Memory) ⊎ IsSomeAnd task (λ t. Fails (Answers t) known held holds f)
+
+-- the fault is that a read failed
+abbrev pub is_read_fault : CommandFault → Bool
+is_read_fault command.Usage = false
+is_read_fault (command.Run f) = is_read f
+
+-- the fault is that a write failed
+abbrev pub is_write_fault : CommandFault → Bool
+is_write_fault command.Usage = false
+is_write_fault (command.Run f) = is_write f
+
+-- the answer is a fault of this kind
+abbrev pub has_failed : (CommandFault → Bool) → Result Outcome CommandFault → Bool
+has_failed test (Ok o) = false
+has_failed test (Err e) = test e

@@ -1,0 +1,54 @@
+-- `create`: its words, and what it makes of an input (this library's own, over acl(5), "OBJECT CREATION AND DEFAULT
+-- ACLs").
+use Rattle.std.specs.Prelude.{◌∷◌, [], Bool, List, ℕ, Option, codes}
+use Rattle.std.specs.Option.{option_and_then, option_map}
+use Rattle.clap.specs.Words.{Row, first_of}
+use Rattle.acl_posix.specs.Create.{created_access, created_default}
+use Rattle.acl_posix.specs.Names.{Table}
+use Rattle.acl_posix.specs.Texts.{canonical_text}
+use Rattle.acl_posix.specs.declared.file.PosixFile.{PosixFile}
+use Rattle.aclck.specs.Line.{Term, any_words, flag, is_given, required, words_of}
+use Rattle.aclck.specs.NameWords.{names_value}
+use Rattle.aclck.specs.PosixValues.{mode_value}
+use Rattle.aclck.specs.Answer.{Answer}
+use Rattle.aclck.specs.PosixAnswer.{WritesAnswer}
+use Rattle.aclck.specs.declared.task.create.Create.{Create}
+
+-- ---- words
+
+-- `create --mode OCT --umask OCT [--dir] [NAMES..]`
+abbrev pub create_terms : List Term
+create_terms = required (codes "mode") ∷ required (codes "umask") ∷ flag (codes "dir") ∷ any_words ∷ []
+
+-- the mode and the umask, whether the new object is a directory, and which names a text may have
+pub record CreateValues : Type 0 where
+  pub mode : ℕ
+  pub umask : ℕ
+  pub is_directory : Bool
+  pub names : Table
+
+-- the values, where all are there
+abbrev pub create_values : Option ℕ → Option ℕ → Bool → Option Table → Option CreateValues
+create_values mode umask is_directory names = option_and_then (λ m. option_and_then (λ u. option_map (λ n.
+    record { mode = m; umask = u; is_directory = is_directory; names = n }) names) umask) mode
+
+-- the values that the rows of a parse spell
+unfoldable pub create_in : List Row → Option CreateValues
+create_in rows = create_values (option_and_then mode_value (first_of (codes "mode") rows))
+    (option_and_then mode_value (first_of (codes "umask") rows)) (is_given (codes "dir") rows)
+    (names_value (words_of rows))
+
+-- the values that the program holds
+abbrev pub create_held : Create → CreateValues
+create_held v = record { mode = v.mode.bits; umask = v.umask.bits; is_directory = v.dir; names = v.names }
+
+-- ---- the answer
+
+-- the canonical text of the new object, in a directory of this file
+abbrev pub created_text : ℕ → ℕ → Bool → PosixFile → List ℕ
+created_text mode umask is_directory file =
+    canonical_text (created_access file.default mode umask) (created_default file.default is_directory)
+
+-- that text, or a fault that the input has
+abbrev pub CreateAnswer : CreateValues → List ℕ → Answer → Type 0
+CreateAnswer v = WritesAnswer v.names (created_text v.mode v.umask v.is_directory)

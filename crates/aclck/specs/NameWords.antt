@@ -1,0 +1,97 @@
+-- The table of names that words spell: `u:NAME=ID` and `g:NAME=ID` (this library's own).
+use Rattle.std.specs.Prelude.{ℕ, ◌==◌, ◌≡◌, Option, Some, None, Result, Ok, Err, List, [], ◌∷◌, codes, length, nat_lt, if◌then◌else◌}
+use Rattle.std.specs.List.{after_first, before_first, position_or_len}
+use Rattle.std.specs.Option.{is_none, option_and_then, option_map}
+use Rattle.std.specs.Str.{bytes_eq}
+use Rattle.clap.specs.Words.{Text}
+use Rattle.acl_posix.specs.Names.{Table, name_fault, no_names, with_group, with_user}
+use Rattle.acl_posix.specs.declared.names.NameFault.{NameFault}
+use Rattle.acl_posix.specs.declared.names.NameFault.TheVariants as names
+use Rattle.aclck.specs.PosixValues.{id_value}
+use Rattle.aclck.specs.declared.line.LineFault.{LineFault}
+use Rattle.aclck.specs.declared.line.LineFault.TheVariants as line
+use Rattle.aclck.specs.declared.name_words.Half.{Half as HeldHalf}
+use Rattle.aclck.specs.declared.name_words.Half.TheVariants as held
+use Rattle.aclck.specs.declared.name_words.NamedId.{NamedId as HeldNamedId}
+
+-- what stands before the first of these bytes, and what stands behind it
+abbrev pub first_cut : ℕ → Text → Option (Text × Text)
+first_cut byte text = if nat_lt (position_or_len (λ b. b == byte) text) (length text)
+    then Some (before_first (λ b. b == byte) text, after_first (λ b. b == byte) text) else None
+
+-- a byte, and what is cut of the bytes behind it
+abbrev pub cut_behind : ℕ → ℕ → Text → Option (Text × Text) → Option (Text × Text)
+cut_behind byte b rest None = if b == byte then Some ([], rest) else None
+cut_behind byte b rest (Some (before, behind)) = Some (b ∷ before, behind)
+
+-- what stands before the last of these bytes, and what stands behind it
+abbrev pub last_cut : ℕ → Text → Option (Text × Text)
+last_cut byte [] = None
+last_cut byte (b ∷ rest) = cut_behind byte b rest (last_cut byte rest)
+
+-- the two halves of a table
+pub data Half : Type 0 where
+  users : Half
+  groups : Half
+
+-- the half that a letter means
+abbrev pub half_named : Text → Option Half
+half_named text = if bytes_eq text (codes "u") then Some users
+    else (if bytes_eq text (codes "g") then Some groups else None)
+
+-- a name with its id, for one half of the table
+pub record NamedId : Type 0 where
+  pub half : Half
+  pub name : Text
+  pub id : ℕ
+
+-- a word, cut at its last equals sign, and what is before that at its first colon
+unfoldable pub named_id : Text → Option NamedId
+named_id word = option_and_then (λ pair. option_and_then (λ name. option_and_then (λ half.
+    option_map (λ id. record { half = half; name = name.1; id = id })
+    (id_value pair.1)) (half_named name.0)) (first_cut 58 pair.0)) (last_cut 61 word)
+
+-- the table with one more name in one half, where it may be added
+abbrev pub with_half : Half → Table → Text → ℕ → Option Table
+with_half users table name id =
+    if is_none (name_fault table.users name) then Some (with_user table name id) else None
+with_half groups table name id =
+    if is_none (name_fault table.groups name) then Some (with_group table name id) else None
+
+-- the table with one more name, where it may be added
+abbrev pub with_name : Table → NamedId → Option Table
+with_name table named = with_half named.half table named.name named.id
+
+-- the table with the names of some words, one after the other
+abbrev pub with_words : Table → List Text → Option Table
+with_words table [] = Some table
+with_words table (word ∷ words) =
+    option_and_then (λ more. with_words more words) (option_and_then (with_name table) (named_id word))
+
+-- the table of some words
+unfoldable pub names_value : List Text → Option Table
+names_value words = with_words no_names words
+
+-- ---- what the program holds
+
+-- the half that is held
+abbrev pub half_of : HeldHalf → Half
+half_of held.Users = users
+half_of held.Groups = groups
+
+-- the name that is held
+abbrev pub named_of : HeldNamedId → NamedId
+named_of n = record { half = half_of n.half; name = n.name.now; id = n.id.value }
+
+-- the faults of names as faults of words
+abbrev pub line_fault_of : NameFault → LineFault
+line_fault_of names.EmptyName = line.Usage
+line_fault_of names.DigitsOnly = line.Usage
+line_fault_of names.Taken = line.Usage
+line_fault_of names.Memory = line.Memory
+
+-- the answer of a call that adds a name to a table, and the table after it
+abbrev pub Adds : Table → Option NamedId → Table → Result (Unit {0}) LineFault → Type 0
+Adds table named after (Ok done) = Some after ≡ option_and_then (with_name table) named
+Adds table named after (Err line.Usage) = None ≡ option_and_then (with_name table) named
+Adds table named after (Err line.Memory) = Unit {0}

@@ -1,0 +1,58 @@
+-- `show-posix`: its words, and what it makes of an input (this library's own, over acl(5), "ACL TEXT FORMS").
+use Rattle.std.specs.Prelude.{◌∷◌, ◌++◌, [], List, ℕ, Option, Some, None, codes, if◌then◌else◌}
+use Rattle.std.specs.Option.{option_and_then, option_map}
+use Rattle.std.specs.Str.{bytes_eq}
+use Rattle.clap.specs.Words.{Row, Text, first_of}
+use Rattle.acl_posix.specs.Names.{Table}
+use Rattle.acl_posix.specs.Texts.{canonical_text, short_text, shown_text}
+use Rattle.acl_posix.specs.declared.file.PosixFile.{PosixFile}
+use Rattle.aclck.specs.Line.{Term, any_words, default, words_of}
+use Rattle.aclck.specs.NameWords.{names_value}
+use Rattle.aclck.specs.Answer.{Answer}
+use Rattle.aclck.specs.PosixAnswer.{WritesAnswer}
+use Rattle.aclck.specs.declared.posix.Form.{Form}
+use Rattle.aclck.specs.declared.posix.Form.TheVariants as form
+use Rattle.aclck.specs.declared.task.show_posix.ShowPosix.{ShowPosix}
+
+-- ---- words
+
+-- `show-posix [--form canonical|shown|short] [NAMES..]`
+abbrev pub show_posix_terms : List Term
+show_posix_terms = default (codes "form") (codes "canonical") ∷ any_words ∷ []
+
+-- the form, and which names a text may have
+pub record ShowPosixValues : Type 0 where
+  pub form : Form
+  pub names : Table
+
+-- the form that a value of `--form` names
+unfoldable pub form_value : Text → Option Form
+form_value text = if bytes_eq text (codes "canonical") then Some form.Canonical
+    else (if bytes_eq text (codes "shown") then Some form.Shown
+    else (if bytes_eq text (codes "short") then Some form.Short else None))
+
+-- the values, where all are there
+abbrev pub show_posix_values : Option Form → Option Table → Option ShowPosixValues
+show_posix_values form names =
+    option_and_then (λ f. option_map (λ n. record { form = f; names = n }) names) form
+
+-- the values that the rows of a parse spell
+unfoldable pub show_posix_in : List Row → Option ShowPosixValues
+show_posix_in rows =
+    show_posix_values (option_and_then form_value (first_of (codes "form") rows)) (names_value (words_of rows))
+
+-- the values that the program holds
+abbrev pub show_posix_held : ShowPosix → ShowPosixValues
+show_posix_held v = record { form = v.form; names = v.names }
+
+-- ---- the answer
+
+-- the text of a file in a form; the short one has a line feed after it
+abbrev pub form_text : Form → PosixFile → List ℕ
+form_text form.Canonical file = canonical_text file.access file.default
+form_text form.Shown file = shown_text file.access file.default
+form_text form.Short file = short_text file.access file.default ++ 10 ∷ []
+
+-- the text in the form, or a fault that the input has
+abbrev pub ShowPosixAnswer : ShowPosixValues → List ℕ → Answer → Type 0
+ShowPosixAnswer v = WritesAnswer v.names (form_text v.form)

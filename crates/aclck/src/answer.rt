@@ -1,0 +1,91 @@
+//! What an engine answers.
+ghost use Rattle.std.specs.Prelude.{◌≡◌, IfErr, IfOk, true};
+ghost use Rattle.acl_perm.specs.Profile.{profile_of};
+ghost use Rattle.acl_nfs4.specs.Spelling.{Xdr};
+ghost use Rattle.aclck.specs.Answer.{IsXdrFault, decision_line, is_refusal};
+
+use acl_nfs4::{AclView, Fault, ReadFault, WriteFault};
+use acl_perm::Profile;
+use acl_posix::TextFault;
+use std::alloc::AllocError;
+use thiserror::Error;
+
+/// The answer of a command that ran to its end: No is denied or different.
+#[derive(Clone, Copy, Debug, PartialEq, Eq)]
+pub enum Outcome {
+    Yes,
+    No,
+}
+
+/// Why a command did not run to its end.
+#[derive(Clone, Copy, Debug, PartialEq, Eq, Error)]
+pub enum RunFault {
+    /// The input is no accepted NFSv4 list.
+    #[error("{0}")]
+    Nfs(Fault),
+    /// The input is not the text of a POSIX ACL.
+    #[error("{0}")]
+    Posix(TextFault),
+    #[error("read failed")]
+    Read,
+    #[error("write failed")]
+    Write(WriteFault),
+    #[error("out of memory")]
+    Memory,
+}
+
+impl From<ReadFault> for RunFault {
+    ghost use Rattle.std.specs.Prelude.{◌≡◌};
+    ghost use Rattle.aclck.specs.Answer.{run_fault_of};
+
+    ghost from_gives = { λ fault run. run ≡ run_fault_of fault };
+
+    fn from(fault: ReadFault) -> RunFault {
+        match fault {
+            ReadFault::Read => RunFault::Read,
+            ReadFault::Memory => RunFault::Memory,
+        }
+    }
+}
+
+impl RunFault {
+    /// Whether the fault is the input's.
+    pub(crate) fn is_refusal(self) -> bool
+        ensures { result ≡ is_refusal self }
+    {
+        match self {
+            RunFault::Nfs(_) | RunFault::Posix(_) => true,
+            RunFault::Read | RunFault::Write(_) | RunFault::Memory => false,
+        }
+    }
+}
+
+impl From<AllocError> for RunFault {
+    ghost use Rattle.std.specs.Prelude.{◌≡◌};
+    ghost use Rattle.aclck.specs.declared.answer.RunFault.TheVariants.{Memory};
+
+    ghost from_gives = { λ _ run. run ≡ Memory };
+
+    fn from(_: AllocError) -> RunFault {
+        RunFault::Memory
+    }
+}
+
+/// The line that tells a decision.
+pub(crate) fn decision_line(outcome: Outcome) -> &'static [u8]
+    ensures { result.now ≡ decision_line outcome }
+{
+    match outcome {
+        Outcome::Yes => b"granted\n",
+        Outcome::No => b"denied\n",
+    }
+}
+
+/// The list of the profile that all of an input spells.
+pub(crate) fn whole_list(input: &[u8], profile: Profile) -> Result<AclView<'_>, RunFault>
+    ensures found { IfOk result (λ list. Xdr (profile_of profile) list input.now) }
+    ensures refused { IfErr result (λ e.
+        (is_refusal e ≡ true) × IsXdrFault (profile_of profile) input.now e) }
+{
+    AclView::parse_whole_with(input, profile).map_err(RunFault::Nfs)
+}

@@ -1,3 +1,0 @@
-//! What the words of each command spell, a file a command.
-
-pub mod check_nfs;

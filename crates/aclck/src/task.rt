@@ -1,0 +1,202 @@
+//! The commands: a row a command in each table, and a file a command.
+ghost use Rattle.std.specs.Prelude.{◌≡◌, ◌⊎◌, IfErr, IfOk, OnOk, false, find, map, true};
+ghost use Rattle.std.specs.Str.{bytes_eq};
+ghost use Rattle.std.specs.Io.KnownBytes.{IsAtEnd};
+ghost use Rattle.clap.specs.Words.{app_of, found_of, rows_of};
+ghost use Rattle.acl_perm.specs.Devices.{failures_after};
+ghost use Rattle.aclck.specs.Answer.{Ran, has_read_failed, has_write_failed, is_write};
+ghost use Rattle.aclck.specs.Line.{Reads, is_sound, is_taken, rows_at, term};
+ghost use Rattle.aclck.specs.Task.{Answers, app_named, command_named, task_held, task_in, terms_of, word_of};
+
+pub mod calc_mask;
+pub mod check_nfs;
+pub mod check_posix;
+pub mod chmod;
+pub mod create;
+pub mod show_posix;
+
+use crate::answer::{Outcome, RunFault};
+use crate::line::{Argument, LineFault, command_from, parse};
+use acl_perm::{Sink, Source};
+use acl_posix::Names;
+use calc_mask::run_calc_mask;
+use check_nfs::{CheckNfs, run_check_nfs};
+use check_posix::{CheckPosix, run_check_posix};
+use chmod::{Chmod, run_chmod};
+use clap::{ArgMatches, Command};
+use create::{Create, run_create};
+use show_posix::{ShowPosix, run_show_posix};
+use std::alloc::{AllocError, Global};
+
+/// A command.
+#[derive(Clone, Copy, Debug, PartialEq, Eq)]
+pub enum Name {
+    ShowPosix,
+    CheckPosix,
+    CalcMask,
+    Chmod,
+    Create,
+    CheckNfs,
+}
+
+const NAMES: [Name; 6] = [
+    Name::ShowPosix,
+    Name::CheckPosix,
+    Name::CalcMask,
+    Name::Chmod,
+    Name::Create,
+    Name::CheckNfs,
+];
+
+impl Name {
+    /// The command that a word names.
+    pub(crate) fn of(word: &str) -> Option<Name>
+        ensures { result ≡ command_named word.now }
+    {
+        find_name(&NAMES, word)
+    }
+
+    // The word that names it.
+    fn word<'a>(self) -> &'a str
+        ensures { result.now ≡ word_of self }
+    {
+        match self {
+            Name::ShowPosix => "show-posix",
+            Name::CheckPosix => "check-posix",
+            Name::CalcMask => "calc-mask",
+            Name::Chmod => "chmod",
+            Name::Create => "create",
+            Name::CheckNfs => "check-nfs",
+        }
+    }
+
+    fn is_named(self, word: &str) -> bool
+        ensures { result ≡ bytes_eq (word_of self) word.now }
+    {
+        self.word() == word
+    }
+
+    // Its arguments.
+    fn arguments(self) -> &'static [Argument]
+        ensures terms { map term result.now ≡ terms_of self }
+        ensures sound { is_sound (terms_of self) ≡ true }
+    {
+        match self {
+            Name::ShowPosix => show_posix::arguments(),
+            Name::CheckPosix => check_posix::arguments(),
+            Name::CalcMask => calc_mask::arguments(),
+            Name::Chmod => chmod::arguments(),
+            Name::Create => create::arguments(),
+            Name::CheckNfs => check_nfs::arguments(),
+        }
+    }
+
+    /// What the command takes from the words, of which the first is its own.
+    pub(crate) fn matches<'a>(
+        self,
+        alloc: Global,
+        words: &'a [&'a str],
+    ) -> Result<ArgMatches<'a>, LineFault>
+        ensures ok { IfOk result (λ m. rows_of (found_of m)
+            ≡ rows_at (app_named self) (map (λ w. w.now) words.entry.now)) }
+        ensures taken { OnOk result
+            (is_taken (app_named self) (map (λ w. w.now) words.entry.now) ≡ true) }
+        ensures usage { IfErr result (λ e. e ≡ LineFault.Usage
+            → is_taken (app_named self) (map (λ w. w.now) words.entry.now) ≡ false) }
+    {
+        let command = self.command(alloc)?;
+        parse(command, words)
+    }
+
+    // Its definition.
+    fn command<'a>(self, alloc: Global) -> Result<Command<'a>, AllocError>
+        ensures app { IfOk result (λ c. app_of c ≡ app_named self) }
+        ensures sound { is_sound (terms_of self) ≡ true }
+    {
+        command_from(alloc, self.word(), self.arguments())
+    }
+}
+
+// The first of some commands that the word names.
+fn find_name(names: &[Name], word: &str) -> Option<Name>
+    ensures { result ≡ find (λ n. bytes_eq (word_of n) word.now) names.now }
+{
+    for name in names {
+        if name.is_named(word) {
+            return Some(*name);
+        }
+    }
+    None
+}
+
+/// A command with its values.
+#[derive(Drop)]
+pub enum Task<'a> {
+    ShowPosix(ShowPosix),
+    CheckPosix(CheckPosix),
+    CalcMask(Names),
+    Chmod(Chmod),
+    Create(Create),
+    CheckNfs(CheckNfs<'a>),
+}
+
+impl<'a> Task<'a> {
+    /// The values that a parse and the words that are no option's spell.
+    pub(crate) fn read<'w: 'a>(
+        alloc: Global,
+        name: Name,
+        matches: &ArgMatches<'w>,
+        words: &'a [&'a [u8]],
+    ) -> Result<Task<'a>, LineFault>
+        ensures { Reads task_held (task_in name (rows_of (found_of matches.now))
+            (map (λ w. w.now) words.entry.now)) result }
+    {
+        match name {
+            Name::ShowPosix => Ok(Task::ShowPosix(show_posix::read(alloc, matches)?)),
+            Name::CheckPosix => Ok(Task::CheckPosix(check_posix::read(alloc, matches)?)),
+            Name::CalcMask => Ok(Task::CalcMask(calc_mask::read(alloc, matches)?)),
+            Name::Chmod => Ok(Task::Chmod(chmod::read(alloc, matches)?)),
+            Name::Create => Ok(Task::Create(create::read(alloc, matches)?)),
+            Name::CheckNfs => Ok(Task::CheckNfs(check_nfs::read(matches, words)?)),
+        }
+    }
+
+    /// Reads the whole input, and writes the text of its answer.
+    #[tactic(auto, unfolding(crate::specs::Task::Answers))]
+    pub fn run<S: Source, K: Sink>(
+        &self,
+        alloc: Global,
+        source: &mut S,
+        sink: &mut K,
+    ) -> Result<Outcome, RunFault>
+        ensures ran { Ran (Answers (task_held self.now)) (S.remaining source.old)
+            (K.contents sink.old) (K.contents sink.new) result }
+        ensures whole { OnOk result (IsAtEnd (S.remaining source.new)) }
+        ensures unwritten { IfErr result (λ e. (is_write e ≡ true) ⊎ (sink.new ≡ sink.old)) }
+        ensures reads { S.failure_count source.new
+            ≡ failures_after (S.failure_count source.old) (has_read_failed result) }
+        ensures writes { K.failure_count sink.new
+            ≡ failures_after (K.failure_count sink.old) (has_write_failed result) }
+    {
+        match self {
+            Task::ShowPosix(v) => run_show_posix(alloc, source, sink, v.form, &v.names),
+            Task::CalcMask(names) => run_calc_mask(alloc, source, sink, names),
+            Task::Chmod(v) => run_chmod(alloc, source, sink, v.mode, &v.names),
+            Task::Create(v) => { run_create(alloc, source, sink, v.mode, v.umask, v.dir, &v.names) }
+            Task::CheckPosix(v) => run_check_posix(
+                alloc, source, sink, v.owner, v.group, v.user, &v.groups, v.want, &v.names,
+            ),
+            Task::CheckNfs(v) => {
+                run_check_nfs(
+                    alloc,
+                    source,
+                    sink,
+                    &v.object,
+                    &v.requester,
+                    v.mask,
+                    v.profile,
+                )
+            }
+        }
+    }
+}

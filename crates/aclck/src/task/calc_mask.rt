@@ -1,0 +1,71 @@
+//! `calc-mask`: the canonical text of a file with its mask calculated.
+ghost use Rattle.std.specs.Prelude.{◌≡◌, ◌⊎◌, IfErr, IfOk, OnOk, map, option_and_then, option_map, true};
+ghost use Rattle.std.specs.Io.KnownBytes.{IsAtEnd};
+ghost use Rattle.clap.specs.Words.{found_of, rows_of};
+ghost use Rattle.acl_perm.specs.Devices.{failures_after};
+ghost use Rattle.aclck.specs.Line.{Reads, term};
+ghost use Rattle.aclck.specs.Answer.{Ran, has_read_failed, has_write_failed, is_refusal, is_write};
+ghost use Rattle.aclck.specs.PosixAnswer.{IsPosixFault, Writes};
+ghost use Rattle.aclck.specs.CalcMask.{CalcMaskAnswer, calc_mask_in, calc_mask_terms, masked_text};
+
+use crate::answer::{Outcome, RunFault};
+use crate::line::{Argument, LineFault};
+use crate::name_words::names_in;
+use crate::posix::{canonical, read_file};
+use acl_perm::{Sink, Source, put_all, read_all};
+use acl_posix::Names;
+use clap::ArgMatches;
+use std::alloc::Global;
+
+const ARGUMENTS: [Argument; 1] = [Argument::Words];
+
+/// The arguments of `calc-mask`.
+pub(crate) fn arguments() -> &'static [Argument]
+    ensures { map term result.now ≡ calc_mask_terms }
+{
+    &ARGUMENTS
+}
+
+/// The names that a text may have.
+pub(crate) fn read(alloc: Global, matches: &ArgMatches<'_>) -> Result<Names, LineFault>
+    ensures { Reads (λ n. n) (calc_mask_in (rows_of (found_of matches.now))) result }
+{
+    names_in(alloc, matches)
+}
+
+/// Writes the canonical text of the file whose text the input is, with the mask of its access ACL calculated, and added
+/// where there is none; the default ACL stays. Nothing is written before the input is accepted.
+pub fn run_calc_mask<S: Source, K: Sink>(
+    alloc: Global,
+    source: &mut S,
+    sink: &mut K,
+    names: &Names,
+) -> Result<Outcome, RunFault>
+    ensures ran { Ran (CalcMaskAnswer names.now)
+        (S.remaining source.old) (K.contents sink.old) (K.contents sink.new) result }
+    ensures whole { OnOk result (IsAtEnd (S.remaining source.new)) }
+    ensures unwritten { IfErr result (λ e. (is_write e ≡ true) ⊎ (sink.new ≡ sink.old)) }
+    ensures reads { S.failure_count source.new
+        ≡ failures_after (S.failure_count source.old) (has_read_failed result) }
+    ensures writes { K.failure_count sink.new
+        ≡ failures_after (K.failure_count sink.old) (has_write_failed result) }
+{
+    let input = read_all(alloc, source)?;
+    let text = masked(alloc, input, names)?;
+    match put_all(sink, text.as_slice()) {
+        Ok(()) => Ok(Outcome::Yes),
+        Err(fault) => Err(RunFault::Write(fault)),
+    }
+}
+
+// The canonical text of the file with its mask calculated.
+fn masked(alloc: Global, input: Vec<u8>, names: &Names) -> Result<Vec<u8>, RunFault>
+    ensures made { IfOk result (λ text. Writes names.now (masked_text) input.items text.items) }
+    ensures refused { IfErr result (λ e. (e ≡ RunFault.Memory)
+        ⊎ ((is_refusal e ≡ true) × IsPosixFault names.now input.items e)) }
+{
+    let mut file = read_file(alloc, &input, names)?;
+    drop(input);
+    file.access.calc_mask()?;
+    Ok(canonical(alloc, &file)?)
+}

@@ -1,0 +1,156 @@
+//! `check-nfs`: whether a list grants a request.
+ghost use Rattle.std.specs.Prelude.{◌≡◌, ◌⊎◌, IfErr, IfOk, OnOk, map, option_and_then, option_map, true};
+ghost use Rattle.std.specs.Io.KnownBytes.{IsAtEnd};
+ghost use Rattle.clap.specs.Words.{found_of, rows_of};
+ghost use Rattle.acl_perm.specs.Devices.{failures_after};
+ghost use Rattle.acl_perm.specs.Profile.{profile_of};
+ghost use Rattle.aclck.specs.Line.{Reads, term};
+ghost use Rattle.aclck.specs.Values.{mask_within, profile_value};
+ghost use Rattle.aclck.specs.Answer.{IsXdrFault, Ran, has_read_failed, has_write_failed, is_refusal, is_write};
+ghost use Rattle.aclck.specs.CheckNfs.{CheckNfsAnswer, Decides, check_nfs_held, check_nfs_in, check_nfs_terms, object_named, object_names, requester_named, requester_names, values_of};
+
+use crate::answer::{Outcome, RunFault, decision_line, whole_list};
+use crate::line::{Argument, LineFault, text_of};
+use crate::values::{mask_within, profile_value};
+use acl_eval::{Object, Requester, grants};
+use acl_perm::{Mask, Profile, Sink, Source, put_all, read_all};
+use clap::ArgMatches;
+use std::alloc::Global;
+
+const ARGUMENTS: [Argument; 6] = [
+    Argument::Required("owner"),
+    Argument::Required("group"),
+    Argument::Required("user"),
+    Argument::Required("mask"),
+    Argument::Default("profile", "full"),
+    Argument::Words,
+];
+
+/// The arguments of `check-nfs`.
+pub(crate) fn arguments() -> &'static [Argument]
+    ensures { map term result.now ≡ check_nfs_terms }
+{
+    &ARGUMENTS
+}
+
+/// Who asks of what, for which rights, and what a list may have.
+#[derive(Clone, Copy, Debug)]
+pub struct CheckNfs<'a> {
+    pub object: Object<'a>,
+    pub requester: Requester<'a>,
+    pub mask: Mask,
+    pub profile: Profile,
+}
+
+/// The values that the words spell.
+#[tactic(auto, unfolding(crate::specs::CheckNfs::check_nfs_in))]
+pub(crate) fn read<'a, 'w: 'a>(
+    matches: &ArgMatches<'w>,
+    groups: &'a [&'a [u8]],
+) -> Result<CheckNfs<'a>, LineFault>
+    ensures { Reads check_nfs_held (check_nfs_in (rows_of (found_of matches.now))
+        (map (λ g. g.now) groups.entry.now)) result }
+{
+    let Some(object) = object_of(text_of(matches, "owner"), text_of(matches, "group")) else {
+        return Err(LineFault::Usage);
+    };
+    let Some(requester) = requester_of(text_of(matches, "user"), groups) else {
+        return Err(LineFault::Usage);
+    };
+    let Some(profile) = profile_in(text_of(matches, "profile")) else {
+        return Err(LineFault::Usage);
+    };
+    let Some(mask) = mask_in(text_of(matches, "mask"), profile.masks) else {
+        return Err(LineFault::Usage);
+    };
+    Ok(CheckNfs {
+        object,
+        requester,
+        mask,
+        profile,
+    })
+}
+
+fn object_of<'a>(owner: Option<&'a str>, group: Option<&'a str>) -> Option<Object<'a>>
+    ensures { option_map object_names result
+        ≡ object_named (option_map (λ s. s.now) owner.entry) (option_map (λ s. s.now) group.entry) }
+{
+    Object::new(owner?.as_bytes(), group?.as_bytes())
+}
+
+fn requester_of<'a>(user: Option<&'a str>, groups: &'a [&'a [u8]]) -> Option<Requester<'a>>
+    ensures { option_map requester_names result
+        ≡ requester_named (option_map (λ s. s.now) user.entry) (map (λ g. g.now) groups.entry.now) }
+{
+    requester_of_bytes(user?.as_bytes(), groups)
+}
+
+fn requester_of_bytes<'a>(user: &'a [u8], groups: &'a [&'a [u8]]) -> Option<Requester<'a>>
+    ensures { option_map requester_names result
+        ≡ requester_named (Some user.entry.now) (map (λ g. g.now) groups.entry.now) }
+{
+    Requester::new(user, groups)
+}
+
+fn profile_in(word: Option<&str>) -> Option<Profile>
+    ensures { option_map profile_of result
+        ≡ option_and_then profile_value (option_map (λ s. s.now) word.entry) }
+{
+    profile_value(word?)
+}
+
+fn mask_in(word: Option<&str>, rights: Mask) -> Option<Mask>
+    ensures { option_map (λ mask. mask.bits) result
+        ≡ option_and_then (mask_within rights.bits) (option_map (λ s. s.now) word.entry) }
+{
+    mask_within(word?, rights)
+}
+
+/// Writes whether the list that the whole input spells grants the requester the mask on the object: `granted`, or
+/// `denied` and No. Nothing is written before the input is accepted, as one that keeps to the profile.
+pub fn run_check_nfs<S: Source, K: Sink>(
+    alloc: Global,
+    source: &mut S,
+    sink: &mut K,
+    object: &Object<'_>,
+    requester: &Requester<'_>,
+    mask: Mask,
+    profile: Profile,
+) -> Result<Outcome, RunFault>
+    ensures ran { Ran (CheckNfsAnswer (values_of object.now requester.now mask profile))
+        (S.remaining source.old) (K.contents sink.old) (K.contents sink.new) result }
+    ensures whole { OnOk result (IsAtEnd (S.remaining source.new)) }
+    ensures unwritten { IfErr result (λ e. (is_write e ≡ true) ⊎ (sink.new ≡ sink.old)) }
+    ensures reads { S.failure_count source.new
+        ≡ failures_after (S.failure_count source.old) (has_read_failed result) }
+    ensures writes { K.failure_count sink.new
+        ≡ failures_after (K.failure_count sink.old) (has_write_failed result) }
+{
+    let input = read_all(alloc, source)?;
+    let outcome = decide(input.as_slice(), object, requester, mask, profile)?;
+    match put_all(sink, decision_line(outcome)) {
+        Ok(()) => Ok(outcome),
+        Err(fault) => Err(RunFault::Write(fault)),
+    }
+}
+
+// Whether the list that the bytes spell grants the request.
+fn decide(
+    input: &[u8],
+    object: &Object<'_>,
+    requester: &Requester<'_>,
+    mask: Mask,
+    profile: Profile,
+) -> Result<Outcome, RunFault>
+    ensures decided { IfOk result (λ o.
+        Decides (values_of object.now requester.now mask profile) input.now o) }
+    ensures refused { IfErr result (λ e.
+        (is_refusal e ≡ true) × IsXdrFault (profile_of profile) input.now e) }
+{
+    let list = whole_list(input, profile)?;
+    if grants(list.aces(), object, requester, mask) {
+        Ok(Outcome::Yes)
+    } else {
+        Ok(Outcome::No)
+    }
+}

@@ -1,0 +1,144 @@
+//! `check-posix`: whether the access part of a text grants a request.
+ghost use Rattle.std.specs.Prelude.{◌≡◌, ◌⊎◌, IfErr, IfOk, OnOk, map, option_and_then, option_map, true};
+ghost use Rattle.std.specs.Io.KnownBytes.{IsAtEnd};
+ghost use Rattle.clap.specs.Words.{found_of, rows_of};
+ghost use Rattle.acl_perm.specs.Devices.{failures_after};
+ghost use Rattle.acl_posix.specs.Check.{ids};
+ghost use Rattle.aclck.specs.Line.{Reads, term};
+ghost use Rattle.aclck.specs.PosixValues.{id_value, want_value};
+ghost use Rattle.aclck.specs.Answer.{Ran, has_read_failed, has_write_failed, is_refusal, is_write};
+ghost use Rattle.aclck.specs.CheckPosix.{CheckPosixAnswer, Checks, check_posix_held, check_posix_in, check_posix_terms, groups_value, values_of};
+ghost use Rattle.aclck.specs.PosixAnswer.{IsPosixFault};
+
+use crate::answer::{Outcome, RunFault, decision_line};
+use crate::line::{Argument, LineFault, text_of};
+use crate::name_words::names_in;
+use crate::posix::read_file;
+use crate::posix_values::{id_value, ids_value, want_value};
+use acl_perm::{Perm, Sink, Source, put_all, read_all};
+use acl_posix::{Id, Names};
+use clap::ArgMatches;
+use std::alloc::Global;
+
+const ARGUMENTS: [Argument; 6] = [
+    Argument::Required("owner"),
+    Argument::Required("group"),
+    Argument::Required("user"),
+    Argument::Optional("groups"),
+    Argument::Required("want"),
+    Argument::Words,
+];
+
+/// The arguments of `check-posix`.
+pub(crate) fn arguments() -> &'static [Argument]
+    ensures { map term result.now ≡ check_posix_terms }
+{
+    &ARGUMENTS
+}
+
+/// Who asks of whose object, for which permissions, and which names a text may have.
+#[derive(Drop)]
+pub struct CheckPosix {
+    pub owner: Id,
+    pub group: Id,
+    pub user: Id,
+    pub groups: Vec<Id>,
+    pub want: Perm,
+    pub names: Names,
+}
+
+/// The values that the words spell.
+#[tactic(auto, unfolding(crate::specs::CheckPosix::check_posix_in))]
+pub(crate) fn read(alloc: Global, matches: &ArgMatches<'_>) -> Result<CheckPosix, LineFault>
+    ensures { Reads check_posix_held (check_posix_in (rows_of (found_of matches.now))) result }
+{
+    let owner = id_in(text_of(matches, "owner"))?;
+    let group = id_in(text_of(matches, "group"))?;
+    let user = id_in(text_of(matches, "user"))?;
+    let groups = groups_in(alloc, text_of(matches, "groups"))?;
+    let want = want_in(text_of(matches, "want"))?;
+    let names = names_in(alloc, matches)?;
+    Ok(CheckPosix {
+        owner,
+        group,
+        user,
+        groups,
+        want,
+        names,
+    })
+}
+
+fn id_in(word: Option<&str>) -> Result<Id, LineFault>
+    ensures { Reads (λ id. id.value) (option_and_then id_value (option_map (λ s. s.now) word.entry)) result }
+{
+    word.and_then(id_value).ok_or(LineFault::Usage)
+}
+
+fn groups_in(alloc: Global, word: Option<&str>) -> Result<Vec<Id>, LineFault>
+    ensures { Reads (λ v. ids v.items) (groups_value (option_map (λ s. s.now) word.entry)) result }
+{
+    match word {
+        Some(word) => ids_value(alloc, word),
+        None => Ok(Vec::new(alloc)),
+    }
+}
+
+fn want_in(word: Option<&str>) -> Result<Perm, LineFault>
+    ensures { Reads (λ perm. perm.bits) (option_and_then want_value (option_map (λ s. s.now) word.entry)) result }
+{
+    word.and_then(want_value).ok_or(LineFault::Usage)
+}
+
+/// Writes whether the access ACL of the file whose text the input is grants the user, who is in these groups, the
+/// permissions on an object of this owner and group: `granted`, or `denied` and No. Nothing is written before the input
+/// is accepted, the default part too.
+pub fn run_check_posix<S: Source, K: Sink>(
+    alloc: Global,
+    source: &mut S,
+    sink: &mut K,
+    owner: Id,
+    group: Id,
+    user: Id,
+    groups: &[Id],
+    want: Perm,
+    names: &Names,
+) -> Result<Outcome, RunFault>
+    ensures ran { Ran (CheckPosixAnswer (values_of owner group user groups.now want names.now))
+        (S.remaining source.old) (K.contents sink.old) (K.contents sink.new) result }
+    ensures whole { OnOk result (IsAtEnd (S.remaining source.new)) }
+    ensures unwritten { IfErr result (λ e. (is_write e ≡ true) ⊎ (sink.new ≡ sink.old)) }
+    ensures reads { S.failure_count source.new
+        ≡ failures_after (S.failure_count source.old) (has_read_failed result) }
+    ensures writes { K.failure_count sink.new
+        ≡ failures_after (K.failure_count sink.old) (has_write_failed result) }
+{
+    let input = read_all(alloc, source)?;
+    let outcome = decide(alloc, input, owner, group, user, groups, want, names)?;
+    match put_all(sink, decision_line(outcome)) {
+        Ok(()) => Ok(outcome),
+        Err(fault) => Err(RunFault::Write(fault)),
+    }
+}
+
+// Whether the access ACL of the file whose text the input is grants the request.
+fn decide(
+    alloc: Global,
+    input: Vec<u8>,
+    owner: Id,
+    group: Id,
+    user: Id,
+    groups: &[Id],
+    want: Perm,
+    names: &Names,
+) -> Result<Outcome, RunFault>
+    ensures decided { IfOk result (λ o. Checks (values_of owner group user groups.now want names.now) input.items o) }
+    ensures refused { IfErr result (λ e. (e ≡ RunFault.Memory)
+        ⊎ ((is_refusal e ≡ true) × IsPosixFault names.now input.items e)) }
+{
+    let file = read_file(alloc, &input, names)?;
+    if file.access.check(owner, group, user, groups, want) {
+        Ok(Outcome::Yes)
+    } else {
+        Ok(Outcome::No)
+    }
+}

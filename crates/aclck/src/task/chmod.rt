@@ -1,0 +1,91 @@
+//! `chmod`: the canonical text of a file with its mode set.
+ghost use Rattle.std.specs.Prelude.{◌≡◌, ◌⊎◌, IfErr, IfOk, OnOk, map, option_and_then, option_map, true};
+ghost use Rattle.std.specs.Io.KnownBytes.{IsAtEnd};
+ghost use Rattle.clap.specs.Words.{found_of, rows_of};
+ghost use Rattle.acl_perm.specs.Devices.{failures_after};
+ghost use Rattle.aclck.specs.Line.{Reads, term};
+ghost use Rattle.aclck.specs.PosixValues.{mode_value};
+ghost use Rattle.aclck.specs.Answer.{Ran, has_read_failed, has_write_failed, is_refusal, is_write};
+ghost use Rattle.aclck.specs.PosixAnswer.{IsPosixFault, Writes};
+ghost use Rattle.aclck.specs.Chmod.{ChmodAnswer, chmod_held, chmod_in, chmod_terms, chmod_text};
+
+use crate::answer::{Outcome, RunFault};
+use crate::line::{Argument, LineFault, text_of};
+use crate::name_words::names_in;
+use crate::posix::{canonical, read_file};
+use crate::posix_values::mode_value;
+use acl_perm::{Mode, Sink, Source, put_all, read_all};
+use acl_posix::Names;
+use clap::ArgMatches;
+use std::alloc::Global;
+
+const ARGUMENTS: [Argument; 2] = [Argument::Required("mode"), Argument::Words];
+
+/// The arguments of `chmod`.
+pub(crate) fn arguments() -> &'static [Argument]
+    ensures { map term result.now ≡ chmod_terms }
+{
+    &ARGUMENTS
+}
+
+/// The mode, and which names a text may have.
+#[derive(Drop)]
+pub struct Chmod {
+    pub mode: Mode,
+    pub names: Names,
+}
+
+/// The values that the words spell.
+#[tactic(auto, unfolding(crate::specs::Chmod::chmod_in))]
+pub(crate) fn read(alloc: Global, matches: &ArgMatches<'_>) -> Result<Chmod, LineFault>
+    ensures { Reads chmod_held (chmod_in (rows_of (found_of matches.now))) result }
+{
+    let mode = mode_in(text_of(matches, "mode"))?;
+    let names = names_in(alloc, matches)?;
+    Ok(Chmod { mode, names })
+}
+
+/// The mode that an option's value spells.
+pub(crate) fn mode_in(word: Option<&str>) -> Result<Mode, LineFault>
+    ensures { Reads (λ mode. mode.bits) (option_and_then mode_value (option_map (λ s. s.now) word.entry)) result }
+{
+    word.and_then(mode_value).ok_or(LineFault::Usage)
+}
+
+/// Writes the canonical text of the file whose text the input is, with the mode of its access ACL set; the default ACL
+/// stays. Nothing is written before the input is accepted.
+pub fn run_chmod<S: Source, K: Sink>(
+    alloc: Global,
+    source: &mut S,
+    sink: &mut K,
+    mode: Mode,
+    names: &Names,
+) -> Result<Outcome, RunFault>
+    ensures ran { Ran (ChmodAnswer (record { mode = mode.bits; names = names.now }))
+        (S.remaining source.old) (K.contents sink.old) (K.contents sink.new) result }
+    ensures whole { OnOk result (IsAtEnd (S.remaining source.new)) }
+    ensures unwritten { IfErr result (λ e. (is_write e ≡ true) ⊎ (sink.new ≡ sink.old)) }
+    ensures reads { S.failure_count source.new
+        ≡ failures_after (S.failure_count source.old) (has_read_failed result) }
+    ensures writes { K.failure_count sink.new
+        ≡ failures_after (K.failure_count sink.old) (has_write_failed result) }
+{
+    let input = read_all(alloc, source)?;
+    let text = with_mode(alloc, input, mode, names)?;
+    match put_all(sink, text.as_slice()) {
+        Ok(()) => Ok(Outcome::Yes),
+        Err(fault) => Err(RunFault::Write(fault)),
+    }
+}
+
+// The canonical text of the file with its mode set.
+fn with_mode(alloc: Global, input: Vec<u8>, mode: Mode, names: &Names) -> Result<Vec<u8>, RunFault>
+    ensures made { IfOk result (λ text. Writes names.now (chmod_text mode.bits) input.items text.items) }
+    ensures refused { IfErr result (λ e. (e ≡ RunFault.Memory)
+        ⊎ ((is_refusal e ≡ true) × IsPosixFault names.now input.items e)) }
+{
+    let mut file = read_file(alloc, &input, names)?;
+    drop(input);
+    file.access.chmod(mode);
+    Ok(canonical(alloc, &file)?)
+}

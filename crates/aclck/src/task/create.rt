@@ -1,0 +1,113 @@
+//! `create`: the canonical text of a new object.
+ghost use Rattle.std.specs.Prelude.{◌≡◌, ◌⊎◌, IfErr, IfOk, OnOk, map, option_and_then, option_map, true};
+ghost use Rattle.std.specs.Io.KnownBytes.{IsAtEnd};
+ghost use Rattle.clap.specs.Words.{found_of, rows_of};
+ghost use Rattle.acl_perm.specs.Devices.{failures_after};
+ghost use Rattle.aclck.specs.Line.{Reads, term};
+ghost use Rattle.aclck.specs.Answer.{Ran, has_read_failed, has_write_failed, is_refusal, is_write};
+ghost use Rattle.aclck.specs.PosixAnswer.{IsPosixFault, Writes};
+ghost use Rattle.aclck.specs.Create.{CreateAnswer, create_held, create_in, create_terms, created_text};
+
+use crate::answer::{Outcome, RunFault};
+use crate::line::{Argument, LineFault, is_set, text_of};
+use crate::name_words::names_in;
+use crate::posix::{canonical, read_file};
+use crate::task::chmod::mode_in;
+use acl_perm::{Mode, Sink, Source, put_all, read_all};
+use acl_posix::{Names, create};
+use clap::ArgMatches;
+use std::alloc::Global;
+
+const ARGUMENTS: [Argument; 4] = [
+    Argument::Required("mode"),
+    Argument::Required("umask"),
+    Argument::Flag("dir"),
+    Argument::Words,
+];
+
+/// The arguments of `create`.
+pub(crate) fn arguments() -> &'static [Argument]
+    ensures { map term result.now ≡ create_terms }
+{
+    &ARGUMENTS
+}
+
+/// The mode and the umask, whether the new object is a directory, and which names a text may have.
+#[derive(Drop)]
+pub struct Create {
+    pub mode: Mode,
+    pub umask: Mode,
+    pub dir: bool,
+    pub names: Names,
+}
+
+/// The values that the words spell.
+#[tactic(auto, unfolding(crate::specs::Create::create_in))]
+pub(crate) fn read(alloc: Global, matches: &ArgMatches<'_>) -> Result<Create, LineFault>
+    ensures { Reads create_held (create_in (rows_of (found_of matches.now))) result }
+{
+    let mode = mode_in(text_of(matches, "mode"))?;
+    let umask = mode_in(text_of(matches, "umask"))?;
+    let dir = is_set(matches, "dir");
+    let names = names_in(alloc, matches)?;
+    Ok(Create {
+        mode,
+        umask,
+        dir,
+        names,
+    })
+}
+
+/// Writes the canonical text of a new object in a directory, whose text the input is: of a file, or of a directory
+/// where `dir` is true. The umask has no part where the directory has a default ACL. Nothing is written before the
+/// input is accepted.
+pub fn run_create<S: Source, K: Sink>(
+    alloc: Global,
+    source: &mut S,
+    sink: &mut K,
+    mode: Mode,
+    umask: Mode,
+    dir: bool,
+    names: &Names,
+) -> Result<Outcome, RunFault>
+    ensures ran { Ran (CreateAnswer (record {
+      mode = mode.bits;
+      umask = umask.bits;
+      is_directory = dir;
+      names = names.now;
+    }))
+        (S.remaining source.old) (K.contents sink.old) (K.contents sink.new) result }
+    ensures whole { OnOk result (IsAtEnd (S.remaining source.new)) }
+    ensures unwritten { IfErr result (λ e. (is_write e ≡ true) ⊎ (sink.new ≡ sink.old)) }
+    ensures reads { S.failure_count source.new
+        ≡ failures_after (S.failure_count source.old) (has_read_failed result) }
+    ensures writes { K.failure_count sink.new
+        ≡ failures_after (K.failure_count sink.old) (has_write_failed result) }
+{
+    let input = read_all(alloc, source)?;
+    let text = created(alloc, input, mode, umask, dir, names)?;
+    match put_all(sink, text.as_slice()) {
+        Ok(()) => Ok(Outcome::Yes),
+        Err(fault) => Err(RunFault::Write(fault)),
+    }
+}
+
+// The canonical text of the new object.
+fn created(
+    alloc: Global,
+    input: Vec<u8>,
+    mode: Mode,
+    umask: Mode,
+    dir: bool,
+    names: &Names,
+) -> Result<Vec<u8>, RunFault>
+    ensures made { IfOk result (λ text.
+        Writes names.now (created_text mode.bits umask.bits dir) input.items text.items) }
+    ensures refused { IfErr result (λ e. (e ≡ RunFault.Memory)
+        ⊎ ((is_refusal e ≡ true) × IsPosixFault names.now input.items e)) }
+{
+    let parent = read_file(alloc, &input, names)?;
+    drop(input);
+    let file = create(alloc, parent.default.as_ref(), mode, umask, dir)?;
+    Ok(canonical(alloc, &file)?)
+}

@@ -1,0 +1,99 @@
+//! `show-posix`: the text of a file in a form.
+ghost use Rattle.std.specs.Prelude.{◌≡◌, ◌⊎◌, IfErr, IfOk, OnOk, map, option_and_then, option_map, true};
+ghost use Rattle.std.specs.Io.KnownBytes.{IsAtEnd};
+ghost use Rattle.clap.specs.Words.{found_of, rows_of};
+ghost use Rattle.acl_perm.specs.Devices.{failures_after};
+ghost use Rattle.aclck.specs.Line.{Reads, term};
+ghost use Rattle.aclck.specs.Answer.{Ran, has_read_failed, has_write_failed, is_refusal, is_write};
+ghost use Rattle.aclck.specs.PosixAnswer.{IsPosixFault, Writes};
+ghost use Rattle.aclck.specs.ShowPosix.{ShowPosixAnswer, form_text, form_value, show_posix_held, show_posix_in, show_posix_terms};
+
+use crate::answer::{Outcome, RunFault};
+use crate::line::{Argument, LineFault, text_of};
+use crate::name_words::names_in;
+use crate::posix::{Form, read_file, text_in};
+use acl_perm::{Sink, Source, put_all, read_all};
+use acl_posix::Names;
+use clap::ArgMatches;
+use std::alloc::Global;
+
+const ARGUMENTS: [Argument; 2] = [Argument::Default("form", "canonical"), Argument::Words];
+
+/// The arguments of `show-posix`.
+pub(crate) fn arguments() -> &'static [Argument]
+    ensures { map term result.now ≡ show_posix_terms }
+{
+    &ARGUMENTS
+}
+
+/// The form, and which names a text may have.
+#[derive(Drop)]
+pub struct ShowPosix {
+    pub form: Form,
+    pub names: Names,
+}
+
+/// The values that the words spell.
+#[tactic(auto, unfolding(crate::specs::ShowPosix::show_posix_in))]
+pub(crate) fn read(alloc: Global, matches: &ArgMatches<'_>) -> Result<ShowPosix, LineFault>
+    ensures { Reads show_posix_held (show_posix_in (rows_of (found_of matches.now))) result }
+{
+    let form = form_in(text_of(matches, "form"))?;
+    let names = names_in(alloc, matches)?;
+    Ok(ShowPosix { form, names })
+}
+
+fn form_in(word: Option<&str>) -> Result<Form, LineFault>
+    ensures { Reads (λ form. form) (option_and_then form_value (option_map (λ s. s.now) word.entry)) result }
+{
+    word.and_then(form_value).ok_or(LineFault::Usage)
+}
+
+#[tactic(auto, unfolding(crate::specs::ShowPosix::form_value))]
+fn form_value(word: &str) -> Option<Form>
+    ensures { result ≡ form_value word.now }
+{
+    match word {
+        "canonical" => Some(Form::Canonical),
+        "shown" => Some(Form::Shown),
+        "short" => Some(Form::Short),
+        _ => None,
+    }
+}
+
+/// Writes the text in a form of the file whose text the input is; the short text has a line feed after it. Nothing is
+/// written before the input is accepted.
+pub fn run_show_posix<S: Source, K: Sink>(
+    alloc: Global,
+    source: &mut S,
+    sink: &mut K,
+    form: Form,
+    names: &Names,
+) -> Result<Outcome, RunFault>
+    ensures ran { Ran (ShowPosixAnswer (record { form = form; names = names.now }))
+        (S.remaining source.old) (K.contents sink.old) (K.contents sink.new) result }
+    ensures whole { OnOk result (IsAtEnd (S.remaining source.new)) }
+    ensures unwritten { IfErr result (λ e. (is_write e ≡ true) ⊎ (sink.new ≡ sink.old)) }
+    ensures reads { S.failure_count source.new
+        ≡ failures_after (S.failure_count source.old) (has_read_failed result) }
+    ensures writes { K.failure_count sink.new
+        ≡ failures_after (K.failure_count sink.old) (has_write_failed result) }
+{
+    let input = read_all(alloc, source)?;
+    let text = shown(alloc, input, form, names)?;
+    match put_all(sink, text.as_slice()) {
+        Ok(()) => Ok(Outcome::Yes),
+        Err(fault) => Err(RunFault::Write(fault)),
+    }
+}
+
+// The text in the form.
+fn shown(alloc: Global, input: Vec<u8>, form: Form, names: &Names) -> Result<Vec<u8>, RunFault>
+    ensures made { IfOk result (λ text. Writes names.now (form_text form) input.items text.items) }
+    ensures refused { IfErr result (λ e. (e ≡ RunFault.Memory)
+        ⊎ ((is_refusal e ≡ true) × IsPosixFault names.now input.items e)) }
+{
+    let file = read_file(alloc, &input, names)?;
+    drop(input);
+    Ok(text_in(alloc, &file, form)?)
+}
