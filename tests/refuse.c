@@ -1,5 +1,7 @@
-/* Refuses one request for memory: number REFUSE of those that the program makes of malloc, calloc and realloc, counted
- * from 1. It writes a byte to the descriptor REFUSED when it has, so that a run that made fewer requests can be told. */
+/* Counts the requests for memory that a program makes of malloc, calloc and realloc, and refuses number REFUSE of them,
+ * counted from 1. It writes a byte to the descriptor REFUSED when it has, so that a run that made fewer requests can be
+ * told. At the end it writes the number of requests and of bytes asked for to the descriptor COUNTED, in decimal. */
+#include <stdio.h>
 #include <stdlib.h>
 #include <string.h>
 #include <unistd.h>
@@ -8,15 +10,19 @@ extern void *__libc_malloc(size_t);
 extern void *__libc_calloc(size_t, size_t);
 extern void *__libc_realloc(void *, size_t);
 
-static long left = -1;
+static unsigned long requests;
+static unsigned long bytes;
 
-static int refuses(void)
+static int refuses(size_t size)
 {
-    if (left < 0) {
-        const char *number = getenv("REFUSE");
-        left = number ? atol(number) : 0;
+    static long number = -1;
+    if (number < 0) {
+        const char *given = getenv("REFUSE");
+        number = given ? atol(given) : 0;
     }
-    if (left == 0 || --left > 0)
+    requests++;
+    bytes += size;
+    if (requests != (unsigned long)number)
         return 0;
     const char *mark = getenv("REFUSED");
     if (mark && write(atoi(mark), "!", 1) != 1)
@@ -26,15 +32,26 @@ static int refuses(void)
 
 void *malloc(size_t size)
 {
-    return refuses() ? NULL : __libc_malloc(size);
+    return refuses(size) ? NULL : __libc_malloc(size);
 }
 
 void *calloc(size_t count, size_t size)
 {
-    return refuses() ? NULL : __libc_calloc(count, size);
+    return refuses(count * size) ? NULL : __libc_calloc(count, size);
 }
 
 void *realloc(void *old, size_t size)
 {
-    return refuses() ? NULL : __libc_realloc(old, size);
+    return refuses(size) ? NULL : __libc_realloc(old, size);
+}
+
+__attribute__((destructor)) static void tell(void)
+{
+    const char *to = getenv("COUNTED");
+    char line[64];
+    if (to) {
+        int length = snprintf(line, sizeof line, "%lu %lu\n", requests, bytes);
+        if (write(atoi(to), line, length) != length)
+            _exit(99);
+    }
 }
