@@ -5,3 +5,4 @@ pub mod Orders
 pub mod Meetings
 pub mod Cuts
 pub mod PieceLemmas
+pub mod LineLemmas

@@ -1,9 +1,11 @@
 -- A text in pieces, of which some are out.
-use Rattle.std.proofs.Common.{◌≡◌, ◌∙◌, ◌+◌, ◌-◌, ◌<◌, ◌≤◌, ◌++◌, ℕ, List, Option, length, take, arith, ap, sym, append_assoc, length-append}
+use Rattle.std.proofs.Common.{◌≡◌, ◌∙◌, ◌+◌, ◌-◌, ◌^◌, ◌<◌, ◌≤◌, ◌++◌, ℕ, List, [], ◌∷◌, Option, None, Some, Result, Ok, Err, length, take, arith, refl, ap, sym, subst, append_assoc, append-nil, length-append}
 use Rattle.std.proofs.Math.Seq.{take-append-add}
 use Rattle.std.proofs.lemmas.List.{take-append-le}
 use Rattle.std.proofs.KnownBytes.{Appends-trans}
 use Rattle.std.specs.Io.KnownBytes.{Appends}
+use Rattle.acl_perm.specs.Pieces.{WritesFrom}
+use Rattle.acl_perm.specs.declared.whole.WriteFault.{WriteFault}
 
 -- one more piece is out
 pub moved_on : (p piece rest whole : List ℕ) → whole ≡ p ++ (piece ++ rest) → whole ≡ (p ++ piece) ++ rest
@@ -41,3 +43,73 @@ under_whole p piece rest whole start done k at e under =
 pub grown : (p piece : List ℕ) (start done more : ℕ) → done ≡ start + length p → more ≡ done + length piece
     → more ≡ start + length (p ++ piece)
 grown p piece start done more at e = let n = length-append p piece in omega (arith, n)
+
+-- ---- lines one after the other
+
+-- a front of the whole is out, and the rest follows it
+pub record IsOut (start done : ℕ) (held holds : Option (List ℕ)) (whole rest : List ℕ) : Type 0 where
+  pub front : List ℕ
+  pub count : done ≡ start + length front
+  pub known : Appends held holds front
+  pub order : whole ≡ front ++ rest
+
+appends_none : (held : Option (List ℕ)) → Appends held held []
+appends_none None = tt
+appends_none (Some xs) = sym (append-nil xs)
+
+-- at the start nothing is out
+pub out_none : (start : ℕ) (held : Option (List ℕ)) (whole rest : List ℕ) → whole ≡ rest
+    → IsOut start start held held whole rest
+out_none start held whole rest e = record { front = []; count = omega arith; known = appends_none held; order = e }
+
+-- the next line ends below 2 ^ 64
+pub next_fits : (start done : ℕ) (held holds : Option (List ℕ)) (whole rest line more : List ℕ)
+    → IsOut start done held holds whole rest → rest ≡ line ++ more → start + length whole < 2 ^ 64
+    → done + length line < 2 ^ 64
+next_fits start done held holds whole rest line more h e fits =
+    piece_fits h.front line more whole start done (2 ^ 64) h.count (h.order ∙ ap (λ (xs : List ℕ). h.front ++ xs) e)
+    fits
+
+-- a line that went out is out
+pub out_more : (start done count : ℕ) (a b c : Option (List ℕ)) (whole rest line more : List ℕ)
+    → IsOut start done a b whole rest → rest ≡ line ++ more → count ≡ done + length line → Appends b c line
+    → IsOut start count a c whole more
+out_more start done count a b c whole rest line more h e n put =
+    let order = h.order ∙ ap (λ (xs : List ℕ). h.front ++ xs) e in
+    record {
+      front = h.front ++ line;
+      count = grown h.front line start done count h.count n;
+      known = Appends-trans a b c h.front line h.known put;
+      order = moved_on h.front line more whole order;
+    }
+
+-- a line that was cut leaves a part of the whole out
+pub out_cut : (start done written : ℕ) (a b c : Option (List ℕ)) (whole rest line more : List ℕ)
+    → IsOut start done a b whole rest → rest ≡ line ++ more → done ≤ written → written < done + length line
+    → Appends b c (take (written - done) line)
+    → (start ≤ written) × (written < start + length whole) × Appends a c (take (written - start) whole)
+out_cut start done written a b c whole rest line more h e low high put =
+    let order = h.order ∙ ap (λ (xs : List ℕ). h.front ++ xs) e in (
+      omega (arith, h.count, low),
+      under_whole h.front line more whole start done written h.count order high,
+      cut_in a b c h.front line more whole start done written h.count order low high h.known put,
+    )
+
+-- where no line is left the whole is out
+pub out_all : (start done : ℕ) (a b : Option (List ℕ)) (whole rest : List ℕ) → IsOut start done a b whole rest
+    → rest ≡ [] → (done ≡ start + length whole) × Appends a b whole
+out_all start done a b whole rest h e =
+    let all : whole ≡ h.front = h.order ∙ ap (λ (xs : List ℕ). h.front ++ xs) e ∙ append-nil h.front in (
+      h.count ∙ ap (λ (xs : List ℕ). start + length xs) (sym all),
+      subst (λ (xs : List ℕ). Appends a b xs) (sym all) h.known,
+    )
+
+-- a part of a text and the rest of it
+pub written_both : (a b c : Option (List ℕ)) (start done : ℕ) (one two : List ℕ) (r : Result ℕ WriteFault)
+    → done ≡ start + length one → Appends a b one → WritesFrom b c done two r → WritesFrom a c start (one ++ two) r
+written_both a b c start done one two (Ok n) count known said =
+    (let both = length-append one two in omega (arith, both, count, said.0), Appends-trans a b c one two known said.1)
+written_both a b c start done one two (Err f) count known said =
+    let out : IsOut start done a b (one ++ two) two =
+    record { front = one; count = count; known = known; order = refl } in
+    out_cut start done f.written a b c (one ++ two) two two [] out (sym (append-nil two)) said.0 said.1 said.2

@@ -1,6 +1,6 @@
 -- What each fault says of a text, without reading it: the first piece that spells no entry, and what is wrong with it;
 -- else the first part that is no valid ACL. The reasons, their order and their places are this library's own.
-use Rattle.std.specs.Prelude.{ℕ, ◌≡◌, ◌<◌, ◌⊎◌, List, ◌∷◌, ◌++◌, length, Option, Some, None, IsTrue, IsFalse}
+use Rattle.std.specs.Prelude.{ℕ, ◌≡◌, ◌<◌, ◌⊎◌, List, ◌∷◌, ◌++◌, length, Option, Some, None, IsTrue, IsFalse, codes}
 use Rattle.std.specs.FinMap as fin
 use Rattle.acl_perm.specs.Lines.{Span, cut_at, is_all_blank, trimmed, start_of}
 use Rattle.acl_posix.specs.declared.fault.AclFault.{AclFault}
@@ -18,6 +18,11 @@ use Rattle.acl_posix.specs.Valid.{IsFaultOf, IsValidList}
 use Rattle.acl_posix.specs.Names.{Table, Ids, is_number}
 use Rattle.acl_posix.specs.Fields.{permissions_of, word_of, id_of}
 use Rattle.acl_posix.specs.Grammar.{TextPiece, EntryFields, fields_of, HasFields, HasTag, PartEntry, SpellAll, access_of, default_of, pieces_of, colon}
+
+-- the name of a part of a text
+abbrev pub part_name : Part → List ℕ
+part_name part.Access = codes "access"
+part_name part.Default = codes "default"
 
 -- the line and the column of a part of a piece: of its first byte that is no blank, or of the byte after it
 pub record IsPlace (line : ℕ) (span : Span) (at_line at_column : ℕ) : Type 0 where

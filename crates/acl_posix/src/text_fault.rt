@@ -1,4 +1,5 @@
 ghost use Rattle.std.specs.Prelude.{◌≡◌};
+ghost use Rattle.acl_posix.specs.TextFault.{part_name};
 ghost use Rattle.acl_posix.specs.declared.text_fault.TextFault.TheVariants.{Memory};
 
 use crate::tag::Tag;
@@ -14,7 +15,9 @@ pub enum Part {
 
 impl Part {
     /// The name of the part. Constant time.
-    pub fn name(&self) -> &'static str {
+    pub fn name(&self) -> &'static str
+        ensures { result.now ≡ part_name self.now }
+    {
         match self {
             Part::Access => "access",
             Part::Default => "default",

@@ -1,7 +1,7 @@
 use Rattle.std.proofs.Common.{arith, true}
 use Rattle.acl_posix.specs.declared.text_fault.Part.TheVariants.{Access}
 use Rattle.acl_posix.proofs.Bounds.{part_under}
-use Rattle.acl_posix.proofs.Written.{written_both}
+use Rattle.acl_perm.proofs.PieceLemmas.{written_both}
 use Rattle.acl_posix.proofs.writer.put_file.Goals as goal
 
 pub put_part-requires-clause-room : goal.put_part-requires-clause-room

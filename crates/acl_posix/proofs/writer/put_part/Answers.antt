@@ -5,7 +5,8 @@ use Rattle.acl_posix.specs.declared.entry.Entry.{Entry}
 use Rattle.acl_posix.specs.Tag.{Tag}
 use Rattle.acl_posix.specs.Entries.{pairs}
 use Rattle.acl_posix.specs.Writing.{part_out}
-use Rattle.acl_posix.proofs.Written.{out_none, entry_next, next_fits, out_more, out_cut, out_all}
+use Rattle.acl_perm.proofs.PieceLemmas.{out_none, next_fits, out_more, out_cut, out_all}
+use Rattle.acl_posix.proofs.Written.{entry_next}
 use Rattle.acl_posix.proofs.writer.put_part.Goals as goal
 
 pub loop-entry-init : goal.loop-entry-init

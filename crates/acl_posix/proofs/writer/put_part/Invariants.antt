@@ -2,7 +2,7 @@ use Rattle.std.proofs.Common.{◌≡◌, drop}
 use Rattle.std.specs.FinMap as set
 use Rattle.acl_posix.specs.Entries.{pairs}
 use Rattle.acl_posix.specs.Writing.{part_out}
-use Rattle.acl_posix.proofs.Written.{IsOut}
+use Rattle.acl_perm.proofs.PieceLemmas.{IsOut}
 use Rattle.acl_posix.proofs.writer.put_part.Given as goal
 
 -- a front of the text is out, the entries from here on follow it, and no put failed
