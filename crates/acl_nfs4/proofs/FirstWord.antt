@@ -6,8 +6,7 @@ use Rattle.std.proofs.lemmas.Slice.{take-put_mid}
 use Rattle.std.proofs.Math.Seq.{take-append-add}
 use borrow.Rule.Slice.PartMut.{put_mid, same_len_mid}
 use Rattle.acl_nfs4.specs.Progress.{IsBytes, IsText}
-use Rattle.acl_nfs4.proofs.Fields.{IsBytes-take}
-use Rattle.acl_nfs4.proofs.Cutting.{bytes_append}
+use Rattle.acl_nfs4.proofs.Fields.{IsBytes-take, bytes_append}
 
 -- what follows the first word
 pub behind_word : (head body : List ℕ) (filled : ℕ) → IsText head filled body → body ≡ drop 4 (take filled head ++ body)

@@ -17,7 +17,7 @@ use Rattle.acl_nfs4.proofs.Fields.{who_bounds as bounds}
 use Rattle.acl_nfs4.proofs.OneFault.{never_truncated}
 
 -- the field that stands next is cut short
-short_rest : (p : Profile) (s : Stage) (rest : List ℕ) (n : ℕ) → Breaks p s rest n Truncated → length rest < size s
+pub short_rest : (p : Profile) (s : Stage) (rest : List ℕ) (n : ℕ) → Breaks p s rest n Truncated → length rest < size s
 short_rest p s rest n (inl h) = h.0
 short_rest p s rest n (inr h) = absurd (never_truncated p s _ h.2)
 

@@ -17,6 +17,11 @@ pub mod Streaming
 pub mod Pieces
 pub mod Exactly
 pub mod Held
-pub mod Cutting
 pub mod Decoding
 pub mod FirstWord
+pub mod FromSource
+pub mod Tables
+pub mod AceFields
+pub mod AceJudged
+pub mod AceLines
+pub mod AceWritten

@@ -1,4 +1,4 @@
--- Fields that name rights: cut at their bars, and joined again.
+-- Fields that name sets by a table: cut at their bars, and joined again.
 use Rattle.std.proofs.Common.{◌≡◌, ◌≢◌, ℕ, suc, ◌+◌, ◌<◌, Bool, true, false, cond, eqb, List, [], ◌∷◌, length, take, drop, Option, Some, None, refl, sym, ap, ◌∙◌, arith, inl, inr, rules}
 use Rattle.std.specs.Prelude.{position, not, ◌&&◌, ◌||◌, find, option_map, bit_or, IfSome, IsSomeAnd}
 use Rattle.std.specs.List.{slice_split, onto_first, position_or_len, join_with_byte, list_all}
@@ -16,8 +16,9 @@ use Rattle.std.proofs.lemmas.Slice.Eq.{bytes_eq-Decides}
 use Rattle.std.proofs.lemmas.Nat.{or_comm}
 use Rattle.acl_perm.proofs.Sets.{has_bit-or, same_set, no_bit}
 use Rattle.acl_perm.specs.declared.mask.Mask.{Mask}
-use Rattle.acl_nfs4.specs.Rights.{Right, rights, is_name_of, bit_named, rights_named, no_rights, SpellsMask, mask_named}
-use Rattle.acl_nfs4.specs.RightsTable.{IsCut, parts_after}
+use Rattle.acl_nfs4.specs.BitNames.{BitName, is_name_of, bit_in, bits_in, no_names, SpellsSet, set_named}
+use Rattle.acl_nfs4.specs.Rights.{rights, SpellsMask, mask_named}
+use Rattle.acl_nfs4.specs.NameTable.{IsCut, parts_after}
 
 abbrev is_bar : ℕ → Bool
 is_bar b = eqb b 0x7c
@@ -85,58 +86,63 @@ or_zero a = same_set _ _ (λ k. has_bit-or a 0 k ∙ ap (λ (x : Bool). has_bit 
       or_false true = refl
       or_false false = refl
 
--- what is named by what is left, together with the rights so far
-abbrev pub rights_from : ℕ → Option (List ℕ) → Option ℕ
-rights_from so_far after = option_map (bit_or so_far) (rights_named (parts_after after))
+-- what is named by what is left, together with the bits so far
+abbrev pub bits_from : List BitName → ℕ → Option (List ℕ) → Option ℕ
+bits_from table so_far after = option_map (bit_or so_far) (bits_in table (parts_after after))
 
 -- one more word
-joined_rights : (so_far bit : ℕ) (r : Option ℕ)
+joined_bits : (so_far bit : ℕ) (r : Option ℕ)
     → option_map (bit_or so_far) (option_map (bit_or bit) r) ≡ option_map (bit_or (bit_or so_far bit)) r
-joined_rights so_far bit None = refl
-joined_rights so_far bit (Some m) = ap (λ (n : ℕ). Some n) (sym (or_assoc so_far bit m))
+joined_bits so_far bit None = refl
+joined_bits so_far bit (Some m) = ap (λ (n : ℕ). Some n) (sym (or_assoc so_far bit m))
 
 -- one more word
-pub goes_on : (so_far : ℕ) (field word : List ℕ) (after : Option (List ℕ)) (bit : ℕ) (total : Option ℕ)
-    → IsCut field word after → bit_named word ≡ Some bit
-    → rights_from so_far (Some field) ≡ total → rights_from (bit_or so_far bit) after ≡ total
-goes_on so_far field word after bit total c named e =
-    sym (joined_rights so_far bit (rights_named (parts_after after)))
+pub goes_on : (table : List BitName) (so_far : ℕ) (field word : List ℕ) (after : Option (List ℕ)) (bit : ℕ)
+    (total : Option ℕ)
+    → IsCut field word after → bit_in table word ≡ Some bit
+    → bits_from table so_far (Some field) ≡ total → bits_from table (bit_or so_far bit) after ≡ total
+goes_on table so_far field word after bit total c named e =
+    sym (joined_bits so_far bit (bits_in table (parts_after after)))
     ∙ sym (ap (λ (o : Option ℕ). option_map (bit_or so_far)
-    (option_and_then (λ b. option_map (bit_or b) (rights_named (parts_after after))) o)) named)
-    ∙ sym (ap (λ (ws : List (List ℕ)). option_map (bit_or so_far) (rights_named ws)) c.parts) ∙ e
+    (option_and_then (λ b. option_map (bit_or b) (bits_in table (parts_after after))) o)) named)
+    ∙ sym (ap (λ (ws : List (List ℕ)). option_map (bit_or so_far) (bits_in table ws)) c.parts) ∙ e
 
 -- no word is left
-pub ends : (so_far : ℕ) (total : Option ℕ) → rights_from so_far None ≡ total → Some so_far ≡ total
-ends so_far total e = ap (λ (n : ℕ). Some n) (sym (or_zero so_far)) ∙ e
+pub ends : (table : List BitName) (so_far : ℕ) (total : Option ℕ) → bits_from table so_far None ≡ total
+    → Some so_far ≡ total
+ends table so_far total e = ap (λ (n : ℕ). Some n) (sym (or_zero so_far)) ∙ e
 
 -- one turn of the loop over a field
-pub next_left : (so_far bit u : ℕ) (field word : List ℕ) (after rest : Option (List ℕ)) (total : Option ℕ)
-    → u ≡ bit_or so_far bit → IsCut field word after → Some bit ≡ bit_named word → rest ≡ Some field
-    → rights_from so_far rest ≡ total → rights_from u after ≡ total
-next_left so_far bit u field word after rest total joined c named is e =
-    ap (λ (n : ℕ). rights_from n after) joined
-    ∙ goes_on so_far field word after bit total c (sym named) (sym (ap (rights_from so_far) is) ∙ e)
+pub next_left : (table : List BitName) (so_far bit u : ℕ) (field word : List ℕ) (after rest : Option (List ℕ))
+    (total : Option ℕ)
+    → u ≡ bit_or so_far bit → IsCut field word after → Some bit ≡ bit_in table word → rest ≡ Some field
+    → bits_from table so_far rest ≡ total → bits_from table u after ≡ total
+next_left table so_far bit u field word after rest total joined c named is e =
+    ap (λ (n : ℕ). bits_from table n after) joined
+    ∙ goes_on table so_far field word after bit total c (sym named) (sym (ap (bits_from table so_far) is) ∙ e)
 
 -- no turn is left
-pub nothing_left : (so_far : ℕ) (rest : Option (List ℕ)) (total : Option ℕ) → rest ≡ None
-    → rights_from so_far rest ≡ total → Some so_far ≡ total
-nothing_left so_far rest total is e = ends so_far total (sym (ap (rights_from so_far) is) ∙ e)
+pub nothing_left : (table : List BitName) (so_far : ℕ) (rest : Option (List ℕ)) (total : Option ℕ) → rest ≡ None
+    → bits_from table so_far rest ≡ total → Some so_far ≡ total
+nothing_left table so_far rest total is e = ends table so_far total (sym (ap (bits_from table so_far) is) ∙ e)
 
 -- a word that names no right
-pub stops : (so_far : ℕ) (field word : List ℕ) (after : Option (List ℕ)) (total : Option ℕ) → IsCut field word after
-    → bit_named word ≡ None
-    → rights_from so_far (Some field) ≡ total → None ≡ total
-stops so_far field word after total c named e =
+pub stops : (table : List BitName) (so_far : ℕ) (field word : List ℕ) (after : Option (List ℕ)) (total : Option ℕ)
+    → IsCut field word after
+    → bit_in table word ≡ None
+    → bits_from table so_far (Some field) ≡ total → None ≡ total
+stops table so_far field word after total c named e =
     sym (ap (λ (o : Option ℕ). option_map (bit_or so_far)
-    (option_and_then (λ b. option_map (bit_or b) (rights_named (parts_after after))) o)) named)
-    ∙ sym (ap (λ (ws : List (List ℕ)). option_map (bit_or so_far) (rights_named ws)) c.parts) ∙ e
+    (option_and_then (λ b. option_map (bit_or b) (bits_in table (parts_after after))) o)) named)
+    ∙ sym (ap (λ (ws : List (List ℕ)). option_map (bit_or so_far) (bits_in table ws)) c.parts) ∙ e
 
 zero_or : (m : ℕ) → bit_or 0 m ≡ m
 zero_or m = or_comm 0 m ∙ or_zero m
 
 -- before the first word
-pub begins : (field : List ℕ) → rights_from 0 (Some field) ≡ rights_named (slice_split is_bar field)
-begins field = same (rights_named (slice_split is_bar field)) where
+pub begins : (table : List BitName) (field : List ℕ)
+    → bits_from table 0 (Some field) ≡ bits_in table (slice_split is_bar field)
+begins table field = same (bits_in table (slice_split is_bar field)) where
   same : (r : Option ℕ) → option_map (bit_or 0) r ≡ r
   same None = refl
   same (Some m) = ap (λ (n : ℕ). Some n) (zero_or m)
@@ -146,20 +152,28 @@ begins field = same (rights_named (slice_split is_bar field)) where
 abbrev is_whole : List ℕ → Bool
 is_whole word = list_all (λ b. not (is_bar b)) word
 
-abbrev has_whole_names : Right → Bool
+-- no name of the row has a bar
+abbrev pub has_whole_names : BitName → Bool
 has_whole_names r = is_whole r.name && option_map_or is_whole r.second true
 
-whole_rights : list_all has_whole_names rights ≡ true
-whole_rights = refl
+-- a table whose names can stand in a field: none has a bar, and none is the field of no name
+pub record IsTable (table : List BitName) : Type 0 where
+  pub whole : list_all has_whole_names table ≡ true
+  pub no_dash : bit_in table no_names ≡ None
+
+-- the table of the rights is one
+pub rights_table : IsTable rights
+rights_table = record { whole = refl; no_dash = refl }
 
 and_true : (x y : Bool) → (x && y) ≡ true → (x ≡ true) × (y ≡ true)
 and_true true y e = (refl, e)
 and_true false y e = absurd cc
 
-same_bytes : (xs ys : List ℕ) → bytes_eq xs ys ≡ true → xs ≡ ys
+-- bytes that are tested equal are
+pub same_bytes : (xs ys : List ℕ) → bytes_eq xs ys ≡ true → xs ≡ ys
 same_bytes xs ys e = search (rules, bytes_eq-Decides xs ys, e)
 
-name_whole : (word : List ℕ) (r : Right) → has_whole_names r ≡ true → is_name_of word r ≡ true → is_whole word ≡ true
+name_whole : (word : List ℕ) (r : BitName) → has_whole_names r ≡ true → is_name_of word r ≡ true → is_whole word ≡ true
 name_whole word r whole named =
     let w = and_true (is_whole r.name) (option_map_or is_whole r.second true) whole in
     elim (bytes_eq word r.name) as (λ b. bytes_eq word r.name ≡ b
@@ -172,7 +186,7 @@ name_whole word r whole named =
       second word None p q = absurd cc
       second word (Some name) p q = ap is_whole (same_bytes word name q) ∙ p
 
-found_whole : (word : List ℕ) (rows : List Right) (r : Right) → list_all has_whole_names rows ≡ true
+found_whole : (word : List ℕ) (rows : List BitName) (r : BitName) → list_all has_whole_names rows ≡ true
     → find (is_name_of word) rows ≡ Some r → is_whole word ≡ true
 found_whole word [] r whole e = absurd cc
 found_whole word (row ∷ rows) r whole e =
@@ -184,39 +198,49 @@ found_whole word (row ∷ rows) r whole e =
     ] refl e
 
 -- a word that names a right has no bar
-pub word_whole : (word : List ℕ) (bit : ℕ) → bit_named word ≡ Some bit → is_whole word ≡ true
-word_whole word bit e = among (find (is_name_of word) rights) refl e where
-  among : (o : Option Right) → find (is_name_of word) rights ≡ o → option_map (λ r. r.bit) o ≡ Some bit
+pub word_whole : (table : List BitName) (word : List ℕ) (bit : ℕ) → IsTable table → bit_in table word ≡ Some bit
+    → is_whole word ≡ true
+word_whole table word bit whole e = among (find (is_name_of word) table) refl e where
+  among : (o : Option BitName) → find (is_name_of word) table ≡ o → option_map (λ r. r.bit) o ≡ Some bit
       → is_whole word ≡ true
   among None is f = absurd cc
-  among (Some r) is f = found_whole word rights r whole_rights is
+  among (Some r) is f = found_whole word table r whole.whole is
 
 not_true : (b : Bool) → not b ≡ true → b ≡ false
 not_true true e = absurd cc
 not_true false e = refl
 
-apart : (word : List ℕ) → is_whole word ≡ true → All (λ b. is_bar b ≡ false) word
-apart word e = All-from_recursion (λ b. is_bar b ≡ false) word (each word e) where
-  each : (word : List ℕ) → is_whole word ≡ true → AllByRecursion (λ b. is_bar b ≡ false) word
+-- bytes of which none is this one
+pub all_apart : (c : ℕ) (word : List ℕ) → list_all (λ b. not (eqb b c)) word ≡ true → All (λ b. eqb b c ≡ false) word
+all_apart c word e = All-from_recursion (λ b. eqb b c ≡ false) word (each word e) where
+  each : (word : List ℕ) → list_all (λ b. not (eqb b c)) word ≡ true → AllByRecursion (λ b. eqb b c ≡ false) word
   each [] e = tt
-  each (b ∷ word) e = let p = and_true (not (is_bar b)) (is_whole word) e in (not_true (is_bar b) p.0, each word p.1)
+  each (b ∷ word) e = let p = and_true (not (eqb b c)) (list_all (λ b. not (eqb b c)) word) e in
+      (not_true (eqb b c) p.0, each word p.1)
 
-map_some : {C : Type 0} (f : ℕ → ℕ) (o : Option ℕ) (y : ℕ) → option_map f o ≡ Some y → ((m : ℕ) → o ≡ Some m → C) → C
+apart : (word : List ℕ) → is_whole word ≡ true → All (λ b. is_bar b ≡ false) word
+apart word e = all_apart 0x7c word e
+
+-- a value that was mapped
+pub map_some : {C : Type 0} (f : ℕ → ℕ) (o : Option ℕ) (y : ℕ) → option_map f o ≡ Some y
+    → ((m : ℕ) → o ≡ Some m → C) → C
 map_some f None y e go = absurd cc
 map_some f (Some m) y e go = go m refl
 
 -- the words are the parts of what they are joined to
-pub split_joined : (word : List ℕ) (words : List (List ℕ)) (mask : ℕ) → rights_named (word ∷ words) ≡ Some mask
+pub split_joined : (table : List BitName) (word : List ℕ) (words : List (List ℕ)) (mask : ℕ) → IsTable table
+    → bits_in table (word ∷ words) ≡ Some mask
     → slice_split is_bar (join_with_byte 0x7c (word ∷ words)) ≡ word ∷ words
-split_joined word [] mask e =
-    option_and_then_some (λ bit. option_map (bit_or bit) (Some 0)) (bit_named word) mask e
-    (λ bit named _. slice_split_none is_bar word (apart word (word_whole word bit named)))
-split_joined word (next ∷ words) mask e =
-    option_and_then_some (λ bit. option_map (bit_or bit) (rights_named (next ∷ words))) (bit_named word) mask e
+split_joined table word [] mask whole e =
+    option_and_then_some (λ bit. option_map (bit_or bit) (Some 0)) (bit_in table word) mask e
+    (λ bit named _. slice_split_none is_bar word (apart word (word_whole table word bit whole named)))
+split_joined table word (next ∷ words) mask whole e =
+    option_and_then_some (λ bit. option_map (bit_or bit) (bits_in table (next ∷ words))) (bit_in table word) mask e
     (λ bit named rest.
-    map_some (bit_or bit) (rights_named (next ∷ words)) mask rest (λ m others.
-    slice_split_at is_bar word 0x7c (join_with_byte 0x7c (next ∷ words)) (apart word (word_whole word bit named)) refl
-    ∙ ap (λ (ws : List (List ℕ)). word ∷ ws) (split_joined next words m others)))
+    map_some (bit_or bit) (bits_in table (next ∷ words)) mask rest (λ m others.
+    slice_split_at is_bar word 0x7c (join_with_byte 0x7c (next ∷ words))
+    (apart word (word_whole table word bit whole named)) refl
+    ∙ ap (λ (ws : List (List ℕ)). word ∷ ws) (split_joined table next words m whole others)))
 
 -- ---- the relation and the function
 
@@ -225,12 +249,13 @@ some_parts field e = let none : length (slice_split is_bar field) ≡ 0 = ap len
     omega (arith, length-slice_split is_bar field, none)
 
 -- words that name rights, joined by bars
-pub spelled : (field : List ℕ) (mask : ℕ) → mask_named field ≡ Some mask → SpellsMask field mask
-unfolding mask_named
-spelled field mask e =
-    elim (bytes_eq field no_rights) as (λ b. bytes_eq field no_rights ≡ b
-    → cond b (Some 0) (rights_named (slice_split is_bar field)) ≡ Some mask → SpellsMask field mask) [
-      | true ↦ λ same given. inl (same_bytes field no_rights same, some_is given)
+pub spelled : (table : List BitName) (field : List ℕ) (mask : ℕ) → set_named table field ≡ Some mask
+    → SpellsSet table field mask
+unfolding set_named
+spelled table field mask e =
+    elim (bytes_eq field no_names) as (λ b. bytes_eq field no_names ≡ b
+    → cond b (Some 0) (bits_in table (slice_split is_bar field)) ≡ Some mask → SpellsSet table field mask) [
+      | true ↦ λ same given. inl (same_bytes field no_names same, some_is given)
       | false ↦ λ other given. inr (
         slice_split is_bar field,
         some_parts field,
@@ -241,28 +266,31 @@ spelled field mask e =
       some_is : Some 0 ≡ Some mask → mask ≡ 0
       some_is h = cc
 
-words_again : (field : List ℕ) (mask : ℕ) (words : List (List ℕ)) → words ≢ [] → field ≡ join_with_byte 0x7c words
-    → rights_named words ≡ Some mask → mask_named field ≡ Some mask
-unfolding mask_named
-words_again field mask [] some joined named = absurd (some refl)
-words_again field mask (word ∷ words) some joined named =
+words_again : (table : List BitName) (field : List ℕ) (mask : ℕ) (words : List (List ℕ)) → IsTable table
+    → words ≢ [] → field ≡ join_with_byte 0x7c words
+    → bits_in table words ≡ Some mask → set_named table field ≡ Some mask
+unfolding set_named
+words_again table field mask [] whole some joined named = absurd (some refl)
+words_again table field mask (word ∷ words) whole some joined named =
     let parts : slice_split is_bar field ≡ word ∷ words =
-    ap (slice_split is_bar) joined ∙ split_joined word words mask named in
-    let given : rights_named (slice_split is_bar field) ≡ Some mask = ap rights_named parts ∙ named in
-    elim (bytes_eq field no_rights) as (λ b. bytes_eq field no_rights ≡ b
-    → cond b (Some 0) (rights_named (slice_split is_bar field)) ≡ Some mask) [
-      | true ↦ λ same. absurd (none_named (sym (ap (λ (text : List ℕ). rights_named (slice_split is_bar text))
-          (same_bytes field no_rights same)) ∙ given))
+    ap (slice_split is_bar) joined ∙ split_joined table word words mask whole named in
+    let given : bits_in table (slice_split is_bar field) ≡ Some mask = ap (bits_in table) parts ∙ named in
+    elim (bytes_eq field no_names) as (λ b. bytes_eq field no_names ≡ b
+    → cond b (Some 0) (bits_in table (slice_split is_bar field)) ≡ Some mask) [
+      | true ↦ λ same. absurd (none_named (sym (ap (option_and_then (λ bit. option_map (bit_or bit) (Some 0)))
+          whole.no_dash) ∙ sym (ap (λ (text : List ℕ). bits_in table (slice_split is_bar text))
+          (same_bytes field no_names same)) ∙ given))
       | false ↦ λ other. given
     ] refl where
       none_named : None ≡ Some mask → ⊥
       none_named h = cc
 
 -- a field that spells a mask names it
-pub named_again : (field : List ℕ) (mask : ℕ) → SpellsMask field mask → mask_named field ≡ Some mask
-unfolding mask_named
-named_again field mask (inl s) = rw (s.0, s.1) refl
-named_again field mask (inr s) = words_again field mask s.0 s.1 s.2 s.3
+pub named_again : (table : List BitName) (field : List ℕ) (mask : ℕ) → IsTable table → SpellsSet table field mask
+    → set_named table field ≡ Some mask
+unfolding set_named
+named_again table field mask whole (inl s) = rw (s.0, s.1) refl
+named_again table field mask whole (inr s) = words_again table field mask s.0 whole s.1 s.2 s.3
 
 -- ---- what `read_mask` answers, seen as the number of its mask
 
@@ -270,14 +298,14 @@ named_again field mask (inr s) = words_again field mask s.0 s.1 s.2 s.3
 pub answers_spelled : (field : List ℕ) (r : Option Mask) → option_map (λ m. m.bits) r ≡ mask_named field
     → IfSome r (λ m. SpellsMask field m.bits)
 answers_spelled field None given = tt
-answers_spelled field (Some m) given = spelled field m.bits (sym given)
+answers_spelled field (Some m) given = spelled rights field m.bits (sym given)
 
 -- what is spelled is answered
 pub answers_only : (field : List ℕ) (r : Option Mask) (mask : ℕ) → option_map (λ m. m.bits) r ≡ mask_named field
     → SpellsMask field mask → IsSomeAnd r (λ m. m.bits ≡ mask)
-answers_only field None mask given s = absurd (nothing (given ∙ named_again field mask s)) where
+answers_only field None mask given s = absurd (nothing (given ∙ named_again rights field mask rights_table s)) where
   nothing : None ≡ Some mask → ⊥
   nothing h = cc
-answers_only field (Some m) mask given s = same (given ∙ named_again field mask s) where
+answers_only field (Some m) mask given s = same (given ∙ named_again rights field mask rights_table s) where
   same : Some m.bits ≡ Some mask → m.bits ≡ mask
   same h = cc

@@ -1,6 +1,6 @@
 -- One more ACE at the end of a list.
 use Rattle.std.proofs.Common.{◌≡◌, ℕ, ◌+◌, ◌<◌, ◌≤◌, false, ltb, leb, List, [], ◌∷◌, ◌++◌, length, refl, sym, ap, ◌∙◌, arith}
-use Rattle.std.specs.Prelude.{count_ones, replicate, Option, None, Some, option_map}
+use Rattle.std.specs.Prelude.{count_ones, replicate, None, option_map}
 use Rattle.std.specs.List.{flat_map, AllByRecursion}
 use Rattle.std.proofs.lemmas.Bool.{le-ltb}
 use Rattle.std.proofs.lemmas.List.{append-nil, length-append}
@@ -14,7 +14,6 @@ use Rattle.acl_nfs4.specs.Spelling.{piece, word, kind_number, pad_len, weight, I
 use Rattle.acl_nfs4.specs.Body.{aces_of, Spells}
 use Rattle.acl_nfs4.specs.Owned.{IsOwned}
 use Rattle.acl_nfs4.specs.Push.{who_refusal, push_refusal}
-use Rattle.acl_nfs4.specs.declared.who.WhoFault.{WhoFault}
 use Rattle.acl_nfs4.proofs.Body.{aces_of-flat_map, is_body}
 use Rattle.acl_nfs4.proofs.Faults.{weight-push, regroup}
 
@@ -82,14 +81,6 @@ pushed n w bytes a o is room light =
       };
       list = e;
     }
-
-no_refusal : (fault : Option WhoFault) → option_map who_refusal fault ≡ None → fault ≡ None
-no_refusal None e = refl
-no_refusal (Some f) e = absurd cc
-
--- what nothing refuses is a who
-pub is_who : (who : List ℕ) → option_map who_refusal (who_fault who) ≡ None → IsWho who
-is_who who e = no_refusal (who_fault who) e
 
 who_passes : (who : List ℕ) → IsWho who → option_map who_refusal (who_fault who) ≡ None
 who_passes who is = rw is refl

@@ -220,10 +220,8 @@ pub judged_is : (p : Profile) (text : List ℕ) (so_far : Progress) (end : Optio
     → 4 ≤ length text → number (take 4 text) ≤ most_aces → IsScanned p (drop 4 text) so_far
     → Ends p (number (take 4 text)) (drop 4 text) so_far end → Judged p text so_far end
 judged_is p text so_far None ok fits long small s e = text_ends p text so_far ok long small s (omega arith) fits e
-judged_is p text so_far (Some f) ok fits long small s e = (
-  text_fails p text so_far ok long small s (let h = e.0 in omega arith) f fits e.0 e.1,
-  λ _ _. record { small = small; owed = e.0; fails = e.1 },
-)
+judged_is p text so_far (Some f) ok fits long small s e =
+    text_fails p text so_far ok long small s (let h = e.0 in omega arith) f fits e.0 e.1
 
 -- a piece that ends a value
 pub record Ended (p : Profile) (old piece text : List ℕ) (so_far : Progress) : Type 0 where
@@ -245,7 +243,3 @@ ended p old piece text so_far ok e w cut =
       xdr = subst (λ (t : List ℕ). Xdr p (aces_of so_far.seen (body_in text so_far)) t)
           (taken_is old piece (4 + so_far.used) le) x;
     }
-
--- too large a count is no want of bytes
-pub many_isnt_cut : TooManyAces ≡ Truncated → ⊥
-many_isnt_cut e = cc

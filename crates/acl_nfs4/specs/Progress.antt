@@ -4,8 +4,7 @@ use Rattle.std.specs.Prelude.{◌≡◌, ℕ, ◌+◌, ◌<◌, ◌≤◌, List,
 use Rattle.std.specs.List.{AllByRecursion}
 use Rattle.acl_perm.specs.Profile.{Profile}
 use Rattle.acl_nfs4.specs.Ace.{Ace}
-use Rattle.acl_nfs4.specs.Spelling.{Xdr, IsAce, weight, pad_len}
-use Rattle.acl_nfs4.specs.Limits.{most_aces}
+use Rattle.acl_nfs4.specs.Spelling.{Xdr, IsAce, weight}
 use Rattle.acl_nfs4.specs.Within.{IsProfile}
 use Rattle.acl_nfs4.specs.Fault.{IsFault}
 use Rattle.acl_nfs4.specs.Fields.{number}
@@ -14,7 +13,7 @@ use Rattle.acl_nfs4.specs.Body.{Spells, aces_of}
 use Rattle.acl_nfs4.specs.Owned.{IsOwned}
 use Rattle.acl_nfs4.specs.Stream.{Standing, more, done, refused}
 use Rattle.acl_nfs4.specs.declared.fault.Fault.{Fault}
-use Rattle.acl_nfs4.specs.declared.fault.Reason.TheVariants.{Truncated, Read}
+use Rattle.acl_nfs4.specs.declared.fault.Reason.TheVariants.{Truncated}
 use Rattle.acl_nfs4.specs.declared.scan.Progress.{Progress}
 use Rattle.acl_nfs4.specs.declared.feed.Stage.{Stage}
 use Rattle.acl_nfs4.specs.declared.feed.Stage.TheVariants.{Open, Done, Refused}
@@ -64,17 +63,10 @@ pub record IsWhole (p : Profile) (text : List ℕ) (at : Progress) : Type 0 wher
   pub owned : IsOwned at.seen at.weight (body_in text at)
   pub inside : 4 + at.used ≤ length text
 
--- the next ACE is the one with the fault
-pub record IsNext (p : Profile) (f : Fault) (at : Progress) (text : List ℕ) : Type 0 where
-  pub small : number (take 4 text) ≤ most_aces
-  pub owed : at.seen < number (take 4 text)
-  pub fails : ace_at p at.weight (behind_scanned (drop 4 text) at) ≡ Err f
-
 -- a text begins with a value, or has this fault
 abbrev pub Judged : Profile → List ℕ → Progress → Option Fault → Type 0
 Judged p text at None = IsWhole p text at
-Judged p text at (Some f) =
-    IsFault p text f.offset f.reason × (4 ≤ length text → f.reason ≡ Truncated → IsNext p f at text)
+Judged p text at (Some f) = IsFault p text f.offset f.reason
 
 -- the fields of a feed that asks for more
 pub record IsOpen (p : Profile) (f : Fault) (at : Progress) (text : List ℕ) : Type 0 where
@@ -82,8 +74,6 @@ pub record IsOpen (p : Profile) (f : Fault) (at : Progress) (text : List ℕ) : 
   pub cut : IsFault p text f.offset f.reason
   pub why : f.reason ≡ Truncated
   pub progress : IsProgress p text at
-  pub next : 4 ≤ length text → IsNext p f at text
-  pub bytes : IsBytes text
 
 -- what the fields of a feed stand for
 abbrev pub standing : Profile → Stage → Progress → List ℕ → Standing
@@ -102,27 +92,3 @@ abbrev pub HasTaken : Standing → List ℕ → Standing → Type 0
 HasTaken (more p s) front new = new ≡ more p (s ++ front)
 HasTaken (done list) front new = (new ≡ done list) × (front ≡ [])
 HasTaken (refused f) front new = (new ≡ refused f) × (front ≡ [])
-
--- how long the stream is so far
-abbrev pub stream_len : Standing → ℕ
-stream_len (more p s) = length s
-stream_len (done list) = 0
-stream_len (refused f) = 0
-
--- a failed read is told where the text is cut short
-abbrev pub ReadStands : Standing → Fault → Type 0
-ReadStands (more p s) f = IsFault p s f.offset Truncated × (f.reason ≡ Read)
-ReadStands (done list) f = f.reason ≡ Read
-ReadStands (refused g) f = f.reason ≡ Read
-
--- a tail that grows to so many bytes and ends in the same field of an ACE as before
-pub record InField (tail : List ℕ) (long : ℕ) : Type 0 where
-  pub kind : length tail < 4 → long < 4
-  pub flags : length tail < 8 → long < 8
-  pub mask : length tail < 12 → long < 12
-  pub len : length tail < 16 → long < 16
-  pub who : 16 ≤ length tail → length tail < 16 + number (take 4 (drop 12 tail))
-      → long < 16 + number (take 4 (drop 12 tail))
-  pub padding : 16 ≤ length tail
-      → length tail < 16 + number (take 4 (drop 12 tail)) + pad_len (number (take 4 (drop 12 tail)))
-      → long < 16 + number (take 4 (drop 12 tail)) + pad_len (number (take 4 (drop 12 tail)))

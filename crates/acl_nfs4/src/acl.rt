@@ -1,5 +1,5 @@
 //! The owned list.
-ghost use Rattle.std.specs.Prelude.{◌≡◌, ◌<◌, ◌≤◌, ◌↔◌, IsTrue, IfOk, OnOk, OnErr, None, option_map};
+ghost use Rattle.std.specs.Prelude.{◌≡◌, ◌+◌, ◌<◌, ◌≤◌, ◌↔◌, count_ones, IsTrue, IfOk, OnOk, OnErr, None, option_map};
 ghost use Rattle.std.specs.Prelude.{[], ◌∷◌, ◌++◌, length, replicate};
 ghost use Rattle.acl_nfs4.specs.Ace.{ace};
 ghost use Rattle.acl_nfs4.specs.Spelling.{piece, word, kind_number, IsAccepted, Fits};
@@ -7,9 +7,9 @@ ghost use Rattle.acl_nfs4.specs.Spelling as spelled;
 ghost use Rattle.acl_nfs4.specs.Owned.{same_list};
 ghost use Rattle.acl_nfs4.specs.Push.{who_refusal, push_refusal, PushAnswers};
 ghost use Rattle.acl_nfs4.specs.Appending.{Extended, IsBeginning};
-ghost use Rattle.acl_nfs4.specs.Limits.{most_weight, longest_who};
+ghost use Rattle.acl_nfs4.specs.Limits.{most_aces, most_weight, longest_who};
 ghost use Rattle.acl_nfs4.specs.Reading.{Judges};
-ghost use Rattle.acl_nfs4.specs.Who.{who_fault};
+ghost use Rattle.acl_nfs4.specs.Who.{IsWho, who_fault};
 ghost use Rattle.acl_nfs4.specs.Within.{IsWithin};
 ghost use Rattle.acl_perm.specs.Profile.{full, profile_of};
 
@@ -74,7 +74,8 @@ impl Acl {
 
     /// The number of mask bits set, over all ACEs, in constant time.
     pub fn weight(&self) -> u32
-        ensures { result ≡ spelled.weight self.now }
+        ensures value { result ≡ spelled.weight self.now }
+        ensures within { result ≤ most_weight }
     {
         self.weight
     }
@@ -146,14 +147,25 @@ impl Acl {
             return Err(PushFault::TooHeavy);
         }
         judge_who(item.who)?;
-        match append_piece(&mut self.body, item) {
-            Ok(()) => {
-                self.count += 1;
-                self.weight += bits;
-                Ok(())
-            }
+        match self.append(item) {
+            Ok(()) => Ok(()),
             Err(_) => Err(PushFault::Memory),
         }
+    }
+
+    /// Adds an ACE at the end of a list that can take it.
+    pub(crate) fn append(&mut self, item: AceRef<'_>) -> Result<(), AllocError>
+        requires room { length self.old < most_aces }
+        requires light { spelled.weight self.old + count_ones item.mask.bits ≤ most_weight }
+        requires who { IsWho item.who.now }
+        ensures ok { OnOk result (self.new ≡ self.old ++ ace item.entry ∷ []) }
+        ensures err { OnErr result (self.new ≡ self.old) }
+        ensures accepted { OnOk result (IsAccepted full (self.old ++ ace item.entry ∷ [])) }
+    {
+        append_piece(&mut self.body, item)?;
+        self.count += 1;
+        self.weight += item.mask.bits().count_ones();
+        Ok(())
     }
 }
 

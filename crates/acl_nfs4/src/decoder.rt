@@ -8,13 +8,13 @@ ghost use Rattle.acl_nfs4.specs.Spelling.{IsAccepted, Xdr, spelling};
 ghost use Rattle.acl_nfs4.specs.Fault.{IsFault};
 ghost use Rattle.acl_nfs4.specs.declared.fault.Reason.{Reason};
 ghost use Rattle.acl_nfs4.specs.declared.fault.Reason.TheVariants.{Read};
-ghost use Rattle.acl_nfs4.specs.Stream.{Decodes, FaultsOrFails, Feeds, IsOrFails};
-ghost use Rattle.acl_nfs4.specs.Progress.{IsBytes};
+ghost use Rattle.acl_nfs4.specs.Stream.{Decodes, FaultsOrFails, IsOrFails};
 
 use crate::acl::Acl;
-use crate::fault::Fault;
-use crate::fed::Fed;
-use crate::feed::Feed;
+use crate::fault::{Fault, Reason};
+use crate::judges;
+use crate::pulling::{ROOM, pull_ace, word};
+use crate::reading::placed;
 use acl_perm::{Profile, Source};
 use std::alloc::Global;
 
@@ -79,25 +79,26 @@ fn read_value<S: Source>(alloc: Global, source: &mut S, profile: Profile) -> Res
     ensures unread { IfErr result (λ f. (f.reason ≡ Read)
         ⊎ (S.failure_count source.new ≡ S.failure_count source.old)) }
 {
-    let mut feed = Feed::with_profile(alloc, profile);
-    let mut buffer = [0u8; 1024];
-    loop {
-        let wanted = feed.wanted();
-        match source.pull(&mut buffer[..wanted]) {
-            Ok(0) => return feed.finish(),
-            Ok(n) => match offer(&mut feed, &buffer[..n]) {
-                Fed::More => {}
-                Fed::Done { taken: _ } => return feed.finish(),
-                Fed::Refused(fault) => return Err(fault),
-            },
-            Err(_) => return Err(feed.read_fault()),
+    let mut room = [0u8; ROOM];
+    let number = word(source, &mut room, 0, 0)?;
+    let count = placed(0, judges::count_of(number))?;
+    let mut body = Vec::new(alloc);
+    let mut weight = 0;
+    for _ in 0..count {
+        let ace = pull_ace(source, &mut room, 4 + body.len(), weight, profile)?;
+        match body.extend_from_slice(&room[..ace.len]) {
+            Ok(()) => weight += ace.bits,
+            Err(_) => {
+                return Err(Fault {
+                    offset: 0,
+                    reason: Reason::Memory,
+                });
+            }
         }
     }
-}
-
-fn offer(feed: &mut Feed, piece: &[u8]) -> Fed
-    ensures feeds { Feeds feed.old piece.now result feed.new }
-    ensures bytes { IsBytes piece.now }
-{
-    feed.feed(piece)
+    Ok(Acl {
+        count,
+        weight,
+        body,
+    })
 }

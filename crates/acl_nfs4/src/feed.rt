@@ -2,13 +2,12 @@
 ghost use Rattle.std.specs.Prelude.{◌≡◌, ℕ, ◌+◌, ◌≤◌, ◌<◌, ◌^◌, ◌++◌, List, [], length, take, drop};
 ghost use Rattle.acl_perm.specs.Profile.{Profile as Allowed, full, profile_of};
 ghost use Rattle.acl_nfs4.specs.Stream.{FedExactly, Feeds, Finishes, IsCut, IsSmall, more};
-ghost use Rattle.acl_nfs4.specs.Progress.{InField, IsBytes, IsFeed, IsProgress, Judged, ReadStands, standing, stream_len};
+ghost use Rattle.acl_nfs4.specs.Progress.{IsFeed, IsProgress, Judged, standing};
 
-use crate::aces::word_in;
 use crate::acl::Acl;
 use crate::fault::{Fault, Reason};
 use crate::fed::Fed;
-use crate::limits::{LONGEST_WHO, MOST_ACES};
+use crate::limits::MOST_ACES;
 use crate::scan::{Progress, scan};
 use crate::stream::Text;
 use acl_perm::Profile;
@@ -52,7 +51,6 @@ fn judge(text: &Text, from: Progress, profile: Profile) -> (Progress, Option<Fau
     requires { IsProgress (profile_of profile) text.now from }
     ensures progress { IsProgress (profile_of profile) text.now result.0 }
     ensures judged { Judged (profile_of profile) text.now result.0 result.1 }
-    ensures bytes { IsBytes text.now }
     ensures fits { length text.now < 2 ^ 64 }
 {
     match text.count() {
@@ -114,29 +112,6 @@ fn advance(
                 },
             }
         }
-    }
-}
-
-// How many bytes an ACE that is cut short lacks to the end of the field that is being read.
-fn missing(tail: &[u8]) -> usize
-    ensures some { 0 < result }
-    ensures small { result ≤ 1024 }
-    ensures inside { (k : ℕ) → k < result → InField tail.now (length tail.now + k) }
-{
-    let held = tail.len();
-    if held < 16 {
-        return 4 - held % 4;
-    }
-    let len = word_in(tail, 12) as usize;
-    let end = if held < 16 + len {
-        16 + len
-    } else {
-        16 + len + (4 - len % 4) % 4
-    };
-    if held < end {
-        (end - held).min(LONGEST_WHO)
-    } else {
-        1
     }
 }
 
@@ -229,43 +204,6 @@ impl Feed {
                 taken: taken + more,
             },
             Fed::Refused(fault) => Fed::Refused(fault),
-        }
-    }
-
-    // How many bytes the field that is being read lacks.
-    pub(crate) fn wanted(&self) -> usize
-        ensures some { 0 < result }
-        ensures small { result ≤ 1024 }
-        ensures cut { (p : Allowed) (s x : List ℕ) → self.now ≡ more p s → IsBytes x → length x < result
-            → IsCut p (s ++ x) }
-        ensures long { stream_len self.now < 2 ^ 64 }
-    {
-        match self.stage {
-            Stage::Open(_) => {
-                let len = self.text.len();
-                if len < 4 {
-                    return 4 - len;
-                }
-                let (_, tail) = self.text.body().split_at(self.progress.used);
-                missing(tail)
-            }
-            _ => 1,
-        }
-    }
-
-    // The fault of a read that failed: it stands where the text is cut short.
-    pub(crate) fn read_fault(&self) -> Fault
-        ensures { ReadStands self.now result }
-    {
-        match self.stage {
-            Stage::Open(fault) => Fault {
-                offset: fault.offset,
-                reason: Reason::Read,
-            },
-            _ => Fault {
-                offset: 0,
-                reason: Reason::Read,
-            },
         }
     }
 

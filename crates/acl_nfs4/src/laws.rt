@@ -1,12 +1,17 @@
-//! Laws of the spelling.
+//! Laws of the spelling and of the text form.
 
-ghost use Rattle.std.specs.Prelude.{◌≡◌, ◌↔◌, ◌<◌, ◌++◌, ◌^◌, ℕ, List, length, take};
+ghost use Rattle.std.specs.Prelude.{◌≡◌, ◌↔◌, ◌<◌, ◌++◌, ◌^◌, ℕ, List, Some, length, take};
 ghost use Rattle.std.specs.List.{AllByRecursion, concat};
 ghost use Rattle.acl_nfs4.specs.Ace.{Ace};
 ghost use Rattle.acl_nfs4.specs.Spelling.{Fits, IsAccepted, Xdr, weight};
 ghost use Rattle.acl_nfs4.specs.Within.{IsProfile};
 ghost use Rattle.acl_perm.specs.Profile.{Profile, full};
 ghost use Rattle.acl_nfs4.specs.Fault.{Border, IsFault, IsFirstFault, IsWholeFault, Stage};
+ghost use Rattle.acl_nfs4.specs.AceText.{IsAceText, ace_text};
+ghost use Rattle.acl_nfs4.specs.AceTextFault.{IsAceTextFault};
+ghost use Rattle.acl_nfs4.specs.BitNames.{first_name};
+ghost use Rattle.acl_nfs4.specs.Rights.{SpellsMask, rights};
+ghost use Rattle.acl_nfs4.specs.declared.text_fault.AceTextFault.{AceTextFault};
 ghost use Rattle.acl_nfs4.specs.Laws.{BeginsSpelling, pairs_of};
 ghost use Rattle.acl_nfs4.specs.declared.fault.Reason.{Reason};
 ghost use Rattle.std.specs.Prelude.{[]};
@@ -62,4 +67,25 @@ pub fn any_cutting()
     ensures once { (p : Profile) (pieces : List (List ℕ)) (answers : List Fed) (new : Standing) (once : Fed)
         (now : Standing) → IsProfile p → FeedsEach (more p []) pieces answers new
         → Feeds (more p []) (concat pieces) once now → SameOrFails (together pieces answers) new once now }
+{}
+
+/// The written text of a list spells it, and no other.
+pub fn text_reads_back()
+    ensures { (p : Profile) (list other : List Ace) → IsProfile p → IsAccepted p list
+        → IsAceText p other (ace_text list) ↔ (other ≡ list) }
+{}
+
+/// A text spells at most one list, it has at most one fault, and not both.
+pub fn one_text_fault()
+    ensures list { (p : Profile) (text : List ℕ) (a b : List Ace) → IsAceText p a text → IsAceText p b text → a ≡ b }
+    ensures one { (p : Profile) (text : List ℕ) (f g : AceTextFault) → IsAceTextFault p text f
+        → IsAceTextFault p text g → f ≡ g }
+    ensures none { (p : Profile) (text : List ℕ) (list : List Ace) (f : AceTextFault) → IsAceText p list text
+        → IsAceTextFault p text f → ⊥ }
+{}
+
+/// The name of a right names its bit, and nothing else.
+pub fn names_are_read()
+    ensures { (bit mask : ℕ) (name : List ℕ) → first_name rights bit ≡ Some name
+        → SpellsMask name mask ↔ (mask ≡ bit) }
 {}

@@ -25,7 +25,7 @@ fn offset_of(cursor: &Cursor<'_>) -> u64
 
 // What a field gives, or its fault at its first byte.
 #[inline(always)]
-fn placed<T>(offset: u64, judged: Result<T, Reason>) -> Result<T, Fault>
+pub(crate) fn placed<T>(offset: u64, judged: Result<T, Reason>) -> Result<T, Fault>
     ensures { Placed offset judged result }
 {
     match judged {

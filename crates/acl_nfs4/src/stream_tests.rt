@@ -15,6 +15,12 @@ const THREE: [u8; 72] = [
     0, 0, 0, 0, 2, 0, 0, 0, 6, 0x4f, 0x57, 0x4e, 0x45, 0x52, 0x40, 0, 0,
 ];
 
+// One ACE: ALLOW READ_DATA of alice.
+const ALICE: [u8; 28] = [
+    0, 0, 0, 1, 0, 0, 0, 0, 0, 0, 0, 0, 0, 0, 0, 1, 0, 0, 0, 5, 0x61, 0x6c, 0x69, 0x63, 0x65, 0, 0,
+    0,
+];
+
 fn fault(offset: u64, reason: Reason) -> Fault {
     Fault { offset, reason }
 }
@@ -57,6 +63,8 @@ fn ample_reading_decoding_and_feeding_agree(rt: HostRuntime) {
         assert!(rt; fault.is_some_and(|fault| fault.reason == Reason::Truncated));
         let (front, _) = ONE.split_at(len.min(31));
         assert!(rt; same(&rt, front, 30), "{len} bytes");
+        let (front, _) = ALICE.split_at(len.min(27));
+        assert!(rt; same(&rt, front, 3), "{len} bytes");
     }
     for place in 0..72usize {
         for byte in 0..=255u8 {
@@ -67,6 +75,38 @@ fn ample_reading_decoding_and_feeding_agree(rt: HostRuntime) {
             assert!(rt; same(&rt, &damaged, place), "{byte} at {place}");
         }
     }
+}
+
+// Words and names that are refused, by each reader at the same place, and the longest name.
+#[test]
+fn ample_refusals_are_told_alike(rt: HostRuntime) -> Result<(), Fail> {
+    let rows: [(usize, &[u8], u64, Reason); 9] = [
+        (0, &[0xff; 4], 0, Reason::TooManyAces),
+        (4, &[0xff; 4], 4, Reason::AceType),
+        (8, &[0xff; 4], 8, Reason::FlagBits),
+        (12, &[0xff; 4], 12, Reason::MaskBits),
+        (16, &[0xff; 4], 16, Reason::WhoLength),
+        (16, b"\0\0\0\x01@\0\0\0", 20, Reason::SpecialWho),
+        (16, b"\0\0\0\x01\xc3\0\0\0", 20, Reason::WhoUtf8),
+        (16, b"\0\0\0\x02\xc3\x09\0\0", 20, Reason::WhoUtf8),
+        (16, b"\0\0\0\x02\x09@\0\0", 20, Reason::WhoControl),
+    ];
+    for (at, bytes, offset, reason) in rows {
+        let mut whole = ONE;
+        for (to, from) in whole.iter_mut().skip(at).zip(bytes) {
+            *to = *from;
+        }
+        let told = parsed(rt.alloc(), &whole).err();
+        assert_eq!(rt; told, Some(fault(offset, reason)));
+        assert!(rt; same(&rt, &whole, 18), "{reason:?}");
+    }
+    let (front, _) = ONE.split_at(18);
+    let mut longest = Vec::from_slice(rt.alloc(), front)?;
+    longest.extend_from_slice(&[4, 0])?;
+    longest.extend_from_slice(&[b'a'; 1024])?;
+    assert_eq!(rt; parsed(rt.alloc(), &longest)?.len(), 1);
+    assert!(rt; same(&rt, &longest, 1000));
+    Ok(())
 }
 
 // However a list is cut, the bytes that belong to it are told, and later pieces change nothing.
@@ -86,6 +126,12 @@ fn ample_lists_are_fed_in_any_two_pieces(rt: HostRuntime) -> Result<(), Fail> {
         assert_eq!(rt; feed.feed(back), Fed::Done { taken: 0 });
         assert!(rt; feed.finish()? == list);
     }
+    let mut feed = Feed::new(rt.alloc());
+    for (place, byte) in THREE.chunks(1).enumerate() {
+        let last = Fed::Done { taken: 1 };
+        assert_eq!(rt; feed.feed(byte), if place < 71 { Fed::More } else { last });
+    }
+    assert!(rt; feed.finish()? == list);
     Ok(())
 }
 
@@ -97,8 +143,12 @@ fn ample_pieces_are_answered(rt: HostRuntime) {
     assert_eq!(rt; feed.feed(front), Fed::More);
     assert_eq!(rt; feed.feed(&[0, 0, 0xff]), Fed::Done { taken: 2 });
     assert_eq!(rt; feed.feed(&[1, 2]), Fed::Done { taken: 0 });
-    let mut feed = Feed::new(rt.alloc());
     let (front, _) = ONE.split_at(29);
+    let mut feed = Feed::new(rt.alloc());
+    assert_eq!(rt; feed.feed(front), Fed::More);
+    assert_eq!(rt; feed.feed(&[1]), Fed::More);
+    assert_eq!(rt; feed.finish().err(), Some(fault(29, Reason::Truncated)));
+    let mut feed = Feed::new(rt.alloc());
     assert_eq!(rt; feed.feed(front), Fed::More);
     assert_eq!(rt; feed.feed(&[1]), Fed::More);
     assert_eq!(rt;

@@ -42,11 +42,9 @@ returns-in-Truncated-clause-feed c =
     c.in-Some.is at c.judge-end.ensures.judged in
     record {
       profile = code_profile c.args.profile (omega arith);
-      cut = j.0;
+      cut = j;
       why = c.in-Truncated.is;
       progress = c.judge-end.ensures.progress;
-      next = λ long. j.1 long c.in-Truncated.is;
-      bytes = c.judge-end.ensures.bytes;
     }
 
 pub overflow_add-fed : goal.overflow_add-fed

@@ -10,6 +10,4 @@ invariant_of-result c = rw c.new.ensures (record {
   cut = text_short (profile_of c.args.profile) _ (λ i. omega arith) (omega arith);
   why = refl;
   progress = no_progress (profile_of c.args.profile) _;
-  next = λ long. absurd (omega arith);
-  bytes = λ i. omega arith;
 })

@@ -1,0 +1,5 @@
+use Rattle.acl_nfs4.proofs.AceWritten.{name_is_read}
+use Rattle.acl_nfs4.proofs.laws.names_are_read.Goals as goal
+
+pub returns : goal.returns
+returns c = name_is_read

@@ -1,0 +1,100 @@
+-- The text form of a list of ACEs, which is this library's own: a line an ACE, `TYPE FLAGS MASK WHO`.
+use Rattle.std.specs.Prelude.{◌≡◌, ◌+◌, ◌==◌, ◌||◌, ℕ, List, [], ◌∷◌, ◌++◌, Bool, true, not, codes, IsTrue, if◌then◌else◌}
+use Rattle.std.specs.List.{flat_map, list_all}
+use Rattle.acl_perm.specs.Lines.{lines_of, is_all_blank, line_feed}
+use Rattle.acl_perm.specs.Profile.{Profile}
+use Rattle.acl_perm.specs.declared.kind.Kind.{Kind}
+use Rattle.acl_perm.specs.declared.kind.Kind.TheVariants.{Deny, Allow}
+use Rattle.acl_nfs4.specs.Ace.{Ace}
+use Rattle.acl_nfs4.specs.BitNames.{set_text}
+use Rattle.acl_nfs4.specs.FlagNames.{flag_names, SpellsFlags}
+use Rattle.acl_nfs4.specs.Rights.{rights, SpellsMask}
+use Rattle.acl_nfs4.specs.Spelling.{IsAccepted}
+
+-- the byte between two fields of a line
+abbrev pub space : ℕ
+space = 0x20
+
+-- the byte `#`, with which a comment begins
+abbrev pub comment_mark : ℕ
+comment_mark = 0x23
+
+-- the word of a type (RFC 8881, section 6.2.1.1)
+abbrev pub kind_name : Kind → List ℕ
+kind_name Allow = codes "ALLOW"
+kind_name Deny = codes "DENY"
+
+-- ---- lines
+
+-- a line that spells no ACE: one that begins with `#`, or has no byte but blanks
+abbrev pub is_skipped : List ℕ → Bool
+is_skipped [] = true
+is_skipped (b ∷ bytes) = (b == comment_mark) || is_all_blank (b ∷ bytes)
+
+-- a line with its number; lines count from 1
+pub record TextLine : Type 0 where
+  pub number : ℕ
+  pub bytes : List ℕ
+
+-- those of the lines that are to spell an ACE, of which the first line has this number
+abbrev pub ace_lines_from : ℕ → List (List ℕ) → List TextLine
+ace_lines_from number [] = []
+ace_lines_from number (line ∷ lines) = if is_skipped line then ace_lines_from (number + 1) lines
+    else record { number = number; bytes = line } ∷ ace_lines_from (number + 1) lines
+
+-- the lines of a text that are to spell an ACE, in the order in which they stand
+abbrev pub ace_lines : List ℕ → List TextLine
+ace_lines text = ace_lines_from 1 (lines_of text)
+
+-- ---- what a line spells
+
+-- the fields of a line
+pub record LineFields : Type 0 where
+  pub kind : List ℕ
+  pub flags : List ℕ
+  pub mask : List ℕ
+  pub who : List ℕ
+
+-- bytes without a space
+abbrev pub HasNoSpace : List ℕ → Type 0
+HasNoSpace bytes = IsTrue (list_all (λ b. not (b == space)) bytes)
+
+-- each of the first three fields goes to the next space, and the last one to the end of the line
+pub record HasFields (line : List ℕ) (fields : LineFields) : Type 0 where
+  pub order : line ≡ fields.kind ++ space ∷ (fields.flags ++ space ∷ (fields.mask ++ space ∷ fields.who))
+  pub kind : HasNoSpace fields.kind
+  pub flags : HasNoSpace fields.flags
+  pub mask : HasNoSpace fields.mask
+
+-- the fields of a line name the parts of an ACE
+pub record SpellsAce (line : List ℕ) (a : Ace) : Type 0 where
+  pub fields : LineFields
+  pub has : HasFields line fields
+  pub kind : fields.kind ≡ kind_name a.kind
+  pub flags : SpellsFlags fields.flags a.flags
+  pub mask : SpellsMask fields.mask a.mask
+  pub who : fields.who ≡ a.who
+
+-- lines spell ACEs, one each
+abbrev pub SpellEach : List TextLine → List Ace → Type 0
+SpellEach [] [] = Unit {0}
+SpellEach [] (a ∷ list) = ⊥
+SpellEach (line ∷ lines) [] = ⊥
+SpellEach (line ∷ lines) (a ∷ list) = SpellsAce line.bytes a × SpellEach lines list
+
+-- a text spells a list: its lines spell the ACEs, and the profile and the limits have them
+pub record IsAceText (p : Profile) (list : List Ace) (text : List ℕ) : Type 0 where
+  pub spelled : SpellEach (ace_lines text) list
+  pub accepted : IsAccepted p list
+
+-- ---- the text that is written
+
+-- the line of an ACE: the names of its flags and rights in rising order of the bits, one space between the fields, and
+-- a line feed
+unfoldable pub ace_line : Ace → List ℕ
+ace_line a = kind_name a.kind ++ space ∷ (set_text flag_names a.flags ++ space ∷ (set_text rights a.mask
+    ++ space ∷ (a.who ++ line_feed ∷ [])))
+
+-- the lines of the ACEs in order
+abbrev pub ace_text : List Ace → List ℕ
+ace_text list = flat_map ace_line list

@@ -1,0 +1,71 @@
+-- Tables that name bits, and the fields of the text form that name a set by them (RFC 8881, sections 6.2.1.3.1 and
+-- 6.2.1.4.1, has the names of the rights and the flags; the form of a field is this library's own).
+use Rattle.std.specs.Prelude.{◌≡◌, ◌≢◌, ◌⊎◌, ◌||◌, ℕ, List, [], ◌∷◌, Bool, false, Option, Some, None, codes, find, option_map, bit_and, bit_or, if◌then◌else◌, ◌==◌}
+use Rattle.std.specs.List.{join_with_byte, slice_split}
+use Rattle.std.specs.Option.{option_and_then, option_map_or}
+use Rattle.std.specs.Str.{bytes_eq}
+
+-- a row of a table: a bit, its name, and its second name, where it has two
+pub record BitName : Type 0 where
+  pub bit : ℕ
+  pub name : List ℕ
+  pub second : Option (List ℕ)
+
+-- a row of one name
+abbrev pub one_name : ℕ → List ℕ → BitName
+one_name bit name = record { bit = bit; name = name; second = None }
+
+-- a row of two names
+abbrev pub two_names : ℕ → List ℕ → List ℕ → BitName
+two_names bit name second = record { bit = bit; name = name; second = Some second }
+
+-- ---- what a field names
+
+-- the word is one of the row's names
+abbrev pub is_name_of : List ℕ → BitName → Bool
+is_name_of word row = bytes_eq word row.name || option_map_or (bytes_eq word) row.second false
+
+-- the bit that a word names
+abbrev pub bit_in : List BitName → List ℕ → Option ℕ
+bit_in table word = option_map (λ row. row.bit) (find (is_name_of word) table)
+
+-- the union of the bits that words name, where each names one
+abbrev pub bits_in : List BitName → List (List ℕ) → Option ℕ
+bits_in table [] = Some 0
+bits_in table (word ∷ words) =
+    option_and_then (λ bit. option_map (bit_or bit) (bits_in table words)) (bit_in table word)
+
+-- the byte between two names of a field
+abbrev pub bar : ℕ
+bar = 0x7c
+
+-- the field `-`, which names the empty set
+abbrev pub no_names : List ℕ
+no_names = codes "-"
+
+-- a field that names a set: `-`, or names of the table with `|` between them, at least one
+abbrev pub SpellsSet : List BitName → List ℕ → ℕ → Type 0
+SpellsSet table field set =
+    ((field ≡ no_names) × (set ≡ 0))
+    ⊎ ((words : List (List ℕ)) × (words ≢ []) × (field ≡ join_with_byte bar words) × (bits_in table words ≡ Some set))
+
+-- the set that a field names; `SpellsSet` says which, and this computes it
+unfoldable pub set_named : List BitName → List ℕ → Option ℕ
+set_named table field =
+    if bytes_eq field no_names then Some 0 else bits_in table (slice_split (λ b. b == 0x7c) field)
+
+-- ---- the field of a set
+
+-- the first names of the bits that a set has, in the order of the table
+abbrev pub names_of : List BitName → ℕ → List (List ℕ)
+names_of [] set = []
+names_of (row ∷ rows) set =
+    if bit_and set row.bit == row.bit then row.name ∷ names_of rows set else names_of rows set
+
+-- the field of a set as it is written: `-` for the empty one, else these names with `|` between them
+unfoldable pub set_text : List BitName → ℕ → List ℕ
+set_text table set = if set == 0 then no_names else join_with_byte bar (names_of table set)
+
+-- the first name of the row whose bit this is
+abbrev pub first_name : List BitName → ℕ → Option (List ℕ)
+first_name table bit = option_map (λ row. row.name) (find (λ row. row.bit == bit) table)
