@@ -4,3 +4,13 @@ pub mod Scans
 pub mod Same
 pub mod Children
 pub mod Classes
+pub mod ValidChecks
+pub mod Runs
+pub mod Images
+pub mod BridgeNames
+pub mod EntryRuns
+pub mod Agree
+pub mod BridgeLaws
+pub mod Parts
+pub mod Accepted
+pub mod BridgeWeight

@@ -27,7 +27,8 @@ equivalence rights = record {
 one_bit : (k : ℕ) → has_bit (2 ^ k) k ≡ true
 one_bit k = rw (bit_at-pow_same k) refl
 
-only_bit : (k i : ℕ) → has_bit (2 ^ k) i ≡ true → i ≡ k
+-- a power of two has one bit
+pub only_bit : (k i : ℕ) → has_bit (2 ^ k) i ≡ true → i ≡ k
 only_bit k i h = elim (cases_eq i k) [
   | inl e ↦ e
   | inr n ↦ absurd (let zero = bit_at-pow_other k i n in let one = eqb-true (bit_at (2 ^ k) i) 1 h in omega arith)

@@ -7,3 +7,7 @@ pub mod Names
 pub mod Inheritance
 pub mod ListMode
 pub mod Settled
+pub mod Bridge
+pub mod BridgeBody
+pub mod BridgeLaws
+pub mod BridgeNames

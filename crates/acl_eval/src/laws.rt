@@ -1,10 +1,13 @@
-//! Laws of the evaluation.
+//! Laws of the evaluation, and of the list that stands for a POSIX ACL.
 ghost use Rattle.std.specs.Prelude.{◌≡◌, ◌↔◌, ℕ, List, IsTrue, None, Some, false, true};
 ghost use Rattle.acl_perm.specs.Bits.{has_bit, IsMask, inherit_only};
 ghost use Rattle.acl_perm.specs.Situation.{IsSituation, Situation};
 ghost use Rattle.acl_perm.specs.Profile.{Profile};
+ghost use Rattle.acl_posix.specs.Check.{ids};
 ghost use Rattle.acl_nfs4.specs.Ace.{Ace};
 ghost use Rattle.acl_nfs4.specs.Spelling.{IsAccepted};
+ghost use Rattle.acl_eval.specs.BridgeLaws.{AnswersAlike, GrantsSingles, KeepsGrants};
+ghost use Rattle.acl_eval.specs.BridgeNames.{NamesDiffer, NamesStand, OnlyLimitsRefuse};
 ghost use Rattle.acl_eval.specs.Column.{SameVerdicts, column};
 ghost use Rattle.acl_eval.specs.Grant.{Grant, SameGrants, grants_bit};
 ghost use Rattle.acl_eval.specs.Inheritance.{child_flags, children, directory_inherit, ends, file_inherit, goes_on, no_propagate_inherit, waits};
@@ -12,6 +15,9 @@ ghost use Rattle.acl_eval.specs.Laws.{IsEquivalence};
 ghost use Rattle.acl_eval.specs.declared.inherit.ChildKind.{ChildKind};
 ghost use Rattle.acl_eval.specs.declared.inherit.ChildKind.TheVariants.{Directory, File};
 ghost use Rattle.acl_eval.specs.Scan.{scan};
+
+use acl_perm::Perm;
+use acl_posix::{Id, PosixAcl};
 
 /// Whether two lists grant the same is an equivalence, within each set of rights.
 #[tactic(auto, using(crate::proofs::Same::equivalence))]
@@ -66,3 +72,36 @@ pub fn children_are_accepted()
     ensures { (p : Profile) (kind : ChildKind) (list : List Ace) → IsTrue (has_bit p.flags inherit_only)
         → IsAccepted p list → IsAccepted p (children kind list) }
 {}
+
+/// The list of a valid POSIX ACL grants what the access check grants: of read, write and execute each alone exactly
+/// what it grants, and of any set at least what it grants.
+pub fn bridge_grants()
+    // One permission is granted by both or by neither.
+    ensures single { GrantsSingles }
+    // What the check grants together, the list grants together.
+    ensures together { KeepsGrants }
+{}
+
+/// The names of the list are decimal ids.
+pub fn bridge_names()
+    // Different ids have different names.
+    ensures differ { NamesDiffer }
+    // Each name is accepted, and none is a special identifier.
+    ensures stand { NamesStand }
+{}
+
+/// Of a valid ACL the list is accepted exactly if it is within the limits of length and weight.
+pub fn bridge_limits()
+    ensures { OnlyLimitsRefuse }
+{}
+
+/// Over the list of an ACL, `grants` answers names as `PosixAcl::check` answers their ids: the same of read, write and
+/// execute each alone, and of any set it grants at least what the check grants.
+pub fn bridge_and_check(acl: &PosixAcl, owner: Id, group: Id, user: Id, groups: &[Id], want: Perm)
+    ensures { AnswersAlike acl.now
+        (record { user = owner.value; group = group.value })
+        (record { user = user.value; groups = ids groups.now })
+        want.bits }
+{
+    let _entries = acl.entries();
+}

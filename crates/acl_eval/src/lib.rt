@@ -1,10 +1,13 @@
-//! Who may do what under a list of ACEs, what a new object inherits of it, and its mode.
+//! Who may do what under a list of ACEs, what a new object inherits of it, its mode, and the list of a POSIX ACL.
 #![tactic(auto)]
 
+#[cfg(test)]
+mod bridge_tests;
 #[cfg(test)]
 mod child_tests;
 #[cfg(test)]
 mod example;
+mod from_posix;
 mod grant;
 mod inherit;
 pub mod laws;
@@ -16,6 +19,7 @@ mod standing;
 #[cfg(test)]
 mod tests;
 
+pub use from_posix::{BridgeFault, bridge};
 pub use grant::grants;
 pub use inherit::{ChildKind, child};
 pub use mode::mode_of;

@@ -1,0 +1,206 @@
+-- Each ACE of the list that stands for a POSIX ACL is one that may stand in a list.
+use Rattle.std.proofs.Common.{◌∙◌, ◌≡◌, ℕ, zero, suc, ◌-◌, ◌<◌, ◌≤◌, Bool, true, false, cond, eqb, ltb, leb, List, [], ◌∷◌, ◌++◌, length, get_or, refl, ap, arith}
+use Rattle.std.specs.Prelude.{count_ones, ◌&&◌, ◌||◌, not, slice_index}
+use Rattle.std.specs.List.{AllByRecursion, filter, flat_map, list_all}
+use Rattle.std.specs.Fmt.{decimal}
+use Rattle.std.specs.FinMap as fin
+use Rattle.std.specs.Str.{is_utf8, IsAscii}
+use Rattle.std.specs.Str.Parse.{AllDigits}
+use Rattle.std.proofs.lemmas.List.Elements.{recursion_from_All}
+use Rattle.std.proofs.lemmas.Fmt.{decimal_is_IsNumeral, decimal_injective, decimal_nonempty, length-decimal-le, IsAscii-decimal}
+use Rattle.std.proofs.lemmas.Str.{is_utf8-from_IsUtf8, IsUtf8-from_ascii}
+use Rattle.std.proofs.lemmas.Str.Parse.{digit_from_value}
+use Rattle.std.proofs.lemmas.Bool.{ltb-true}
+use Rattle.acl_perm.specs.Bits.{all_flags}
+use Rattle.acl_perm.specs.Profile.{full}
+use Rattle.acl_nfs4.specs.Within.{IsWithin}
+use Rattle.acl_perm.proofs.Bools.{and_true, or_true_right}
+use Rattle.acl_perm.specs.declared.kind.Kind.{Kind}
+use Rattle.acl_perm.specs.declared.kind.Kind.TheVariants.{Allow, Deny}
+use Rattle.acl_posix.specs.Id.{IsId}
+use Rattle.acl_posix.specs.Tag.{Tag, IsTag, user_obj, user, group_obj, group, mask, other}
+use Rattle.acl_posix.specs.Entries.{Entries, IsEntry}
+use Rattle.acl_posix.specs.Mask.{effective_of}
+use Rattle.acl_nfs4.specs.Ace.{Ace}
+use Rattle.acl_nfs4.specs.Limits.{longest_who}
+use Rattle.acl_nfs4.specs.Who.{IsWho, is_no_who_len, is_plain, is_special, is_unknown_special, ends_in_at, owner_name, group_name, everyone_name}
+use Rattle.acl_nfs4.specs.Spelling.{IsAce, IsAccepted, weight}
+use Rattle.acl_nfs4.proofs.Lists.{weight-cons}
+use Rattle.acl_nfs4.specs.Owned.{IsOwned}
+use Rattle.acl_nfs4.specs.Body.{aces_of}
+use Rattle.acl_eval.specs.Bridge.{image, who_of, flags_of, ace_of, each, is_user, is_group, is_other, allow_of, deny_of, decide_of, bridge_list}
+use Rattle.acl_eval.specs.BridgeNames.{NamesDiffer, NamesStand, OnlyLimitsRefuse}
+use Rattle.acl_eval.proofs.Images.{image_mask, image_some}
+use Rattle.acl_eval.proofs.EntryRuns.{effective_lt, everywhere}
+use Rattle.acl_eval.proofs.BridgeNames.{not_owner, not_group, not_everyone}
+
+-- ---- names
+
+-- different ids have different names
+pub names_differ : NamesDiffer
+names_differ m n p q e = decimal_injective m n (omega arith) (omega arith) e
+
+digits_plain : (ds : List ℕ) → AllDigits 10 ds → list_all is_plain ds ≡ true
+digits_plain [] d = refl
+digits_plain (c ∷ cs) d = let r = digit_from_value c d.0 in plain c (omega (arith, r)) (omega (arith, r))
+    (digits_plain cs d.1)
+  where
+    plain : (c : ℕ) → 48 ≤ c → c ≤ 57 → list_all is_plain cs ≡ true → (is_plain c && list_all is_plain cs) ≡ true
+    plain c low high rest = let a : leb 32 c ≡ true = grind arith in let b : eqb c 127 ≡ false = grind arith in
+        rw (a, b) rest
+
+digits_below : (ds : List ℕ) (i : ℕ) → AllDigits 10 ds → get_or ds i 0 < 58
+digits_below [] i d = omega arith
+digits_below (c ∷ cs) zero d = omega (arith, digit_from_value c d.0)
+digits_below (c ∷ cs) (suc i) d = digits_below cs i d.1
+
+no_at : (b : ℕ) → b < 58 → eqb b 64 ≡ false
+no_at b lt = grind arith
+
+no_fault : (who : List ℕ) → is_no_who_len (length who) ≡ false → is_utf8 who ≡ true → list_all is_plain who ≡ true
+    → is_unknown_special who ≡ false → IsWho who
+no_fault who some utf8 plain known = rw (some, utf8, plain, known) refl
+
+some_len : (n : ℕ) → 0 < n → n ≤ longest_who → is_no_who_len n ≡ false
+some_len n some short = grind arith
+
+is_who-decimal : (n : ℕ) → IsId n → IsWho (decimal n)
+is_who-decimal n lt =
+    let digits : AllDigits 10 (decimal n) = (decimal_is_IsNumeral n (omega arith)).0.1 in
+    let at : ends_in_at (decimal n) ≡ false =
+    no_at (slice_index (decimal n) (length (decimal n) - 1)) (digits_below (decimal n) (length (decimal n) - 1) digits)
+    in
+    let len : length (decimal n) ≤ 10 = length-decimal-le 10 n (omega arith) (omega arith) (omega arith) in
+    no_fault (decimal n) (some_len (length (decimal n)) (decimal_nonempty n (omega arith)) (omega (arith, len)))
+    (is_utf8-from_IsUtf8 (decimal n) (IsUtf8-from_ascii (decimal n) (IsAscii-decimal n (omega arith))))
+    (digits_plain (decimal n) digits)
+    (ap (λ (b : Bool). b && not (is_special (decimal n))) at)
+
+-- each name may stand as a who, and none is a special identifier
+pub names_stand : NamesStand
+names_stand n lt = (is_who-decimal n lt, rw (not_owner n lt, not_group n lt, not_everyone n lt) refl)
+
+ascii : (bs : List ℕ) → list_all (λ b. ltb b 128) bs ≡ true → IsAscii bs
+ascii [] h i = omega arith
+ascii (b ∷ bs) h zero = ltb-true b 128 (and_true (ltb b 128) (list_all (λ c. ltb c 128) bs) h).0
+ascii (b ∷ bs) h (suc i) = ascii bs (and_true (ltb b 128) (list_all (λ c. ltb c 128) bs) h).1 i
+
+text : (bs : List ℕ) → list_all (λ b. ltb b 128) bs ≡ true → is_utf8 bs ≡ true
+text bs h = is_utf8-from_IsUtf8 bs (IsUtf8-from_ascii bs (ascii bs h))
+
+is_who-owner : IsWho owner_name
+is_who-owner = no_fault owner_name refl (text owner_name refl) refl refl
+
+is_who-group : IsWho group_name
+is_who-group = no_fault group_name refl (text group_name refl) refl refl
+
+is_who-everyone : IsWho everyone_name
+is_who-everyone = no_fault everyone_name refl (text everyone_name refl) refl refl
+
+-- ---- ACEs
+
+-- the ACE may stand in a list, and has a bit
+abbrev Good : Ace → Type 0
+Good a = IsAce full a × (0 < count_ones a.mask)
+
+with_who : (k : Kind) (l : Tag) (p : ℕ) → p < 8 → IsWithin all_flags (flags_of l) → IsWho (who_of l)
+    → AllByRecursion Good (ace_of k l p)
+unfolding ace_of
+with_who k l p lt fl w =
+    elim (eqb p 0) as (λ t. eqb p 0 ≡ t
+    → AllByRecursion Good (cond t [] (record { kind = k; flags = flags_of l; mask = image p; who = who_of l } ∷ []))) [
+      | true ↦ λ e. tt
+      | false ↦ λ e. ((record { flags = fl; mask = image_mask p lt; who = w }, image_some p lt e), tt)
+    ] refl
+
+-- MASK has no ACE in any part
+abbrev has_aces : Tag → Bool
+has_aces l = is_user l || is_group l || is_other l
+
+each_ace : (k : Kind) (l : Tag) (p : ℕ) → p < 8 → IsTag l → has_aces l ≡ true → AllByRecursion Good (ace_of k l p)
+each_ace k user_obj p lt is h = with_who k user_obj p lt refl is_who-owner
+each_ace k (user id) p lt is h = with_who k (user id) p lt refl (is_who-decimal id is)
+each_ace k group_obj p lt is h = with_who k group_obj p lt refl is_who-group
+each_ace k (group id) p lt is h = with_who k (group id) p lt refl (is_who-decimal id is)
+each_ace k mask p lt is h = absurd cc
+each_ace k other p lt is h = with_who k other p lt refl is_who-everyone
+
+together : (xs ys : List Ace) → AllByRecursion Good xs → AllByRecursion Good ys → AllByRecursion Good (xs ++ ys)
+together [] ys h g = g
+together (a ∷ xs) ys h g = (h.0, together xs ys h.1 g)
+
+of_part : (which : Tag → Bool) (f : Tag × ℕ → List Ace) (es : List (Tag × ℕ))
+    → ((e : Tag × ℕ) → IsEntry e → which e.0 ≡ true → AllByRecursion Good (f e)) → AllByRecursion IsEntry es
+    → AllByRecursion Good (each which f es)
+of_part which f [] g all = tt
+of_part which f (e ∷ es) g all =
+    let rest = of_part which f es g all.1 in
+    elim (which e.0) as (λ t. which e.0 ≡ t
+    → AllByRecursion Good (flat_map f (cond t (e ∷ filter (λ x. which x.0) es) (filter (λ x. which x.0) es)))) [
+      | true ↦ λ is. together (f e) (each which f es) (g e all.0 is) rest
+      | false ↦ λ is. rest
+    ] refl
+
+user_has : (l : Tag) → is_user l ≡ true → has_aces l ≡ true
+user_has l h = rw h refl
+
+group_has : (l : Tag) → is_group l ≡ true → has_aces l ≡ true
+group_has l h = ap (λ (b : Bool). (is_user l || b) || is_other l) h
+    ∙ ap (λ (b : Bool). b || is_other l) (or_true_right (is_user l))
+
+other_has : (l : Tag) → is_other l ≡ true → has_aces l ≡ true
+other_has l h = ap (λ (b : Bool). (is_user l || is_group l) || b) h ∙ or_true_right (is_user l || is_group l)
+
+aces_good : (E : Entries) → AllByRecursion IsEntry (fin.entries E) → AllByRecursion Good (bridge_list E)
+unfolding bridge_list
+aces_good E all =
+    let es = fin.entries E in
+    let allows = λ (e : Tag × ℕ) (is : IsEntry e) (n : has_aces e.0 ≡ true). each_ace Allow e.0 (effective_of E e)
+    (effective_lt E e is.1) is.0 n in
+    let denies = λ (e : Tag × ℕ) (is : IsEntry e) (n : has_aces e.0 ≡ true). each_ace Deny e.0 (7 - effective_of E e)
+    (omega arith) is.0 n in
+    let a = of_part is_user (decide_of E) es (λ e is u. together (allow_of E e) (deny_of E e)
+    (allows e is (user_has e.0 u)) (denies e is (user_has e.0 u))) all in
+    let b = of_part is_group (allow_of E) es (λ e is g. allows e is (group_has e.0 g)) all in
+    let c = of_part is_group (deny_of E) es (λ e is g. denies e is (group_has e.0 g)) all in
+    let d = of_part is_other (allow_of E) es (λ e is o. allows e is (other_has e.0 o)) all in
+    together (each is_user (decide_of E) es ++ each is_group (allow_of E) es ++ each is_group (deny_of E) es)
+    (each is_other (allow_of E) es)
+    (together (each is_user (decide_of E) es ++ each is_group (allow_of E) es) (each is_group (deny_of E) es)
+    (together (each is_user (decide_of E) es) (each is_group (allow_of E) es) a b) c) d
+
+-- each ACE of the list may stand in a list
+pub aces_stand : (E : Entries) → AllByRecursion IsEntry (fin.entries E) → AllByRecursion (IsAce full) (bridge_list E)
+aces_stand E all = everywhere Good (IsAce full) (λ a g. g.0) (bridge_list E) (aces_good E all)
+
+no_longer : (xs : List Ace) → AllByRecursion Good xs → length xs ≤ weight xs
+no_longer [] h = omega arith
+no_longer (a ∷ xs) h = omega (arith, h.0.1, no_longer xs h.1, weight-cons a xs)
+
+-- no ACE is without a bit
+pub length_within : (E : Entries) → AllByRecursion IsEntry (fin.entries E) → length (bridge_list E) ≤ weight
+    (bridge_list E)
+length_within E all = no_longer (bridge_list E) (aces_good E all)
+
+-- nothing but the limits of a list refuses the list of a valid ACL
+pub only_limits_refuse : OnlyLimitsRefuse
+only_limits_refuse entries access = (
+  λ ok. (ok.count, ok.weight),
+  λ small. record {
+    count = small.0;
+    weight = small.1;
+    each =
+        aces_stand entries (recursion_from_All IsEntry (fin.entries entries) access.within);
+  },
+)
+
+-- ---- an owned list is accepted
+
+-- an owned list is accepted
+pub owned_accepted : (n w : ℕ) (bytes : List ℕ) → IsOwned n w bytes → IsAccepted full (aces_of n bytes)
+owned_accepted n w bytes o = record {
+  count = omega (arith, o.small, o.spells.whole);
+  weight =
+      o.spells.spells.weight;
+  each = o.spells.spells.each;
+}

@@ -1,0 +1,143 @@
+-- What the list of a POSIX ACL grants.
+use Rattle.std.proofs.Common.{◌≡◌, ℕ, zero, suc, ◌^◌, ◌<◌, Bool, true, false, cond, List, [], ◌∷◌, refl, sym, ap, subst, ◌∙◌, arith, inl, inr}
+use Rattle.std.specs.Prelude.{◌&&◌, ◌||◌, ◌==◌, ◌↔◌, unwrap_or}
+use Rattle.std.specs.List.{All, AllByRecursion, list_any}
+use Rattle.std.specs.FinMap as fin
+use Rattle.std.proofs.lemmas.List.Elements.{All-from_recursion}
+use Rattle.acl_perm.specs.Bits.{has_bit}
+use Rattle.acl_perm.proofs.Bools.{or_true_right}
+use Rattle.acl_perm.proofs.Sets.{subset_test}
+use Rattle.acl_posix.specs.declared.id.Id.{Id}
+use Rattle.acl_posix.specs.Id.{IsId}
+use Rattle.acl_posix.specs.Tag.{Tag, user_obj, user, mask, other}
+use Rattle.acl_posix.specs.Entries.{Entries}
+use Rattle.acl_posix.specs.Mode.{perm_at}
+use Rattle.acl_posix.specs.Check.{Object, Requester, ids, contains, matches, any_matches, any_contains, grants}
+use Rattle.acl_eval.specs.Grant.{Grant, grants_bit}
+use Rattle.acl_eval.specs.Bridge.{image, bridge_list}
+use Rattle.acl_eval.specs.BridgeLaws.{by_name, IsAsked, IsAccess, GrantsSingles, KeepsGrants}
+use Rattle.acl_eval.proofs.Runs.{run_grants}
+use Rattle.acl_eval.proofs.Same.{only_bit}
+use Rattle.acl_eval.proofs.Images.{Stands, of_each, image_bit, read_data, write_data, execute, contains_single}
+use Rattle.acl_eval.proofs.ValidChecks.{mask_contains, plain, plain_check}
+use Rattle.acl_eval.proofs.Agree.{IsRight, agrees}
+
+-- r, w and x, by their bits
+right_at : (j b : ℕ) → j < 3 → Stands j b → IsRight (2 ^ j) j b
+right_at zero b lt st = record { power = refl; some = omega arith; whole = refl; small = lt; stands = st }
+right_at (suc zero) b lt st = record { power = refl; some = omega arith; whole = refl; small = lt; stands = st }
+right_at (suc (suc zero)) b lt st = record { power = refl; some = omega arith; whole = refl; small = lt; stands = st }
+right_at (suc (suc (suc j))) b lt st = absurd (omega (arith, lt))
+
+-- ---- the check of less is granted where that of more is
+
+contains_less : (p want less : ℕ) → contains want less ≡ true → contains p want ≡ true → contains p less ≡ true
+contains_less p want less sub h =
+    let s = subset_test want less in
+    let t = subset_test p want in
+    let u = subset_test p less in
+    u.1 (λ k has. t.0 h k (s.0 sub k has))
+
+and_less : (a b c d : Bool) → (a ≡ true → c ≡ true) → (b ≡ true → d ≡ true) → (a && b) ≡ true → (c && d) ≡ true
+and_less true true c d f g h = rw (f refl, g refl) refl
+and_less true false c d f g h = absurd cc
+and_less false b c d f g h = absurd cc
+
+any_less : {X : Type 0} (p q : X → Bool) (xs : List X) → ((x : X) → p x ≡ true → q x ≡ true) → list_any p xs ≡ true
+    → list_any q xs ≡ true
+any_less p q [] f h = absurd cc
+any_less p q (x ∷ xs) f h =
+    elim (p x) as (λ t. p x ≡ t → (t || list_any p xs) ≡ true → (q x || list_any q xs) ≡ true) [
+      | true ↦ λ is _. rw (f x is) refl
+      | false ↦ λ is more. ap (λ (z : Bool). q x || z) (any_less p q xs f more) ∙ or_true_right (q x)
+    ] refl h
+
+choose_less : (t a b c d : Bool) → (a ≡ true → b ≡ true) → (c ≡ true → d ≡ true) → cond t a c ≡ true
+    → cond t b d ≡ true
+choose_less true a b c d f g = f
+choose_less false a b c d f g = g
+
+plain_less : (E : Entries) (object : Object) (requester : Requester) (want less : ℕ) → contains want less ≡ true
+    → plain E object requester want ≡ true → plain E object requester less ≡ true
+plain_less E object requester want less sub =
+    let u : Tag = user requester.user in
+    let og : ℕ = object.group in
+    let gs : List ℕ = requester.groups in
+    let one = λ (p : ℕ). contains_less p want less sub in
+    let limit : mask_contains E want ≡ true → mask_contains E less ≡ true = one (unwrap_or (fin.get E mask) 7) in
+    let class : any_contains E og gs want ≡ true → any_contains E og gs less ≡ true =
+    any_less (λ e. matches og gs e.0 && contains e.1 want) (λ e. matches og gs e.0 && contains e.1 less) (fin.entries E)
+    (λ e. and_less (matches og gs e.0) (contains e.1 want) (matches og gs e.0) (contains e.1 less) (λ m. m) (one e.1))
+    in
+    choose_less (requester.user == object.user) _ _ _ _ (one (perm_at E user_obj))
+    (choose_less (fin.contains_key E u) _ _ _ _ (and_less _ _ _ _ (one (perm_at E u)) limit)
+    (choose_less (any_matches E og gs) _ _ _ _ (and_less _ _ _ _ class limit) (one (perm_at E other))))
+
+-- ---- the laws
+
+-- a right of an image is granted exactly if the check grants its permission
+bit_granted : (E : Entries) (object : Object) (requester : Requester) (want j b : ℕ) → IsAccess E
+    → IsAsked object requester → IsRight want j b
+    → grants_bit (bridge_list E) (by_name object requester) b ≡ grants E object requester want
+bit_granted E object requester want j b access a right =
+    sym (run_grants (bridge_list E) (by_name object requester) b) ∙ agrees E object requester want j b access a right
+
+single : (E : Entries) (object : Object) (requester : Requester) (want j b : ℕ) → IsAccess E → IsAsked object requester
+    → IsRight want j b → want < 8 → has_bit (image want) b ≡ true
+    → Grant (bridge_list E) (by_name object requester) (image want) ↔ (grants E object requester want ≡ true)
+single E object requester want j b access a right lt has = (
+  λ g. sym (bit_granted E object requester want j b access a right) ∙ g b has,
+  λ h k is.
+      let p = image_bit want k lt is in
+      let same : p.j ≡ j = only_bit j p.j (subst (λ (n : ℕ). has_bit n p.j ≡ true) right.power p.has) in
+      let stands : Stands j k = subst (λ (i : ℕ). Stands i k) same p.stands in
+      bit_granted E object requester want j k access a (record {
+        power = right.power;
+        some = right.some;
+        whole = right.whole;
+        small = right.small;
+        stands = stands;
+      }) ∙ h,
+)
+
+-- one permission is granted by the list exactly if it is by the check
+pub grants_singles : GrantsSingles
+unfolding image
+grants_singles entries object requester want access a (inl r) = rw r
+    (single entries object requester 4 2 0 access a (right_at 2 0 (omega arith) read_data) (omega arith) refl)
+grants_singles entries object requester want access a (inr (inl w)) = rw w
+    (single entries object requester 2 1 1 access a (right_at 1 1 (omega arith) write_data) (omega arith) refl)
+grants_singles entries object requester want access a (inr (inr x)) = rw x
+    (single entries object requester 1 0 5 access a (right_at 0 5 (omega arith) execute) (omega arith) refl)
+
+-- one permission of a set
+part : (want j : ℕ) → j < 3 → has_bit want j ≡ true → contains want (2 ^ j) ≡ true
+part want zero lt h = contains_single want 0 1 refl (omega arith) ∙ h
+part want (suc zero) lt h = contains_single want 1 2 refl (omega arith) ∙ h
+part want (suc (suc zero)) lt h = contains_single want 2 4 refl (omega arith) ∙ h
+part want (suc (suc (suc j))) lt h = absurd (omega (arith, lt))
+
+all_contain : (want : ℕ) → want < 8 → contains 7 want ≡ true
+all_contain = of_each (λ n. contains 7 n ≡ true) refl refl refl refl refl refl refl refl
+
+-- what the check grants together, the list grants together
+pub keeps_grants : KeepsGrants
+keeps_grants entries object requester want access a lt granted b has =
+    let p = image_bit want b lt has in
+    let right : IsRight (2 ^ p.j) p.j b = right_at p.j b p.small p.stands in
+    let all : plain entries object requester want ≡ true =
+    plain_check entries object requester want access.valid (all_contain want lt) ∙ granted in
+    let one : plain entries object requester (2 ^ p.j) ≡ true =
+    plain_less entries object requester want (2 ^ p.j) (part want p.j p.small p.has) all in
+    bit_granted entries object requester (2 ^ p.j) p.j b access a right
+    ∙ sym (plain_check entries object requester (2 ^ p.j) access.valid right.whole) ∙ one
+
+-- ---- ids that the code holds
+
+each_id : (gs : List Id) → AllByRecursion IsId (ids gs)
+each_id [] = tt
+each_id (g ∷ gs) = (g.within, each_id gs)
+
+-- ids of the code are ids
+pub all_ids : (gs : List Id) → All IsId (ids gs)
+all_ids gs = All-from_recursion IsId (ids gs) (each_id gs)

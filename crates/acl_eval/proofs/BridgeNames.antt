@@ -1,0 +1,114 @@
+-- Whom the ACEs of an entry speak of: decimal names of different ids differ, and none is a special who.
+use Rattle.std.proofs.Common.{◌≡◌, ℕ, ◌<◌, Bool, true, false, eqb, List, [], ◌∷◌, refl, sym, ap, subst, ◌∙◌, arith}
+use Rattle.std.specs.Prelude.{◌&&◌, ◌||◌, ◌==◌, map}
+use Rattle.std.specs.List.{AllByRecursion}
+use Rattle.std.specs.Fmt.{decimal}
+use Rattle.std.specs.Str.{bytes_eq}
+use Rattle.std.specs.Str.Parse.{AllDigits}
+use Rattle.std.specs.Ordering.{nat_cmp, eq_by_cmp, is_eq}
+use Rattle.std.proofs.lemmas.Bool.{eqb-true, eq-eqb}
+use Rattle.std.proofs.lemmas.Bool.Decides.{nat_tests}
+use Rattle.std.proofs.lemmas.Fmt.{decimal_is_IsNumeral, decimal_injective}
+use Rattle.std.proofs.lemmas.Str.Parse.{digit_from_value}
+use Rattle.std.proofs.lemmas.Slice.Eq.{bytes_eq-Decides}
+use Rattle.acl_perm.specs.Situation.{Situation, is_one_of}
+use Rattle.acl_perm.specs.declared.kind.Kind.{Kind}
+use Rattle.acl_perm.specs.declared.kind.Kind.TheVariants.{Allow}
+use Rattle.acl_posix.specs.Id.{IsId}
+use Rattle.acl_posix.specs.Tag.{Tag, IsTag, tag_cmp, user_obj, user, group_obj, group, mask, other}
+use Rattle.acl_posix.specs.Check as posix
+use Rattle.acl_posix.specs.Check.{Object, Requester}
+use Rattle.acl_perm.proofs.Bools.{same_answers}
+use Rattle.acl_nfs4.specs.Ace.{Ace}
+use Rattle.acl_nfs4.specs.Who.{owner_name, group_name, everyone_name}
+use Rattle.acl_eval.specs.Bridge.{who_of, flags_of, is_user, is_group}
+use Rattle.acl_eval.specs.BridgeLaws.{by_name, IsAsked}
+use Rattle.acl_eval.specs.Scan.{speaks}
+
+-- ---- decimal names
+
+-- a byte that is no digit begins no number
+not_decimal : (n c : ℕ) (cs : List ℕ) → IsId n → 57 < c → decimal n ≡ c ∷ cs → ⊥
+not_decimal n c cs h big e =
+    omega (arith, digit_from_value c (subst (AllDigits 10) e (decimal_is_IsNumeral n (omega arith)).0.1).0)
+
+unequal : (xs ys : List ℕ) → (xs ≡ ys → ⊥) → bytes_eq xs ys ≡ false
+unequal xs ys differ = elim (bytes_eq xs ys) as (λ b. bytes_eq xs ys ≡ b → b ≡ false) [
+  | true ↦ λ h. absurd (differ ((bytes_eq-Decides xs ys).0 h))
+  | false ↦ λ h. refl
+] refl
+
+-- no name of an id is `OWNER@`
+pub not_owner : (n : ℕ) → IsId n → bytes_eq (decimal n) owner_name ≡ false
+not_owner n h = unequal (decimal n) owner_name (λ e. not_decimal n _ _ h (omega arith) e)
+
+-- none is `GROUP@`
+pub not_group : (n : ℕ) → IsId n → bytes_eq (decimal n) group_name ≡ false
+not_group n h = unequal (decimal n) group_name (λ e. not_decimal n _ _ h (omega arith) e)
+
+-- and none is `EVERYONE@`
+pub not_everyone : (n : ℕ) → IsId n → bytes_eq (decimal n) everyone_name ≡ false
+not_everyone n h = unequal (decimal n) everyone_name (λ e. not_decimal n _ _ h (omega arith) e)
+
+-- names are equal exactly if the ids are
+pub same_name : (m n : ℕ) → IsId m → IsId n → bytes_eq (decimal m) (decimal n) ≡ (m == n)
+same_name m n p q = same_answers (bytes_eq (decimal m) (decimal n)) (m == n)
+    (λ h. eq-eqb m n (decimal_injective m n (omega arith) (omega arith)
+    ((bytes_eq-Decides (decimal m) (decimal n)).0 h)))
+    (λ h. (bytes_eq-Decides (decimal m) (decimal n)).1 (ap decimal (eqb-true m n h)))
+
+same_id : (m n : ℕ) → IsId m → IsId n → bytes_eq (decimal m) (decimal n) ≡ (n == m)
+same_id m n p q = same_answers (bytes_eq (decimal m) (decimal n)) (n == m)
+    (λ h. eq-eqb n m
+    (sym (decimal_injective m n (omega arith) (omega arith) ((bytes_eq-Decides (decimal m) (decimal n)).0 h))))
+    (λ h. (bytes_eq-Decides (decimal m) (decimal n)).1 (ap decimal (sym (eqb-true n m h))))
+
+-- a group is one of some by name exactly if it is by id
+is_one : (id : ℕ) (gs : List ℕ) → IsId id → AllByRecursion IsId gs → is_one_of (decimal id) (map decimal gs)
+    ≡ posix.is_member id gs
+is_one id [] h all = refl
+is_one id (g ∷ gs) h all = ap (λ (b : Bool). b || is_one_of (decimal id) (map decimal gs)) (same_id id g h all.0)
+    ∙ ap (λ (b : Bool). (g == id) || b) (is_one id gs h all.1)
+
+-- ---- the ACEs of a tag
+
+-- an ACE of a tag, with these rights
+abbrev pub ace_with : Kind → Tag → ℕ → Ace
+ace_with kind tag rights = record { kind = kind; flags = flags_of tag; mask = rights; who = who_of tag }
+
+-- the ACEs of a tag speak of the requester
+abbrev pub concerns : Situation → Tag → Bool
+concerns s tag = speaks s (ace_with Allow tag 0)
+
+concerns_user : (s : Situation) (id : ℕ) → IsId id → concerns s (user id) ≡ bytes_eq s.user_name (decimal id)
+concerns_user s id h = rw (not_owner id h, not_group id h, not_everyone id h) refl
+
+concerns_group : (s : Situation) (id : ℕ) → IsId id → concerns s (group id) ≡ is_one_of (decimal id) s.groups
+concerns_group s id h = rw (not_owner id h, not_group id h, not_everyone id h) refl
+
+equal_numbers : (m n : ℕ) → is_eq (nat_cmp m n) ≡ eqb m n
+equal_numbers m n = grind (arith, nat_tests)
+
+-- of a requester who is not the owner, an ACE of USER_OBJ or USER speaks exactly if it is that of this user
+pub user_test : (object : Object) (requester : Requester) (l : Tag) → IsAsked object requester → IsTag l
+    → (requester.user == object.user) ≡ false
+    → (is_user l && concerns (by_name object requester) l) ≡ eq_by_cmp tag_cmp (user requester.user) l
+user_test object requester user_obj a is differ = same_name requester.user object.user a.asker a.owner ∙ differ
+user_test object requester (user id) a is differ = concerns_user (by_name object requester) id is
+    ∙ same_name requester.user id a.asker is ∙ sym (equal_numbers requester.user id)
+user_test object requester group_obj a is differ = refl
+user_test object requester (group id) a is differ = refl
+user_test object requester mask a is differ = refl
+user_test object requester other a is differ = refl
+
+-- an ACE of GROUP_OBJ or GROUP speaks of the requester exactly if the entry matches
+pub group_test : (object : Object) (requester : Requester) (l : Tag) → IsAsked object requester
+    → AllByRecursion IsId requester.groups → IsTag l
+    → (is_group l && concerns (by_name object requester) l) ≡ posix.matches object.group requester.groups l
+group_test object requester user_obj a gs is = refl
+group_test object requester (user id) a gs is = refl
+group_test object requester group_obj a gs is = is_one object.group requester.groups a.owning_group gs
+group_test object requester (group id) a gs is = concerns_group (by_name object requester) id is
+    ∙ is_one id requester.groups is gs
+group_test object requester mask a gs is = refl
+group_test object requester other a gs is = refl

@@ -1,0 +1,141 @@
+-- The bits of the image of permissions.
+use Rattle.std.proofs.Common.{◌≡◌, ℕ, zero, suc, ◌+◌, ◌-◌, ◌*◌, ◌^◌, ◌<◌, true, false, cond, eqb, refl, sym, ap, ◌∙◌, arith}
+use Rattle.std.specs.Prelude.{count_ones, bit_and, not}
+use Rattle.std.specs.Int.{bit_at, w8}
+use Rattle.std.proofs.lemmas.Bool.{true≢false}
+use Rattle.std.proofs.lemmas.Nat.Bits.{and_pow, bit_at-lt}
+use Rattle.acl_perm.specs.Bits.{has_bit, IsMask}
+use Rattle.acl_perm.proofs.Sets.{has_bit-above}
+use Rattle.acl_posix.specs.Check.{contains}
+use Rattle.acl_eval.specs.Bridge.{image}
+
+-- what contains of the eight sets of permissions contains of each
+pub of_each : (P : ℕ → Type 0) → P 0 → P 1 → P 2 → P 3 → P 4 → P 5 → P 6 → P 7 → (p : ℕ) → p < 8 → P p
+of_each P a b c d e f g h zero lt = a
+of_each P a b c d e f g h (suc zero) lt = b
+of_each P a b c d e f g h (suc (suc zero)) lt = c
+of_each P a b c d e f g h (suc (suc (suc zero))) lt = d
+of_each P a b c d e f g h (suc (suc (suc (suc zero)))) lt = e
+of_each P a b c d e f g h (suc (suc (suc (suc (suc zero))))) lt = f
+of_each P a b c d e f g h (suc (suc (suc (suc (suc (suc zero)))))) lt = g
+of_each P a b c d e f g h (suc (suc (suc (suc (suc (suc (suc zero))))))) lt = h
+of_each P a b c d e f g h (suc (suc (suc (suc (suc (suc (suc (suc n)))))))) lt = absurd (omega (arith, lt))
+
+-- the right is one of the permission: each image has it exactly if it is of a set with that permission
+pub record Stands (j b : ℕ) : Type 0 where
+  pub same : (p : ℕ) → p < 8 → has_bit (image p) b ≡ has_bit p j
+
+-- READ_DATA is read
+pub read_data : Stands 2 0
+unfolding image
+read_data = record { same = of_each (λ p. has_bit (image p) 0 ≡ has_bit p 2) refl refl refl refl refl refl refl refl }
+
+-- WRITE_DATA is write
+pub write_data : Stands 1 1
+unfolding image
+write_data = record { same = of_each (λ p. has_bit (image p) 1 ≡ has_bit p 1) refl refl refl refl refl refl refl refl }
+
+-- APPEND_DATA is write too
+pub append_data : Stands 1 2
+unfolding image
+append_data = record { same = of_each (λ p. has_bit (image p) 2 ≡ has_bit p 1) refl refl refl refl refl refl refl refl }
+
+-- EXECUTE is execute
+pub execute : Stands 0 5
+unfolding image
+execute = record { same = of_each (λ p. has_bit (image p) 5 ≡ has_bit p 0) refl refl refl refl refl refl refl refl }
+
+none_at : (b : ℕ) → ((p : ℕ) → p < 8 → has_bit (image p) b ≡ false) → (want : ℕ) → want < 8 → has_bit (image want) b
+    ≡ true → ⊥
+none_at b lacks want lt h = true≢false (sym h ∙ lacks want lt)
+
+image_lt : (p : ℕ) → p < 8 → image p < 64
+unfolding image
+image_lt = of_each (λ p. image p < 64) (omega arith) (omega arith) (omega arith) (omega arith) (omega arith)
+    (omega arith) (omega arith) (omega arith)
+
+-- an image is a set of rights
+pub image_mask : (p : ℕ) → p < 8 → IsMask (image p)
+unfolding image
+image_mask = of_each (λ p. IsMask (image p)) refl refl refl refl refl refl refl refl
+
+-- that of some permissions is not empty
+pub image_some : (p : ℕ) → p < 8 → eqb p 0 ≡ false → 0 < count_ones (image p)
+unfolding image lib.Count.ones
+image_some = of_each (λ p. eqb p 0 ≡ false → 0 < count_ones (image p)) (λ e. absurd cc) (λ e. omega arith)
+    (λ e. omega arith) (λ e. omega arith) (λ e. omega arith) (λ e. omega arith) (λ e. omega arith) (λ e. omega arith)
+
+-- what is allowed and what is denied have four bits together
+pub four_bits : (p : ℕ) → p < 8 → count_ones (image p) + count_ones (image (7 - p)) ≡ 4
+unfolding image lib.Count.ones
+four_bits = of_each (λ p. count_ones (image p) + count_ones (image (7 - p)) ≡ 4) refl refl refl refl refl refl refl refl
+
+-- and that of none is
+pub image_none : count_ones (image 0) ≡ 0
+unfolding image lib.Count.ones
+image_none = refl
+
+-- the image as code sums it up
+pub image_parts : (p : ℕ) → p < 8 → cond (eqb (bit_and p 4) 0) 0 1 + cond (eqb (bit_and p 2) 0) 0 6 + cond
+    (eqb (bit_and p 1) 0) 0 32 ≡ image p
+unfolding image
+image_parts = of_each (λ p. cond (eqb (bit_and p 4) 0) 0 1 + cond (eqb (bit_and p 2) 0) 0 6 + cond
+    (eqb (bit_and p 1) 0) 0 32 ≡ image p) refl refl refl refl refl refl refl refl
+
+third : (p : ℕ) → p < 8 → has_bit (image p) 3 ≡ false
+unfolding image
+third = of_each (λ p. has_bit (image p) 3 ≡ false) refl refl refl refl refl refl refl refl
+
+fourth : (p : ℕ) → p < 8 → has_bit (image p) 4 ≡ false
+unfolding image
+fourth = of_each (λ p. has_bit (image p) 4 ≡ false) refl refl refl refl refl refl refl refl
+
+sixth : (p : ℕ) → p < 8 → has_bit (image p) 6 ≡ false
+unfolding image
+sixth = of_each (λ p. has_bit (image p) 6 ≡ false) refl refl refl refl refl refl refl refl
+
+seventh : (p : ℕ) → p < 8 → has_bit (image p) 7 ≡ false
+unfolding image
+seventh = of_each (λ p. has_bit (image p) 7 ≡ false) refl refl refl refl refl refl refl refl
+
+-- which permission a right of an image is of
+pub record Permits (want b : ℕ) : Type 0 where
+  pub j : ℕ
+  pub small : j < 3
+  pub stands : Stands j b
+  pub has : has_bit want j ≡ true
+
+permits : (want b j : ℕ) → want < 8 → j < 3 → Stands j b → has_bit (image want) b ≡ true → Permits want b
+permits want b j lt small st h = record { j = j; small = small; stands = st; has = sym (st.same want lt) ∙ h }
+
+-- each right of an image is one of a permission
+pub image_bit : (want b : ℕ) → want < 8 → has_bit (image want) b ≡ true → Permits want b
+image_bit want zero lt h = permits want 0 2 lt (omega arith) read_data h
+image_bit want (suc zero) lt h = permits want 1 1 lt (omega arith) write_data h
+image_bit want (suc (suc zero)) lt h = permits want 2 1 lt (omega arith) append_data h
+image_bit want (suc (suc (suc zero))) lt h = absurd (none_at 3 third want lt h)
+image_bit want (suc (suc (suc (suc zero)))) lt h = absurd (none_at 4 fourth want lt h)
+image_bit want (suc (suc (suc (suc (suc zero))))) lt h = permits want 5 0 lt (omega arith) execute h
+image_bit want (suc (suc (suc (suc (suc (suc zero)))))) lt h = absurd (none_at 6 sixth want lt h)
+image_bit want (suc (suc (suc (suc (suc (suc (suc zero))))))) lt h = absurd (none_at 7 seventh want lt h)
+image_bit want (suc (suc (suc (suc (suc (suc (suc (suc b)))))))) lt h =
+    absurd (true≢false (sym h ∙ has_bit-above w8 (image want) (suc (suc (suc (suc (suc (suc (suc (suc b))))))))
+    (omega (arith, image_lt want lt)) (omega arith)))
+
+-- what is not allowed is denied
+pub complement : (j p : ℕ) → j < 3 → p < 8 → has_bit (7 - p) j ≡ not (has_bit p j)
+complement zero p lt = of_each (λ p. has_bit (7 - p) 0 ≡ not (has_bit p 0)) refl refl refl refl refl refl refl refl p
+complement (suc zero) p lt = of_each (λ p. has_bit (7 - p) 1 ≡ not (has_bit p 1)) refl refl refl refl refl refl refl
+    refl p
+complement (suc (suc zero)) p lt = of_each (λ p. has_bit (7 - p) 2 ≡ not (has_bit p 2)) refl refl refl refl refl refl
+    refl refl p
+complement (suc (suc (suc j))) p lt = absurd (omega (arith, lt))
+
+by_digit : (d q : ℕ) → d < 2 → 0 < q → eqb (d * q) q ≡ eqb d 1
+by_digit d q lt pos = grind arith
+
+-- permissions hold a single permission where they have its bit
+pub contains_single : (p j want : ℕ) → want ≡ 2 ^ j → 0 < want → contains p want ≡ has_bit p j
+contains_single p j want e pos =
+    ap (λ (q : ℕ). eqb (bit_and p q) q) e ∙ ap (λ (m : ℕ). eqb m (2 ^ j)) (and_pow p j) ∙ by_digit (bit_at p j) (2 ^ j)
+    (bit_at-lt p j) (omega (arith, e, pos))

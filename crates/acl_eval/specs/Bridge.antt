@@ -1,0 +1,105 @@
+-- The NFSv4 list that stands for a POSIX access ACL (this library's own: neither RFC 8881 nor acl(5) has one). What an
+-- entry decides in the access check of acl(5), it decides here by an ACE that allows and one that denies.
+use Rattle.std.specs.Prelude.{ℕ, ◌+◌, ◌-◌, ◌==◌, Bool, true, false, List, [], ◌∷◌, ◌++◌, if◌then◌else◌}
+use Rattle.std.specs.List.{filter, flat_map}
+use Rattle.std.specs.Fmt.{decimal}
+use Rattle.std.specs.FinMap as set
+use Rattle.acl_perm.specs.Bits.{has_bit}
+use Rattle.acl_perm.specs.Profile.{full}
+use Rattle.acl_perm.specs.declared.kind.Kind.{Kind}
+use Rattle.acl_perm.specs.declared.kind.Kind.TheVariants.{Deny, Allow}
+use Rattle.acl_posix.specs.Tag.{Tag, user_obj, user, group_obj, group, mask, other}
+use Rattle.acl_posix.specs.Entries.{Entries}
+use Rattle.acl_posix.specs.Mask.{effective_of}
+use Rattle.acl_nfs4.specs.Ace.{Ace}
+use Rattle.acl_nfs4.specs.Spelling.{IsAccepted}
+use Rattle.acl_nfs4.specs.Who.{owner_name, group_name, everyone_name}
+use Rattle.acl_eval.specs.declared.from_posix.BridgeFault.{BridgeFault}
+use Rattle.acl_eval.specs.declared.from_posix.BridgeFault.TheVariants.{Limits, Memory}
+
+-- the rights that permissions stand for: read is READ_DATA (0x1), write is WRITE_DATA (0x2) and APPEND_DATA (0x4),
+-- execute is EXECUTE (0x20)
+unfoldable pub image : ℕ → ℕ
+image perm = (if has_bit perm 2 then 0x1 else 0) + (if has_bit perm 1 then 0x2 + 0x4 else 0)
+    + (if has_bit perm 0 then 0x20 else 0)
+
+-- the who of the ACEs of an entry: the name of an id is its decimal digits; MASK has no ACE
+abbrev pub who_of : Tag → List ℕ
+who_of user_obj = owner_name
+who_of (user id) = decimal id
+who_of group_obj = group_name
+who_of (group id) = decimal id
+who_of mask = []
+who_of other = everyone_name
+
+-- their flags: IDENTIFIER_GROUP on named groups, and no other
+abbrev pub flags_of : Tag → ℕ
+flags_of user_obj = 0
+flags_of (user id) = 0
+flags_of group_obj = 0
+flags_of (group id) = 0x40
+flags_of mask = 0
+flags_of other = 0
+
+-- the ACE of a tag with what these permissions stand for; there is none where there are no permissions
+unfoldable pub ace_of : Kind → Tag → ℕ → List Ace
+ace_of kind tag perm = if perm == 0 then []
+    else record { kind = kind; flags = flags_of tag; mask = image perm; who = who_of tag } ∷ []
+
+-- what an entry allows: its effective permissions
+abbrev pub allow_of : Entries → Tag × ℕ → List Ace
+allow_of entries entry = ace_of Allow entry.0 (effective_of entries entry)
+
+-- what it denies: those of read, write and execute that it doesn't allow
+abbrev pub deny_of : Entries → Tag × ℕ → List Ace
+deny_of entries entry = ace_of Deny entry.0 (7 - effective_of entries entry)
+
+-- first the one, then the other
+abbrev pub decide_of : Entries → Tag × ℕ → List Ace
+decide_of entries entry = allow_of entries entry ++ deny_of entries entry
+
+-- USER_OBJ and USER
+abbrev pub is_user : Tag → Bool
+is_user user_obj = true
+is_user (user id) = true
+is_user group_obj = false
+is_user (group id) = false
+is_user mask = false
+is_user other = false
+
+-- GROUP_OBJ and GROUP
+abbrev pub is_group : Tag → Bool
+is_group user_obj = false
+is_group (user id) = false
+is_group group_obj = true
+is_group (group id) = true
+is_group mask = false
+is_group other = false
+
+-- OTHER
+abbrev pub is_other : Tag → Bool
+is_other user_obj = false
+is_other (user id) = false
+is_other group_obj = false
+is_other (group id) = false
+is_other mask = false
+is_other other = true
+
+-- the ACEs of some entries of a list, in its order
+abbrev pub each : (Tag → Bool) → (Tag × ℕ → List Ace) → List (Tag × ℕ) → List Ace
+each which aces entries = flat_map aces (filter (λ entry. which entry.0) entries)
+
+-- over the entries in canonical order: what USER_OBJ and each USER allow and then deny, one after the other; what
+-- GROUP_OBJ and each GROUP allow, and only after all of these what they deny, since one group that has a permission is
+-- enough; and what OTHER allows
+unfoldable pub bridge_list : Entries → List Ace
+bridge_list entries =
+    each is_user (decide_of entries) (set.entries entries)
+    ++ each is_group (allow_of entries) (set.entries entries)
+    ++ each is_group (deny_of entries) (set.entries entries)
+    ++ each is_other (allow_of entries) (set.entries entries)
+
+-- Limits where the list is not accepted, and nowhere else; memory is wanted only where it is
+abbrev pub IsBridgeFault : List Ace → BridgeFault → Type 0
+IsBridgeFault list Limits = IsAccepted full list → ⊥
+IsBridgeFault list Memory = IsAccepted full list

@@ -1,0 +1,59 @@
+-- What the list of a POSIX ACL grants (this library's own), against the access check of acl(5), "ACCESS CHECK
+-- ALGORITHM".
+use Rattle.std.specs.Prelude.{ℕ, ◌≡◌, ◌<◌, ◌↔◌, ◌⊎◌, map, All, IsTrue}
+use Rattle.std.specs.Fmt.{decimal}
+use Rattle.std.specs.FinMap as set
+use Rattle.acl_perm.specs.Situation.{Situation}
+use Rattle.acl_posix.specs.Id.{IsId}
+use Rattle.acl_posix.specs.Entries.{Entries, IsEntry}
+use Rattle.acl_posix.specs.Valid.{IsValid}
+use Rattle.acl_posix.specs.Check.{Object, Requester, grants}
+use Rattle.acl_eval.specs.Grant.{Grant}
+use Rattle.acl_eval.specs.Bridge.{image, bridge_list}
+
+-- a valid set, whose ids and permissions are within their limits
+pub record IsAccess (entries : Entries) : Type 0 where
+  pub valid : IsValid entries
+  pub within : All IsEntry (set.entries entries)
+
+-- who asks, and whose object it is, are told by ids
+pub record IsAsked (object : Object) (requester : Requester) : Type 0 where
+  pub owner : IsId object.user
+  pub owning_group : IsId object.group
+  pub asker : IsId requester.user
+  pub groups : All IsId requester.groups
+
+-- the same with the names of the ids, which are their decimal digits
+abbrev pub by_name : Object → Requester → Situation
+by_name object requester = record {
+  owner_name = decimal object.user;
+  owning_group = decimal object.group;
+  user_name = decimal requester.user;
+  groups = map decimal requester.groups;
+}
+
+-- read, write or execute alone
+abbrev pub IsSingle : ℕ → Type 0
+IsSingle want = (want ≡ 4) ⊎ (want ≡ 2) ⊎ (want ≡ 1)
+
+-- one permission is granted by the list exactly if it is by the check
+abbrev pub GrantsSingles : Type 0
+GrantsSingles = (entries : Entries) (object : Object) (requester : Requester) (want : ℕ)
+    → IsAccess entries → IsAsked object requester → IsSingle want
+    → Grant (bridge_list entries) (by_name object requester) (image want)
+    ↔ IsTrue (grants entries object requester want)
+
+-- what the check grants together, the list grants together
+abbrev pub KeepsGrants : Type 0
+KeepsGrants = (entries : Entries) (object : Object) (requester : Requester) (want : ℕ)
+    → IsAccess entries → IsAsked object requester → want < 8
+    → IsTrue (grants entries object requester want)
+    → Grant (bridge_list entries) (by_name object requester) (image want)
+
+-- what the check answers of ids, the list answers of their names: of one permission the same, and of any set at least
+-- what the check grants
+pub record AnswersAlike (entries : Entries) (object : Object) (requester : Requester) (want : ℕ) : Type 0 where
+  pub single : IsSingle want → Grant (bridge_list entries) (by_name object requester) (image want)
+      ↔ IsTrue (grants entries object requester want)
+  pub together : IsTrue (grants entries object requester want)
+      → Grant (bridge_list entries) (by_name object requester) (image want)
