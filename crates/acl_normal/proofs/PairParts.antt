@@ -1,0 +1,9 @@
+-- Pairs of a type and a place.
+use Rattle.std.specs.Prelude.{◌≡◌, ℕ, Option, Some, unwrap_or}
+use Rattle.std.proofs.Common.{ap}
+use Rattle.acl_perm.specs.declared.kind.Kind.{Kind}
+
+-- the parts of equal pairs
+pub some_pair : (l j : Kind) (x y : ℕ) → ◌≡◌ {A = Option (Kind × ℕ)} (Some (l, x)) (Some (j, y)) → (l ≡ j) × (x ≡ y)
+some_pair l j x y h =
+    (ap (λ (o : Option (Kind × ℕ)). (unwrap_or o (l, x)).0) h, ap (λ (o : Option (Kind × ℕ)). (unwrap_or o (l, x)).1) h)

@@ -1,0 +1,63 @@
+-- Whether places wait before a place, by the least of them.
+use Rattle.std.specs.Prelude.{◌≡◌, ℕ, ◌<◌, ◌≤◌, zero, suc, Bool, true, false, not, List, [], ◌∷◌, length, refl}
+use Rattle.std.specs.Ordering.{nat_cmp}
+use Rattle.std.specs.BTreeMap.{is_at}
+use Rattle.std.specs.List.{list_any}
+use Rattle.std.proofs.Common.{sym, ◌∙◌, ap, arith}
+use Rattle.std.proofs.lemmas.Bool.{or_left, or_right, or_from, false_from_ne_true}
+use Rattle.acl_perm.specs.declared.kind.Kind.{Kind}
+use Rattle.acl_nfs4.specs.Ace.{Ace}
+use Rattle.acl_normal.specs.Places.{is_waiting, waits, waits_before}
+
+-- none before, if none of the lesser places waits
+pub before_none : (k : Kind) (u : Bool) (b : ℕ) (xs : List Ace) (i : ℕ) → ((j : ℕ) → j < i → waits k u b xs j ≡ false)
+    → waits_before k u b xs i ≡ false
+before_none k u b [] i h = refl
+before_none k u b (a ∷ xs) zero h = refl
+before_none k u b (a ∷ xs) (suc i) h =
+    or_from (is_waiting k u b a) (waits_before k u b xs i) (h 0 (omega arith))
+    (before_none k u b xs i (λ j l. h (suc j) (omega arith)))
+
+-- some before, if one of them does
+pub before_some : (k : Kind) (u : Bool) (b : ℕ) (xs : List Ace) (i j : ℕ) → j < i → waits k u b xs j ≡ true
+    → waits_before k u b xs i ≡ true
+before_some k u b [] i j l h = cc
+before_some k u b (a ∷ xs) zero j l h = absurd (omega arith)
+before_some k u b (a ∷ xs) (suc i) zero l h = or_left (is_waiting k u b a) (waits_before k u b xs i) h
+before_some k u b (a ∷ xs) (suc i) (suc j) l h =
+    or_right (is_waiting k u b a) (waits_before k u b xs i) (before_some k u b xs i j (omega arith) h)
+
+-- the keys are the places that wait
+abbrev pub AreWaiting : Kind → Bool → ℕ → List Ace → List ℕ → Type 0
+AreWaiting k u b xs keys = (i : ℕ) → list_any (is_at (nat_cmp i)) keys ≡ waits k u b xs i
+
+-- an empty set has none before
+pub none_before : (k : Kind) (u : Bool) (b : ℕ) (xs : List Ace) (keys : List ℕ) (i : ℕ) → AreWaiting k u b xs keys
+    → keys ≡ [] → true ≡ not (waits_before k u b xs i)
+none_before k u b xs keys i w e =
+    let none : waits_before k u b xs i ≡ false =
+    before_none k u b xs i (λ j l. sym (w j) ∙ ap (list_any (is_at (nat_cmp j))) e) in
+    rw none refl
+
+-- the least place tells
+pub first_before : (k : Kind) (u : Bool) (b : ℕ) (xs : List Ace) (keys : List ℕ) (i first : ℕ) (t : Bool)
+    → AreWaiting k u b xs keys
+    → list_any (is_at (nat_cmp first)) keys ≡ true
+    → ((q : ℕ) → list_any (is_at (nat_cmp q)) keys ≡ true → first ≤ q)
+    → (t ≡ true → i ≤ first) → (t ≡ false → first < i)
+    → t ≡ not (waits_before k u b xs i)
+first_before k u b xs keys i first true w has least up down =
+    let none : waits_before k u b xs i ≡ false =
+    before_none k u b xs i (λ j l. false_from_ne_true _ (λ t. absurd (clash j l (least j (w j ∙ t))))) in
+    rw none refl
+  where
+    clash : (j : ℕ) → j < i → first ≤ j → ⊥
+    clash j l f = omega (arith, up refl)
+first_before k u b xs keys i first false w has least up down =
+    let some : waits_before k u b xs i ≡ true = before_some k u b xs i first (down refl) (sym (w first) ∙ has) in
+    rw some refl
+
+-- a set of no length is empty
+pub empty_keys : (keys : List ℕ) → (0 < length keys → false ≡ true) → keys ≡ []
+empty_keys [] h = refl
+empty_keys (k ∷ keys) h = cc (h (omega arith))

@@ -1,0 +1,30 @@
+use Rattle.acl_normal.specs.Emitted.{emitted_aces}
+use Rattle.acl_normal.proofs.Tables.{key_there, rows_from}
+use Rattle.acl_normal.proofs.Taken.{normal_alike, normal_once}
+use Rattle.acl_normal.proofs.Writing.{mask_at}
+use Rattle.acl_normal.proofs.bit_table.table.Goals as goal
+
+pub rows_of-requires-clause-masks : goal.rows_of-requires-clause-masks
+rows_of-requires-clause-masks c i d l =
+    rw c.deref.ensures.value (mask_at c.in_ok-form.form.items i d c.in_ok-form.ensures.accepted
+    (rw c.deref.ensures.value at l))
+
+pub rows_of-requires-clause-keys : goal.rows_of-requires-clause-keys
+rows_of-requires-clause-keys c =
+    let ns = emitted_aces c.in_ok-form.form.items in
+    let f = c.in_ok-form.ensures in
+    rw c.deref.ensures.value (key_there c.lowest-bit.result c.in_ok-rows.rows c.in_ok-form.form.items
+    (normal_once ns c.lowest-bit.result f.normal)
+    (normal_alike c.args.list.now c.in_ok-rows.rows ns c.lowest-bit.result c.in_ok-rows.ensures.irreducible
+    c.in_ok-rows.ensures.grants f.normal f.grants))
+
+pub returns-clause-rows : goal.returns-clause-rows
+returns-clause-rows c b low =
+    let bit = c.lowest-bit.ensures.lowest b low in
+    record {
+      form = emitted_aces c.in_ok-form.form.items;
+      is_form = c.in_ok-form.ensures;
+      shown = rw (← bit, ← c.deref.ensures.value)
+          (rows_from c.lowest-bit.result c.args.list.now c.in_ok-rows.rows _ c.in_ok-table.table.items
+          c.in_ok-rows.ensures.firsts c.in_ok-table.ensures);
+    }

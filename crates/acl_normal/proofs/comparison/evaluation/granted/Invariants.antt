@@ -1,0 +1,11 @@
+use Rattle.acl_normal.proofs.comparison.evaluation.granted.Given as goal
+use Rattle.acl_normal.proofs.SetEvaluation.{DecidesAll, decides}
+use Rattle.acl_normal.specs.CodeSets.{set_of}
+use Rattle.acl_perm.specs.Bits.{IsMask}
+
+abbrev pub invariant-loop-item : goal.invariant-loop-item
+invariant-loop-item l = record {
+  decides : DecidesAll l.list (set_of l.set) l.item-index l.granted.0 l.decided.0;
+  granted : IsMask l.granted.0;
+  decided : IsMask l.decided.0;
+}

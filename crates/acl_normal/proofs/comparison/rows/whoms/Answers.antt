@@ -1,0 +1,7 @@
+use Rattle.acl_normal.proofs.comparison.rows.whoms.Goals as goal
+use Rattle.acl_normal.proofs.Numbers.{whoms_more}
+use Rattle.acl_normal.specs.SetSearch.{principals}
+
+pub loop-item-preserved : goal.loop-item-preserved
+loop-item-preserved c = whoms_more (principals c.args.whole.now) _ _ _ _ _ _ c.loop-item-test.true c.item-item.is
+    c.in_ok-push.ensures.items c.named_by.ensures c.loop-item.invariant

@@ -1,0 +1,8 @@
+use Rattle.acl_normal.proofs.Walk.{Walks}
+use Rattle.acl_normal.proofs.draining.enter.Given as goal
+
+abbrev pub invariant-loop-place : goal.invariant-loop-place
+invariant-loop-place l =
+    (goal.iterator-loop-place).can_next l.place-iterator ×
+    (goal.iterator-loop-place).is_finite l.place-iterator ×
+    Walks l.kind l.users l.bit l.rows l.place-iterator l.fn.ready.entries l.ready.entries

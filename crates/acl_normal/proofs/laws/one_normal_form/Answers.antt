@@ -1,0 +1,5 @@
+use Rattle.acl_normal.proofs.Unique.{unique}
+use Rattle.acl_normal.proofs.laws.one_normal_form.Goals as goal
+
+pub returns : goal.returns
+returns c = unique

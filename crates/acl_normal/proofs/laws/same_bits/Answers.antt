@@ -1,0 +1,10 @@
+use Rattle.acl_perm.specs.Bits.{all_rights}
+use Rattle.acl_eval.proofs.Same.{equivalence}
+use Rattle.acl_normal.proofs.SameOrder.{same_bits}
+use Rattle.acl_normal.proofs.laws.same_bits.Goals as goal
+
+pub returns : goal.returns
+returns c = λ xs ys hx hy same b e. (
+  same_bits xs ys hx hy same b e,
+  same_bits ys xs hy hx ((equivalence all_rights).symmetric xs ys same) b e,
+)

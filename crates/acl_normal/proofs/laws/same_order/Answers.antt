@@ -1,0 +1,10 @@
+use Rattle.acl_perm.specs.Bits.{all_rights}
+use Rattle.acl_eval.proofs.Same.{equivalence}
+use Rattle.acl_normal.proofs.SameOrder.{same_order}
+use Rattle.acl_normal.proofs.laws.same_order.Goals as goal
+
+pub returns : goal.returns
+returns c = λ xs ys hx hy same b e f clash. (
+  same_order xs ys hx hy same b e f clash,
+  same_order ys xs hy hx ((equivalence all_rights).symmetric xs ys same) b e f clash,
+)

@@ -1,0 +1,9 @@
+use Rattle.std.proofs.Common.{ap, ◌∙◌, refl}
+use Rattle.acl_nfs4.specs.Ace.{ace}
+use Rattle.acl_normal.specs.Normal.{flags_for}
+use Rattle.acl_normal.proofs.Candidates.{candidate_within}
+use Rattle.acl_normal.proofs.plain.emission.candidate.Goals as goal
+
+pub returns-clause-within : goal.returns-clause-within
+returns-clause-within c = candidate_within _ (ace c.args.item.now) _
+    (c.naming_flags.ensures ∙ ap flags_for c.principal.ensures) refl c.free_bits-mask.ensures

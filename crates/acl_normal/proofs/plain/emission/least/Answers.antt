@@ -1,0 +1,16 @@
+use Rattle.std.proofs.Common.{sym, subst, arith}
+use Rattle.std.specs.Prelude.{option_map, take}
+use Rattle.acl_nfs4.specs.Ace.{ace}
+use Rattle.acl_normal.specs.Passes.{Best, list_of}
+use Rattle.acl_normal.proofs.Kept.{ace_at}
+use Rattle.acl_normal.proofs.Passes.{list_of-more}
+use Rattle.acl_normal.proofs.plain.emission.least.Goals as goal
+
+pub loop-item-preserved : goal.loop-item-preserved
+loop-item-preserved c =
+    let left = c.args.left.now in
+    let i = c.loop-item.item-index in
+    subst (λ v. Best (list_of left) v (option_map ace c.better-best.result))
+    (sym (list_of-more left c.item-item.result i (omega arith) c.item-item.is))
+    (c.better-best.ensures (list_of (take i left)) c.loop-item.invariant
+    (ace_at left c.item-item.result i (omega arith) c.item-item.is))

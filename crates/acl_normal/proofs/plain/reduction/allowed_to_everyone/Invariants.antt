@@ -1,0 +1,18 @@
+use Rattle.std.specs.Prelude.{take}
+use Rattle.acl_perm.specs.Bits.{IsMask}
+use Rattle.acl_perm.specs.Principal.{everyone}
+use Rattle.acl_perm.specs.declared.kind.Kind.TheVariants.{Allow}
+use Rattle.acl_eval.specs.Column.{column}
+use Rattle.acl_normal.specs.Entries.{kind_eq}
+use Rattle.acl_normal.specs.Passes.{is_shadowed, list_of}
+use Rattle.acl_normal.specs.Plain.{default}
+use Rattle.acl_normal.proofs.Passes.{Marks}
+use Rattle.acl_normal.proofs.plain.reduction.allowed_to_everyone.Given as goal
+
+-- the bits that the ACEs so far decide for everyone, and those that they allow
+abbrev pub invariant-loop-item : goal.invariant-loop-item
+invariant-loop-item l = record {
+  within : IsMask l.allowed.0 × IsMask l.seen.0;
+  seen : Marks l.seen.0 (is_shadowed everyone (list_of (take l.item-index l.aces)));
+  allowed : Marks l.allowed.0 (λ bit. kind_eq (default (column (list_of (take l.item-index l.aces)) bit)) Allow);
+}

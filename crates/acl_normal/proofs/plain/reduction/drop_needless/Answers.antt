@@ -1,0 +1,36 @@
+use Rattle.std.proofs.Common.{◌+◌, refl, sym, ap, subst, ◌∙◌, arith}
+use Rattle.std.specs.Prelude.{◌++◌, ◌&&◌, drop}
+use Rattle.acl_perm.specs.Bits.{has_bit}
+use Rattle.acl_nfs4.specs.Ace.{ace}
+use Rattle.acl_nfs4.specs.Who.{principal_of}
+use Rattle.acl_eval.specs.Column.{column}
+use Rattle.acl_normal.specs.Passes.{KeepsProfiles, default_in, list_of}
+use Rattle.acl_normal.specs.Plain.{default, is_needed, needed_entries}
+use Rattle.acl_normal.proofs.Passes.{Marks}
+use Rattle.acl_normal.proofs.Kept.{ace_at, front_true, fewer_bits, keeps_more}
+use Rattle.acl_normal.proofs.NeededBits.{needed_more}
+use Rattle.acl_normal.proofs.plain.reduction.drop_needless.Goals as goal
+
+pub loop-place-preserved : goal.loop-place-preserved
+loop-place-preserved c =
+    let y = c.index-aces-place.result in
+    let later = drop (c.loop-place.place + 1) c.args.aces.now in
+    let mask : Marks c.needed-mask.result.bits (λ bit. has_bit y.mask.bits bit
+    && is_needed (default_in c.allowed_to_everyone-allowed.result.bits bit) (principal_of (ace y)) y.kind
+    (column (list_of later) bit)) =
+    λ bit. c.needed-mask.ensures bit
+    ∙ ap (λ v. has_bit y.mask.bits bit
+    && is_needed (default_in c.allowed_to_everyone-allowed.result.bits bit) (principal_of (ace y)) y.kind
+    (column (list_of v) bit)) c.split_at.ensures.back in
+    record {
+      columns = λ bit.
+          ap (λ v. column (list_of v) bit ++ needed_entries (default (column (list_of c.args.aces.now) bit))
+          (column (list_of later) bit)) c.in_ok-push.ensures.items
+          ∙ needed_more c.args.aces.now y c.loop-place.kept.items _ c.loop-place.place
+          c.allowed_to_everyone-allowed.result.bits (omega arith) c.index-aces-place.is refl refl
+          c.allowed_to_everyone-allowed.ensures mask bit _ (c.loop-place.invariant.columns bit);
+      profiles = subst (λ v. KeepsProfiles (list_of c.args.aces.now) (list_of v)) (sym c.in_ok-push.ensures.items)
+          (keeps_more (list_of c.args.aces.now) c.loop-place.kept.items _ c.loop-place.invariant.profiles
+          (λ p h. fewer_bits p (ace y) _ refl refl (λ k has. front_true _ _ (sym (mask k) ∙ has))
+          (ace_at c.args.aces.now y c.loop-place.place (omega arith) c.index-aces-place.is p h)));
+    }

@@ -1,0 +1,13 @@
+use Rattle.std.specs.Prelude.{take}
+use Rattle.acl_perm.specs.Principal.{principal}
+use Rattle.acl_normal.specs.Passes.{list_of, is_shadowed}
+use Rattle.acl_perm.specs.Bits.{IsMask}
+use Rattle.acl_normal.proofs.Passes.{Marks}
+use Rattle.acl_normal.proofs.plain.reduction.shadow.Given as goal
+
+-- the bits so far are those of the ACEs so far
+abbrev pub invariant-loop-item : goal.invariant-loop-item
+invariant-loop-item l = record {
+  within : IsMask l.bits.0;
+  marks : Marks l.bits.0 (is_shadowed (principal l.of) (list_of (take l.item-index l.before)));
+}

@@ -1,0 +1,10 @@
+use Rattle.std.specs.Prelude.{drop}
+use Rattle.acl_normal.proofs.plain.small_sets.first_pair.Given as goal
+use Rattle.acl_normal.proofs.SetSearchLemmas.{GoesOn}
+use Rattle.acl_normal.specs.Passes.{list_of}
+use Rattle.acl_normal.specs.SetSearch.{principals}
+use Rattle.acl_normal.specs.SmallSets.{pairs}
+
+abbrev pub invariant-loop-i : goal.invariant-loop-i
+invariant-loop-i l = GoesOn (list_of l.list) (list_of l.other) (pairs (principals (drop l.i l.whole)))
+    (pairs (principals l.whole))

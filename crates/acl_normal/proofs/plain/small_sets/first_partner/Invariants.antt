@@ -1,0 +1,11 @@
+use Rattle.std.specs.Prelude.{drop}
+use Rattle.acl_normal.proofs.plain.small_sets.first_partner.Given as goal
+use Rattle.acl_normal.proofs.SetSearchLemmas.{GoesOn}
+use Rattle.acl_normal.specs.Passes.{list_of}
+use Rattle.acl_normal.specs.SetSearch.{principals}
+use Rattle.acl_normal.specs.SmallSets.{partners}
+use Rattle.acl_perm.specs.Principal.{principal}
+
+abbrev pub invariant-loop-q : goal.invariant-loop-q
+invariant-loop-q l = GoesOn (list_of l.list) (list_of l.other)
+    (partners (principal l.p) (principals (drop l.q-index l.rest))) (partners (principal l.p) (principals l.rest))

@@ -1,0 +1,10 @@
+use Rattle.std.specs.Prelude.{◌≡◌, ◌++◌}
+use Rattle.acl_normal.specs.Shown.{aces_in}
+use Rattle.acl_normal.proofs.reduction.collected.Given as goal
+
+-- the ACEs so far and those of what is left are the list
+abbrev pub invariant-loop-ace : goal.invariant-loop-ace
+invariant-loop-ace l =
+    (goal.iterator-loop-ace).can_next l.ace-iterator ×
+    (goal.iterator-loop-ace).is_finite l.ace-iterator ×
+    (aces_in l.aces.items ++ l.ace-iterator ≡ l.fn.list)

@@ -1,0 +1,86 @@
+-- The normal form of a list of ACEs (this library's own, over what lists grant by RFC 8881, section 6.2.1): no bit that
+-- plays no part, one order, and no flag that plays no part.
+use Rattle.std.specs.Prelude.{⊤, ◌≡◌, ◌≢◌, ℕ, ◌^◌, Bool, true, false, not, ◌||◌, ◌&&◌, IsTrue, List, [], ◌∷◌, ◌++◌}
+use Rattle.std.specs.List.{AllByRecursion}
+use Rattle.std.specs.Ordering.{is_le}
+use Rattle.acl_perm.specs.Bits.{has_bit, all_rights, inherit_only, IsSubset}
+use Rattle.acl_perm.specs.Principal.{Principal, owner, user, group, group_named, everyone}
+use Rattle.acl_nfs4.specs.Ace.{Ace}
+use Rattle.acl_nfs4.specs.Who.{principal_of}
+use Rattle.acl_eval.specs.Column.{Column, column}
+use Rattle.acl_eval.specs.Grant.{SameGrants}
+use Rattle.acl_eval.specs.Scan.{without}
+use Rattle.acl_normal.specs.Entries.{Entry, entry_of, principal_eq, kind_eq, conflicts, entry_cmp}
+use Rattle.acl_normal.specs.SmallSituations.{HasName}
+
+-- the ACE without one bit of its mask
+abbrev pub without_bit : Ace → ℕ → Ace
+without_bit a bit = record a { mask = without a.mask (2 ^ bit) }
+
+-- the bit of that ACE is needed: without it the list would not grant the same
+abbrev pub IsNeeded : List Ace → Ace → List Ace → ℕ → Type 0
+IsNeeded before a after bit =
+    SameGrants all_rights (before ++ a ∷ after) (before ++ without_bit a bit ∷ after) → ⊥
+
+-- no mask is empty
+abbrev pub HasNoEmptyMask : List Ace → Type 0
+HasNoEmptyMask list = AllByRecursion (λ a. a.mask ≢ 0) list
+
+-- no mask is empty, and each bit of each mask is needed
+pub record IsIrreducibleList (list : List Ace) : Type 0 where
+  pub no_empty_mask : HasNoEmptyMask list
+  pub needed : (before : List Ace) (a : Ace) (after : List Ace) (bit : ℕ) → list ≡ before ++ a ∷ after
+      → IsTrue (has_bit a.mask bit) → IsNeeded before a after bit
+
+-- the entry is free in a column: it stands there, and none before it conflicts with it
+abbrev pub is_free : Column → Entry → Bool
+is_free [] e = false
+is_free (first ∷ c) e = (principal_eq first.0 e.0 && kind_eq first.1 e.1) || (not (conflicts first e) && is_free c e)
+
+-- at each place stands the least entry that is free at some bit from there on, with all bits at which it is free
+abbrev pub IsOrdered : List Ace → Type 0
+IsOrdered [] = ⊤
+IsOrdered (a ∷ list) =
+    ((e : Entry) (bit : ℕ) → IsTrue (is_free (column (a ∷ list) bit) e) → IsTrue (is_le (entry_cmp (entry_of a) e)))
+    × ((bit : ℕ) → has_bit a.mask bit ≡ is_free (column (a ∷ list) bit) (entry_of a))
+    × IsOrdered list
+
+-- IDENTIFIER_GROUP on a group name, and no other flag (RFC 8881, section 6.2.1.4)
+abbrev pub flags_for : Principal → ℕ
+flags_for owner = 0
+flags_for (user name) = 0
+flags_for group = 0
+flags_for (group_named name) = 0x40
+flags_for everyone = 0
+
+-- each ACE has the flags that its principal needs
+abbrev pub HasNormalFlags : List Ace → Type 0
+HasNormalFlags list = AllByRecursion (λ a. a.flags ≡ flags_for (principal_of a)) list
+
+-- a list in normal form
+pub record IsNormal (list : List Ace) : Type 0 where
+  pub irreducible : IsIrreducibleList list
+  pub ordered : IsOrdered list
+  pub flags : HasNormalFlags list
+
+-- ---- lists on the way to a normal form
+
+-- the ACE takes no part
+abbrev pub is_inherit_only : Ace → Bool
+is_inherit_only a = has_bit a.flags inherit_only
+
+-- the ACE has the bit and takes part, so that it is an entry of the bit's column
+abbrev pub counts : ℕ → Ace → Bool
+counts bit a = has_bit a.mask bit && not (is_inherit_only a)
+
+-- an ACE that takes no part has no bit
+abbrev pub IsQuiet : List Ace → Type 0
+IsQuiet list = AllByRecursion (λ a. is_inherit_only a ≡ true → a.mask ≡ 0) list
+
+-- every bit is one of the sixteen rights
+abbrev pub HasMasks : List Ace → Type 0
+HasMasks list = AllByRecursion (λ a. IsSubset a.mask all_rights) list
+
+-- each who that is a user or group name is one that a situation may have
+abbrev pub HasNames : List Ace → Type 0
+HasNames list = AllByRecursion (λ a. HasName (principal_of a)) list

@@ -1,0 +1,15 @@
+-- What lists of the code's ACEs show (RFC 8881, section 6.2.1).
+use Rattle.std.specs.Prelude.{ℕ, List, [], ◌∷◌, map}
+use Rattle.acl_nfs4.specs.Ace.{Ace, ace}
+use Rattle.acl_nfs4.specs.declared.ace.AceRef.{AceRef}
+
+-- the ACEs that are shown
+abbrev pub aces_in : List AceRef → List Ace
+aces_in = map ace
+
+-- the ACEs with the masks that are left of them
+abbrev pub with_masks : List AceRef → List ℕ → List Ace
+with_masks [] masks = []
+with_masks (a ∷ aces) [] = []
+with_masks (a ∷ aces) (m ∷ masks) =
+    record { kind = a.kind; flags = a.flags.bits; mask = m; who = a.who.now } ∷ with_masks aces masks

@@ -1,0 +1,92 @@
+-- The small situations of two lists, and the first of them in which the lists grant otherwise (this library's own; what
+-- a list grants is RFC 8881, section 6.2.1).
+use Rattle.std.specs.Prelude.{◌≡◌, ◌≢◌, ◌↔◌, ℕ, ◌+◌, ◌<◌, ◌^◌, Bool, not, ◌&&◌, if◌then◌else◌, IsTrue, IsFalse, List, [], ◌∷◌, ◌++◌, length, map, max}
+use Rattle.std.specs.List.{AllByRecursion}
+use Rattle.std.specs.BTreeSet.{insert_key}
+use Rattle.acl_eval.specs.Column.{takes_part}
+use Rattle.acl_eval.specs.Grant.{Grant, SameGrants, grants_bit}
+use Rattle.acl_nfs4.specs.Ace.{Ace}
+use Rattle.acl_nfs4.specs.Who.{principal_of}
+use Rattle.acl_normal.specs.Entries.{principal_eq}
+use Rattle.acl_normal.specs.SmallSituations.{small_situation}
+use Rattle.acl_perm.specs.Bits.{all_rights, has_bit}
+use Rattle.acl_perm.specs.Order.{principal_cmp, principal_name}
+use Rattle.acl_perm.specs.Overlap.{may_overlap}
+use Rattle.acl_perm.specs.Principal.{Principal, everyone}
+use Rattle.acl_perm.specs.Situation.{IsSituation, Situation}
+
+-- the ACE takes part, and is not of everyone
+abbrev pub is_mentioning : Ace → Bool
+is_mentioning a = takes_part a && not (principal_eq (principal_of a) everyone)
+
+-- the principals that a list mentions, whatever their masks, each in its place among those given
+abbrev pub mentioned_with : List Principal → List Ace → List Principal
+mentioned_with given [] = given
+mentioned_with given (a ∷ list) =
+    mentioned_with (if is_mentioning a then insert_key principal_cmp given (principal_of a) else given) list
+
+-- the principals that two lists mention, in order, each once
+abbrev pub mentioned : List Ace → List Ace → List Principal
+mentioned list other = mentioned_with (mentioned_with [] list) other
+
+-- the number of bytes of the longest name, or 0 where none is a name
+abbrev pub longest : List Principal → ℕ
+longest [] = 0
+longest (p ∷ set) = max (length (principal_name p)) (longest set)
+
+-- the sets of one of the principals
+abbrev pub singles : List Principal → List (List Principal)
+singles [] = []
+singles (p ∷ rest) = (p ∷ []) ∷ singles rest
+
+-- the sets of a principal and one of the others that may overlap with it
+abbrev pub partners : Principal → List Principal → List (List Principal)
+partners p [] = []
+partners p (q ∷ rest) = if may_overlap p q then (p ∷ q ∷ []) ∷ partners p rest else partners p rest
+
+-- the sets of two of the principals that may overlap, the lesser first: by the first, then by the second
+abbrev pub pairs : List Principal → List (List Principal)
+pairs [] = []
+pairs (p ∷ rest) = partners p rest ++ pairs rest
+
+-- the sets of none, one, or two of the principals that may overlap
+abbrev pub small_sets : List Principal → List (List Principal)
+small_sets whole = [] ∷ (singles whole ++ pairs whole)
+
+-- the number of bytes of the strange names: more than any that the lists mention has
+abbrev pub strange_length : List Ace → List Ace → ℕ
+strange_length list other = longest (mentioned list other) + 1
+
+-- the small situations of two lists, in their order
+abbrev pub small_situations : List Ace → List Ace → List Situation
+small_situations list other =
+    map (small_situation (strange_length list other)) (small_sets (mentioned list other))
+
+-- each right is granted by both lists or by none
+abbrev pub GrantAlike : List Ace → List Ace → Situation → Type 0
+GrantAlike list other s = (bit : ℕ) → IsTrue (has_bit all_rights bit) → grants_bit list s bit ≡ grants_bit other s bit
+
+-- The first small situation in which the lists grant otherwise, the lowest bit on which they do, as a set of one right,
+-- and whether the first list grants it there.
+pub record IsFirstDifference (list other : List Ace) (s : Situation) (mask : ℕ) (first_grants : Bool) : Type 0 where
+  pub before : List Situation
+  pub after : List Situation
+  pub place : small_situations list other ≡ before ++ s ∷ after
+  pub alike_before : AllByRecursion (GrantAlike list other) before
+  pub bit : ℕ
+  pub one_bit : mask ≡ 2 ^ bit
+  pub of_rights : IsTrue (has_bit all_rights bit)
+  pub differs : grants_bit list s bit ≢ grants_bit other s bit
+  pub lowest : (b : ℕ) → b < bit → IsTrue (has_bit all_rights b) → grants_bit list s b ≡ grants_bit other s b
+  pub first : first_grants ≡ grants_bit list s bit
+
+-- In a situation whose names are names, one list grants a request and the other denies it.
+pub record TellsApart (list other : List Ace) (s : Situation) (request : ℕ) (first_grants : Bool) : Type 0 where
+  pub valid : IsSituation s
+  pub first : Grant list s request ↔ IsTrue first_grants
+  pub second : Grant other s request ↔ IsFalse first_grants
+
+-- lists that grant alike in each of their small situations grant the same
+abbrev pub SmallSituationsSuffice : Type 0
+SmallSituationsSuffice = (list other : List Ace)
+    → AllByRecursion (GrantAlike list other) (small_situations list other) → SameGrants all_rights list other

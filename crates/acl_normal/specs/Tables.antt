@@ -1,0 +1,48 @@
+-- The table of one bit: the ACEs of a normal form that have it, and where they come from (this library's own; the bits
+-- are those of RFC 8881, section 6.2.1.3.1).
+use Rattle.std.specs.Prelude.{⊤, ◌≡◌, true, ℕ, List, [], ◌∷◌, ◌++◌, filter, Some}
+use Rattle.acl_perm.specs.Bits.{has_bit, identifier_group}
+use Rattle.acl_nfs4.specs.Ace.{Ace}
+use Rattle.acl_nfs4.specs.Who.{principal_of}
+use Rattle.acl_eval.specs.Column.{column, first_kind}
+use Rattle.acl_normal.specs.Alike.{is_either}
+use Rattle.acl_normal.specs.NormalForm.{IsNormalFormOf}
+use Rattle.acl_normal.specs.Places.{counts, first_at}
+use Rattle.acl_normal.specs.declared.bit_table.Row.{Row}
+
+-- the ACEs that have the bit, in order
+abbrev pub with_bit : ℕ → List Ace → List Ace
+with_bit bit list = filter (λ a. has_bit a.mask bit) list
+
+-- the row shows the ACE: its type, its who, and whether that is the name of a group; and the first ACE of the source
+-- that names the same, takes part and has the bit has that type and stands at that place
+pub record IsRow (bit : ℕ) (source : List Ace) (a : Ace) (r : Row) : Type 0 where
+  pub kind : r.kind ≡ a.kind
+  pub who : r.who.items ≡ a.who
+  pub group : r.group ≡ has_bit a.flags identifier_group
+  pub place : first_at bit (principal_of a) source ≡ Some (r.kind, r.source)
+
+-- a row for each ACE, in order
+abbrev pub AreRows : ℕ → List Ace → List Ace → List Row → Type 0
+AreRows bit source [] [] = ⊤
+AreRows bit source [] (r ∷ rows) = ⊥
+AreRows bit source (a ∷ list) [] = ⊥
+AreRows bit source (a ∷ list) (r ∷ rows) = IsRow bit source a r × AreRows bit source list rows
+
+-- the rows of the ACEs of the source's normal form that have the bit
+pub record IsTable (bit : ℕ) (source : List Ace) (rows : List Row) : Type 0 where
+  pub form : List Ace
+  pub is_form : IsNormalFormOf source form
+  pub shown : AreRows bit source (with_bit bit form) rows
+
+-- ---- words that only code needs
+
+-- where the ACE has the bit, its key is in the list
+abbrev pub HasKey : ℕ → List Ace → Ace → Type 0
+HasKey bit list a =
+    counts bit a ≡ true → first_kind (is_either (principal_of a) (principal_of a)) (column list bit) ≡ Some a.kind
+
+-- the row of an ACE was added, where it has the bit
+abbrev pub AddsRow : ℕ → List Ace → Ace → List Row → List Row → Type 0
+AddsRow bit source a old new =
+    (list : List Ace) → AreRows bit source list old → AreRows bit source (list ++ with_bit bit (a ∷ [])) new

@@ -1,0 +1,97 @@
+//! The table of one right: what the normal form says of it, and where that comes from.
+ghost use Rattle.std.specs.Prelude.{◌≡◌, ◌<◌, ℕ, List, [], IfOk, OnOk, length, slice_index_or};
+ghost use Rattle.acl_perm.specs.Bits.{IsMask};
+ghost use Rattle.acl_nfs4.specs.Ace.{Ace};
+ghost use Rattle.acl_normal.specs.Emitted.{emitted_ace, emitted_aces};
+ghost use Rattle.acl_normal.specs.Left.{IsLowest};
+ghost use Rattle.acl_normal.specs.NormalForm.{IsNormalFormOf};
+ghost use Rattle.acl_normal.specs.declared.draining.Emitted.{Emitted as Emission};
+ghost use Rattle.acl_normal.specs.Tables.{AddsRow, AreRows, HasKey, IsTable, with_bit};
+
+use crate::bit_tests::has;
+use crate::draining::Emitted;
+use crate::merged_rows::{MergedRows, lowest};
+use crate::normal_form::{ace_of, form_of};
+use crate::reduction::reduced_rows;
+use acl_nfs4::Acl;
+use acl_perm::{Kind, Mask};
+use std::alloc::{AllocError, Global};
+
+/// An ACE of the normal form: its type, its who, whether that is the name of a group, and the place in the given list,
+/// from 0, of the first ACE without INHERIT_ONLY that has the right and names the same.
+#[derive(Drop)]
+pub struct Row {
+    /// Whether it denies or allows.
+    pub kind: Kind,
+    /// Its who.
+    pub who: Vec<u8>,
+    /// Whether that is the name of a group.
+    pub group: bool,
+    /// The place in the given list, from 0.
+    pub source: usize,
+}
+
+/// The ACEs of the normal form of a list that have a right, in its order. Of several rights it is the lowest; without a
+/// right there is no row.
+pub fn table(alloc: Global, list: &Acl, bit: Mask) -> Result<Vec<Row>, AllocError>
+    ensures rows { IfOk result (λ rows. (b : ℕ) → IsLowest b bit.bits → IsTable b list.now rows.items) }
+    ensures none { bit.bits ≡ 0 → IfOk result (λ rows. rows.items ≡ []) }
+{
+    if bit.bits() == 0 {
+        return Ok(Vec::new(alloc));
+    }
+    let bit = lowest(bit);
+    let rows = reduced_rows(alloc, list)?;
+    let form = form_of(alloc, list)?;
+    let table = rows_of(alloc, &rows, &form, bit)?;
+    Ok(table)
+}
+
+// The rows of the ACEs that have the bit.
+fn rows_of<'a>(
+    alloc: Global,
+    rows: &MergedRows<'a>,
+    form: &[Emitted<'a>],
+    bit: usize,
+) -> Result<Vec<Row>, AllocError>
+    requires bit { bit < 21 }
+    requires masks { (i : ℕ) (d : Emission) → i < length form.now → IsMask (slice_index_or form.now i d).bits }
+    requires keys { (i : ℕ) (d : Emission) → i < length form.now
+        → HasKey bit rows.now (emitted_ace (slice_index_or form.now i d)) }
+    ensures { IfOk result (λ table. AreRows bit rows.now (with_bit bit (emitted_aces form.now)) table.items) }
+{
+    let mut table = Vec::new(alloc);
+    for item in form {
+        add_row(alloc, rows, *item, bit, &mut table)?;
+    }
+    Ok(table)
+}
+
+// The row of an ACE, where that has the bit.
+fn add_row<'a>(
+    alloc: Global,
+    rows: &MergedRows<'a>,
+    item: Emitted<'a>,
+    bit: usize,
+    table: &mut Vec<Row>,
+) -> Result<(), AllocError>
+    requires bit { bit < 21 }
+    requires mask { IsMask item.bits }
+    requires key { HasKey bit rows.now (emitted_ace item) }
+    ensures { OnOk result (AddsRow bit rows.now (emitted_ace item.entry) table.old.items table.new.items) }
+{
+    if !has(item.bits, bit) {
+        return Ok(());
+    }
+    let shown = ace_of(item);
+    if let Some((_kind, source)) = rows.source(shown.principal(), bit) {
+        let who = Vec::from_slice(alloc, shown.who)?;
+        table.push(Row {
+            kind: shown.kind,
+            who,
+            group: shown.flags.is_group(),
+            source,
+        })?;
+    }
+    Ok(())
+}

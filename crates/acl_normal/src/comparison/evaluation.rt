@@ -1,0 +1,88 @@
+//! What a list grants where just the principals of a set match, and everyone: all rights at once.
+ghost use Rattle.std.specs.Prelude.{◌≡◌, ◌≢◌, ◌↔◌, ◌^◌};
+ghost use Rattle.std.specs.Bool.{OnFalse, OnTrue};
+ghost use Rattle.std.specs.Int.{trailing_zeros, w32};
+ghost use Rattle.acl_nfs4.specs.Ace.{ace};
+ghost use Rattle.acl_normal.specs.CodeSets.{set_of};
+ghost use Rattle.acl_normal.specs.Passes.{list_of};
+ghost use Rattle.acl_normal.specs.SetSearch.{AreDiffering, AreGranted, AreRightsOf, GrantAlikeTo, HasBitsOf, IsLowest};
+
+use super::small_set::SmallSet;
+use acl_nfs4::AceRef;
+use acl_perm::{Kind, Mask};
+
+// The rights of an ACE that takes part and whose principal is of the set or everyone, and else none.
+fn own_rights(item: &AceRef<'_>, set: SmallSet<'_>) -> Mask
+    ensures { HasBitsOf (ace item.now) (set_of set.entry) result.bits }
+{
+    if !item.flags.is_inherit_only() && set.matches(item.principal()) {
+        item.mask
+    } else {
+        Mask::NONE
+    }
+}
+
+/// The rights that the list grants there.
+pub(crate) fn granted(list: &[AceRef<'_>], set: SmallSet<'_>) -> Mask
+    ensures { AreGranted (list_of list.now) (set_of set.entry) result.bits }
+{
+    let mut decided = Mask::NONE;
+    let mut granted = Mask::NONE;
+    for item in list {
+        let rights = own_rights(item, set);
+        match item.kind {
+            Kind::Allow => granted = granted.union(rights.difference(decided)),
+            Kind::Deny => {}
+        }
+        decided = decided.union(rights);
+    }
+    granted
+}
+
+/// The rights on which the lists differ there.
+pub(crate) fn differing(list: &[AceRef<'_>], other: &[AceRef<'_>], set: SmallSet<'_>) -> Mask
+    ensures rights { AreDiffering (list_of list.now) (list_of other.now) (set_of set.entry) result.bits }
+    ensures none { result.bits ≡ 0 ↔ GrantAlikeTo (list_of list.now) (list_of other.now) (set_of set.entry) }
+{
+    let here = granted(list, set);
+    let there = granted(other, set);
+    here.difference(there).union(there.difference(here))
+}
+
+/// Whether the lists grant alike there.
+pub(crate) fn grant_alike(list: &[AceRef<'_>], other: &[AceRef<'_>], set: SmallSet<'_>) -> bool
+    ensures alike { OnTrue result (GrantAlikeTo (list_of list.now) (list_of other.now) (set_of set.entry)) }
+    ensures differ { OnFalse result (GrantAlikeTo (list_of list.now) (list_of other.now) (set_of set.entry) → ⊥) }
+{
+    differing(list, other, set).bits() == 0
+}
+
+// The lowest bit of a number that has one.
+fn lowest_bit(bits: u32) -> u32
+    requires { bits ≢ 0 }
+    ensures { result ≡ 2 ^ trailing_zeros w32 bits }
+{
+    1 << bits.trailing_zeros()
+}
+
+/// The lowest right of some.
+pub(crate) fn lowest(rights: Mask) -> Mask
+    requires { rights.bits ≢ 0 }
+    ensures value { result.bits ≡ 2 ^ trailing_zeros w32 rights.bits }
+    ensures lowest { IsLowest rights.bits (trailing_zeros w32 rights.bits) }
+{
+    Mask {
+        bits: lowest_bit(rights.bits()),
+    }
+}
+
+/// The rights that some ACE of the list has.
+pub(crate) fn rights_of(list: &[AceRef<'_>]) -> Mask
+    ensures { AreRightsOf (list_of list.now) result.bits }
+{
+    let mut rights = Mask::NONE;
+    for item in list {
+        rights = rights.union(item.mask);
+    }
+    rights
+}

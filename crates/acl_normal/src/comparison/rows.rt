@@ -1,0 +1,224 @@
+//! Where two lists first speak of each principal.
+ghost use Rattle.std.specs.Prelude.{◌≡◌, ◌<◌, ◌≤◌, ◌∷◌, ℕ, IfNone, IfOk, IfSome, false, length, slice_index_or, true, vec_len};
+ghost use Rattle.acl_perm.specs.Bits.{has_bit};
+ghost use Rattle.acl_perm.specs.Principal.{everyone, principal};
+ghost use Rattle.acl_nfs4.specs.Ace.{ace};
+ghost use Rattle.acl_eval.specs.Grant.{is_allow};
+ghost use Rattle.acl_normal.specs.FirstPlaces.{AreFirstFrom, AreRows, AreWhoms, IsCompared, IsWhom, IsWithin, is_user as is_user_name, no_ace, put, stops, stops_at};
+ghost use Rattle.acl_normal.specs.SmallSituations.{is_among};
+ghost use Rattle.acl_normal.specs.Passes.{list_of};
+ghost use Rattle.acl_normal.specs.SetSearch.{IsRising, principals};
+
+use super::small_set::is_same;
+use acl_nfs4::AceRef;
+use acl_perm::{Kind, Mask, Principal};
+use std::alloc::{AllocError, Global};
+
+/// The place of a principal's first ACE with some right, or that of everyone, and whether it allows.
+#[derive(Clone, Copy)]
+pub(crate) struct First {
+    pub place: usize,
+    pub allows: bool,
+}
+
+/// What two lists say first of a principal, and whether it is a user.
+#[derive(Clone, Copy)]
+pub(crate) struct Row {
+    pub here: First,
+    pub there: First,
+    pub user: bool,
+}
+
+/// Whom an ACE names: none of the principals, one of them by its number, or all.
+#[derive(Clone, Copy)]
+pub(crate) enum Whom {
+    Nobody,
+    One(usize),
+    Everyone,
+}
+
+/// Two lists, the principals that they mention in order, whom each ACE names of these, and the rights of all ACEs.
+#[derive(Drop)]
+pub(crate) struct Compared<'a> {
+    pub whole: &'a [Principal<'a>],
+    pub list: &'a [AceRef<'a>],
+    pub other: &'a [AceRef<'a>],
+    pub list_whoms: Vec<Whom>,
+    pub other_whoms: Vec<Whom>,
+    pub rights: Mask,
+}
+
+// The number of a principal.
+fn number_of(whole: &[Principal<'_>], p: Principal<'_>) -> Option<usize>
+    requires { IsRising (principals whole.now) }
+    ensures found { IfSome result (λ i. (i < length (principals whole.now))
+        × (principal p.entry ≡ slice_index_or (principals whole.now) i everyone)) }
+    ensures missing { IfNone result (is_among (principal p.entry) (principals whole.now) ≡ false) }
+{
+    match whole.binary_search(&p) {
+        Ok(i) => Some(i),
+        Err(_) => None,
+    }
+}
+
+// Whom an ACE names.
+fn named_by(whole: &[Principal<'_>], item: &AceRef<'_>) -> Whom
+    requires { IsRising (principals whole.now) }
+    ensures { IsWhom (principals whole.now) (ace item.now) result }
+{
+    let p = item.principal();
+    if item.flags.is_inherit_only() {
+        Whom::Nobody
+    } else if is_same(p, Principal::Everyone) {
+        Whom::Everyone
+    } else {
+        match number_of(whole, p) {
+            Some(i) => Whom::One(i),
+            None => Whom::Nobody,
+        }
+    }
+}
+
+/// Whom each ACE names.
+pub(crate) fn whoms(
+    alloc: Global,
+    whole: &[Principal<'_>],
+    list: &[AceRef<'_>],
+) -> Result<Vec<Whom>, AllocError>
+    requires { IsRising (principals whole.now) }
+    ensures { IfOk result (λ v. AreWhoms (principals whole.now) (list_of list.now) v.items) }
+{
+    let mut out = Vec::new(alloc);
+    for item in list {
+        out.push(named_by(whole, item))?;
+    }
+    Ok(out)
+}
+
+/// Whether a set of rights has one.
+pub(crate) fn has_right(rights: Mask, bit: u32) -> bool
+    requires { bit < 32 }
+    ensures { result ≡ has_bit rights.bits bit }
+{
+    (rights.bits() >> bit) & 1 == 1
+}
+
+// Whether the ACE has the right, and is of everyone.
+fn is_end(item: &AceRef<'_>, whom: Whom, bit: u32) -> bool
+    requires { bit < 32 }
+    ensures { result ≡ stops bit (ace item.now) whom }
+{
+    match whom {
+        Whom::Everyone => has_right(item.mask, bit),
+        _ => false,
+    }
+}
+
+// The place of the first ACE of everyone with the right, or the number of ACEs.
+fn place_of_everyone(list: &[AceRef<'_>], whoms: &[Whom], bit: u32) -> usize
+    requires bit { bit < 32 }
+    requires length { length whoms.now ≡ length list.now }
+    ensures within { result ≤ length list.now }
+    ensures before { (k : ℕ) → k < result → stops_at (list_of list.now) whoms.now bit k ≡ false }
+    ensures at { result < length list.now → stops_at (list_of list.now) whoms.now bit result ≡ true }
+{
+    for i in 0..list.len() {
+        if is_end(&list[i], whoms[i], bit) {
+            return i;
+        }
+    }
+    list.len()
+}
+
+// Whether it allows.
+fn is_allow(kind: Kind) -> bool
+    ensures { result ≡ is_allow kind }
+{
+    match kind {
+        Kind::Allow => true,
+        Kind::Deny => false,
+    }
+}
+
+// Whether the ACE at a place is there and allows.
+fn allows_at(list: &[AceRef<'_>], place: usize) -> bool
+    ensures { result ≡ is_allow (slice_index_or (list_of list.now) place no_ace).kind }
+{
+    match list.get(place) {
+        Some(item) => is_allow(item.kind),
+        None => false,
+    }
+}
+
+// What an ACE of a principal that has the right says comes before what the later ones say.
+fn put_first(out: &mut Vec<First>, item: &AceRef<'_>, whom: Whom, place: usize, bit: u32)
+    requires bit { bit < 32 }
+    requires within { IsWithin whom (vec_len out.old) }
+    ensures { out.new.items ≡ put out.old.items (ace item.now) whom place bit }
+{
+    if let Whom::One(i) = whom {
+        if has_right(item.mask, bit) {
+            out[i] = First {
+                place,
+                allows: is_allow(item.kind),
+            };
+        }
+    }
+}
+
+// What a list says first, on a right, of each of so many principals. All begin with what everyone is told, and the ACEs
+// before that are put from the last to the first, so that the first of each principal stays.
+fn firsts(
+    alloc: Global,
+    whole: &[Principal<'_>],
+    list: &[AceRef<'_>],
+    whoms: &[Whom],
+    bit: u32,
+) -> Result<Vec<First>, AllocError>
+    requires bit { bit < 32 }
+    requires whoms { AreWhoms (principals whole.now) (list_of list.now) whoms.now }
+    ensures { IfOk result (λ v. AreFirstFrom (principals whole.now) (list_of list.now) bit 0 v.items) }
+{
+    let end = place_of_everyone(list, whoms, bit);
+    let allows = allows_at(list, end);
+    let mut out = vec![in alloc; First { place: end, allows }; whole.len()]?;
+    let mut place = end;
+    while place > 0 {
+        place -= 1;
+        put_first(&mut out, &list[place], whoms[place], place, bit);
+    }
+    Ok(out)
+}
+
+// Whether the principal is a user.
+fn is_user(p: Principal<'_>) -> bool
+    ensures { result ≡ is_user_name (principal p.entry) }
+{
+    match p {
+        Principal::User(_) => true,
+        _ => false,
+    }
+}
+
+impl Compared<'_> {
+    /// What both lists say first, on a right, of each principal.
+    pub(crate) fn rows(&self, alloc: Global, bit: u32) -> Result<Vec<Row>, AllocError>
+        requires bit { bit < 32 }
+        requires whoms { IsCompared self.now }
+        ensures { IfOk result (λ v. AreRows (principals self.now.whole.now) (list_of self.now.list.now)
+            (list_of self.now.other.now) bit v.items) }
+    {
+        let whole = self.whole;
+        let here = firsts(alloc, whole, self.list, &self.list_whoms, bit)?;
+        let there = firsts(alloc, whole, self.other, &self.other_whoms, bit)?;
+        let mut rows = Vec::new(alloc);
+        for i in 0..whole.len() {
+            rows.push(Row {
+                here: here[i],
+                there: there[i],
+                user: is_user(whole[i]),
+            })?;
+        }
+        Ok(rows)
+    }
+}

@@ -1,0 +1,109 @@
+//! The search for the first small set at which two lists grant otherwise, without going over all pairs.
+ghost use Rattle.std.specs.Prelude.{◌≡◌, ◌+◌, ◌<◌, ℕ, IfOk, drop, length, slice_index_or};
+ghost use Rattle.acl_perm.specs.Principal.{everyone};
+ghost use Rattle.acl_normal.specs.FirstPlaces.{AlikeAlone, AlikeWith, AlikeWithAll, IsCompared, IsLeast, OnAll};
+ghost use Rattle.acl_normal.specs.SmallSets.{small_sets};
+ghost use Rattle.acl_normal.specs.CodeSets.{set_or_none};
+ghost use Rattle.acl_normal.specs.Passes.{list_of};
+ghost use Rattle.acl_normal.specs.SetSearch.{Finds, IsRising, principals};
+
+use super::evaluation::{grant_alike, rights_of};
+use super::rows::{Compared, has_right, whoms};
+use super::small_set::SmallSet;
+use super::tables::{first_inverted, first_inverting, first_unlike};
+use acl_nfs4::AceRef;
+use acl_perm::Principal;
+use std::alloc::{AllocError, Global};
+
+impl Compared<'_> {
+    // The first principal at which alone the lists differ, or the number of principals.
+    fn least_single(&self, alloc: Global) -> Result<usize, AllocError>
+        requires { IsCompared self.now }
+        ensures { IfOk result (λ v. IsLeast (OnAll (AlikeAlone (list_of self.now.list.now) (list_of self.now.other.now)
+            (principals self.now.whole.now))) (length (principals self.now.whole.now)) v) }
+    {
+        let mut least = self.whole.len();
+        for bit in 0..21u32 {
+            if has_right(self.rights, bit) {
+                let rows = self.rows(alloc, bit)?;
+                least = first_unlike(&rows, least);
+            }
+        }
+        Ok(least)
+    }
+
+    // The first principal that is one of a pair at which the lists differ, or the number of principals.
+    fn least_member(&self, alloc: Global) -> Result<usize, AllocError>
+        requires compared { IsCompared self.now }
+        requires alone { (k : ℕ) → k < length (principals self.now.whole.now) → OnAll (AlikeAlone
+            (list_of self.now.list.now) (list_of self.now.other.now) (principals self.now.whole.now)) k }
+        ensures { IfOk result (λ v. IsLeast (OnAll (AlikeWithAll (list_of self.now.list.now) (list_of self.now.other.now)
+            (principals self.now.whole.now))) (length (principals self.now.whole.now)) v) }
+    {
+        let size = self.list.len().max(self.other.len());
+        let mut least = self.whole.len();
+        for bit in 0..21u32 {
+            if has_right(self.rights, bit) {
+                let rows = self.rows(alloc, bit)?;
+                least = first_inverting(alloc, &rows, size, least)?;
+            }
+        }
+        Ok(least)
+    }
+
+    // The first of the later principals that is a pair with this one at which the lists differ, or their number.
+    fn least_partner(&self, alloc: Global, at: usize) -> Result<usize, AllocError>
+        requires at { at < length self.now.whole.now }
+        requires compared { IsCompared self.now }
+        requires alone { (k : ℕ) → k < length (principals self.now.whole.now) → OnAll (AlikeAlone
+            (list_of self.now.list.now) (list_of self.now.other.now) (principals self.now.whole.now)) k }
+        ensures { IfOk result (λ v. IsLeast (OnAll (AlikeWith (list_of self.now.list.now) (list_of self.now.other.now)
+            (slice_index_or (principals self.now.whole.now) at everyone) (drop (at + 1) (principals self.now.whole.now))))
+            (length (drop (at + 1) (principals self.now.whole.now))) v) }
+    {
+        let mut least = self.whole.len() - at - 1;
+        for bit in 0..21u32 {
+            if has_right(self.rights, bit) {
+                let rows = self.rows(alloc, bit)?;
+                let (_, others) = rows.as_slice().split_at(at + 1);
+                least = first_inverted(rows[at], others, least);
+            }
+        }
+        Ok(least)
+    }
+}
+
+/// The first small set at which the lists differ. The first pair has as its lesser member the least principal of any
+/// pair at which they differ, whether the other comes before or behind it, and the least later one as the other.
+pub(crate) fn find_set<'a>(
+    alloc: Global,
+    list: &[AceRef<'_>],
+    other: &[AceRef<'_>],
+    whole: &[Principal<'a>],
+) -> Result<Option<SmallSet<'a>>, AllocError>
+    requires { IsRising (principals whole.now) }
+    ensures { IfOk result (λ r. Finds (list_of list.now) (list_of other.now)
+        (small_sets (principals whole.now)) (set_or_none r)) }
+{
+    if !grant_alike(list, other, SmallSet::Empty) {
+        return Ok(Some(SmallSet::Empty));
+    }
+    let compared = Compared {
+        whole,
+        list,
+        other,
+        list_whoms: whoms(alloc, whole, list)?,
+        other_whoms: whoms(alloc, whole, other)?,
+        rights: rights_of(list).union(rights_of(other)),
+    };
+    let single = compared.least_single(alloc)?;
+    if single < whole.len() {
+        return Ok(Some(SmallSet::One(whole[single])));
+    }
+    let member = compared.least_member(alloc)?;
+    if member == whole.len() {
+        return Ok(None);
+    }
+    let partner = compared.least_partner(alloc, member)?;
+    Ok(Some(SmallSet::Two(whole[member], whole[member + 1 + partner])))
+}

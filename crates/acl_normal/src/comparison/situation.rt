@@ -1,0 +1,96 @@
+//! The situation of a small set, by its names.
+ghost use Rattle.std.specs.Prelude.{◌≡◌, ◌∷◌, [], ◌++◌, IfOk, OnOk, map, replicate, unwrap_or};
+ghost use Rattle.acl_perm.specs.Principal.{principal};
+ghost use Rattle.acl_normal.specs.SmallSituations.{first_user, group_names, small_situation};
+ghost use Rattle.acl_normal.specs.CodeSets.{set_of};
+
+use super::small_set::SmallSet;
+use acl_perm::Principal;
+use std::alloc::{AllocError, Global};
+
+// A strange name: one byte, n times.
+fn strange(alloc: Global, byte: u8, n: usize) -> Result<Vec<u8>, AllocError>
+    ensures { IfOk result (λ v. v.items ≡ replicate n byte) }
+{
+    vec![in alloc; byte; n]
+}
+
+/// The user of the small situation.
+pub(crate) fn user_in(alloc: Global, set: SmallSet<'_>, n: usize) -> Result<Vec<u8>, AllocError>
+    ensures { IfOk result (λ v. v.items ≡ (small_situation n (set_of set.entry)).user_name) }
+{
+    match set.user() {
+        Some(name) => Vec::from_slice(alloc, name),
+        None => strange(alloc, b'u', n),
+    }
+}
+
+/// Its owner.
+pub(crate) fn owner_in(alloc: Global, set: SmallSet<'_>, n: usize) -> Result<Vec<u8>, AllocError>
+    ensures { IfOk result (λ v. v.items ≡ (small_situation n (set_of set.entry)).owner_name) }
+{
+    if set.has(Principal::Owner) {
+        user_in(alloc, set, n)
+    } else {
+        strange(alloc, b'o', n)
+    }
+}
+
+// Adds the name of a group.
+fn add_group(alloc: Global, groups: &mut Vec<Vec<u8>>, p: Principal<'_>) -> Result<(), AllocError>
+    ensures { OnOk result (map (λ g. g.items) groups.new.items
+        ≡ map (λ g. g.items) groups.old.items ++ group_names (principal p.entry ∷ [])) }
+{
+    if let Principal::GroupNamed(name) = p {
+        groups.push(Vec::from_slice(alloc, name)?)?;
+    }
+    Ok(())
+}
+
+// The group names of a set.
+fn groups_of(alloc: Global, set: SmallSet<'_>) -> Result<Vec<Vec<u8>>, AllocError>
+    ensures { IfOk result (λ v. map (λ g. g.items) v.items ≡ group_names (set_of set.entry)) }
+{
+    let mut groups = Vec::new(alloc);
+    match set {
+        SmallSet::Empty => {}
+        SmallSet::One(p) => add_group(alloc, &mut groups, p)?,
+        SmallSet::Two(p, q) => {
+            add_group(alloc, &mut groups, p)?;
+            add_group(alloc, &mut groups, q)?;
+        }
+    }
+    Ok(groups)
+}
+
+/// The group that owns the object.
+pub(crate) fn owning_group_in(
+    alloc: Global,
+    set: SmallSet<'_>,
+    n: usize,
+) -> Result<Vec<u8>, AllocError>
+    ensures { IfOk result (λ v. v.items ≡ (small_situation n (set_of set.entry)).owning_group) }
+{
+    if set.has(Principal::Group) {
+        let groups = groups_of(alloc, set)?;
+        if let Some(name) = groups.first() {
+            return Vec::from_slice(alloc, name);
+        }
+    }
+    strange(alloc, b'g', n)
+}
+
+/// The groups of the user.
+pub(crate) fn groups_in(
+    alloc: Global,
+    set: SmallSet<'_>,
+    n: usize,
+) -> Result<Vec<Vec<u8>>, AllocError>
+    ensures { IfOk result (λ v. map (λ g. g.items) v.items ≡ (small_situation n (set_of set.entry)).groups) }
+{
+    let mut groups = groups_of(alloc, set)?;
+    if set.has(Principal::Group) && groups.is_empty() {
+        groups.push(strange(alloc, b'g', n)?)?;
+    }
+    Ok(groups)
+}

@@ -1,0 +1,130 @@
+//! The order of a normal form: at each place the least key that has a free bit, with all its free bits.
+ghost use Rattle.std.specs.Prelude.{◌≡◌, ℕ, ◌<◌, [], List, IfOk, OnOk};
+ghost use Rattle.acl_perm.specs.Bits.{all_rights};
+ghost use Rattle.acl_nfs4.specs.Ace.{Ace};
+ghost use Rattle.acl_eval.specs.Grant.{SameGrants};
+ghost use Rattle.acl_normal.specs.Emissions.{IsEmission};
+ghost use Rattle.acl_normal.specs.Emitted.{emitted_aces};
+ghost use Rattle.acl_normal.specs.Keys.{key_entry};
+ghost use Rattle.acl_normal.specs.Left.{left};
+ghost use Rattle.acl_normal.specs.Normal.{IsIrreducibleList, IsNormal};
+ghost use Rattle.acl_normal.specs.Ready.{Adds, Enters, Frees, HoldsFree};
+ghost use Rattle.acl_normal.specs.Counts.{count_left};
+
+use crate::bit_tests::{has, with};
+use crate::merged_rows::MergedRows;
+use crate::words::{is_user, other};
+use acl_perm::{Key, Kind};
+use std::alloc::{AllocError, Global};
+use std::collections::BTreeMap;
+
+/// An ACE of a normal form: a key and its bits.
+#[derive(Clone, Copy)]
+pub(crate) struct Emitted<'a> {
+    pub(crate) key: Key<'a>,
+    pub(crate) bits: u32,
+}
+
+/// Marks a bit of a key as free.
+fn add<'a>(ready: &mut BTreeMap<Key<'a>, u32>, at: Key<'a>, bit: usize) -> Result<(), AllocError>
+    requires { bit < 21 }
+    ensures { OnOk result (Adds (key_entry at.entry) bit ready.old.entries ready.new.entries) }
+{
+    let bits = ready.get(&at).copied().unwrap_or(0);
+    ready.insert(at, with(bits, bit))?;
+    Ok(())
+}
+
+/// Marks what is free of the ACEs that wait in a type and a class with a bit: the places before
+/// the first that something blocks.
+fn enter<'a>(
+    rows: &MergedRows<'a>,
+    kind: Kind,
+    users: bool,
+    bit: usize,
+    ready: &mut BTreeMap<Key<'a>, u32>,
+) -> Result<(), AllocError>
+    requires { bit < 21 }
+    ensures { OnOk result (Enters kind users bit rows.now ready.old.entries ready.new.entries) }
+{
+    let _ = &rows.masks;
+    for place in rows.waiting_at(kind, users, bit) {
+        if !rows.is_clear(*place, kind, users, bit) {
+            return Ok(());
+        }
+        add(ready, rows.key_at(*place), bit)?;
+    }
+    Ok(())
+}
+
+/// Marks what became free when bits of a key were taken out.
+fn free_after<'a>(
+    rows: &MergedRows<'a>,
+    at: Key<'a>,
+    bits: u32,
+    ready: &mut BTreeMap<Key<'a>, u32>,
+) -> Result<(), AllocError>
+    ensures { OnOk result (Frees (key_entry at.entry) bits rows.now ready.old.entries ready.new.entries) }
+{
+    let opposite = other(at.kind);
+    for bit in 0..21usize {
+        if has(bits, bit) {
+            enter(rows, opposite, false, bit, ready)?;
+            if !is_user(at.principal) {
+                enter(rows, opposite, true, bit, ready)?;
+            }
+        }
+    }
+    Ok(())
+}
+
+/// Marks all that is free.
+fn fill<'a>(rows: &MergedRows<'a>, ready: &mut BTreeMap<Key<'a>, u32>) -> Result<(), AllocError>
+    requires { ready.old.entries ≡ [] }
+    ensures { OnOk result (HoldsFree ready.new.entries rows.now) }
+{
+    let _ = &rows.masks;
+    for bit in 0..21usize {
+        enter(rows, Kind::Deny, false, bit, ready)?;
+        enter(rows, Kind::Deny, true, bit, ready)?;
+        enter(rows, Kind::Allow, false, bit, ready)?;
+        enter(rows, Kind::Allow, true, bit, ready)?;
+    }
+    Ok(())
+}
+
+/// Emits what is left: at each step the least key that has a free bit, with all its free bits.
+pub(crate) fn drain<'a>(
+    alloc: Global,
+    rows: &mut MergedRows<'a>,
+) -> Result<Vec<Emitted<'a>>, AllocError>
+    ensures { IfOk result (λ v. IsEmission rows.old (emitted_aces v.items)) }
+{
+    let _ = &rows.masks;
+    let mut ready = BTreeMap::new(alloc);
+    fill(rows, &mut ready)?;
+    let mut out = Vec::new(alloc);
+    'emitted: while let Some((key, bits)) = ready.pop_first() {
+        out.push(Emitted { key, bits })?;
+        rows.emit_bits(key.principal, bits);
+        free_after(rows, key, bits, &mut ready)?;
+    }
+    Ok(out)
+}
+
+/// The normal form of an irreducible list: it grants the same, and no other normal list does.
+pub(crate) fn normalize_left<'a>(
+    alloc: Global,
+    rows: &mut MergedRows<'a>,
+) -> Result<Vec<Emitted<'a>>, AllocError>
+    requires { IsIrreducibleList (left rows.old) }
+    ensures normal { IfOk result (λ v. IsNormal (emitted_aces v.items)) }
+    ensures grants { IfOk result (λ v. SameGrants all_rights rows.old (emitted_aces v.items)) }
+    ensures only { IfOk result (λ v. (ns : List Ace) → IsNormal ns → SameGrants all_rights rows.old ns
+        → ns ≡ emitted_aces v.items) }
+    ensures weight { IfOk result (λ v. count_left 21 (emitted_aces v.items) ≡ count_left 21 rows.old) }
+{
+    let _ = &rows.masks;
+    let out = drain(alloc, rows)?;
+    Ok(out)
+}

@@ -1,0 +1,137 @@
+//! The needless bits: those that only repeat what everyone gets, and that nothing later conflicts with.
+ghost use Rattle.std.specs.Prelude.{◌≡◌, ℕ, ◌<◌, Bool, not, ◌||◌, ◌&&◌};
+ghost use Rattle.acl_perm.specs.Bits.{has_bit};
+ghost use Rattle.acl_perm.specs.declared.kind.Kind.{Kind as Sort};
+ghost use Rattle.acl_eval.specs.Column.{column};
+ghost use Rattle.acl_normal.specs.Left.{KeepsFirsts};
+ghost use Rattle.acl_normal.specs.Entries.{kind_eq};
+ghost use Rattle.acl_normal.specs.Keys.{key_entry};
+ghost use Rattle.acl_normal.specs.Needed.{default_at, is_kept, later_mask, opposes};
+ghost use Rattle.acl_normal.specs.Places.{is_user, nothing_left, same_class};
+ghost use Rattle.acl_normal.specs.Plain.{default, needed_entries};
+
+use crate::bit_tests::{with, without};
+use crate::merged_rows::MergedRows;
+use crate::words::{is_everyone, is_user};
+use acl_perm::{Key, Kind, Principal};
+
+/// The bits that later ACEs have, by type and class.
+#[derive(Clone, Copy, Drop)]
+pub(crate) struct Later {
+    pub(crate) deny_users: u32,
+    pub(crate) deny_others: u32,
+    pub(crate) allow_users: u32,
+    pub(crate) allow_others: u32,
+}
+
+/// The bits that later ACEs have that may conflict with a key.
+fn opposite(later: Later, at: Key<'_>) -> u32
+    ensures { (b : ℕ) → has_bit result b ≡ opposes later (key_entry at.entry) b }
+{
+    let user = is_user(at.principal);
+    match at.kind {
+        Kind::Deny => if user {
+            later.allow_others
+        } else {
+            later.allow_others | later.allow_users
+        },
+        Kind::Allow => if user {
+            later.deny_others
+        } else {
+            later.deny_others | later.deny_users
+        },
+    }
+}
+
+/// With the bits of one more ACE.
+fn noted(later: Later, at: Key<'_>, mask: u32) -> Later
+    ensures { (k : Sort) (users : Bool) (b : ℕ) → has_bit (later_mask result k users) b
+        ≡ (has_bit (later_mask later k users) b
+        || ((kind_eq (key_entry at.entry).1 k && same_class (is_user (key_entry at.entry).0) users)
+        && has_bit mask b)) }
+{
+    let user = is_user(at.principal);
+    match at.kind {
+        Kind::Deny => if user {
+            Later {
+                deny_users: later.deny_users | mask,
+                ..later
+            }
+        } else {
+            Later {
+                deny_others: later.deny_others | mask,
+                ..later
+            }
+        },
+        Kind::Allow => if user {
+            Later {
+                allow_users: later.allow_users | mask,
+                ..later
+            }
+        } else {
+            Later {
+                allow_others: later.allow_others | mask,
+                ..later
+            }
+        },
+    }
+}
+
+/// The bits of a mask that its ACE doesn't need.
+fn needless(at: Key<'_>, mask: u32, allowed: u32, opposite: u32) -> u32
+    ensures { (b : ℕ) → has_bit result b
+        ≡ (has_bit mask b && not (is_kept (default_at allowed b) (key_entry at.entry) (has_bit opposite b))) }
+{
+    if is_everyone(at.principal) {
+        match at.kind {
+            Kind::Allow => 0,
+            Kind::Deny => mask,
+        }
+    } else {
+        match at.kind {
+            Kind::Allow => without(mask & allowed, opposite),
+            Kind::Deny => without(mask, allowed | opposite),
+        }
+    }
+}
+
+/// The bits that everyone is allowed.
+fn allowed_to_everyone<'a>(rows: &MergedRows<'a>) -> u32
+    ensures { (b : ℕ) → b < 21 → default_at result b ≡ default (column rows.now b) }
+{
+    let mut bits = 0;
+    for bit in 0..21usize {
+        if rows.allows(Principal::Everyone, bit) {
+            bits = with(bits, bit);
+        }
+    }
+    bits
+}
+
+/// Drops the bits that no situation needs, of rows that hold first ACEs: one pass, from the last ACE
+/// to the first.
+pub(crate) fn drop_needless<'a>(rows: &mut MergedRows<'a>)
+    ensures outline { nothing_left rows.new ≡ nothing_left rows.old }
+    ensures columns { (b : ℕ) → b < 21
+        → column rows.new b ≡ needed_entries (default (column rows.old b)) (column rows.old b) }
+    ensures firsts { KeepsFirsts rows.old rows.new }
+{
+    let _ = &rows.masks;
+    let count = rows.len();
+    let allowed = allowed_to_everyone(rows);
+    let mut later = Later {
+        deny_users: 0,
+        deny_others: 0,
+        allow_users: 0,
+        allow_others: 0,
+    };
+    for done in 0..count {
+        let place = count - 1 - done;
+        let at = rows.key_at(place);
+        let mask = rows.mask_at(place);
+        let opposite = opposite(later, at);
+        let dropped = needless(at, mask, allowed, opposite);
+        rows.emit_bits(at.principal, dropped);
+        later = noted(later, at, mask);
+    }
+}

@@ -1,0 +1,63 @@
+//! Laws of normal forms.
+
+ghost use Rattle.std.specs.Prelude.{◌≡◌, ◌↔◌, ℕ, List, true, false};
+ghost use Rattle.acl_perm.specs.Bits.{all_rights, has_bit};
+ghost use Rattle.acl_perm.specs.Profile.{Profile};
+ghost use Rattle.acl_perm.specs.Situation.{Situation};
+ghost use Rattle.acl_nfs4.specs.Ace.{Ace};
+ghost use Rattle.acl_nfs4.specs.Spelling.{Fits, IsAccepted, spelling};
+ghost use Rattle.acl_nfs4.specs.Within.{IsProfile};
+ghost use Rattle.acl_eval.specs.Column.{column};
+ghost use Rattle.acl_eval.specs.Grant.{SameGrants, grants_bit};
+ghost use Rattle.acl_normal.specs.Entries.{Entry, conflicts};
+ghost use Rattle.acl_normal.specs.Laws.{Has, Precedes};
+ghost use Rattle.acl_normal.specs.Normal.{IsIrreducibleList, IsNormal};
+ghost use Rattle.acl_normal.specs.NormalForm.{IsNormalFormOf};
+ghost use Rattle.acl_normal.specs.SmallSets.{SmallSituationsSuffice};
+
+/// In irreducible lists that grant the same, each principal has the same bits, with the same types.
+pub fn same_bits()
+    ensures { (list other : List Ace) → IsIrreducibleList list → IsIrreducibleList other
+        → SameGrants all_rights list other → (bit : ℕ) (e : Entry)
+        → Has (column list bit) e ↔ Has (column other bit) e }
+{}
+
+/// In irreducible lists that grant the same, each two conflicting entries of a bit stand in the same order.
+pub fn same_order()
+    ensures { (list other : List Ace) → IsIrreducibleList list → IsIrreducibleList other
+        → SameGrants all_rights list other → (bit : ℕ) (e f : Entry) → conflicts e f ≡ true
+        → Precedes (column list bit) e f ↔ Precedes (column other bit) e f }
+{}
+
+/// Normal lists that grant the same are equal.
+pub fn one_normal_form()
+    ensures { (list other : List Ace) → IsNormal list → IsNormal other → SameGrants all_rights list other
+        → list ≡ other }
+{}
+
+/// A list that fits a profile denies every right outside it, so that two such lists grant the same rights of the
+/// profile exactly if they grant the same rights.
+pub fn nothing_outside_a_profile()
+    ensures denied { (p : Profile) (list : List Ace) (s : Situation) (bit : ℕ) → Fits p list
+        → has_bit p.masks bit ≡ false → grants_bit list s bit ≡ false }
+    ensures same { (p : Profile) (list other : List Ace) → IsProfile p → Fits p list → Fits p other
+        → SameGrants p.masks list other ↔ SameGrants all_rights list other }
+{}
+
+/// Normal lists with the grants of two sources have equal spellings exactly if the sources grant the same, whatever the
+/// profile under which they are accepted.
+pub fn equal_bytes()
+    ensures spelled { (p : Profile) (source other form other_form : List Ace) → IsProfile p
+        → IsAccepted p form → IsNormal form → SameGrants p.masks source form
+        → IsAccepted p other_form → IsNormal other_form → SameGrants p.masks other other_form
+        → (spelling form ≡ spelling other_form) ↔ SameGrants p.masks source other }
+    // So the bytes of the normal forms of two accepted lists tell whether these grant the same.
+    ensures forms { (p : Profile) (source other form other_form : List Ace) → IsProfile p
+        → IsAccepted p source → IsNormalFormOf source form → IsAccepted p other → IsNormalFormOf other other_form
+        → (spelling form ≡ spelling other_form) ↔ SameGrants p.masks source other }
+{}
+
+/// Two lists that grant alike in each of their small situations grant the same in every situation.
+pub fn small_situations_suffice()
+    ensures { SmallSituationsSuffice }
+{}

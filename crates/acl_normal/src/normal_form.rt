@@ -1,0 +1,154 @@
+//! The normal form of a list of ACEs.
+ghost use Rattle.std.specs.Prelude.{◌≡◌, ◌⊎◌, ◌↔◌, ◌∷◌, ◌++◌, [], List, IfErr, IfOk, IsTrue, OnOk};
+ghost use Rattle.acl_perm.specs.Bits.{IsMask};
+ghost use Rattle.acl_perm.specs.Principal.{principal};
+ghost use Rattle.acl_perm.specs.Profile.{full, profile_of};
+ghost use Rattle.acl_nfs4.specs.Ace.{Ace, ace};
+ghost use Rattle.acl_nfs4.specs.Fault.{IsWholeFault};
+ghost use Rattle.acl_nfs4.specs.Spelling.{IsAccepted, spelling};
+ghost use Rattle.acl_nfs4.specs.Stream.{no_memory};
+ghost use Rattle.acl_normal.specs.Emitted.{emitted_ace, emitted_aces};
+ghost use Rattle.acl_normal.specs.Normal.{IsNormal, flags_for};
+ghost use Rattle.acl_normal.specs.NormalForm.{IsNormalFormOf, Normalises};
+ghost use Rattle.acl_normal.specs.Ready.{who_for};
+
+use crate::draining::{Emitted, normalize_left};
+use crate::reduction::reduced_rows;
+use acl_nfs4::{AceRef, Acl, AclView, Fault, PushFault, Reason};
+use acl_perm::{Counted, Flags, Mask, Principal, Profile};
+use std::alloc::{AllocError, Global};
+
+/// The normal form of a list: the one list that grants the same in every situation, in which each bit is needed, and
+/// which stands in one order. It takes time that is nearly linear in the bytes of the list.
+pub fn normalize(alloc: Global, list: &Acl) -> Result<Acl, AllocError>
+    ensures { IfOk result (λ form. IsNormalFormOf list.now form) }
+{
+    let form = form_of(alloc, list)?;
+    written(alloc, &form)
+}
+
+/// Whether a list is its own normal form.
+pub fn is_normal(alloc: Global, list: &Acl) -> Result<bool, AllocError>
+    ensures { IfOk result (λ answer. IsTrue answer ↔ IsNormal list.now) }
+{
+    let form = normalize(alloc, list)?;
+    Ok(form == *list)
+}
+
+/// The bytes that spell the normal form of the list that the bytes spell, all of them.
+pub fn normal_bytes(alloc: Global, bytes: &[u8]) -> Result<Vec<u8>, Fault>
+    ensures ok { IfOk result (λ text. Normalises full bytes.now text.items) }
+    // A fault is that of the bytes, or want of memory.
+    ensures fault { IfErr result (λ f. (f ≡ no_memory) ⊎ IsWholeFault full bytes.now f.offset f.reason) }
+{
+    normal_bytes_with(alloc, bytes, Profile::FULL)
+}
+
+/// The same of a list whose flags and masks the profile has.
+pub fn normal_bytes_with(alloc: Global, bytes: &[u8], profile: Profile) -> Result<Vec<u8>, Fault>
+    ensures ok { IfOk result (λ text. Normalises (profile_of profile) bytes.now text.items) }
+    ensures fault { IfErr result (λ f. (f ≡ no_memory)
+        ⊎ IsWholeFault (profile_of profile) bytes.now f.offset f.reason) }
+{
+    let view = AclView::parse_whole_with(bytes, profile)?;
+    match spelled_form(alloc, &view) {
+        Ok(text) => Ok(text),
+        Err(_) => Err(Fault {
+            offset: 0,
+            reason: Reason::Memory,
+        }),
+    }
+}
+
+// The bytes of the normal form of the list that a view shows.
+fn spelled_form(alloc: Global, view: &AclView<'_>) -> Result<Vec<u8>, AllocError>
+    ensures { IfOk result (λ text. (form : List Ace) × IsNormalFormOf view.now form × (text.items ≡ spelling form)) }
+{
+    let list = Acl::from_view(alloc, view)?;
+    let form = normalize(alloc, &list)?;
+    spelled(alloc, &form)
+}
+
+// The bytes that spell a list.
+fn spelled(alloc: Global, list: &Acl) -> Result<Vec<u8>, AllocError>
+    ensures { IfOk result (λ text. text.items ≡ spelling list.now) }
+{
+    let mut text = Counted::new(Vec::new(alloc));
+    match list.encode(&mut text) {
+        Ok(()) => Ok(text.into_inner()),
+        Err(_) => Err(AllocError),
+    }
+}
+
+// The ACEs of the normal form, in order.
+pub(crate) fn form_of<'a>(alloc: Global, list: &'a Acl) -> Result<Vec<Emitted<'a>>, AllocError>
+    ensures { IfOk result (λ form. IsNormalFormOf list.now (emitted_aces form.items)) }
+{
+    let _accepted = list.aces();
+    let mut rows = reduced_rows(alloc, list)?;
+    let form = normalize_left(alloc, &mut rows)?;
+    Ok(form)
+}
+
+// The list of these ACEs.
+fn written(alloc: Global, form: &[Emitted<'_>]) -> Result<Acl, AllocError>
+    requires { IsAccepted full (emitted_aces form.now) }
+    ensures { IfOk result (λ list. list ≡ emitted_aces form.now) }
+{
+    let mut list = Acl::new(alloc);
+    for item in form {
+        push(&mut list, ace_of(*item))?;
+    }
+    Ok(list)
+}
+
+// One more ACE, where the list stays accepted.
+fn push(list: &mut Acl, item: AceRef<'_>) -> Result<(), AllocError>
+    requires { IsAccepted full (list.now ++ ace item ∷ []) }
+    ensures { OnOk result (list.new ≡ list.old ++ ace item.entry ∷ []) }
+{
+    match list.push(item) {
+        Ok(()) => Ok(()),
+        Err(PushFault::Memory) => Err(AllocError),
+        Err(_) => unreachable!(),
+    }
+}
+
+pub(crate) fn ace_of<'a>(item: Emitted<'a>) -> AceRef<'a>
+    requires { IsMask item.bits }
+    ensures { ace result ≡ emitted_ace item.entry }
+{
+    AceRef {
+        kind: item.key.kind,
+        flags: flags_of(item.key.principal),
+        mask: Mask { bits: item.bits },
+        who: who_of(item.key.principal),
+    }
+}
+
+const IDENTIFIER_GROUP: u8 = 0x40;
+
+// The flags that say whom an ACE names, and no others.
+fn flags_of(p: Principal<'_>) -> Flags
+    ensures { result.bits ≡ flags_for (principal p.entry) }
+{
+    match p {
+        Principal::GroupNamed(_) => Flags {
+            bits: IDENTIFIER_GROUP,
+        },
+        Principal::Owner | Principal::User(_) | Principal::Group | Principal::Everyone =>
+            Flags::NONE,
+    }
+}
+
+// The who of an ACE that names the principal.
+fn who_of<'a>(p: Principal<'a>) -> &'a [u8]
+    ensures { result.now ≡ who_for (principal p.entry) }
+{
+    match p {
+        Principal::Owner => b"OWNER@".as_slice(),
+        Principal::User(name) | Principal::GroupNamed(name) => name,
+        Principal::Group => b"GROUP@".as_slice(),
+        Principal::Everyone => b"EVERYONE@".as_slice(),
+    }
+}

@@ -1,0 +1,38 @@
+//! The normal form and the comparison in a plain way, as a measure for tests: each ACE is held against all others, and
+//! all small situations are gone over.
+
+ghost use Rattle.std.specs.Prelude.{◌≡◌, IfOk};
+ghost use Rattle.acl_perm.specs.Profile.{full};
+ghost use Rattle.acl_nfs4.specs.Spelling.{IsAccepted};
+ghost use Rattle.acl_normal.specs.NormalForm.{IsNormalFormOf};
+ghost use Rattle.acl_normal.specs.Passes.{IsReduced, list_of};
+
+mod emission;
+mod reduction;
+mod small_sets;
+
+use crate::listing::collect;
+use acl_nfs4::{AceRef, Acl};
+use emission::emit;
+use reduction::{drop_needless, drop_shadowed};
+pub use small_sets::compare;
+use std::alloc::{AllocError, Global};
+
+/// The normal form of a list, as the call of this name above makes it, but in time that grows with the third power of
+/// the number of ACEs.
+pub fn normalize(alloc: Global, source: &Acl) -> Result<Acl, AllocError>
+    ensures { IfOk result (λ list. IsNormalFormOf source.now list) }
+{
+    let needed = reduce(alloc, source)?;
+    emit(alloc, needed)
+}
+
+// The ACEs with the bits that play a part.
+fn reduce(alloc: Global, source: &Acl) -> Result<Vec<AceRef<'_>>, AllocError>
+    ensures reduced { IfOk result (λ needed. IsReduced source.now (list_of needed.items)) }
+    ensures accepted { IsAccepted full source.now }
+{
+    let aces = collect(alloc, source)?;
+    let reached = drop_shadowed(alloc, &aces)?;
+    drop_needless(alloc, &reached)
+}

@@ -1,0 +1,212 @@
+//! Puts ACEs into the order of the normal form: each time the least that no other keeps from coming first.
+
+ghost use Rattle.std.specs.Prelude.{◌≡◌, ◌≤◌, ◌&&◌, not, ℕ, List, option_map, ◌∷◌, ◌++◌, [], true, false, IfOk, IfNone, IfSome, length};
+ghost use Rattle.std.specs.List.{AllByRecursion};
+ghost use Rattle.acl_perm.specs.Bits.{has_bit};
+ghost use Rattle.acl_perm.specs.Principal.{principal};
+ghost use Rattle.acl_perm.specs.Order.{key_of};
+ghost use Rattle.std.specs.Ordering.{is_le};
+ghost use Rattle.acl_perm.specs.Profile.{full};
+ghost use Rattle.acl_nfs4.specs.Ace.{Ace, ace};
+ghost use Rattle.acl_nfs4.specs.Limits.{most_weight};
+ghost use Rattle.acl_nfs4.specs.Spelling.{IsAce};
+ghost use Rattle.acl_nfs4.specs.Who.{principal_of};
+ghost use Rattle.acl_eval.specs.Column.{column};
+ghost use Rattle.acl_normal.specs.Counts.{count_left};
+ghost use Rattle.acl_normal.specs.Emissions.{HasOnceColumns, IsEmission};
+ghost use Rattle.acl_normal.specs.Entries.{entry_cmp, entry_key, entry_of, kind_eq, principal_eq};
+ghost use Rattle.acl_normal.specs.Normal.{flags_for, is_free};
+ghost use Rattle.acl_normal.specs.Passes.{Best, is_blocked, IsCandidate, IsNowhereFree, IsWithinAs, KeepsProfiles, lesser, list_of};
+ghost use Rattle.acl_normal.specs.Plain.{without_principal};
+
+use super::reduction::{active, is_same};
+use crate::appending::push;
+use acl_nfs4::{AceRef, Acl, Flags, Mask, Principal};
+use acl_perm::{Key, overlaps};
+use std::alloc::{AllocError, Global};
+
+/// The list of the ACEs in the order of the normal form.
+pub(super) fn emit(alloc: Global, aces: Vec<AceRef<'_>>) -> Result<Acl, AllocError>
+    requires once { HasOnceColumns (list_of aces.items) }
+    requires each { AllByRecursion (IsAce full) (list_of aces.items) }
+    requires small { count_left 32 (list_of aces.items) ≤ most_weight }
+    ensures emission { IfOk result (λ list. IsEmission (list_of aces.entry.items) list) }
+    ensures shorter { IfOk result (λ list. (bit : ℕ)
+        → length (column list bit) ≤ length (column (list_of aces.entry.items) bit)) }
+    ensures profiles { IfOk result (λ list. KeepsProfiles (list_of aces.entry.items) list) }
+{
+    let mut list = Acl::new(alloc);
+    let mut left = aces;
+    while let Some(first) = least(&left) {
+        push(&mut list, first)?;
+        left = without(alloc, &left, &first)?;
+    }
+    Ok(list)
+}
+
+// Whether the ACEs have one key.
+fn has_key(other: &AceRef<'_>, item: &AceRef<'_>) -> bool
+    ensures { result ≡ (principal_eq (principal_of (ace other.now)) (principal_of (ace item.now))
+        && kind_eq other.now.kind item.now.kind) }
+{
+    is_same(other.principal(), item.principal()) && other.kind == item.kind
+}
+
+// The bits at which the other ACE has the key of the ACE, but for those that are blocked.
+#[tactic(auto, using(crate::proofs::Passes::free_alone))]
+fn own_free(other: &AceRef<'_>, item: &AceRef<'_>, blocked: Mask) -> Mask
+    ensures { (bit : ℕ) → has_bit result.bits bit
+        ≡ (is_free (column (ace other.now ∷ []) bit) (entry_of (ace item.now)) && not (has_bit blocked.bits bit)) }
+{
+    if has_key(other, item) {
+        active(other).difference(blocked)
+    } else {
+        Mask::NONE
+    }
+}
+
+// The bits at which the other ACE conflicts with the ACE.
+fn own_conflict(other: &AceRef<'_>, item: &AceRef<'_>) -> Mask
+    ensures { (bit : ℕ) → has_bit result.bits bit
+        ≡ is_blocked (column (ace other.now ∷ []) bit) (entry_of (ace item.now)) }
+{
+    if other.kind != item.kind && overlaps(other.principal(), item.principal()) {
+        active(other)
+    } else {
+        Mask::NONE
+    }
+}
+
+// The bits at which the key of the ACE is free.
+fn free_bits(left: &[AceRef<'_>], item: &AceRef<'_>) -> Mask
+    ensures { (bit : ℕ) → has_bit result.bits bit ≡ is_free (column (list_of left.now) bit) (entry_of (ace item.now)) }
+{
+    let mut free = Mask::NONE;
+    let mut blocked = Mask::NONE;
+    for other in left {
+        free = free.union(own_free(other, item, blocked));
+        blocked = blocked.union(own_conflict(other, item));
+    }
+    free
+}
+
+const IDENTIFIER_GROUP: u8 = 0x40;
+
+// The flags that say whom the ACE names, and no others.
+fn naming_flags(whom: Principal<'_>) -> Flags
+    ensures { result.bits ≡ flags_for (principal whom.entry) }
+{
+    match whom {
+        Principal::GroupNamed(_) => Flags {
+            bits: IDENTIFIER_GROUP,
+        },
+        Principal::Owner | Principal::User(_) | Principal::Group | Principal::Everyone =>
+            Flags::NONE,
+    }
+}
+
+// The ACE with all bits at which its key is free.
+fn candidate<'a>(left: &[AceRef<'a>], item: &AceRef<'a>) -> Option<AceRef<'a>>
+    ensures some { IfSome result (λ a. IsCandidate (list_of left.now) (ace a)) }
+    ensures key { IfSome result (λ a. entry_of (ace a) ≡ entry_of (ace item.now)) }
+    ensures within { IsWithinAs (list_of left.now) (ace item.now)
+        → IfSome result (λ a. IsWithinAs (list_of left.now) (ace a)) }
+    ensures none { IfNone result (IsNowhereFree (list_of left.now) (ace item.now)) }
+{
+    let mask = free_bits(left, item);
+    if mask.bits() == 0 {
+        return None;
+    }
+    Some(AceRef {
+        mask,
+        flags: naming_flags(item.principal()),
+        ..*item
+    })
+}
+
+// The principal and the type of the ACE.
+fn key<'a>(item: &AceRef<'a>) -> Key<'a>
+    ensures { key_of result ≡ entry_key (entry_of (ace item.now)) }
+{
+    Key {
+        principal: item.principal(),
+        kind: item.kind,
+    }
+}
+
+// Whether the key of the first ACE is not greater.
+fn is_first(first: &AceRef<'_>, second: &AceRef<'_>) -> bool
+    ensures { result ≡ is_le (entry_cmp (entry_of (ace first.now)) (entry_of (ace second.now))) }
+{
+    key(first) <= key(second)
+}
+
+// The lesser of two candidates, the first where both have one key.
+fn lesser<'a>(best: Option<AceRef<'a>>, next: AceRef<'a>) -> AceRef<'a>
+    ensures { ace result ≡ lesser (option_map ace best.entry) (ace next.entry) }
+{
+    match best {
+        None => next,
+        Some(best) => { if is_first(&best, &next) { best } else { next } }
+    }
+}
+
+// The best of some ACEs and one more.
+fn better<'a>(
+    left: &[AceRef<'a>],
+    best: Option<AceRef<'a>>,
+    item: &AceRef<'a>,
+) -> Option<AceRef<'a>>
+    ensures { (seen : List Ace) → Best (list_of left.now) seen (option_map ace best.entry)
+        → IsWithinAs (list_of left.now) (ace item.now)
+        → Best (list_of left.now) (seen ++ ace item.now ∷ []) (option_map ace result) }
+{
+    match candidate(left, item) {
+        None => best,
+        Some(next) => Some(lesser(best, next)),
+    }
+}
+
+// The ACE that comes first: of those whose key is free somewhere, the one with the least key.
+fn least<'a>(left: &[AceRef<'a>]) -> Option<AceRef<'a>>
+    ensures { Best (list_of left.now) (list_of left.now) (option_map ace result) }
+{
+    let mut best: Option<AceRef<'a>> = None;
+    for item in left {
+        best = better(left, best, item);
+    }
+    best
+}
+
+// The bits of the first ACE, where the other has the same principal.
+fn own_taken(item: &AceRef<'_>, first: &AceRef<'_>) -> Mask
+    ensures { (bit : ℕ) → has_bit result.bits bit ≡ (principal_eq (principal_of (ace item.now))
+        (principal_of (ace first.now)) && has_bit first.now.mask.bits bit) }
+{
+    if is_same(item.principal(), first.principal()) {
+        first.mask
+    } else {
+        Mask::NONE
+    }
+}
+
+// The ACEs without the bits of the one that has come first.
+fn without<'a>(
+    alloc: Global,
+    left: &[AceRef<'a>],
+    first: &AceRef<'a>,
+) -> Result<Vec<AceRef<'a>>, AllocError>
+    ensures taken { IfOk result (λ rest. (bit : ℕ) → has_bit first.now.mask.bits bit ≡ true
+        → column (list_of rest.items) bit
+        ≡ without_principal (principal_of (ace first.now)) (column (list_of left.now) bit)) }
+    ensures kept { IfOk result (λ rest. (bit : ℕ) → has_bit first.now.mask.bits bit ≡ false
+        → column (list_of rest.items) bit ≡ column (list_of left.now) bit) }
+    ensures profiles { IfOk result (λ rest. KeepsProfiles (list_of left.now) (list_of rest.items)) }
+{
+    let mut rest = Vec::new(alloc);
+    for item in left {
+        let mask = item.mask.difference(own_taken(item, first));
+        rest.push(AceRef { mask, ..*item })?;
+    }
+    Ok(rest)
+}

@@ -1,0 +1,126 @@
+//! The comparison that goes over all small sets: slow, and for tests of the fast one.
+ghost use Rattle.std.specs.Prelude.{◌≡◌, ◌↔◌, ◌∷◌, [], IsNone, IfOk, IfSome, true};
+ghost use Rattle.std.specs.Bool.{OnFalse, OnTrue};
+ghost use Rattle.acl_perm.specs.Bits.{all_rights};
+ghost use Rattle.acl_perm.specs.Overlap.{may_overlap};
+ghost use Rattle.acl_perm.specs.Principal.{principal};
+ghost use Rattle.acl_eval.specs.Grant.{SameGrants};
+ghost use Rattle.acl_normal.specs.Difference.{situation_of};
+ghost use Rattle.acl_normal.specs.SmallSets.{IsFirstDifference, TellsApart, pairs, partners, singles, small_sets};
+ghost use Rattle.acl_normal.specs.CodeSets.{set_or_none};
+ghost use Rattle.acl_normal.specs.Passes.{list_of};
+ghost use Rattle.acl_normal.specs.SetSearch.{Finds, GrantAlikeTo, principals};
+
+use crate::comparison::Difference;
+use crate::comparison::evaluation::grant_alike;
+use crate::comparison::mentioned::mentioned;
+use crate::comparison::outcome::answer;
+use crate::comparison::small_set::SmallSet;
+use crate::listing::collect;
+use acl_nfs4::{AceRef, Acl};
+use acl_perm::{Principal, overlaps};
+use std::alloc::{AllocError, Global};
+
+// The first of the principals at which alone the lists differ.
+fn first_single<'a>(
+    list: &[AceRef<'_>],
+    other: &[AceRef<'_>],
+    whole: &[Principal<'a>],
+) -> Option<SmallSet<'a>>
+    ensures { Finds (list_of list.now) (list_of other.now) (singles (principals whole.now)) (set_or_none result) }
+{
+    for p in whole {
+        let set = SmallSet::One(*p);
+        if !grant_alike(list, other, set) {
+            return Some(set);
+        }
+    }
+    None
+}
+
+// Whether the principals may overlap, and the lists differ at the two.
+fn pair_differs(
+    list: &[AceRef<'_>],
+    other: &[AceRef<'_>],
+    p: Principal<'_>,
+    q: Principal<'_>,
+) -> bool
+    ensures overlap { OnTrue result (may_overlap (principal p.entry) (principal q.entry) ≡ true) }
+    ensures differ { OnTrue result (GrantAlikeTo (list_of list.now) (list_of other.now)
+        (principal p.entry ∷ principal q.entry ∷ []) → ⊥) }
+    ensures agree { OnFalse result (may_overlap (principal p.entry) (principal q.entry) ≡ true
+        → GrantAlikeTo (list_of list.now) (list_of other.now) (principal p.entry ∷ principal q.entry ∷ [])) }
+{
+    overlaps(p, q) && !grant_alike(list, other, SmallSet::Two(p, q))
+}
+
+// The first of the rest with which the principal is a pair at which the lists differ.
+fn first_partner<'a>(
+    list: &[AceRef<'_>],
+    other: &[AceRef<'_>],
+    p: Principal<'a>,
+    rest: &[Principal<'a>],
+) -> Option<SmallSet<'a>>
+    ensures { Finds (list_of list.now) (list_of other.now)
+        (partners (principal p.entry) (principals rest.now)) (set_or_none result) }
+{
+    for q in rest {
+        if pair_differs(list, other, p, *q) {
+            return Some(SmallSet::Two(p, *q));
+        }
+    }
+    None
+}
+
+// The first pair at which the lists differ.
+fn first_pair<'a>(
+    list: &[AceRef<'_>],
+    other: &[AceRef<'_>],
+    whole: &[Principal<'a>],
+) -> Option<SmallSet<'a>>
+    ensures { Finds (list_of list.now) (list_of other.now) (pairs (principals whole.now)) (set_or_none result) }
+{
+    for i in 0..whole.len() {
+        let (_, rest) = whole.split_at(i + 1);
+        if let Some(set) = first_partner(list, other, whole[i], rest) {
+            return Some(set);
+        }
+    }
+    None
+}
+
+// The first small set at which the lists differ.
+fn first_set<'a>(
+    list: &[AceRef<'_>],
+    other: &[AceRef<'_>],
+    whole: &[Principal<'a>],
+) -> Option<SmallSet<'a>>
+    ensures { Finds (list_of list.now) (list_of other.now) (small_sets (principals whole.now)) (set_or_none result) }
+{
+    if !grant_alike(list, other, SmallSet::Empty) {
+        return Some(SmallSet::Empty);
+    }
+    if let Some(set) = first_single(list, other, whole) {
+        return Some(set);
+    }
+    first_pair(list, other, whole)
+}
+
+/// The same as [`crate::compare`], by going over all small situations: its cost is cubic in the number of principals.
+pub fn compare(alloc: Global, first: &Acl, second: &Acl) -> Result<Option<Difference>, AllocError>
+    // None exactly if both lists grant the same.
+    ensures same { IfOk result (λ r. IsNone r ↔ SameGrants all_rights first.now second.now) }
+    // Else the first small situation in which they don't, the lowest right on which they differ there, and what the
+    // first list grants.
+    ensures first { IfOk result (λ r. IfSome r (λ d. IsFirstDifference first.now second.now
+        (situation_of d) d.bit.bits d.first_grants)) }
+    // Its names are names of an object and a requester, to whom one list grants that right and the other doesn't.
+    ensures requester { IfOk result (λ r. IfSome r (λ d. TellsApart first.now second.now
+        (situation_of d) d.bit.bits d.first_grants)) }
+{
+    let list = collect(alloc, first)?;
+    let other = collect(alloc, second)?;
+    let whole = mentioned(alloc, &list, &other)?;
+    let found = first_set(&list, &other, &whole);
+    answer(alloc, &list, &other, &whole, found)
+}
