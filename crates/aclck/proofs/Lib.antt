@@ -4,4 +4,10 @@ pub mod CheckNfsLemmas
 pub mod ValueLemmas
 pub mod NameLemmas
 pub mod ShowLemmas
+pub mod ListInputLemmas
+pub mod CommandLemmas
 mod Vectors
+pub mod ListTextLemmas
+pub mod TwoListLemmas
+pub mod NormalFormLemmas
+pub mod CompareLemmas

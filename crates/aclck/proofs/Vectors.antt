@@ -3,10 +3,11 @@ use Rattle.std.proofs.Common.{◌≡◌, ◌∷◌, [], ℕ, List, None, Some, f
 use Rattle.clap.proofs.OnLiterals.{clap_on_literals}
 use Rattle.clap.specs.Words.{Text, first_of}
 use Rattle.acl_perm.specs.Profile.{Profile, full, narrow}
-use Rattle.acl_nfs4.specs.Rights.{mask_named}
+use Rattle.acl_nfs4.specs.BitNames.{set_named}
 use Rattle.acl_posix.specs.Names.{no_names}
 use Rattle.aclck.specs.Line.{Term, app_from, default, flag, is_given, is_taken, optional, rows_at}
 use Rattle.aclck.specs.CheckNfs.{check_nfs_in}
+use Rattle.aclck.specs.ProfileArgument.{profile_in}
 use Rattle.aclck.specs.ShowPosix.{form_value, show_posix_in}
 use Rattle.aclck.specs.CheckPosix.{check_posix_in}
 use Rattle.aclck.specs.Chmod.{chmod_in}
@@ -15,7 +16,10 @@ use Rattle.aclck.specs.NameWords.{named_id, names_value}
 use Rattle.aclck.specs.NameWords as words
 use Rattle.aclck.specs.PosixValues.{id_value, ids_value, mode_value, want_value}
 use Rattle.aclck.specs.declared.posix.Form.TheVariants as form
-use Rattle.aclck.specs.Task.{Task, calc_mask, check_nfs, check_posix, chmod, create, show_posix, task_named, task_of}
+use Rattle.acl_eval.specs.declared.inherit.ChildKind.TheVariants as kind
+use Rattle.aclck.specs.Child.{child_in, kind_value}
+use Rattle.aclck.specs.ListMode.{mode_in}
+use Rattle.aclck.specs.Task.{Task, bridge, calc_mask, check_nfs, check_posix, child, chmod, create, encode, mode, show_nfs, show_posix, task_named, task_of}
 use Rattle.aclck.specs.Values.{mask_value, profile_value}
 
 -- ---- `check-nfs`
@@ -35,7 +39,7 @@ plain :
     ∷ codes "--user" ∷ codes "u" ∷
     codes "--mask" ∷ codes "READ_DATA" ∷ [])
     ≡ Some (check (codes "o") (codes "u") [] 1 full)
-unfolding clap_on_literals is_taken rows_at app_from task_named check_nfs_in mask_value mask_named profile_value
+unfolding clap_on_literals is_taken rows_at app_from task_named check_nfs_in mask_value set_named profile_value
 plain = refl
 
 -- in one word, cut at the first equals sign; groups may stand anywhere
@@ -43,28 +47,28 @@ attached :
     task_of (codes "check-nfs" ∷ codes "a" ∷ codes "--owner=o=p" ∷ codes "b" ∷ codes "--group=g" ∷ codes "--user=u" ∷
     codes "--mask=EXECUTE|ADD_FILE" ∷ codes "c" ∷ [])
     ≡ Some (check (codes "o=p") (codes "u") (codes "a" ∷ codes "b" ∷ codes "c" ∷ []) 34 full)
-unfolding clap_on_literals is_taken rows_at app_from task_named check_nfs_in mask_value mask_named profile_value
+unfolding clap_on_literals is_taken rows_at app_from task_named check_nfs_in mask_value set_named profile_value
 attached = refl
 
 -- `none` is the empty mask
 no_rights :
     task_of (codes "check-nfs" ∷ codes "--owner=o" ∷ codes "--group=g" ∷ codes "--user=u" ∷ codes "--mask=none" ∷ [])
     ≡ Some (check (codes "o") (codes "u") [] 0 full)
-unfolding clap_on_literals is_taken rows_at app_from task_named check_nfs_in mask_value mask_named profile_value
+unfolding clap_on_literals is_taken rows_at app_from task_named check_nfs_in mask_value set_named profile_value
 no_rights = refl
 
 -- a dash alone is no mask here
 dash :
     task_of (codes "check-nfs" ∷ codes "--owner=o" ∷ codes "--group=g" ∷ codes "--user=u" ∷ codes "--mask=-" ∷ [])
     ≡ None
-unfolding clap_on_literals is_taken rows_at app_from task_named check_nfs_in mask_value mask_named profile_value
+unfolding clap_on_literals is_taken rows_at app_from task_named check_nfs_in mask_value set_named profile_value
 dash = refl
 
 -- a name that is no right
 unknown_right :
     task_of (codes "check-nfs" ∷ codes "--owner=o" ∷ codes "--group=g" ∷ codes "--user=u" ∷ codes "--mask=NOTHING" ∷ [])
     ≡ None
-unfolding clap_on_literals is_taken rows_at app_from task_named check_nfs_in mask_value mask_named profile_value
+unfolding clap_on_literals is_taken rows_at app_from task_named check_nfs_in mask_value set_named profile_value
 unknown_right = refl
 
 -- the narrow profile
@@ -72,7 +76,7 @@ narrow_profile :
     task_of (codes "check-nfs" ∷ codes "--owner=o" ∷ codes "--group=g" ∷ codes "--user=u" ∷ codes "--mask=READ_DATA" ∷
     codes "--profile" ∷ codes "narrow" ∷ [])
     ≡ Some (check (codes "o") (codes "u") [] 1 narrow)
-unfolding clap_on_literals is_taken rows_at app_from task_named check_nfs_in mask_value mask_named profile_value
+unfolding clap_on_literals is_taken rows_at app_from task_named check_nfs_in mask_value set_named profile_value
 narrow_profile = refl
 
 -- the full profile, which is also the one where none is given; WRITE_RETENTION is one of its rights
@@ -80,7 +84,7 @@ full_profile :
     task_of (codes "check-nfs" ∷ codes "--owner=o" ∷ codes "--group=g" ∷ codes "--user=u" ∷ codes "--profile=full" ∷
     codes "--mask=WRITE_RETENTION" ∷ [])
     ≡ Some (check (codes "o") (codes "u") [] 512 full)
-unfolding clap_on_literals is_taken rows_at app_from task_named check_nfs_in mask_value mask_named profile_value
+unfolding clap_on_literals is_taken rows_at app_from task_named check_nfs_in mask_value set_named profile_value
 full_profile = refl
 
 -- a right that the profile has not
@@ -88,7 +92,7 @@ outside_the_profile :
     task_of (codes "check-nfs" ∷ codes "--owner=o" ∷ codes "--group=g" ∷ codes "--user=u" ∷
     codes "--mask=WRITE_RETENTION|READ_DATA" ∷ codes "--profile=narrow" ∷ [])
     ≡ None
-unfolding clap_on_literals is_taken rows_at app_from task_named check_nfs_in mask_value mask_named profile_value
+unfolding clap_on_literals is_taken rows_at app_from task_named check_nfs_in mask_value set_named profile_value
 outside_the_profile = refl
 
 -- a word that names no profile
@@ -96,19 +100,19 @@ unknown_profile :
     task_of (codes "check-nfs" ∷ codes "--owner=o" ∷ codes "--group=g" ∷ codes "--user=u" ∷ codes "--mask=none" ∷
     codes "--profile=wide" ∷ [])
     ≡ None
-unfolding clap_on_literals is_taken rows_at app_from task_named check_nfs_in mask_value mask_named profile_value
+unfolding clap_on_literals is_taken rows_at app_from task_named check_nfs_in mask_value set_named profile_value
 unknown_profile = refl
 
 -- an option that has to be there is missing
 no_owner : task_of (codes "check-nfs" ∷ codes "--group=g" ∷ codes "--user=u" ∷ codes "--mask=none" ∷ []) ≡ None
-unfolding clap_on_literals is_taken rows_at app_from task_named check_nfs_in mask_value mask_named profile_value
+unfolding clap_on_literals is_taken rows_at app_from task_named check_nfs_in mask_value set_named profile_value
 no_owner = refl
 
 -- an empty name is no name
 empty_name :
     task_of (codes "check-nfs" ∷ codes "--owner=" ∷ codes "--group=g" ∷ codes "--user=u" ∷ codes "--mask=none" ∷ [])
     ≡ None
-unfolding clap_on_literals is_taken rows_at app_from task_named check_nfs_in mask_value mask_named profile_value
+unfolding clap_on_literals is_taken rows_at app_from task_named check_nfs_in mask_value set_named profile_value
 empty_name = refl
 
 -- nor is an empty group
@@ -116,7 +120,7 @@ empty_group :
     task_of (codes "check-nfs" ∷ codes "--owner=o" ∷ codes "--group=g" ∷ codes "--user=u"
     ∷ codes "--mask=none" ∷ codes "" ∷ [])
     ≡ None
-unfolding clap_on_literals is_taken rows_at app_from task_named check_nfs_in mask_value mask_named profile_value
+unfolding clap_on_literals is_taken rows_at app_from task_named check_nfs_in mask_value set_named profile_value
 empty_group = refl
 
 -- a value that begins with a hyphen is none as a word of its own
@@ -124,7 +128,7 @@ hyphen :
     task_of (codes "check-nfs" ∷ codes "--owner" ∷ codes "-x" ∷ codes "--group=g"
     ∷ codes "--user=u" ∷ codes "--mask=none" ∷ [])
     ≡ None
-unfolding clap_on_literals is_taken rows_at app_from task_named check_nfs_in mask_value mask_named profile_value
+unfolding clap_on_literals is_taken rows_at app_from task_named check_nfs_in mask_value set_named profile_value
 hyphen = refl
 
 -- and is one behind the equals sign; after two hyphens every word is a group
@@ -132,7 +136,7 @@ hyphen_attached :
     task_of (codes "check-nfs" ∷ codes "--owner=-x" ∷ codes "--group=g" ∷ codes "--user=u" ∷ codes "--mask=none" ∷
     codes "--" ∷ codes "--help" ∷ codes "-" ∷ [])
     ≡ Some (check (codes "-x") (codes "u") (codes "--help" ∷ codes "-" ∷ []) 0 full)
-unfolding clap_on_literals is_taken rows_at app_from task_named check_nfs_in mask_value mask_named profile_value
+unfolding clap_on_literals is_taken rows_at app_from task_named check_nfs_in mask_value set_named profile_value
 hyphen_attached = refl
 
 -- a word that asks for help is an unknown argument
@@ -140,7 +144,7 @@ help :
     task_of (codes "check-nfs" ∷ codes "--owner=o" ∷ codes "--group=g" ∷ codes "--user=u" ∷ codes "--mask=none" ∷
     codes "--help" ∷ [])
     ≡ None
-unfolding clap_on_literals is_taken rows_at app_from task_named check_nfs_in mask_value mask_named profile_value
+unfolding clap_on_literals is_taken rows_at app_from task_named check_nfs_in mask_value set_named profile_value
 help = refl
 
 -- a short one too
@@ -148,7 +152,7 @@ short_help :
     task_of (codes "check-nfs" ∷ codes "--owner=o" ∷ codes "--group=g" ∷ codes "--user=u" ∷ codes "--mask=none" ∷
     codes "-h" ∷ [])
     ≡ None
-unfolding clap_on_literals is_taken rows_at app_from task_named check_nfs_in mask_value mask_named profile_value
+unfolding clap_on_literals is_taken rows_at app_from task_named check_nfs_in mask_value set_named profile_value
 short_help = refl
 
 -- an option that is given twice
@@ -156,18 +160,59 @@ twice :
     task_of (codes "check-nfs" ∷ codes "--owner=o" ∷ codes "--owner=o" ∷ codes "--group=g" ∷ codes "--user=u" ∷
     codes "--mask=none" ∷ [])
     ≡ None
-unfolding clap_on_literals is_taken rows_at app_from task_named check_nfs_in mask_value mask_named profile_value
+unfolding clap_on_literals is_taken rows_at app_from task_named check_nfs_in mask_value set_named profile_value
 twice = refl
 
 -- a first word that names no command
 other_command : task_of (codes "help" ∷ []) ≡ None
-unfolding clap_on_literals is_taken rows_at app_from task_named check_nfs_in mask_value mask_named profile_value
+unfolding clap_on_literals is_taken rows_at app_from task_named check_nfs_in mask_value set_named profile_value
 other_command = refl
 
 -- and no word at all
 no_word : task_of [] ≡ None
-unfolding clap_on_literals is_taken rows_at app_from task_named check_nfs_in mask_value mask_named profile_value
+unfolding clap_on_literals is_taken rows_at app_from task_named check_nfs_in mask_value set_named profile_value
 no_word = refl
+
+-- ---- `child` and `mode`
+
+-- what is created, where no profile is given
+child_file :
+    task_of (codes "child" ∷ codes "--kind" ∷ codes "file" ∷ [])
+    ≡ Some (child (record { created = kind.File; profile = full }))
+unfolding clap_on_literals is_taken rows_at app_from task_named child_in kind_value profile_value
+child_file = refl
+
+-- a directory, and the narrow profile
+child_directory :
+    task_of (codes "child" ∷ codes "--profile=narrow" ∷ codes "--kind=dir" ∷ [])
+    ≡ Some (child (record { created = kind.Directory; profile = narrow }))
+unfolding clap_on_literals is_taken rows_at app_from task_named child_in kind_value profile_value
+child_directory = refl
+
+-- what is created has to be there
+child_of_no_kind : task_of (codes "child" ∷ codes "--profile" ∷ codes "full" ∷ []) ≡ None
+unfolding clap_on_literals is_taken rows_at app_from task_named child_in kind_value profile_value
+child_of_no_kind = refl
+
+-- a word that names no kind
+unknown_kind : task_of (codes "child" ∷ codes "--kind" ∷ codes "directory" ∷ []) ≡ None
+unfolding clap_on_literals is_taken rows_at app_from task_named child_in kind_value profile_value
+unknown_kind = refl
+
+-- no word but the command's own
+mode_alone : task_of (codes "mode" ∷ []) ≡ Some (mode full)
+unfolding clap_on_literals is_taken rows_at app_from task_named mode_in profile_value
+mode_alone = refl
+
+-- two hyphens with no word behind them
+mode_of_no_words : task_of (codes "mode" ∷ codes "--profile" ∷ codes "narrow" ∷ codes "--" ∷ []) ≡ Some (mode narrow)
+unfolding clap_on_literals is_taken rows_at app_from task_named mode_in profile_value
+mode_of_no_words = refl
+
+-- a word that is no option's
+mode_of_a_word : task_of (codes "mode" ∷ codes "660" ∷ []) ≡ None
+unfolding clap_on_literals is_taken rows_at app_from task_named mode_in profile_value
+mode_of_a_word = refl
 
 -- ---- `show-posix`
 
@@ -336,6 +381,22 @@ no_umask :
 unfolding clap_on_literals is_taken rows_at app_from task_named create_in mode_value names_value named_id id_value
 no_umask = refl
 
+-- ---- `bridge`
+
+-- no name at all
+bridged_alone :
+    task_of (codes "bridge" ∷ [])
+    ≡ Some (bridge no_names)
+unfolding clap_on_literals is_taken rows_at app_from task_named names_value named_id id_value
+bridged_alone = refl
+
+-- there is no profile to choose
+bridged_with_profile :
+    task_of (codes "bridge" ∷ codes "--profile=full" ∷ [])
+    ≡ None
+unfolding clap_on_literals is_taken rows_at app_from task_named names_value named_id id_value
+bridged_with_profile = refl
+
 -- ---- arguments of other kinds, in a command x that has them
 
 -- a flag, an option that may be absent, and one with a default
@@ -390,3 +451,20 @@ stray : is_taken (app_from (codes "x") terms) (codes "x" ∷ codes "y" ∷ [])
     ≡ false
 unfolding clap_on_literals is_taken rows_at app_from
 stray = refl
+
+-- ---- `show-nfs` and `encode`
+
+-- without a profile all rights and flags are meant
+shown_in_full : task_of (codes "show-nfs" ∷ []) ≡ Some (show_nfs full)
+unfolding clap_on_literals is_taken rows_at app_from task_named profile_in profile_value
+shown_in_full = refl
+
+-- the narrow profile
+encoded_narrow : task_of (codes "encode" ∷ codes "--profile" ∷ codes "narrow" ∷ []) ≡ Some (encode narrow)
+unfolding clap_on_literals is_taken rows_at app_from task_named profile_in profile_value
+encoded_narrow = refl
+
+-- no word stands beside the profile
+shown_with_a_word : task_of (codes "show-nfs" ∷ codes "bob" ∷ []) ≡ None
+unfolding clap_on_literals is_taken rows_at app_from task_named profile_in profile_value
+shown_with_a_word = refl

@@ -34,7 +34,9 @@ pub record IsXdrFault (p : Profile) (input : List ℕ) (f : RunFault) : Type 0 w
 -- the fault is the input's
 abbrev pub is_refusal : RunFault → Bool
 is_refusal (fault.Nfs f) = true
+is_refusal (fault.NfsText f) = true
 is_refusal (fault.Posix f) = true
+is_refusal fault.Limits = true
 is_refusal fault.Read = false
 is_refusal (fault.Write w) = false
 is_refusal fault.Memory = false
@@ -42,7 +44,9 @@ is_refusal fault.Memory = false
 -- the fault is the source's
 abbrev pub is_read : RunFault → Bool
 is_read (fault.Nfs f) = false
+is_read (fault.NfsText f) = false
 is_read (fault.Posix f) = false
+is_read fault.Limits = false
 is_read fault.Read = true
 is_read (fault.Write w) = false
 is_read fault.Memory = false
@@ -50,7 +54,9 @@ is_read fault.Memory = false
 -- the fault is the sink's
 abbrev pub is_write : RunFault → Bool
 is_write (fault.Nfs f) = false
+is_write (fault.NfsText f) = false
 is_write (fault.Posix f) = false
+is_write fault.Limits = false
 is_write fault.Read = false
 is_write (fault.Write w) = true
 is_write fault.Memory = false
@@ -61,8 +67,8 @@ run_fault_of read.Read = fault.Read
 run_fault_of read.Memory = fault.Memory
 
 -- the answer is that a read failed
-abbrev pub has_read_failed : Result Outcome RunFault → Bool
-has_read_failed (Ok o) = false
+abbrev pub has_read_failed : {X : Type 0} → Result X RunFault → Bool
+has_read_failed (Ok x) = false
 has_read_failed (Err e) = is_read e
 
 -- the answer is that a write failed
@@ -100,7 +106,9 @@ pub record Refuses (Means : List ℕ → Answer → Type 0) (known : Option (Lis
 abbrev pub Fails :
     (List ℕ → Answer → Type 0) → Option (List ℕ) → Option (List ℕ) → Option (List ℕ) → RunFault → Type 0
 Fails Means known held holds (fault.Nfs f) = Refuses Means known (fault.Nfs f)
+Fails Means known held holds (fault.NfsText f) = Refuses Means known (fault.NfsText f)
 Fails Means known held holds (fault.Posix f) = Refuses Means known (fault.Posix f)
+Fails Means known held holds fault.Limits = Refuses Means known fault.Limits
 Fails Means known held holds fault.Read = Unit {0}
 Fails Means known held holds (fault.Write w) = Begins Means known held holds w.written
 Fails Means known held holds fault.Memory = Unit {0}

@@ -1,9 +1,18 @@
 -- Laws of the commands, over their definitions alone (this library's own).
 use Rattle.std.specs.Prelude.{◌≡◌, ◌↔◌, List, ℕ}
+use Rattle.acl_perm.specs.Profile.{Profile}
+use Rattle.acl_nfs4.specs.Ace.{Ace}
+use Rattle.acl_nfs4.specs.AceText.{IsAceText, ace_text}
+use Rattle.acl_nfs4.specs.Spelling.{Xdr}
+use Rattle.acl_nfs4.specs.Within.{IsProfile}
+use Rattle.acl_eval.specs.Grant.{SameGrants}
 use Rattle.acl_posix.specs.Grammar.{Reads}
 use Rattle.acl_posix.specs.Names.{Table, IsTable}
 use Rattle.acl_posix.specs.declared.file.PosixFile.{PosixFile}
 use Rattle.aclck.specs.Answer.{done}
+use Rattle.aclck.specs.Encode.{EncodeAnswer}
+use Rattle.aclck.specs.Normalize.{NormalizeAnswer}
+use Rattle.aclck.specs.ShowNfs.{ShowNfsAnswer}
 use Rattle.aclck.specs.ShowPosix.{ShowPosixAnswer}
 use Rattle.aclck.specs.declared.answer.Outcome.TheVariants as outcome
 use Rattle.aclck.specs.declared.posix.Form.TheVariants as form
@@ -19,3 +28,28 @@ ShowPosixTellsApart =
     (t u : Table) (x y a b : List ℕ) (f g : PosixFile) → IsTable t → IsTable u → Reads x t f → Reads y u g
     → ShowsCanonical t x a → ShowsCanonical u y b
     → (a ≡ b) ↔ (f.access ≡ g.access) × (f.default ≡ g.default)
+
+-- what `show-nfs` makes of bytes is a text that `encode` takes, and it makes these bytes of it and no others
+abbrev pub EncodeUndoesShow : Type 0
+EncodeUndoesShow = (p : Profile) (input text bytes : List ℕ) → IsProfile p
+    → ShowNfsAnswer p input (done outcome.Yes text)
+    → EncodeAnswer p text (done outcome.Yes bytes) ↔ (bytes ≡ input)
+
+-- what `encode` makes of the text of a list are bytes that `show-nfs` takes, and it makes the written text of that list
+-- of them and no other
+abbrev pub ShowUndoesEncode : Type 0
+ShowUndoesEncode = (p : Profile) (input bytes text : List ℕ) (list : List Ace) → IsProfile p → IsAceText p list input
+    → EncodeAnswer p input (done outcome.Yes bytes)
+    → ShowNfsAnswer p bytes (done outcome.Yes text) ↔ (text ≡ ace_text list)
+
+-- two inputs, each of which spells a list of a profile, get equal bytes from `normalize` exactly if in every situation,
+-- for every mask within the profile, both lists grant or both deny
+abbrev pub NormalizeTellsApart : Type 0
+NormalizeTellsApart = (p : Profile) (list other : List Ace) (x y a b : List ℕ) → IsProfile p → Xdr p list x
+    → Xdr p other y → NormalizeAnswer p x (done outcome.Yes a) → NormalizeAnswer p y (done outcome.Yes b)
+    → (a ≡ b) ↔ SameGrants p.masks list other
+
+-- what `normalize` makes of bytes is what it makes of that, and nothing else is
+abbrev pub NormalizeTwice : Type 0
+NormalizeTwice = (p : Profile) (x a b : List ℕ) → IsProfile p → NormalizeAnswer p x (done outcome.Yes a)
+    → NormalizeAnswer p a (done outcome.Yes b) ↔ (b ≡ a)

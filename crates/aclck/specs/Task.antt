@@ -10,7 +10,17 @@ use Rattle.aclck.specs.ShowPosix.{ShowPosixAnswer, ShowPosixValues, show_posix_h
 use Rattle.aclck.specs.CheckPosix.{CheckPosixAnswer, CheckPosixValues, check_posix_held, check_posix_in, check_posix_terms}
 use Rattle.aclck.specs.CalcMask.{CalcMaskAnswer, calc_mask_in, calc_mask_terms}
 use Rattle.aclck.specs.Chmod.{ChmodAnswer, ChmodValues, chmod_held, chmod_in, chmod_terms}
+use Rattle.aclck.specs.Bridge.{BridgeAnswer, bridge_in, bridge_terms}
 use Rattle.aclck.specs.Create.{CreateAnswer, CreateValues, create_held, create_in, create_terms}
+use Rattle.aclck.specs.Child.{ChildAnswer, ChildValues, child_held, child_in, child_terms}
+use Rattle.aclck.specs.BitTable.{TableAnswer, TableValues, table_held, table_in, table_terms}
+use Rattle.aclck.specs.Normalize.{NormalizeAnswer, normalize_in, normalize_terms}
+use Rattle.aclck.specs.ListMode.{ModeAnswer, mode_in, mode_terms}
+use Rattle.aclck.specs.Compare.{CompareAnswer, compare_in, compare_terms}
+use Rattle.aclck.specs.ShowNfs.{ShowNfsAnswer}
+use Rattle.aclck.specs.Encode.{EncodeAnswer}
+use Rattle.aclck.specs.ProfileArgument.{profile_in, profile_terms}
+use Rattle.acl_perm.specs.Profile.{Profile, profile_of}
 use Rattle.acl_posix.specs.Names.{Table}
 use Rattle.aclck.specs.declared.task.Name.{Name}
 use Rattle.aclck.specs.declared.task.Name.TheVariants as name
@@ -21,7 +31,8 @@ use Rattle.aclck.specs.declared.task.Task.TheVariants as held
 
 -- the commands
 abbrev pub names : List Name
-names = name.ShowPosix ∷ name.CheckPosix ∷ name.CalcMask ∷ name.Chmod ∷ name.Create ∷ name.CheckNfs ∷ []
+names = name.ShowPosix ∷ name.CheckPosix ∷ name.CalcMask ∷ name.Chmod ∷ name.Create ∷ name.ShowNfs ∷ name.Encode
+    ∷ name.CheckNfs ∷ name.Child ∷ name.Mode ∷ name.Bridge ∷ name.Table ∷ name.Normalize ∷ name.Compare ∷ []
 
 -- the word that names a command
 abbrev pub word_of : Name → Text
@@ -30,7 +41,15 @@ word_of name.CheckPosix = codes "check-posix"
 word_of name.CalcMask = codes "calc-mask"
 word_of name.Chmod = codes "chmod"
 word_of name.Create = codes "create"
+word_of name.ShowNfs = codes "show-nfs"
+word_of name.Encode = codes "encode"
 word_of name.CheckNfs = codes "check-nfs"
+word_of name.Child = codes "child"
+word_of name.Mode = codes "mode"
+word_of name.Bridge = codes "bridge"
+word_of name.Table = codes "table"
+word_of name.Normalize = codes "normalize"
+word_of name.Compare = codes "compare"
 
 -- its arguments
 abbrev pub terms_of : Name → List Term
@@ -39,7 +58,15 @@ terms_of name.CheckPosix = check_posix_terms
 terms_of name.CalcMask = calc_mask_terms
 terms_of name.Chmod = chmod_terms
 terms_of name.Create = create_terms
+terms_of name.ShowNfs = profile_terms
+terms_of name.Encode = profile_terms
 terms_of name.CheckNfs = check_nfs_terms
+terms_of name.Child = child_terms
+terms_of name.Mode = mode_terms
+terms_of name.Bridge = bridge_terms
+terms_of name.Table = table_terms
+terms_of name.Normalize = normalize_terms
+terms_of name.Compare = compare_terms
 
 -- a command with its values
 pub data Task : Type 0 where
@@ -48,7 +75,15 @@ pub data Task : Type 0 where
   calc_mask : Table → Task
   chmod : ChmodValues → Task
   create : CreateValues → Task
+  show_nfs : Profile → Task
+  encode : Profile → Task
   check_nfs : CheckNfsValues → Task
+  child : ChildValues → Task
+  mode : Profile → Task
+  bridge : Table → Task
+  table : TableValues → Task
+  normalize : Profile → Task
+  compare : Profile → Task
 
 -- the values that the rows of a parse and the words that are no option's spell
 abbrev pub task_in : Name → List Row → List Text → Option Task
@@ -57,7 +92,15 @@ task_in name.CheckPosix rows words = option_map check_posix (check_posix_in rows
 task_in name.CalcMask rows words = option_map calc_mask (calc_mask_in rows)
 task_in name.Chmod rows words = option_map chmod (chmod_in rows)
 task_in name.Create rows words = option_map create (create_in rows)
+task_in name.ShowNfs rows words = option_map show_nfs (profile_in rows)
+task_in name.Encode rows words = option_map encode (profile_in rows)
 task_in name.CheckNfs rows words = option_map check_nfs (check_nfs_in rows words)
+task_in name.Child rows words = option_map child (child_in rows)
+task_in name.Mode rows words = option_map mode (mode_in rows)
+task_in name.Bridge rows words = option_map bridge (bridge_in rows)
+task_in name.Table rows words = option_map table (table_in rows)
+task_in name.Normalize rows words = option_map normalize (normalize_in rows)
+task_in name.Compare rows words = option_map compare (compare_in rows)
 
 -- what a task makes of an input
 unfoldable pub Answers : Task → List ℕ → Answer → Type 0
@@ -66,7 +109,15 @@ Answers (check_posix v) = CheckPosixAnswer v
 Answers (calc_mask known) = CalcMaskAnswer known
 Answers (chmod v) = ChmodAnswer v
 Answers (create v) = CreateAnswer v
+Answers (show_nfs p) = ShowNfsAnswer p
+Answers (encode p) = EncodeAnswer p
 Answers (check_nfs v) = CheckNfsAnswer v
+Answers (child v) = ChildAnswer v
+Answers (mode p) = ModeAnswer p
+Answers (bridge known) = BridgeAnswer known
+Answers (table v) = TableAnswer v
+Answers (normalize p) = NormalizeAnswer p
+Answers (compare p) = CompareAnswer p
 
 -- the task that the program holds
 abbrev pub task_held : HeldTask → Task
@@ -75,7 +126,15 @@ task_held (held.CheckPosix v) = check_posix (check_posix_held v)
 task_held (held.CalcMask known) = calc_mask known
 task_held (held.Chmod v) = chmod (chmod_held v)
 task_held (held.Create v) = create (create_held v)
+task_held (held.ShowNfs p) = show_nfs (profile_of p)
+task_held (held.Encode p) = encode (profile_of p)
 task_held (held.CheckNfs v) = check_nfs (check_nfs_held v)
+task_held (held.Child v) = child (child_held v)
+task_held (held.Mode p) = mode (profile_of p)
+task_held (held.Bridge known) = bridge known
+task_held (held.Table v) = table (table_held v)
+task_held (held.Normalize p) = normalize (profile_of p)
+task_held (held.Compare p) = compare (profile_of p)
 
 -- ---- words
 

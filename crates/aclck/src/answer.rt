@@ -1,11 +1,8 @@
 //! What an engine answers.
-ghost use Rattle.std.specs.Prelude.{◌≡◌, IfErr, IfOk, true};
-ghost use Rattle.acl_perm.specs.Profile.{profile_of};
-ghost use Rattle.acl_nfs4.specs.Spelling.{Xdr};
-ghost use Rattle.aclck.specs.Answer.{IsXdrFault, decision_line, is_refusal};
+ghost use Rattle.std.specs.Prelude.{◌≡◌};
+ghost use Rattle.aclck.specs.Answer.{decision_line, is_refusal};
 
-use acl_nfs4::{AclView, Fault, ReadFault, WriteFault};
-use acl_perm::Profile;
+use acl_nfs4::{AceTextFault, Fault, ReadFault, WriteFault};
 use acl_posix::TextFault;
 use std::alloc::AllocError;
 use thiserror::Error;
@@ -23,9 +20,15 @@ pub enum RunFault {
     /// The input is no accepted NFSv4 list.
     #[error("{0}")]
     Nfs(Fault),
+    /// The input is not the text of an accepted NFSv4 list.
+    #[error("{0}")]
+    NfsText(AceTextFault),
     /// The input is not the text of a POSIX ACL.
     #[error("{0}")]
     Posix(TextFault),
+    /// The list that would be written is past a limit.
+    #[error("Limits")]
+    Limits,
     #[error("read failed")]
     Read,
     #[error("write failed")]
@@ -54,7 +57,7 @@ impl RunFault {
         ensures { result ≡ is_refusal self }
     {
         match self {
-            RunFault::Nfs(_) | RunFault::Posix(_) => true,
+            RunFault::Nfs(_) | RunFault::NfsText(_) | RunFault::Posix(_) | RunFault::Limits => true,
             RunFault::Read | RunFault::Write(_) | RunFault::Memory => false,
         }
     }
@@ -79,13 +82,4 @@ pub(crate) fn decision_line(outcome: Outcome) -> &'static [u8]
         Outcome::Yes => b"granted\n",
         Outcome::No => b"denied\n",
     }
-}
-
-/// The list of the profile that all of an input spells.
-pub(crate) fn whole_list(input: &[u8], profile: Profile) -> Result<AclView<'_>, RunFault>
-    ensures found { IfOk result (λ list. Xdr (profile_of profile) list input.now) }
-    ensures refused { IfErr result (λ e.
-        (is_refusal e ≡ true) × IsXdrFault (profile_of profile) input.now e) }
-{
-    AclView::parse_whole_with(input, profile).map_err(RunFault::Nfs)
 }

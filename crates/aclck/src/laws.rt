@@ -1,7 +1,35 @@
 //! Laws of the commands.
-ghost use Rattle.aclck.specs.Laws.{ShowPosixTellsApart};
+ghost use Rattle.aclck.specs.Headline.{Headline};
+ghost use Rattle.aclck.specs.Laws.{EncodeUndoesShow, NormalizeTellsApart, NormalizeTwice, ShowPosixTellsApart, ShowUndoesEncode};
 
 /// Two texts of files get one canonical text from `show-posix` exactly if their sets of entries are equal.
 pub fn show_posix_tells_apart()
     ensures { ShowPosixTellsApart }
+{}
+
+/// What `show-nfs` writes `encode` takes, and it gives the bytes that were read.
+pub fn encode_undoes_show()
+    ensures { EncodeUndoesShow }
+{}
+
+/// What `encode` writes `show-nfs` takes, and it gives the written text of the list, whatever text was read.
+pub fn show_undoes_encode()
+    ensures { ShowUndoesEncode }
+{}
+
+/// Two lists get equal bytes from `normalize` exactly if both grant or both deny, in every situation and for every
+/// mask.
+pub fn normalize_tells_apart()
+    ensures { NormalizeTellsApart }
+{}
+
+/// What `normalize` writes it makes of that too.
+pub fn normalize_twice()
+    ensures { NormalizeTwice }
+{}
+
+/// The headline: normal forms have equal bytes exactly if their lists grant the same, they grant what their lists
+/// grant, and normalising twice is once; canonical texts are equal exactly if the entries are, and they read back.
+pub fn headline()
+    ensures { Headline }
 {}

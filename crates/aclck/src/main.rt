@@ -5,15 +5,23 @@ mod answer;
 mod command;
 pub mod laws;
 mod line;
+mod list_input;
 mod name_words;
+#[cfg(test)]
+mod nfs_text_tests;
+#[cfg(test)]
+mod normal_tests;
 mod posix;
 #[cfg(test)]
 mod posix_tests;
 mod posix_values;
+mod profile_argument;
 mod task;
 #[cfg(test)]
 mod tests;
 mod values;
+#[cfg(test)]
+mod xdr_tests;
 
 use acl_perm::{Counted, Sink, Source};
 use answer::RunFault;

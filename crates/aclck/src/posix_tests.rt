@@ -20,8 +20,51 @@ const PARENT: &str = "u::rwx,g::r-x,o::---,d:u::rwx,d:u:5:rwx,d:g::r-x,d:m::rwx,
 
 const PLAIN: &str = "u::rwx,g::r-x,o::---";
 
+// ALLOW read and write to OWNER@ and DENY the rest, ALLOW read to GROUP@ and DENY the rest, ALLOW read to EVERYONE@.
+const PLAIN_LIST: &str = "\0\0\0\x05\
+    \0\0\0\0\0\0\0\0\0\0\0\x07\0\0\0\x06OWNER@\0\0\
+    \0\0\0\x01\0\0\0\0\0\0\0\x20\0\0\0\x06OWNER@\0\0\
+    \0\0\0\0\0\0\0\0\0\0\0\x01\0\0\0\x06GROUP@\0\0\
+    \0\0\0\x01\0\0\0\0\0\0\0\x26\0\0\0\x06GROUP@\0\0\
+    \0\0\0\0\0\0\0\0\0\0\0\x01\0\0\0\x09EVERYONE@\0\0\0";
+
+// Two groups that have read and write apart, and what each lacks denied after both.
+const GROUPS_LIST: &str = "\0\0\0\x06\
+    \0\0\0\0\0\0\0\0\0\0\0\x27\0\0\0\x06OWNER@\0\0\
+    \0\0\0\0\0\0\0\x40\0\0\0\x01\0\0\0\x0250\0\0\
+    \0\0\0\0\0\0\0\x40\0\0\0\x06\0\0\0\x0260\0\0\
+    \0\0\0\x01\0\0\0\0\0\0\0\x27\0\0\0\x06GROUP@\0\0\
+    \0\0\0\x01\0\0\0\x40\0\0\0\x26\0\0\0\x0250\0\0\
+    \0\0\0\x01\0\0\0\x40\0\0\0\x21\0\0\0\x0260\0\0";
+
+// The least and the greatest id, and what a mask leaves of them.
+const IDS_LIST: &str = "\0\0\0\x05\
+    \0\0\0\x01\0\0\0\0\0\0\0\x27\0\0\0\x06OWNER@\0\0\
+    \0\0\0\0\0\0\0\0\0\0\0\x01\0\0\0\x010\0\0\0\
+    \0\0\0\x01\0\0\0\0\0\0\0\x26\0\0\0\x010\0\0\0\
+    \0\0\0\x01\0\0\0\0\0\0\0\x27\0\0\0\x06GROUP@\0\0\
+    \0\0\0\x01\0\0\0\x40\0\0\0\x27\0\0\0\x0a4294967294\0\0";
+
 // The rows of a table: a line of words, an input, a status, and what goes out and to the errors.
-const ROWS: [(&str, &str, u8, &str, &str); 45] = [
+const ROWS: [(&str, &str, u8, &str, &str); 51] = [
+    ("bridge", "u::rw-,g::r--,o::r--", 0, PLAIN_LIST, ""),
+    ("bridge", GROUPS, 0, GROUPS_LIST, ""),
+    (
+        "bridge u:root=0",
+        "u::,u:root:rwx,g::,g:4294967294:wx,m::r,o::,d:u::rwx,d:g::rwx,d:o::rwx",
+        0,
+        IDS_LIST,
+        "",
+    ),
+    (
+        "bridge",
+        "u::rwx,g::r-x,o::---,d:u::r",
+        2,
+        "",
+        "aclck: Invalid default: Miss GROUP_OBJ\n",
+    ),
+    ("bridge --profile full", PLAIN, 3, "", "aclck: usage\n"),
+    ("bridge bob=5", PLAIN, 3, "", "aclck: usage\n"),
     (
         "show-posix --form shown",
         "u::rw-,u:5:rw-,g::r--,m::r--,o::---,d:u::rwx,d:u:5:rwx,d:g::r--,d:m::rwx,d:o::---",
@@ -315,7 +358,13 @@ const ROWS: [(&str, &str, u8, &str, &str); 45] = [
 
 // The text that a room begins with, and nothing behind it.
 fn holds(room: &[u8], text: &str) -> bool {
-    room.starts_with(text.as_bytes()) && room.iter().skip(text.len()).all(|byte| *byte == 0)
+    begins(room, text, text.len())
+}
+
+// So many bytes of a text, with which a room begins, and nothing behind them.
+fn begins(room: &[u8], text: &str, count: usize) -> bool {
+    let mut pairs = room.iter().zip(text.as_bytes().iter()).take(count);
+    pairs.all(|(byte, wanted)| byte == wanted) && room.iter().skip(count).all(|byte| *byte == 0)
 }
 
 fn table<A: Abort>(rt: &A, alloc: Global, is_ample: bool) {
@@ -401,13 +450,44 @@ fn ample_each_write_fails(rt: HostRuntime) -> Result<(), Fail> {
             );
             assert!(rt; answer == 4 && sink.failures() == 1, "{line}");
             assert!(rt; holds(&err, "aclck: write failed\n"), "{line}");
-            let begun = out.iter().take_while(|byte| **byte != 0).count();
-            assert!(rt; begun == writes, "{line}");
-            assert!(rt;
-                text.as_bytes().starts_with(out.split_at(begun).0),
-                "{line}"
-            );
+            assert!(rt; begins(&out, text, writes), "{line}");
         }
+    }
+    Ok(())
+}
+
+// The text of an ACL of so many users, each of which costs four of the 65,536 mask bits of a list, as USER_OBJ and
+// GROUP_OBJ do.
+fn users(alloc: Global, count: u32, other: &str) -> Result<Vec<u8>, AllocError> {
+    let mut text = Vec::new(alloc);
+    text.extend_from_slice(b"u::rw-\ng::r--\nm::rwx\n")?;
+    text.extend_from_slice(other.as_bytes())?;
+    for id in 0..count {
+        text.extend_from_slice(format!(in alloc; "\nu:{id}:r-x")?.as_bytes())?;
+    }
+    Ok(text)
+}
+
+#[test]
+fn ample_lists_past_the_limits(rt: HostRuntime) -> Result<(), Fail> {
+    for (count, other, status, err_text) in [
+        (16_382, "o::---", 0, ""),
+        (16_382, "o::r--", 2, "aclck: Limits\n"),
+        (16_383, "o::---", 2, "aclck: Limits\n"),
+    ] {
+        let input = users(rt.alloc(), count, other)?;
+        let mut out = Counted::new(Vec::new(rt.alloc()));
+        let mut err = [0u8; 64];
+        let answer = command(
+            rt.alloc(),
+            &["bridge"],
+            &mut Counted::new(input.as_slice()),
+            &mut out,
+            &mut Counted::new(err.as_mut_slice()),
+        );
+        let written = out.into_inner();
+        assert!(rt; answer == status && holds(&err, err_text), "{count} users");
+        assert!(rt; written.is_empty() == (status == 2), "{count} users");
     }
     Ok(())
 }

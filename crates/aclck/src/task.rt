@@ -8,25 +8,42 @@ ghost use Rattle.aclck.specs.Answer.{Ran, has_read_failed, has_write_failed, is_
 ghost use Rattle.aclck.specs.Line.{Reads, is_sound, is_taken, rows_at, term};
 ghost use Rattle.aclck.specs.Task.{Answers, app_named, command_named, task_held, task_in, terms_of, word_of};
 
+pub mod bridge;
 pub mod calc_mask;
 pub mod check_nfs;
 pub mod check_posix;
+pub mod child;
 pub mod chmod;
+pub mod compare;
 pub mod create;
+pub mod encode;
+pub mod mode;
+pub mod normalize;
+pub mod show_nfs;
 pub mod show_posix;
+pub mod table;
 
 use crate::answer::{Outcome, RunFault};
 use crate::line::{Argument, LineFault, command_from, parse};
-use acl_perm::{Sink, Source};
+use crate::profile_argument;
+use acl_perm::{Profile, Sink, Source};
 use acl_posix::Names;
+use bridge::run_bridge;
 use calc_mask::run_calc_mask;
 use check_nfs::{CheckNfs, run_check_nfs};
 use check_posix::{CheckPosix, run_check_posix};
+use child::{Child, run_child};
 use chmod::{Chmod, run_chmod};
 use clap::{ArgMatches, Command};
+use compare::run_compare;
 use create::{Create, run_create};
+use encode::run_encode;
+use mode::run_mode;
+use normalize::run_normalize;
+use show_nfs::run_show_nfs;
 use show_posix::{ShowPosix, run_show_posix};
 use std::alloc::{AllocError, Global};
+use table::{BitTable, run_table};
 
 /// A command.
 #[derive(Clone, Copy, Debug, PartialEq, Eq)]
@@ -36,16 +53,32 @@ pub enum Name {
     CalcMask,
     Chmod,
     Create,
+    ShowNfs,
+    Encode,
     CheckNfs,
+    Child,
+    Mode,
+    Bridge,
+    Table,
+    Normalize,
+    Compare,
 }
 
-const NAMES: [Name; 6] = [
+const NAMES: [Name; 14] = [
     Name::ShowPosix,
     Name::CheckPosix,
     Name::CalcMask,
     Name::Chmod,
     Name::Create,
+    Name::ShowNfs,
+    Name::Encode,
     Name::CheckNfs,
+    Name::Child,
+    Name::Mode,
+    Name::Bridge,
+    Name::Table,
+    Name::Normalize,
+    Name::Compare,
 ];
 
 impl Name {
@@ -66,7 +99,15 @@ impl Name {
             Name::CalcMask => "calc-mask",
             Name::Chmod => "chmod",
             Name::Create => "create",
+            Name::ShowNfs => "show-nfs",
+            Name::Encode => "encode",
             Name::CheckNfs => "check-nfs",
+            Name::Child => "child",
+            Name::Mode => "mode",
+            Name::Bridge => "bridge",
+            Name::Table => "table",
+            Name::Normalize => "normalize",
+            Name::Compare => "compare",
         }
     }
 
@@ -87,7 +128,14 @@ impl Name {
             Name::CalcMask => calc_mask::arguments(),
             Name::Chmod => chmod::arguments(),
             Name::Create => create::arguments(),
+            Name::ShowNfs | Name::Encode => profile_argument::arguments(),
             Name::CheckNfs => check_nfs::arguments(),
+            Name::Child => child::arguments(),
+            Name::Mode => mode::arguments(),
+            Name::Bridge => bridge::arguments(),
+            Name::Table => table::arguments(),
+            Name::Normalize => normalize::arguments(),
+            Name::Compare => compare::arguments(),
         }
     }
 
@@ -137,7 +185,15 @@ pub enum Task<'a> {
     CalcMask(Names),
     Chmod(Chmod),
     Create(Create),
+    ShowNfs(Profile),
+    Encode(Profile),
     CheckNfs(CheckNfs<'a>),
+    Child(Child),
+    Mode(Profile),
+    Bridge(Names),
+    Table(BitTable),
+    Normalize(Profile),
+    Compare(Profile),
 }
 
 impl<'a> Task<'a> {
@@ -157,7 +213,15 @@ impl<'a> Task<'a> {
             Name::CalcMask => Ok(Task::CalcMask(calc_mask::read(alloc, matches)?)),
             Name::Chmod => Ok(Task::Chmod(chmod::read(alloc, matches)?)),
             Name::Create => Ok(Task::Create(create::read(alloc, matches)?)),
+            Name::ShowNfs => Ok(Task::ShowNfs(profile_argument::read(matches)?)),
+            Name::Encode => Ok(Task::Encode(profile_argument::read(matches)?)),
             Name::CheckNfs => Ok(Task::CheckNfs(check_nfs::read(matches, words)?)),
+            Name::Child => Ok(Task::Child(child::read(matches)?)),
+            Name::Mode => Ok(Task::Mode(mode::read(matches)?)),
+            Name::Bridge => Ok(Task::Bridge(bridge::read(alloc, matches)?)),
+            Name::Table => Ok(Task::Table(table::read(matches)?)),
+            Name::Normalize => Ok(Task::Normalize(normalize::read(matches)?)),
+            Name::Compare => Ok(Task::Compare(compare::read(matches)?)),
         }
     }
 
@@ -183,6 +247,8 @@ impl<'a> Task<'a> {
             Task::CalcMask(names) => run_calc_mask(alloc, source, sink, names),
             Task::Chmod(v) => run_chmod(alloc, source, sink, v.mode, &v.names),
             Task::Create(v) => { run_create(alloc, source, sink, v.mode, v.umask, v.dir, &v.names) }
+            Task::ShowNfs(profile) => run_show_nfs(alloc, source, sink, *profile),
+            Task::Encode(profile) => run_encode(alloc, source, sink, *profile),
             Task::CheckPosix(v) => run_check_posix(
                 alloc, source, sink, v.owner, v.group, v.user, &v.groups, v.want, &v.names,
             ),
@@ -197,6 +263,12 @@ impl<'a> Task<'a> {
                     v.profile,
                 )
             }
+            Task::Child(v) => run_child(alloc, source, sink, v.kind, v.profile),
+            Task::Mode(profile) => run_mode(alloc, source, sink, *profile),
+            Task::Bridge(names) => run_bridge(alloc, source, sink, names),
+            Task::Table(v) => run_table(alloc, source, sink, v.bit, v.profile),
+            Task::Normalize(profile) => run_normalize(alloc, source, sink, *profile),
+            Task::Compare(profile) => run_compare(alloc, source, sink, *profile),
         }
     }
 }

@@ -1,8 +1,10 @@
 //! What single words of the command line spell.
-ghost use Rattle.std.specs.Prelude.{◌≡◌, option_map};
+ghost use Rattle.std.specs.Prelude.{◌≡◌, option_and_then, option_map};
 ghost use Rattle.acl_perm.specs.Profile.{profile_of};
+ghost use Rattle.aclck.specs.Line.{Reads};
 ghost use Rattle.aclck.specs.Values.{mask_value, mask_within, profile_value};
 
+use crate::line::LineFault;
 use acl_nfs4::read_mask;
 use acl_perm::{Mask, Profile};
 
@@ -32,9 +34,9 @@ pub(crate) fn mask_within(word: &str, rights: Mask) -> Option<Mask>
     }
 }
 
-/// The value of `--profile`: `full` or `narrow`.
+// The value of `--profile`: `full` or `narrow`.
 #[tactic(auto, unfolding(crate::specs::Values::profile_value))]
-pub(crate) fn profile_value(word: &str) -> Option<Profile>
+fn profile_value(word: &str) -> Option<Profile>
     ensures { option_map profile_of result ≡ profile_value word.now }
 {
     match word {
@@ -42,4 +44,11 @@ pub(crate) fn profile_value(word: &str) -> Option<Profile>
         "narrow" => Some(Profile::NARROW),
         _ => None,
     }
+}
+
+/// The profile that the value of `--profile` names.
+pub(crate) fn profile_in(word: Option<&str>) -> Result<Profile, LineFault>
+    ensures { Reads profile_of (option_and_then profile_value (option_map (λ s. s.now) word.entry)) result }
+{
+    word.and_then(profile_value).ok_or(LineFault::Usage)
 }

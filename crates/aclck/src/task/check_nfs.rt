@@ -1,19 +1,24 @@
 //! `check-nfs`: whether a list grants a request.
-ghost use Rattle.std.specs.Prelude.{◌≡◌, ◌⊎◌, IfErr, IfOk, OnOk, map, option_and_then, option_map, true};
+ghost use Rattle.std.specs.Prelude.{◌≡◌, ◌⊎◌, ◌↔◌, Err, IfErr, OnOk, map, option_and_then, option_map, true};
 ghost use Rattle.std.specs.Io.KnownBytes.{IsAtEnd};
 ghost use Rattle.clap.specs.Words.{found_of, rows_of};
 ghost use Rattle.acl_perm.specs.Devices.{failures_after};
 ghost use Rattle.acl_perm.specs.Profile.{profile_of};
 ghost use Rattle.aclck.specs.Line.{Reads, term};
-ghost use Rattle.aclck.specs.Values.{mask_within, profile_value};
-ghost use Rattle.aclck.specs.Answer.{IsXdrFault, Ran, has_read_failed, has_write_failed, is_refusal, is_write};
-ghost use Rattle.aclck.specs.CheckNfs.{CheckNfsAnswer, Decides, check_nfs_held, check_nfs_in, check_nfs_terms, object_named, object_names, requester_named, requester_names, values_of};
+ghost use Rattle.aclck.specs.Values.{mask_within};
+ghost use Rattle.acl_eval.specs.Grant.{Grant};
+ghost use Rattle.acl_eval.specs.Situation.{situation};
+ghost use Rattle.aclck.specs.Answer.{Ran, has_read_failed, has_write_failed, is_write};
+ghost use Rattle.aclck.specs.ListInput.{TakesLittle};
+ghost use Rattle.aclck.specs.CheckNfs.{CheckNfsAnswer, check_nfs_held, check_nfs_in, check_nfs_terms, object_named, object_names, requester_named, requester_names, values_of};
 
-use crate::answer::{Outcome, RunFault, decision_line, whole_list};
+use crate::answer::{Outcome, RunFault, decision_line};
 use crate::line::{Argument, LineFault, text_of};
-use crate::values::{mask_within, profile_value};
+use crate::list_input::read_list;
+use crate::values::{mask_within, profile_in};
 use acl_eval::{Object, Requester, grants};
-use acl_perm::{Mask, Profile, Sink, Source, put_all, read_all};
+use acl_nfs4::Acl;
+use acl_perm::{Mask, Profile, Sink, Source, put_all};
 use clap::ArgMatches;
 use std::alloc::Global;
 
@@ -57,9 +62,7 @@ pub(crate) fn read<'a, 'w: 'a>(
     let Some(requester) = requester_of(text_of(matches, "user"), groups) else {
         return Err(LineFault::Usage);
     };
-    let Some(profile) = profile_in(text_of(matches, "profile")) else {
-        return Err(LineFault::Usage);
-    };
+    let profile = profile_in(text_of(matches, "profile"))?;
     let Some(mask) = mask_in(text_of(matches, "mask"), profile.masks) else {
         return Err(LineFault::Usage);
     };
@@ -92,13 +95,6 @@ fn requester_of_bytes<'a>(user: &'a [u8], groups: &'a [&'a [u8]]) -> Option<Requ
     Requester::new(user, groups)
 }
 
-fn profile_in(word: Option<&str>) -> Option<Profile>
-    ensures { option_map profile_of result
-        ≡ option_and_then profile_value (option_map (λ s. s.now) word.entry) }
-{
-    profile_value(word?)
-}
-
 fn mask_in(word: Option<&str>, rights: Mask) -> Option<Mask>
     ensures { option_map (λ mask. mask.bits) result
         ≡ option_and_then (mask_within rights.bits) (option_map (λ s. s.now) word.entry) }
@@ -107,7 +103,8 @@ fn mask_in(word: Option<&str>, rights: Mask) -> Option<Mask>
 }
 
 /// Writes whether the list that the whole input spells grants the requester the mask on the object: `granted`, or
-/// `denied` and No. Nothing is written before the input is accepted, as one that keeps to the profile.
+/// `denied` and No. Nothing is written before the input is accepted, as one that keeps to the profile. Nothing is read
+/// after a refusal.
 pub fn run_check_nfs<S: Source, K: Sink>(
     alloc: Global,
     source: &mut S,
@@ -120,37 +117,29 @@ pub fn run_check_nfs<S: Source, K: Sink>(
     ensures ran { Ran (CheckNfsAnswer (values_of object.now requester.now mask profile))
         (S.remaining source.old) (K.contents sink.old) (K.contents sink.new) result }
     ensures whole { OnOk result (IsAtEnd (S.remaining source.new)) }
+    ensures bound { (result ≡ Err RunFault.Memory)
+        ⊎ TakesLittle (profile_of profile) (S.remaining source.old) (S.remaining source.new) }
     ensures unwritten { IfErr result (λ e. (is_write e ≡ true) ⊎ (sink.new ≡ sink.old)) }
     ensures reads { S.failure_count source.new
         ≡ failures_after (S.failure_count source.old) (has_read_failed result) }
     ensures writes { K.failure_count sink.new
         ≡ failures_after (K.failure_count sink.old) (has_write_failed result) }
 {
-    let input = read_all(alloc, source)?;
-    let outcome = decide(input.as_slice(), object, requester, mask, profile)?;
+    let list = read_list(alloc, source, profile)?;
+    let outcome = decide(&list, object, requester, mask);
     match put_all(sink, decision_line(outcome)) {
         Ok(()) => Ok(outcome),
         Err(fault) => Err(RunFault::Write(fault)),
     }
 }
 
-// Whether the list that the bytes spell grants the request.
-fn decide(
-    input: &[u8],
-    object: &Object<'_>,
-    requester: &Requester<'_>,
-    mask: Mask,
-    profile: Profile,
-) -> Result<Outcome, RunFault>
-    ensures decided { IfOk result (λ o.
-        Decides (values_of object.now requester.now mask profile) input.now o) }
-    ensures refused { IfErr result (λ e.
-        (is_refusal e ≡ true) × IsXdrFault (profile_of profile) input.now e) }
+// Whether the list grants the request.
+fn decide(list: &Acl, object: &Object<'_>, requester: &Requester<'_>, mask: Mask) -> Outcome
+    ensures { (result ≡ Outcome.Yes) ↔ Grant list.now (situation object.now requester.now) mask.bits }
 {
-    let list = whole_list(input, profile)?;
     if grants(list.aces(), object, requester, mask) {
-        Ok(Outcome::Yes)
+        Outcome::Yes
     } else {
-        Ok(Outcome::No)
+        Outcome::No
     }
 }

@@ -1,0 +1,54 @@
+-- What a comparison comes to, and its text.
+use Rattle.std.proofs.Common.{◌≡◌, ℕ, List, ◌++◌, Option, None, Some, refl, ap, ◌∙◌, append_assoc}
+use Rattle.std.specs.Prelude.{◌↔◌, IfSome, IsNone, [], ◌∷◌, Bool, codes, not, unwrap_or}
+use Rattle.std.specs.List.{flat_map}
+use Rattle.acl_perm.specs.Bits.{all_rights}
+use Rattle.acl_perm.specs.Situation.{Situation}
+use Rattle.acl_nfs4.specs.Ace.{Ace}
+use Rattle.acl_nfs4.specs.BitNames.{first_name}
+use Rattle.acl_nfs4.specs.Rights.{rights}
+use Rattle.acl_eval.specs.Grant.{SameGrants}
+use Rattle.acl_normal.specs.Difference.{situation_of}
+use Rattle.acl_normal.specs.SmallSets.{IsFirstDifference}
+use Rattle.acl_normal.specs.declared.comparison.Difference.{Difference}
+use Rattle.aclck.specs.Compare.{Compares, compared_outcome, compared_text, decision, difference_text, line}
+use Rattle.aclck.specs.declared.answer.Outcome.{Outcome}
+
+-- seven parts behind a first one
+pub parts_joined : (t0 t1 t2 t3 t4 t5 t6 t7 a b c d e f g : List ℕ) → t1 ≡ t0 ++ a → t2 ≡ t1 ++ b → t3 ≡ t2 ++ c
+    → t4 ≡ t3 ++ d → t5 ≡ t4 ++ e → t6 ≡ t5 ++ f → t7 ≡ t6 ++ g
+    → t7 ≡ t0 ++ (a ++ (b ++ (c ++ (d ++ (e ++ (f ++ g))))))
+parts_joined t0 t1 t2 t3 t4 t5 t6 t7 a b c d e f g h1 h2 h3 h4 h5 h6 h7 =
+    h7 ∙ ap (λ v. v ++ g) (h6 ∙ ap (λ v. v ++ f) (h5 ∙ ap (λ v. v ++ e) (h4 ∙ ap (λ v. v ++ d)
+    (h3 ∙ ap (λ v. v ++ c) (h2 ∙ ap (λ v. v ++ b) h1))))) ∙ simp append_assoc
+
+-- the text of a difference, line by line
+pub text_is : (s : Situation) (mask : ℕ) (first : Bool) (t0 t1 t2 t3 t4 t5 t6 t7 : List ℕ)
+    → t0 ≡ codes "differ" ++ 10 ∷ [] → t1 ≡ t0 ++ line (codes "owner") s.owner_name
+    → t2 ≡ t1 ++ line (codes "group") s.owning_group → t3 ≡ t2 ++ line (codes "user") s.user_name
+    → t4 ≡ t3 ++ flat_map (line (codes "member")) s.groups
+    → t5 ≡ t4 ++ line (codes "mask") (unwrap_or (first_name rights mask) [])
+    → t6 ≡ t5 ++ line (codes "first") (decision first) → t7 ≡ t6 ++ line (codes "second") (decision (not first))
+    → t7 ≡ difference_text s mask first
+text_is s mask first t0 t1 t2 t3 t4 t5 t6 t7 h0 h1 h2 h3 h4 h5 h6 h7 =
+    parts_joined t0 t1 t2 t3 t4 t5 t6 t7 _ _ _ _ _ _ _ h1 h2 h3 h4 h5 h6 h7
+    ∙ ap (λ v. v ++ (line (codes "owner") s.owner_name ++ (line (codes "group") s.owning_group
+    ++ (line (codes "user") s.user_name ++ (flat_map (line (codes "member")) s.groups
+    ++ (line (codes "mask") (unwrap_or (first_name rights mask) []) ++ (line (codes "first") (decision first)
+    ++ line (codes "second") (decision (not first)))))))))
+    h0
+
+-- what the library answers is the outcome and the text
+pub compares_is : (list other : List Ace) (found : Option Difference) (o : Outcome) (text : List ℕ)
+    → o ≡ compared_outcome found → text ≡ compared_text found
+    → (IsNone found ↔ SameGrants all_rights list other)
+    → IfSome found (λ d. IsFirstDifference list other (situation_of d) d.bit.bits d.first_grants)
+    → Compares list other o text
+compares_is list other None o text same is h first = rw same (h.0 refl, is)
+compares_is list other (Some d) o text same is h first = rw same (record {
+  situation = situation_of d;
+  mask = d.bit.bits;
+  first_grants = d.first_grants;
+  is_first = first;
+  told = is;
+})

@@ -1,0 +1,405 @@
+-- What a list that is read from pulls takes of its input.
+use Rattle.std.proofs.Common.{◌≡◌, ◌≢◌, ◌⊎◌, ℕ, ◌+◌, ◌-◌, ◌*◌, ◌^◌, ◌<◌, ◌≤◌, List, [], ◌∷◌, ◌++◌, length, take, drop, replicate, Option, None, Some, Result, Ok, Err, refl, sym, ap, subst, ◌∙◌, append_assoc, arith, inl, inr}
+use Rattle.std.specs.Prelude.{IfErr, IfOk}
+use Rattle.std.specs.List.{flat_map, AllByRecursion}
+use Rattle.std.specs.Io.KnownBytes.{Consumes, IsAtEnd}
+use Rattle.std.proofs.KnownBytes.{Consumes-kept, Consumes-nil, Consumes-trans, Consumes-whole}
+use Rattle.std.proofs.Math.Seq.{take-append-add, take-length}
+use Rattle.std.proofs.lemmas.Bool.{cases_lt}
+use Rattle.std.proofs.lemmas.List.{append-nil, length-append, length-replicate, length-take, take-append-drop, take-append-le, take-take}
+use Rattle.acl_perm.specs.Profile.{Profile}
+use Rattle.acl_nfs4.specs.Ace.{Ace}
+use Rattle.acl_nfs4.specs.Within.{IsProfile}
+use Rattle.acl_nfs4.specs.Spelling.{IsAce, Xdr, pad_len, piece}
+use Rattle.acl_nfs4.specs.Fault.{Border, Breaks, IsFault, IsFirstFault, IsWholeFault, Stage, refuses, size}
+use Rattle.acl_nfs4.specs.Fault.IsWholeFault.{behind, of_value}
+use Rattle.acl_nfs4.specs.Fault.Stage.{count as at_count, kind as at_kind, flags as at_flags, mask as at_mask, len as at_len, who as at_who, padding as at_padding}
+use Rattle.acl_nfs4.specs.Stream.{Finishes, IsCut, Refuses, Standing}
+use Rattle.acl_nfs4.specs.Stream.Standing.{done, more}
+use Rattle.acl_nfs4.specs.declared.fault.Fault.{Fault}
+use Rattle.acl_nfs4.specs.declared.fault.Reason.{Reason}
+use Rattle.acl_nfs4.specs.declared.fault.Reason.TheVariants.{Memory, TrailingBytes, Truncated}
+use Rattle.acl_nfs4.proofs.Completion.{begins, who_bounds as stage_bounds}
+use Rattle.acl_nfs4.proofs.Exactly.{one_reason}
+use Rattle.acl_nfs4.proofs.Fields.{who_bounds}
+use Rattle.acl_nfs4.proofs.Held.{short_rest}
+use Rattle.acl_nfs4.proofs.OneFault.{never_truncated}
+use Rattle.acl_nfs4.proofs.Pieces.{breaks_whole, fault_stays}
+use Rattle.aclck.specs.Answer.{IsXdrFault}
+use Rattle.aclck.specs.ListInput.{EndsNot, HasInput, IsNotRead, ReadsNone, ReadsValue, TakesLittle, piece_len}
+use Rattle.aclck.specs.declared.answer.RunFault.{RunFault}
+use Rattle.aclck.specs.declared.answer.RunFault.TheVariants as fault
+use Rattle.aclck.specs.declared.list_input.Value.{Value}
+
+-- ---- lists are short
+
+-- the piece of an ACE
+ace_short : (p : Profile) (a : Ace) → IsAce p a → length (piece a) ≤ 1044
+ace_short p a is = omega (
+  arith,
+  length-append a.who (replicate (pad_len (length a.who)) 0),
+  length-replicate {A = ℕ} (pad_len (length a.who)) 0,
+  (who_bounds a.who is.who).1,
+)
+
+-- the pieces of a list
+pieces_short : (p : Profile) (list : List Ace) → AllByRecursion (IsAce p) list
+    → length (flat_map piece list) ≤ 1044 * length list
+pieces_short p [] each = omega arith
+pieces_short p (a ∷ list) each = omega (
+  arith,
+  length-append (piece a) (flat_map piece list),
+  ace_short p a each.0,
+  pieces_short p list each.1,
+)
+
+-- a spelling has less than 2 ^ 31 bytes
+pub spelled_short : (p : Profile) (list : List Ace) (text : List ℕ) → Xdr p list text → length text < 2 ^ 31
+spelled_short p list text x = omega (
+  arith,
+  ap length x.spelled,
+  pieces_short p list x.accepted.each,
+  x.accepted.count,
+)
+
+-- a field
+size_small : (p : Profile) (s : Stage) (t : List ℕ) → Border p s t → size s ≤ 1024
+size_small p at_count t b = omega arith
+size_small p (at_kind n list) t b = omega arith
+size_small p (at_flags n list k) t b = omega arith
+size_small p (at_mask n list k f) t b = omega arith
+size_small p (at_len n list k f m) t b = omega arith
+size_small p (at_who n list k f m l) t b = (stage_bounds p (at_who n list k f m l) t b).1
+size_small p (at_padding n list k f m w) t b = omega arith
+
+-- and a text that is cut short less than 2 ^ 32
+pub cut_short : (p : Profile) (text : List ℕ) → IsCut p text → length text < 2 ^ 32
+cut_short p text c =
+    let f = c.1.1 in
+    let b = begins p f.stage f.front f.border in
+    omega (
+      arith,
+      spelled_short p b.0 (f.front ++ b.1) b.2,
+      length-append f.front b.1,
+      ap length f.parts,
+      length-append f.front f.rest,
+      short_rest p f.stage f.rest f.more f.breaks,
+      size_small p f.stage f.front f.border,
+    )
+
+-- ---- a value
+
+-- the value that a feed held
+pub done_reads : (p : Profile) (left given text pulled pull new_left : List ℕ) (old new : Option (List ℕ)) (fed t : ℕ)
+    (feed : Standing) (list : List Ace) (r : Result Value RunFault) → left ++ given ≡ text ++ pulled
+    → Consumes old new given → fed ≡ length text → pull ≡ pulled → new_left ≡ drop t pulled → t ≤ length pull
+    → feed ≡ done list → Xdr p list (text ++ take t pull)
+    → IfOk r (λ v. (v.len ≡ fed + t) × Finishes feed (Ok v.list))
+    → IfOk r (λ v. ReadsValue p left new_left old new v.list v.len)
+done_reads p left given text pulled pull new_left old new fed t feed list (Err e) parts c n same after le is x h = tt
+done_reads p left given text pulled pull new_left old new fed t feed list (Ok v) parts c n same after le is x h =
+    let found : Ok v.list ≡ Ok list = subst (λ (s : Standing). Finishes s (Ok v.list)) is h.1 in
+    let same_list : v.list ≡ list = cc in
+    record {
+      given = given;
+      text = text ++ take t pull;
+      taken = c;
+      parts = parts ∙ rw (same, after) (ap (λ (x : List ℕ). text ++ x) (sym (take-append-drop t pulled))
+          ∙ sym (append_assoc text (take t pulled) (drop t pulled)));
+      spelled = subst (λ (l : List Ace). Xdr p l (text ++ take t pull)) (sym same_list) x;
+      is_len = omega (arith, h.0, n, le, length-append text (take t pull), length-take t pull);
+    }
+
+-- a value is short
+pub reads_small : (p : Profile) (left new_left : List ℕ) (old new : Option (List ℕ)) (r : Result Value RunFault)
+    → IfOk r (λ v. ReadsValue p left new_left old new v.list v.len) → IfOk r (λ v. v.len < 2 ^ 32)
+reads_small p left new_left old new (Err e) h = tt
+reads_small p left new_left old new (Ok v) h = omega (arith, h.is_len, spelled_short p v.list h.text h.spelled)
+
+-- a refused field that ends in a beginning of a text is refused in the beginning
+in_front : (p : Profile) (text pull : List ℕ) (o end : ℕ) (r : Reason) → IsFirstFault p (text ++ pull) o end r
+    → r ≢ Truncated → end ≤ length text → IsFault p text o r
+in_front p text pull o end r f not_cut le =
+    let b = breaks_whole p f.stage f.rest f.more r f.breaks not_cut in
+    let n : ℕ = length text - length f.front in
+    let k : length text ≡ length f.front + n = omega (arith, f.ends, f.here, le) in
+    let inside : size f.stage ≤ n = omega (arith, f.ends, f.here, le, b.1) in
+    let some : size f.stage ≤ length (take n f.rest) = omega (arith, length-take n f.rest, inside, b.0) in
+    let parts : text ≡ f.front ++ take n f.rest =
+    sym (take-append-le (length text) text pull (omega arith) ∙ take-length text)
+    ∙ ap (λ (i : ℕ). take i (text ++ pull)) k ∙ ap (take (length f.front + n)) f.parts
+    ∙ take-append-add f.front f.rest n in (
+      end,
+      record {
+        stage = f.stage;
+        front = f.front;
+        rest = take n f.rest;
+        more = f.more;
+        parts = parts;
+        border = f.border;
+        here = f.here;
+        owed = f.owed;
+        some = f.some;
+        breaks = inr (
+          some,
+          b.1,
+          subst (λ (z : List ℕ). refuses p f.stage z r) (sym (take-take (size f.stage) n f.rest inside)) b.2,
+        );
+        ends = f.ends;
+      },
+    )
+
+-- the fault of a text stands behind a beginning that is cut short
+behind_cut : (p : Profile) (text pull : List ℕ) (o end : ℕ) (r : Reason) → IsProfile p → IsCut p text
+    → IsFirstFault p (text ++ pull) o end r → r ≢ Truncated → length text ≤ end
+behind_cut p text pull o end r ok cut f not_cut =
+    elim (cases_lt end (length text)) [
+      | inr le ↦ le
+      | inl lt ↦
+          let same = in_front p text pull o end r f not_cut (omega (arith, lt)) in
+          absurd (not_cut (one_reason p text o cut.0 r Truncated ok same cut.1))
+    ]
+
+-- what the feed has taken, when it asks for more
+pub next_parts : (left given text pulled pull new_pulled : List ℕ) → left ++ given ≡ text ++ pulled → pull ≡ pulled
+    → left ++ (given ++ new_pulled) ≡ (text ++ pull) ++ new_pulled
+next_parts left given text pulled pull new_pulled parts same =
+    sym (append_assoc left given new_pulled)
+    ∙ ap (λ (x : List ℕ). x ++ new_pulled) (parts ∙ ap (λ (x : List ℕ). text ++ x) (sym same))
+
+-- all of a text that is cut short is taken
+pub cut_end : (p : Profile) (text : List ℕ) (o end : ℕ) (f : IsFirstFault p text o end Truncated)
+    → Breaks p f.stage f.rest f.more Truncated → end ≡ length text
+cut_end p text o end f (inl h) = omega (arith, f.ends, f.here, h.1, ap length f.parts, length-append f.front f.rest)
+cut_end p text o end f (inr h) = absurd (never_truncated p f.stage _ h.2)
+
+-- the source ends where the stream is cut short
+pub end_reads : (p : Profile) (left given text pulled pull new_pulled : List ℕ) (old mid new : Option (List ℕ))
+    (feed : Standing) (r : Result Value RunFault) → left ++ given ≡ text ++ pulled → pull ≡ pulled
+    → Consumes old mid given → Consumes mid new new_pulled → new_pulled ≡ [] → IsAtEnd new
+    → feed ≡ more p (text ++ pull)
+    → IfErr r (λ e. (e ≡ fault.Memory) ⊎ ((f : Fault) × (e ≡ fault.Nfs f) × Finishes feed (Err f)))
+    → IfErr r (λ e. ReadsNone p left old new e)
+end_reads p left given text pulled pull new_pulled old mid new feed (Ok v) parts same c d none end is h = tt
+end_reads p left given text pulled pull new_pulled old mid new feed (Err e) parts same c d none end is (inl m) =
+    rw m tt
+end_reads p left given text pulled pull new_pulled old mid new feed (Err e) parts same c d none end is
+    (inr (f, at, h)) =
+    let cut : Finishes (more p (text ++ pull)) (Err f) = subst (λ (s : Standing). Finishes s (Err f)) is h in
+    let all : IsFirstFault p (text ++ pull) f.offset cut.1.0 Truncated =
+    subst (λ (r : Reason). IsFirstFault p (text ++ pull) f.offset cut.1.0 r) cut.0 cut.1.1 in
+    let whole : text ++ pull ≡ left ++ (given ++ new_pulled) =
+    sym (next_parts left given text pulled pull new_pulled parts same
+    ∙ ap (λ (x : List ℕ). (text ++ pull) ++ x) none ∙ append-nil (text ++ pull)) in
+    rw at (record {
+      given = given ++ new_pulled;
+      end = cut.1.0;
+      taken = Consumes-trans old mid new given new_pulled c d;
+      has = subst (λ (x : List ℕ). IsFirstFault p x f.offset cut.1.0 f.reason) whole cut.1.1;
+      near = omega (arith, cut_end p (text ++ pull) f.offset cut.1.0 all all.breaks, ap length whole);
+      all = λ t. end;
+    })
+
+-- what an engine tells of a fault
+abbrev pub IsTold : RunFault → Fault → Type 0
+IsTold e f = (e ≡ fault.Memory) ⊎ ((e ≡ fault.Nfs f) × (f.reason ≢ Memory))
+
+-- a stream is refused
+pub refused_reads : (p : Profile) (left given text pulled pull : List ℕ) (old new : Option (List ℕ)) (f : Fault)
+    (e : RunFault) → IsProfile p → left ++ given ≡ text ++ pulled → Consumes old new given → pull ≡ pulled
+    → length pulled ≤ piece_len → IsCut p text → Refuses p (text ++ pull) f → IsTold e f
+    → ReadsNone p left old new e
+refused_reads p left given text pulled pull old new f e ok parts c same short cut h (inl memory) = rw memory tt
+refused_reads p left given text pulled pull old new f e ok parts c same short cut (inl m) (inr is) =
+    absurd (is.1 (ap (λ (g : Fault). g.reason) m))
+refused_reads p left given text pulled pull old new f e ok parts c same short cut (inr h) (inr is) =
+    let far = behind_cut p text pull f.offset h.0.0 f.reason ok cut h.0.1 h.1 in
+    let whole : text ++ pull ≡ left ++ given = ap (λ (x : List ℕ). text ++ x) same ∙ sym parts in
+    rw is.0 (record {
+      given = given;
+      end = h.0.0;
+      taken = c;
+      has = subst (λ (x : List ℕ). IsFirstFault p x f.offset h.0.0 f.reason) whole h.0.1;
+      near = omega (arith, far, short, ap length parts, length-append text pulled);
+      all = λ t. absurd (h.1 t);
+    })
+
+-- ---- a whole input
+
+-- a value and nothing behind it
+whole_text : (p : Profile) (text given after : List ℕ) (list : List Ace) → Xdr p list text
+    → given ≡ text ++ after → after ≡ [] → Xdr p list given
+whole_text p text given after list x e none =
+    subst (λ (y : List ℕ). Xdr p list y)
+    (sym (e ∙ ap (λ (y : List ℕ). text ++ y) none ∙ append-nil text)) x
+
+-- the input is what was read of it
+pub list_found : (p : Profile) (list : List Ace) (text given after : List ℕ) (old mid new : Option (List ℕ))
+    → Xdr p list text → given ≡ text ++ after → after ≡ [] → Consumes old mid given → Consumes mid new []
+    → IsAtEnd new → HasInput (λ input. Xdr p list input) old
+list_found p list text given after old mid new x e none c d end =
+    let all = Consumes-trans old mid new given [] c d in
+    let is : Xdr p list (given ++ []) = subst (λ (y : List ℕ). Xdr p list y) (sym (append-nil given))
+    (whole_text p text given after list x e none) in
+    record {
+      input = given ++ [];
+      is_input = Consumes-whole old new (given ++ []) (λ bytes. given ++ [] ≡ bytes) all end refl;
+      holds = is;
+    }
+
+-- a value, and little behind it
+pub value_near : (p : Profile) (list : List Ace) (text after given others : List ℕ) (old mid new : Option (List ℕ))
+    → Xdr p list text → given ≡ text ++ after → Consumes old mid given → Consumes mid new others
+    → length (after ++ others) ≤ piece_len → TakesLittle p old new
+value_near p list text after given others old mid new x e c d near = record {
+  given = given ++ others;
+  end = length text;
+  taken = Consumes-trans old mid new given others c d;
+  is_end = inl (record {
+    list = list;
+    spelled = subst (λ (y : List ℕ). Xdr p list y) (sym (ap (λ (y : List ℕ). take (length text) (y ++ others)) e
+        ∙ ap (λ (y : List ℕ). take (length text) y) (append_assoc text after others)
+        ∙ take-append-le (length text) text (after ++ others) (omega arith) ∙ take-length text)) x;
+  });
+  near = omega (
+    arith,
+    near,
+    ap length e,
+    length-append given others,
+    length-append text after,
+    length-append after others,
+  );
+}
+
+-- the bytes behind the first
+regroup : (a b c d : List ℕ) → ((a ++ b) ++ c) ++ d ≡ a ++ ((b ++ c) ++ d)
+regroup a b c d = simp append_assoc
+
+-- a beginning that is refused, or all of an input that is cut short
+pub still_has : (p : Profile) (given left : List ℕ) (f : Fault) (end : ℕ) (h : IsFirstFault p given f.offset end f.reason)
+    → Breaks p h.stage h.rest h.more f.reason → (f.reason ≡ Truncated → left ≡ [])
+    → IsFault p (given ++ left) f.offset f.reason
+still_has p given left f end h (inl b) all =
+    subst (λ (x : List ℕ). IsFault p x f.offset f.reason)
+    (sym (ap (λ (x : List ℕ). given ++ x) (all b.2) ∙ append-nil given)) (end, h)
+still_has p given left f end h (inr b) all =
+    fault_stays p given left f.offset f.reason (end, h)
+    (λ e. never_truncated p h.stage _ (subst (λ (r : Reason). refuses p h.stage (take (size h.stage) h.rest) r) e b.2))
+
+-- an input has the fault that was read
+fault_found : (p : Profile) (given : List ℕ) (old mid : Option (List ℕ)) (f : Fault) (end : ℕ)
+    → IsFirstFault p given f.offset end f.reason → Consumes old mid given → (f.reason ≡ Truncated → IsAtEnd mid)
+    → HasInput (λ input. IsXdrFault p input (fault.Nfs f)) old
+fault_found p given None mid f end h c all = record {
+  input = given;
+  is_input = tt;
+  holds = record { found = f; is = refl; has = of_value f.offset f.reason (end, h) };
+}
+fault_found p given (Some known) None f end h c all = absurd c
+fault_found p given (Some known) (Some left) f end h c all = record {
+  input = known;
+  is_input = refl;
+  holds = record {
+    found = f;
+    is = refl;
+    has = of_value f.offset f.reason (subst (λ (x : List ℕ). IsFault p x f.offset f.reason) (sym c)
+        (still_has p given left f end h h.breaks all));
+  };
+}
+
+-- why a value was not read is why a list was not
+pub not_read : (p : Profile) (old mid : Option (List ℕ)) (e : RunFault) → ReadsNone p [] old mid e → IsNotRead p old e
+not_read p old mid (fault.Nfs f) h = fault_found p h.given old mid f h.end h.has h.taken h.all
+not_read p old mid (fault.NfsText f) h = h
+not_read p old mid (fault.Posix f) h = h
+not_read p old mid fault.Limits h = h
+not_read p old mid fault.Read h = tt
+not_read p old mid (fault.Write w) h = h
+not_read p old mid fault.Memory h = tt
+
+-- and then little was taken, want of memory aside
+pub none_near : (p : Profile) (old mid : Option (List ℕ)) (e : RunFault) → ReadsNone p [] old mid e
+    → (e ≡ fault.Memory) ⊎ TakesLittle p old mid
+none_near p old mid (fault.Nfs f) h = inr (record {
+  given = h.given;
+  end = h.end;
+  taken = h.taken;
+  is_end = inr (record { offset = f.offset; reason = f.reason; has = h.has });
+  near = h.near;
+})
+none_near p old mid (fault.NfsText f) h = absurd h
+none_near p old mid (fault.Posix f) h = absurd h
+none_near p old mid fault.Limits h = absurd h
+none_near p old mid fault.Read h = inr (record {
+  given = h.given;
+  end = h.cut.1.0;
+  taken = h.taken;
+  is_end = inr (record { offset = h.cut.0; reason = Truncated; has = h.cut.1.1 });
+  near = omega (arith, cut_end p h.given h.cut.0 h.cut.1.0 h.cut.1.1 h.cut.1.1.breaks);
+})
+none_near p old mid (fault.Write w) h = absurd h
+none_near p old mid fault.Memory h = inl refl
+
+-- an input that goes on behind its value
+trailing : (p : Profile) (list : List Ace) (text after given others : List ℕ) (len : ℕ) → Xdr p list text
+    → given ≡ text ++ after → 0 < length (after ++ others) → len ≡ length text → (left : List ℕ)
+    → IsWholeFault p ((given ++ others) ++ left) len TrailingBytes
+trailing p list text after given others len x e some is left =
+    rw is (behind list text ((after ++ others) ++ left) x
+    (ap (λ (y : List ℕ). (y ++ others) ++ left) e ∙ regroup text after others left)
+    (omega (arith, some, length-append (after ++ others) left)))
+
+-- the input goes on behind its value
+more_found : (p : Profile) (list : List Ace) (text after given others : List ℕ) (old new : Option (List ℕ)) (len : ℕ)
+    → Xdr p list text → given ≡ text ++ after → Consumes old new (given ++ others) → 0 < length (after ++ others)
+    → len ≡ length text
+    → HasInput (λ input. IsXdrFault p input (fault.Nfs (record { offset = len; reason = TrailingBytes }))) old
+more_found p list text after given others None new len x e c some is = record {
+  input = (given ++ others) ++ [];
+  is_input = tt;
+  holds = record {
+    found = record { offset = len; reason = TrailingBytes };
+    is = refl;
+    has = trailing p list text after given others len x e some is [];
+  };
+}
+more_found p list text after given others (Some known) None len x e c some is = absurd c
+more_found p list text after given others (Some known) (Some left) len x e c some is = record {
+  input = known;
+  is_input = refl;
+  holds = record {
+    found = record { offset = len; reason = TrailingBytes };
+    is = refl;
+    has = subst (λ (y : List ℕ). IsWholeFault p y len TrailingBytes) (sym c)
+        (trailing p list text after given others len x e some is left);
+  };
+}
+
+-- why an input does not end behind a list is why a list was not read
+pub ends_not : (p : Profile) (list : List Ace) (text after given : List ℕ) (old mid new : Option (List ℕ)) (len : ℕ)
+    (e : RunFault) → Xdr p list text → given ≡ text ++ after → Consumes old mid given → len ≡ length text
+    → EndsNot len after mid new e → IsNotRead p old e
+ends_not p list text after given old mid new len (fault.Nfs f) x e c is h =
+    rw h.0 (more_found p list text after given h.1.given old new len x e
+    (Consumes-trans old mid new given h.1.given c h.1.taken) h.1.some is)
+ends_not p list text after given old mid new len (fault.NfsText f) x e c is h = h
+ends_not p list text after given old mid new len (fault.Posix f) x e c is h = h
+ends_not p list text after given old mid new len fault.Limits x e c is h = h
+ends_not p list text after given old mid new len fault.Read x e c is h = tt
+ends_not p list text after given old mid new len (fault.Write w) x e c is h = h
+ends_not p list text after given old mid new len fault.Memory x e c is h = tt
+
+-- and then little was taken
+pub ends_near : (p : Profile) (list : List Ace) (text after given : List ℕ) (old mid new : Option (List ℕ)) (len : ℕ)
+    (e : RunFault) → Xdr p list text → given ≡ text ++ after → Consumes old mid given → EndsNot len after mid new e
+    → TakesLittle p old new
+ends_near p list text after given old mid new len (fault.Nfs f) x e c h =
+    value_near p list text after given h.1.given old mid new x e c h.1.taken h.1.near
+ends_near p list text after given old mid new len (fault.NfsText f) x e c h = absurd h
+ends_near p list text after given old mid new len (fault.Posix f) x e c h = absurd h
+ends_near p list text after given old mid new len fault.Limits x e c h = absurd h
+ends_near p list text after given old mid new len fault.Read x e c h =
+    value_near p list text after given [] old mid new x e c
+    (Consumes-kept mid mid new [] (Consumes-nil mid) h.1) (rw h.0 (omega arith))
+ends_near p list text after given old mid new len (fault.Write w) x e c h = absurd h
+ends_near p list text after given old mid new len fault.Memory x e c h = absurd h

@@ -1,0 +1,254 @@
+-- What two lists that are read from pulls, one after the other, take of their input.
+use Rattle.std.proofs.Common.{◌≡◌, ◌≢◌, ◌⊎◌, ℕ, ◌+◌, ◌^◌, ◌<◌, ◌≤◌, List, [], ◌∷◌, ◌++◌, length, Option, None, Some, refl, sym, ap, subst, ◌∙◌, append_assoc, arith, inl, inr}
+use Rattle.std.specs.Io.KnownBytes.{Consumes, IsAtEnd, Keeps}
+use Rattle.std.proofs.KnownBytes.{Consumes-kept, Consumes-nil, Consumes-trans, Consumes-whole}
+use Rattle.std.proofs.Math.Seq.{take-length}
+use Rattle.std.proofs.lemmas.List.{append-nil, length-append, take-append-le}
+use Rattle.acl_perm.specs.Profile.{Profile}
+use Rattle.acl_nfs4.specs.Ace.{Ace}
+use Rattle.acl_nfs4.specs.Spelling.{Xdr}
+use Rattle.acl_nfs4.specs.Fault.{IsFirstFault, IsWholeFault}
+use Rattle.acl_nfs4.specs.Fault.IsWholeFault.{behind, of_value}
+use Rattle.acl_nfs4.specs.declared.fault.Fault.{Fault}
+use Rattle.acl_nfs4.specs.declared.fault.Reason.{Reason}
+use Rattle.acl_nfs4.specs.declared.fault.Reason.TheVariants.{TrailingBytes, Truncated}
+use Rattle.acl_nfs4.proofs.Completion.{begins}
+use Rattle.aclck.specs.Compare.{AreTwo, IsFaultOfTwo, IsRefusedTwo}
+use Rattle.aclck.specs.Compare.IsFaultOfTwo.{of_first, of_second}
+use Rattle.aclck.specs.ListInput.{EndsNot, HasInput, ReadsNone, ReadsValue, piece_len}
+use Rattle.aclck.specs.TwoLists.{AreNotRead, StandsBelow, TakesLittleOfTwo, later}
+use Rattle.aclck.specs.declared.answer.RunFault.{RunFault}
+use Rattle.aclck.specs.declared.answer.RunFault.TheVariants as fault
+use Rattle.aclck.proofs.ListInputLemmas.{cut_end, spelled_short, still_has}
+
+-- what holds of the bytes that were taken, with those that are left, holds of an input
+pub input_found : (Holds : List ℕ → Type 0) (given : List ℕ) (old new : Option (List ℕ)) → Consumes old new given
+    → ((left : List ℕ) → (IsAtEnd new → left ≡ []) → Holds (given ++ left)) → HasInput Holds old
+input_found Holds given None new c h = record { input = given ++ []; is_input = tt; holds = h [] (λ _. refl) }
+input_found Holds given (Some known) None c h = absurd c
+input_found Holds given (Some known) (Some left) c h =
+    record { input = known; is_input = refl; holds = subst Holds (sym c) (h left (λ e. e)) }
+
+-- ---- the first list is refused
+
+-- why the first list was not read is why both were not
+pub first_not_read : (p : Profile) (old mid : Option (List ℕ)) (e : RunFault) → ReadsNone p [] old mid e
+    → AreNotRead p old e
+first_not_read p old mid (fault.Nfs f) h =
+    input_found (λ input. IsRefusedTwo p input (fault.Nfs f)) h.given old mid h.taken (λ left end. record {
+      found = f;
+      is = refl;
+      has = of_first f.offset f.reason (still_has p h.given left f h.end h.has h.has.breaks (λ t. end (h.all t)));
+    })
+first_not_read p old mid (fault.NfsText f) h = h
+first_not_read p old mid (fault.Posix f) h = h
+first_not_read p old mid fault.Limits h = h
+first_not_read p old mid fault.Read h = tt
+first_not_read p old mid (fault.Write w) h = h
+first_not_read p old mid fault.Memory h = tt
+
+-- and then little was taken, want of memory aside
+pub first_near : (p : Profile) (old mid : Option (List ℕ)) (e : RunFault) → ReadsNone p [] old mid e
+    → (e ≡ fault.Memory) ⊎ TakesLittleOfTwo p old mid
+first_near p old mid (fault.Nfs f) h = inr (record {
+  given = h.given;
+  end = h.end;
+  taken = h.taken;
+  is_end = inr (record { offset = f.offset; reason = f.reason; has = h.has });
+  near = h.near;
+})
+first_near p old mid (fault.NfsText f) h = absurd h
+first_near p old mid (fault.Posix f) h = absurd h
+first_near p old mid fault.Limits h = absurd h
+first_near p old mid fault.Read h = inr (record {
+  given = h.given;
+  end = h.cut.1.0;
+  taken = h.taken;
+  is_end = inr (record { offset = h.cut.0; reason = Truncated; has = h.cut.1.1 });
+  near = omega (arith, cut_end p h.given h.cut.0 h.cut.1.0 h.cut.1.1 h.cut.1.1.breaks);
+})
+first_near p old mid (fault.Write w) h = absurd h
+first_near p old mid fault.Memory h = inl refl
+
+-- ---- the second list is refused
+
+-- a fault stands where accepted fields end, which are few bytes
+pub fault_below : (p : Profile) (left : List ℕ) (old mid : Option (List ℕ)) (e : RunFault) → ReadsNone p left old mid e
+    → StandsBelow (2 ^ 32) e
+fault_below p left old mid (fault.Nfs f) h =
+    let b = begins p h.has.stage h.has.front h.has.border in
+    omega (arith, h.has.here, length-append h.has.front b.1, spelled_short p b.0 (h.has.front ++ b.1) b.2)
+fault_below p left old mid (fault.NfsText f) h = tt
+fault_below p left old mid (fault.Posix f) h = tt
+fault_below p left old mid fault.Limits h = tt
+fault_below p left old mid fault.Read h = tt
+fault_below p left old mid (fault.Write w) h = tt
+fault_below p left old mid fault.Memory h = tt
+
+-- what was taken, by the first list and what was taken behind it
+regroup : (given text after others : List ℕ) → given ≡ text ++ after → given ++ others ≡ text ++ (after ++ others)
+regroup given text after others e = ap (λ v. v ++ others) e ∙ append_assoc text after others
+
+second_refused : (p : Profile) (list : List Ace) (text after given others : List ℕ) (old mid new : Option (List ℕ))
+    (f : Fault) (end len : ℕ) → Xdr p list text → given ≡ text ++ after → Consumes old mid given → len ≡ length text
+    → Consumes mid new others → IsFirstFault p (after ++ others) f.offset end f.reason
+    → (f.reason ≡ Truncated → IsAtEnd new)
+    → HasInput (λ input. IsRefusedTwo p input (fault.Nfs (record { offset = f.offset + len; reason = f.reason }))) old
+second_refused p list text after given others old mid new f end len x e c is d has all =
+    input_found _ (given ++ others) old new (Consumes-trans old mid new given others c d) (λ left at_end. record {
+      found = record { offset = f.offset + len; reason = f.reason };
+      is = refl;
+      has = subst (λ n. IsFaultOfTwo p ((given ++ others) ++ left) n f.reason) (omega arith)
+          (of_second list text ((after ++ others) ++ left) f.offset f.reason x
+          (ap (λ v. v ++ left) (regroup given text after others e) ∙ append_assoc text (after ++ others) left)
+          (of_value f.offset f.reason
+          (still_has p (after ++ others) left f end has has.breaks (λ t. at_end (all t)))));
+    })
+
+-- why the second list was not read is why both were not
+pub second_not_read : (p : Profile) (list : List Ace) (text after given : List ℕ) (old mid new : Option (List ℕ))
+    (len : ℕ) (e : RunFault) → Xdr p list text → given ≡ text ++ after → Consumes old mid given → len ≡ length text
+    → ReadsNone p after mid new e → AreNotRead p old (later e len)
+second_not_read p list text after given old mid new len (fault.Nfs f) x e c is h =
+    second_refused p list text after given h.given old mid new f h.end len x e c is h.taken h.has h.all
+second_not_read p list text after given old mid new len (fault.NfsText f) x e c is h = h
+second_not_read p list text after given old mid new len (fault.Posix f) x e c is h = h
+second_not_read p list text after given old mid new len fault.Limits x e c is h = h
+second_not_read p list text after given old mid new len fault.Read x e c is h = tt
+second_not_read p list text after given old mid new len (fault.Write w) x e c is h = h
+second_not_read p list text after given old mid new len fault.Memory x e c is h = tt
+
+second_taken : (p : Profile) (list : List Ace) (text after given others : List ℕ) (old mid new : Option (List ℕ))
+    (offset end : ℕ) (r : Reason) → Xdr p list text → given ≡ text ++ after → Consumes old mid given
+    → Consumes mid new others → IsFirstFault p (after ++ others) offset end r
+    → length (after ++ others) ≤ end + piece_len → TakesLittleOfTwo p old new
+second_taken p list text after given others old mid new offset end r x e c d has near = record {
+  given = given ++ others;
+  end = length text + end;
+  taken = Consumes-trans old mid new given others c d;
+  is_end = inl (record {
+    list = list;
+    first = text;
+    rest = after ++ others;
+    parts = regroup given text after others e;
+    spelled = x;
+    behind = end;
+    is_end = inr (record { offset = offset; reason = r; has = has });
+    is = refl;
+  });
+  near = omega (arith, near, ap length (regroup given text after others e), length-append text (after ++ others));
+}
+
+-- and then little was taken, want of memory aside
+pub second_near : (p : Profile) (list : List Ace) (text after given : List ℕ) (old mid new : Option (List ℕ))
+    (len : ℕ) (e : RunFault) → Xdr p list text → given ≡ text ++ after → Consumes old mid given
+    → ReadsNone p after mid new e → (later e len ≡ fault.Memory) ⊎ TakesLittleOfTwo p old new
+second_near p list text after given old mid new len (fault.Nfs f) x e c h =
+    inr (second_taken p list text after given h.given old mid new f.offset h.end f.reason x e c h.taken h.has h.near)
+second_near p list text after given old mid new len (fault.NfsText f) x e c h = absurd h
+second_near p list text after given old mid new len (fault.Posix f) x e c h = absurd h
+second_near p list text after given old mid new len fault.Limits x e c h = absurd h
+second_near p list text after given old mid new len fault.Read x e c h =
+    inr (second_taken p list text after given h.given old mid new h.cut.0 h.cut.1.0 Truncated x e c h.taken h.cut.1.1
+    (omega (arith, cut_end p (after ++ h.given) h.cut.0 h.cut.1.0 h.cut.1.1 h.cut.1.1.breaks)))
+second_near p list text after given old mid new len (fault.Write w) x e c h = absurd h
+second_near p list text after given old mid new len fault.Memory x e c h = inl refl
+
+-- ---- both are read
+
+-- the first list, the second, and what is left
+pub three_parts : (given others text after second left : List ℕ) → given ≡ text ++ after → after ++ others ≡ second ++ left
+    → given ++ others ≡ text ++ (second ++ left)
+three_parts given others text after second left e parts =
+    regroup given text after others e ∙ ap (λ v. text ++ v) parts
+
+-- a byte stands behind the second list
+pub more_not_read : (p : Profile) (list other : List Ace) (text second given left : List ℕ)
+    (old mid new : Option (List ℕ)) (len : ℕ) (e : RunFault) → Xdr p list text → Xdr p other second
+    → given ≡ text ++ (second ++ left) → Consumes old mid given → len ≡ length text + length second
+    → EndsNot len left mid new e → AreNotRead p old e
+more_not_read p list other text second given left old mid new len (fault.Nfs f) x y e c is h =
+    rw h.0 (input_found _ (given ++ h.1.given) old new (Consumes-trans old mid new given h.1.given c h.1.taken)
+    (λ rest end. record {
+      found = record { offset = len; reason = TrailingBytes };
+      is = refl;
+      has = subst (λ n. IsFaultOfTwo p ((given ++ h.1.given) ++ rest) n TrailingBytes) (sym is)
+          (of_second list text (second ++ ((left ++ h.1.given) ++ rest)) (length second) TrailingBytes x
+          (ap (λ v. (v ++ h.1.given) ++ rest) e ∙ simp append_assoc)
+          (behind other second ((left ++ h.1.given) ++ rest) y refl
+          (omega (arith, h.1.some, length-append (left ++ h.1.given) rest))));
+    }))
+more_not_read p list other text second given left old mid new len (fault.NfsText f) x y e c is h = h
+more_not_read p list other text second given left old mid new len (fault.Posix f) x y e c is h = h
+more_not_read p list other text second given left old mid new len fault.Limits x y e c is h = h
+more_not_read p list other text second given left old mid new len fault.Read x y e c is h = tt
+more_not_read p list other text second given left old mid new len (fault.Write w) x y e c is h = h
+more_not_read p list other text second given left old mid new len fault.Memory x y e c is h = tt
+
+-- two lists, and little behind them
+pub two_near : (p : Profile) (list other : List Ace) (text second given left others : List ℕ)
+    (old mid new : Option (List ℕ)) → Xdr p list text → Xdr p other second → given ≡ text ++ (second ++ left)
+    → Consumes old mid given → Consumes mid new others → length (left ++ others) ≤ piece_len
+    → TakesLittleOfTwo p old new
+two_near p list other text second given left others old mid new x y e c d near =
+    let all : given ++ others ≡ text ++ (second ++ (left ++ others)) =
+    ap (λ v. v ++ others) e ∙ simp append_assoc in
+    record {
+      given = given ++ others;
+      end = length text + length second;
+      taken = Consumes-trans old mid new given others c d;
+      is_end = inl (record {
+        list = list;
+        first = text;
+        rest = second ++ (left ++ others);
+        parts = all;
+        spelled = x;
+        behind = length second;
+        is_end = inl (record {
+          list = other;
+          spelled = subst (λ v. Xdr p other v) (sym (take-append-le (length second) second (left ++ others) (omega arith)
+              ∙ take-length second)) y;
+        });
+        is = refl;
+      });
+      near = omega (
+        arith,
+        near,
+        ap length all,
+        length-append text (second ++ (left ++ others)),
+        length-append second (left ++ others),
+      );
+    }
+
+-- and why the input does not end there leaves little taken
+pub more_near : (p : Profile) (list other : List Ace) (text second given left : List ℕ) (old mid new : Option (List ℕ))
+    (len : ℕ) (e : RunFault) → Xdr p list text → Xdr p other second → given ≡ text ++ (second ++ left)
+    → Consumes old mid given → EndsNot len left mid new e → TakesLittleOfTwo p old new
+more_near p list other text second given left old mid new len (fault.Nfs f) x y e c h =
+    two_near p list other text second given left h.1.given old mid new x y e c h.1.taken h.1.near
+more_near p list other text second given left old mid new len (fault.NfsText f) x y e c h = absurd h
+more_near p list other text second given left old mid new len (fault.Posix f) x y e c h = absurd h
+more_near p list other text second given left old mid new len fault.Limits x y e c h = absurd h
+more_near p list other text second given left old mid new len fault.Read x y e c h =
+    two_near p list other text second given left [] old mid new x y e c
+    (Consumes-kept mid mid new [] (Consumes-nil mid) h.1) (rw h.0 (omega arith))
+more_near p list other text second given left old mid new len (fault.Write w) x y e c h = absurd h
+more_near p list other text second given left old mid new len fault.Memory x y e c h = absurd h
+
+-- an input that is two lists
+pub two_found : (p : Profile) (list other : List Ace) (text second given left : List ℕ) (old mid new : Option (List ℕ))
+    → Xdr p list text → Xdr p other second → given ≡ text ++ (second ++ left) → left ≡ [] → Consumes old mid given
+    → Consumes mid new [] → IsAtEnd new → HasInput (λ input. AreTwo p list other input) old
+two_found p list other text second given left old mid new x y e none c d end =
+    record {
+      input = given ++ [];
+      is_input = Consumes-whole old new (given ++ []) (λ bytes. given ++ [] ≡ bytes)
+          (Consumes-trans old mid new given [] c d) end refl;
+      holds = record {
+        first = text;
+        second = second;
+        parts = append-nil given ∙ e ∙ ap (λ v. text ++ v) (ap (λ v. second ++ v) none ∙ append-nil second);
+        first_spelled = x;
+        second_spelled = y;
+      };
+    }

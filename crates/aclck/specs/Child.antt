@@ -1,0 +1,56 @@
+-- `child`: its words, and what it makes of an input (this library's own, in the manner of RFC 8881, section 6.4).
+use Rattle.std.specs.Prelude.{◌∷◌, [], List, ℕ, Option, Some, None, codes, if◌then◌else◌}
+use Rattle.std.specs.Option.{option_and_then, option_map}
+use Rattle.std.specs.Str.{bytes_eq}
+use Rattle.clap.specs.Words.{Row, Text, first_of}
+use Rattle.acl_perm.specs.Profile.{Profile, profile_of}
+use Rattle.acl_nfs4.specs.Ace.{Ace}
+use Rattle.acl_nfs4.specs.Spelling.{spelling}
+use Rattle.acl_eval.specs.Inheritance.{children}
+use Rattle.acl_eval.specs.declared.inherit.ChildKind.{ChildKind}
+use Rattle.acl_eval.specs.declared.inherit.ChildKind.TheVariants as kind
+use Rattle.aclck.specs.Line.{Term, default, required}
+use Rattle.aclck.specs.Values.{profile_value}
+use Rattle.aclck.specs.Answer.{Answer}
+use Rattle.aclck.specs.XdrAnswer.{MakesAnswer}
+use Rattle.aclck.specs.declared.task.child.Child.{Child}
+
+-- ---- words
+
+-- `child --kind file|dir [--profile full|narrow]`
+abbrev pub child_terms : List Term
+child_terms = required (codes "kind") ∷ default (codes "profile") (codes "full") ∷ []
+
+-- what is created, and what a list may have
+pub record ChildValues : Type 0 where
+  pub created : ChildKind
+  pub profile : Profile
+
+-- what a value of `--kind` names
+unfoldable pub kind_value : Text → Option ChildKind
+kind_value text = if bytes_eq text (codes "file") then Some kind.File
+    else (if bytes_eq text (codes "dir") then Some kind.Directory else None)
+
+-- the values, where all are there
+abbrev pub child_values : Option ChildKind → Option Profile → Option ChildValues
+child_values created profile =
+    option_and_then (λ c. option_map (λ p. record { created = c; profile = p }) profile) created
+
+-- the values that the rows of a parse spell
+unfoldable pub child_in : List Row → Option ChildValues
+child_in rows = child_values (option_and_then kind_value (first_of (codes "kind") rows))
+    (option_and_then profile_value (first_of (codes "profile") rows))
+
+-- the values that the program holds
+abbrev pub child_held : Child → ChildValues
+child_held v = record { created = v.kind; profile = profile_of v.profile }
+
+-- ---- the answer
+
+-- the one spelling of the list that the new object gets
+abbrev pub child_text : ChildKind → List Ace → List ℕ
+child_text created list = spelling (children created list)
+
+-- that text, or a fault that the input has
+abbrev pub ChildAnswer : ChildValues → List ℕ → Answer → Type 0
+ChildAnswer v = MakesAnswer v.profile (child_text v.created)

@@ -1,0 +1,126 @@
+-- `compare`: its words, and what it makes of an input (this library's own, over RFC 8881, section 6.2.1).
+use Rattle.std.specs.Prelude.{◌≡◌, ◌+◌, ◌∷◌, ◌++◌, [], List, ℕ, Bool, true, false, not, Option, Some, None, codes, length, unwrap_or}
+use Rattle.std.specs.List.{flat_map}
+use Rattle.std.specs.Option.{option_and_then}
+use Rattle.clap.specs.Words.{Row, first_of}
+use Rattle.acl_perm.specs.Bits.{all_rights}
+use Rattle.acl_perm.specs.Profile.{Profile}
+use Rattle.acl_perm.specs.Situation.{Situation}
+use Rattle.acl_nfs4.specs.Ace.{Ace}
+use Rattle.acl_nfs4.specs.BitNames.{first_name}
+use Rattle.acl_nfs4.specs.Fault.{IsFault, IsWholeFault}
+use Rattle.acl_nfs4.specs.Rights.{rights}
+use Rattle.acl_nfs4.specs.Spelling.{Xdr}
+use Rattle.acl_nfs4.specs.declared.fault.Fault.{Fault}
+use Rattle.acl_nfs4.specs.declared.fault.Reason.{Reason}
+use Rattle.acl_eval.specs.Grant.{SameGrants}
+use Rattle.acl_normal.specs.Difference.{situation_of}
+use Rattle.acl_normal.specs.SmallSets.{IsFirstDifference}
+use Rattle.acl_normal.specs.declared.comparison.Difference.{Difference}
+use Rattle.aclck.specs.Line.{Term, default}
+use Rattle.aclck.specs.Values.{profile_value}
+use Rattle.aclck.specs.Answer.{Answer, done, refused}
+use Rattle.aclck.specs.declared.answer.Outcome.{Outcome}
+use Rattle.aclck.specs.declared.answer.Outcome.TheVariants as outcome
+use Rattle.aclck.specs.declared.answer.RunFault.{RunFault}
+use Rattle.aclck.specs.declared.answer.RunFault.TheVariants as fault
+
+-- ---- words
+
+-- `compare [--profile full|narrow]`
+abbrev pub compare_terms : List Term
+compare_terms = default (codes "profile") (codes "full") ∷ []
+
+-- the profile that the rows of a parse spell
+unfoldable pub compare_in : List Row → Option Profile
+compare_in rows = option_and_then profile_value (first_of (codes "profile") rows)
+
+-- ---- two lists
+
+-- the input is two lists of the profile, one after the other, and nothing more
+pub record AreTwo (p : Profile) (list other : List Ace) (input : List ℕ) : Type 0 where
+  pub first : List ℕ
+  pub second : List ℕ
+  pub parts : input ≡ first ++ second
+  pub first_spelled : Xdr p list first
+  pub second_spelled : Xdr p other second
+
+-- the fault of an input that is to be two lists and nothing more: that of the first list, or else that of what stands
+-- behind it, which is to be one list and nothing more; each counts from the start of the input
+pub data IsFaultOfTwo (p : Profile) (input : List ℕ) : ℕ → Reason → Type 0 where
+  of_first : (offset : ℕ) (r : Reason) → IsFault p input offset r → IsFaultOfTwo p input offset r
+  of_second : (list : List Ace) (first rest : List ℕ) (offset : ℕ) (r : Reason)
+      → Xdr p list first → input ≡ first ++ rest → IsWholeFault p rest offset r
+      → IsFaultOfTwo p input (length first + offset) r
+
+-- the fault is one that the input has
+pub record IsRefusedTwo (p : Profile) (input : List ℕ) (f : RunFault) : Type 0 where
+  pub found : Fault
+  pub is : f ≡ fault.Nfs found
+  pub has : IsFaultOfTwo p input found.offset found.reason
+
+-- ---- the text
+
+-- a line of a word and what it is followed by
+abbrev pub line : List ℕ → List ℕ → List ℕ
+line word value = word ++ 32 ∷ (value ++ 10 ∷ [])
+
+-- that lists grant the same
+abbrev pub same_text : List ℕ
+same_text = codes "same" ++ 10 ∷ []
+
+-- what a list answers
+abbrev pub decision : Bool → List ℕ
+decision true = codes "granted"
+decision false = codes "denied"
+
+-- who requests of whose object, and what both lists answer where they are asked for one right
+abbrev pub difference_text : Situation → ℕ → Bool → List ℕ
+difference_text s mask first_grants =
+    (codes "differ" ++ 10 ∷ [])
+    ++ (line (codes "owner") s.owner_name
+    ++ (line (codes "group") s.owning_group
+    ++ (line (codes "user") s.user_name
+    ++ (flat_map (line (codes "member")) s.groups
+    ++ (line (codes "mask") (unwrap_or (first_name rights mask) [])
+    ++ (line (codes "first") (decision first_grants)
+    ++ line (codes "second") (decision (not first_grants))))))))
+
+-- ---- the answer
+
+-- the lists grant otherwise first in a small situation, and the text tells it
+pub record TellsDifference (list other : List Ace) (text : List ℕ) : Type 0 where
+  pub situation : Situation
+  pub mask : ℕ
+  pub first_grants : Bool
+  pub is_first : IsFirstDifference list other situation mask first_grants
+  pub told : text ≡ difference_text situation mask first_grants
+
+-- what the comparison of two lists comes to: Yes where they grant the same, and else No
+abbrev pub Compares : List Ace → List Ace → Outcome → List ℕ → Type 0
+Compares list other outcome.Yes text = SameGrants all_rights list other × (text ≡ same_text)
+Compares list other outcome.No text = TellsDifference list other text
+
+-- the input is two lists of the profile, which compare so
+pub record ComparesInput (p : Profile) (input : List ℕ) (o : Outcome) (text : List ℕ) : Type 0 where
+  pub list : List Ace
+  pub other : List Ace
+  pub two : AreTwo p list other input
+  pub compares : Compares list other o text
+
+-- the outcome and the text of the two lists, or a fault that the input has
+abbrev pub CompareAnswer : Profile → List ℕ → Answer → Type 0
+CompareAnswer p input (done o text) = ComparesInput p input o text
+CompareAnswer p input (refused f) = IsRefusedTwo p input f
+
+-- ---- the text of what the library answers (words that only code needs)
+
+-- the text of a difference, if there is one
+abbrev pub compared_text : Option Difference → List ℕ
+compared_text None = same_text
+compared_text (Some d) = difference_text (situation_of d) d.bit.bits d.first_grants
+
+-- No where there is a difference
+abbrev pub compared_outcome : Option Difference → Outcome
+compared_outcome None = outcome.Yes
+compared_outcome (Some d) = outcome.No

@@ -1,0 +1,36 @@
+-- `mode`: its words, and what it makes of an input (this library's own, over RFC 8881, section 6.3.2).
+use Rattle.std.specs.Prelude.{◌+◌, ◌∷◌, [], List, ℕ, Option, codes}
+use Rattle.std.specs.Option.{option_and_then}
+use Rattle.clap.specs.Words.{Row, first_of}
+use Rattle.acl_perm.specs.Mode.{group_part, others_part, owner_part}
+use Rattle.acl_perm.specs.Profile.{Profile}
+use Rattle.acl_eval.specs.ListMode.{mode_of_list}
+use Rattle.aclck.specs.Line.{Term, default}
+use Rattle.aclck.specs.Values.{profile_value}
+use Rattle.aclck.specs.Answer.{Answer}
+use Rattle.aclck.specs.XdrAnswer.{MakesAnswer}
+
+-- ---- words
+
+-- `mode [--profile full|narrow]`
+abbrev pub mode_terms : List Term
+mode_terms = default (codes "profile") (codes "full") ∷ []
+
+-- the profile that the rows of a parse spell
+unfoldable pub mode_in : List Row → Option Profile
+mode_in rows = option_and_then profile_value (first_of (codes "profile") rows)
+
+-- ---- the answer
+
+-- the octal digit of a set of permissions
+abbrev pub octal_digit : ℕ → ℕ
+octal_digit perm = 48 + perm
+
+-- the three octal digits of a mode, and a line feed
+abbrev pub mode_line : ℕ → List ℕ
+mode_line mode = octal_digit (owner_part mode) ∷ octal_digit (group_part mode) ∷ octal_digit (others_part mode)
+    ∷ 10 ∷ []
+
+-- the line of the mode of the list, or a fault that the input has
+abbrev pub ModeAnswer : Profile → List ℕ → Answer → Type 0
+ModeAnswer p = MakesAnswer p (λ list. mode_line (mode_of_list list))

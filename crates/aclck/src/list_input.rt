@@ -1,0 +1,200 @@
+//! Lists that an input spells, read as it comes.
+ghost use Rattle.std.specs.Prelude.{◌≡◌, ◌≢◌, ◌⊎◌, ◌<◌, ◌≤◌, ◌^◌, [], Err, IfErr, IfOk, Ok, OnErr, OnOk, drop, false, length, true};
+ghost use Rattle.std.specs.Io.KnownBytes.{Consumes, IsAtEnd, Keeps};
+ghost use Rattle.acl_perm.specs.Devices.{failures_after};
+ghost use Rattle.acl_perm.specs.Profile.{profile_of};
+ghost use Rattle.acl_nfs4.specs.Spelling.{Xdr};
+ghost use Rattle.acl_nfs4.specs.Stream.{Finishes};
+ghost use Rattle.acl_nfs4.specs.declared.fault.Reason.TheVariants.{Memory};
+ghost use Rattle.aclck.specs.Answer.{has_read_failed};
+ghost use Rattle.aclck.specs.ListInput.{EndsNot, HasInput, IsNotRead, ReadsNone, ReadsValue, TakesLittle, piece_len};
+
+use crate::answer::RunFault;
+use acl_nfs4::{Acl, Fault, Fed, Feed, Reason};
+use acl_perm::{Profile, Source};
+use std::alloc::Global;
+use std::marker::Model;
+
+// How many bytes a pull asks for at most.
+const PIECE: usize = 4096;
+
+/// What the last pull of an input gave and no value has taken.
+#[derive(Drop)]
+pub(crate) struct Pulled {
+    room: [u8; PIECE],
+    start: usize,
+    end: usize,
+}
+
+impl Model for Pulled {
+    ghost use Rattle.std.specs.Prelude.{◌≤◌, ◌-◌, List, ℕ, drop, take};
+    ghost use Rattle.aclck.specs.ListInput.{piece_len};
+
+    ghost Value = { List ℕ };
+
+    ghost view = { λ s. take (s.end - s.start) (drop s.start s.room) };
+
+    ghost invariant = { λ s. (s.start ≤ s.end) × (s.end ≤ piece_len) };
+}
+
+impl Pulled {
+    /// Nothing was pulled yet.
+    pub(crate) fn new() -> Pulled
+        ensures { result ≡ [] }
+    {
+        Pulled {
+            room: [0; PIECE],
+            start: 0,
+            end: 0,
+        }
+    }
+
+    /// What is left.
+    fn left(&self) -> &[u8]
+        ensures is { result.now ≡ self.now }
+        ensures short { length self.now ≤ piece_len }
+    {
+        &self.room[self.start..self.end]
+    }
+
+    // So many bytes belong to a value.
+    fn take(&mut self, count: usize)
+        requires { count ≤ length self.old }
+        ensures { self.new ≡ drop count self.old }
+    {
+        self.start += count;
+    }
+
+    // What is left is done with: what one more pull gives stands in its place. Whether that is any byte.
+    fn pull<S: Source>(&mut self, source: &mut S) -> Result<bool, RunFault>
+        ensures given { OnOk result (Consumes (S.remaining source.old) (S.remaining source.new) self.new) }
+        ensures some { IfOk result (λ came. came ≡ true → 0 < length self.new) }
+        ensures end { IfOk result (λ came. came ≡ false → (self.new ≡ []) × IsAtEnd (S.remaining source.new)) }
+        ensures failed { IfErr result (λ e. e ≡ RunFault.Read) }
+        ensures kept { OnErr result (Keeps (S.remaining source.old) (S.remaining source.new)) }
+        ensures short { length self.new ≤ piece_len }
+        ensures reads { S.failure_count source.new
+            ≡ failures_after (S.failure_count source.old) (has_read_failed result) }
+    {
+        match source.pull(&mut self.room) {
+            Ok(count) => {
+                self.start = 0;
+                self.end = count;
+                Ok(count > 0)
+            }
+            Err(_) => Err(RunFault::Read),
+        }
+    }
+}
+
+/// A list, and how many bytes of the input spell it.
+#[derive(Drop)]
+pub(crate) struct Value {
+    pub(crate) list: Acl,
+    pub(crate) len: u64,
+}
+
+// A fault of a list as an engine tells it.
+fn told(fault: Fault) -> RunFault
+    ensures { (result ≡ RunFault.Memory) ⊎ ((result ≡ RunFault.Nfs fault) × (fault.reason ≢ Memory)) }
+{
+    if fault.reason == Reason::Memory {
+        RunFault::Memory
+    } else {
+        RunFault::Nfs(fault)
+    }
+}
+
+/// Reads one list of the profile, from what is left of the last pull on. What the input has behind it is left. A fault
+/// counts from the list's first byte. After a refusal nothing more is read.
+pub(crate) fn read_value<S: Source>(
+    alloc: Global,
+    source: &mut S,
+    pulled: &mut Pulled,
+    profile: Profile,
+) -> Result<Value, RunFault>
+    ensures value { IfOk result (λ value. ReadsValue (profile_of profile) pulled.old pulled.new
+        (S.remaining source.old) (S.remaining source.new) value.list value.len) }
+    ensures small { IfOk result (λ value. value.len < 2 ^ 32) }
+    ensures none { IfErr result (λ e. ReadsNone (profile_of profile) pulled.old
+        (S.remaining source.old) (S.remaining source.new) e) }
+    ensures reads { S.failure_count source.new
+        ≡ failures_after (S.failure_count source.old) (has_read_failed result) }
+{
+    let mut feed = Feed::with_profile(alloc, profile);
+    let mut fed = 0u64;
+    loop {
+        match feed.feed(pulled.left()) {
+            Fed::More => {}
+            Fed::Done { taken } => {
+                pulled.take(taken);
+                return finish(feed, fed + taken as u64);
+            }
+            Fed::Refused(fault) => return Err(told(fault)),
+        }
+        fed += pulled.left().len() as u64;
+        if !pulled.pull(source)? {
+            return finish(feed, fed);
+        }
+    }
+}
+
+// What a feed comes to that gets no more.
+fn finish(feed: Feed, len: u64) -> Result<Value, RunFault>
+    ensures list { IfOk result (λ value. (value.len ≡ len) × Finishes feed (Ok value.list)) }
+    ensures fault { IfErr result (λ e. (e ≡ RunFault.Memory)
+        ⊎ ((fault : Fault) × (e ≡ RunFault.Nfs fault) × Finishes feed (Err fault))) }
+{
+    match feed.finish() {
+        Ok(list) => Ok(Value { list, len }),
+        Err(fault) => Err(told(fault)),
+    }
+}
+
+/// Whether the input ends behind a value of so many bytes, of which the last pull may have given more.
+pub(crate) fn read_end<S: Source>(
+    source: &mut S,
+    pulled: &mut Pulled,
+    len: u64,
+) -> Result<(), RunFault>
+    ensures end { OnOk result ((pulled.old ≡ []) × Consumes (S.remaining source.old) (S.remaining source.new) []
+        × IsAtEnd (S.remaining source.new)) }
+    ensures not { IfErr result (λ e. EndsNot len pulled.old (S.remaining source.old) (S.remaining source.new) e) }
+    ensures reads { S.failure_count source.new
+        ≡ failures_after (S.failure_count source.old) (has_read_failed result) }
+{
+    let fault = RunFault::Nfs(Fault {
+        offset: len,
+        reason: Reason::TrailingBytes,
+    });
+    if !pulled.left().is_empty() {
+        return Err(fault);
+    }
+    if pulled.pull(source)? {
+        Err(fault)
+    } else {
+        Ok(())
+    }
+}
+
+/// Reads the list of the profile that an input is, and nothing more, by pulls of at most 4,096 bytes. Nothing is read
+/// after a refusal, or after a byte behind the list.
+pub(crate) fn read_list<S: Source>(
+    alloc: Global,
+    source: &mut S,
+    profile: Profile,
+) -> Result<Acl, RunFault>
+    ensures found { IfOk result (λ list.
+        HasInput (λ input. Xdr (profile_of profile) list input) (S.remaining source.old)) }
+    ensures whole { OnOk result (IsAtEnd (S.remaining source.new)) }
+    ensures not_read { IfErr result (λ e. IsNotRead (profile_of profile) (S.remaining source.old) e) }
+    ensures bound { (result ≡ Err RunFault.Memory)
+        ⊎ TakesLittle (profile_of profile) (S.remaining source.old) (S.remaining source.new) }
+    ensures reads { S.failure_count source.new
+        ≡ failures_after (S.failure_count source.old) (has_read_failed result) }
+{
+    let mut pulled = Pulled::new();
+    let Value { list, len } = read_value(alloc, source, &mut pulled, profile)?;
+    read_end(source, &mut pulled, len)?;
+    Ok(list)
+}

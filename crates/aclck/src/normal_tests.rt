@@ -1,0 +1,524 @@
+use crate::command::command;
+use acl_perm::{Counted, Fused};
+use std::alloc::{AllocError, Global};
+use std::process::Abort;
+use std::test::Fail;
+
+// Room for what a run writes.
+const ROOM: usize = 128;
+
+// ---- lists
+
+const EMPTY: &[u8] = b"\0\0\0\0";
+
+// ALLOW - READ_DATA EVERYONE@.
+const READ_OF_ALL: &[u8] = b"\0\0\0\x01\0\0\0\0\0\0\0\0\0\0\0\x01\0\0\0\x09EVERYONE@\0\0\0";
+
+// DENY - READ_DATA bob, ALLOW - READ_DATA alice.
+const WITHOUT_BOB: &[u8] = b"\0\0\0\x02\
+    \0\0\0\x01\0\0\0\0\0\0\0\x01\0\0\0\x03bob\0\
+    \0\0\0\0\0\0\0\0\0\0\0\x01\0\0\0\x05alice\0\0\0";
+
+// ALLOW - READ_DATA alice, DENY - READ_DATA bob.
+const BEHIND_ALICE: &[u8] = b"\0\0\0\x02\
+    \0\0\0\0\0\0\0\0\0\0\0\x01\0\0\0\x05alice\0\0\0\
+    \0\0\0\x01\0\0\0\0\0\0\0\x01\0\0\0\x03bob\0";
+
+// ALLOW - READ_DATA alice.
+const READ_OF_ALICE: &[u8] = b"\0\0\0\x01\0\0\0\0\0\0\0\0\0\0\0\x01\0\0\0\x05alice\0\0\0";
+
+// DENY - READ_DATA bob, ALLOW - READ_DATA EVERYONE@.
+const ALL_BUT_BOB: &[u8] = b"\0\0\0\x02\
+    \0\0\0\x01\0\0\0\0\0\0\0\x01\0\0\0\x03bob\0\
+    \0\0\0\0\0\0\0\0\0\0\0\x01\0\0\0\x09EVERYONE@\0\0\0";
+
+// ALLOW - READ_DATA OWNER@, DENY - READ_DATA|WRITE_DATA OWNER@.
+const OWNER_TWICE: &[u8] = b"\0\0\0\x02\
+    \0\0\0\0\0\0\0\0\0\0\0\x01\0\0\0\x06OWNER@\0\0\
+    \0\0\0\x01\0\0\0\0\0\0\0\x03\0\0\0\x06OWNER@\0\0";
+
+// ALLOW - READ_DATA OWNER@.
+const READ_OF_THE_OWNER: &[u8] = b"\0\0\0\x01\0\0\0\0\0\0\0\0\0\0\0\x01\0\0\0\x06OWNER@\0\0";
+
+// ALLOW GROUP READ_DATA GROUP@.
+const GROUP_FLAGGED: &[u8] = b"\0\0\0\x01\0\0\0\0\0\0\0@\0\0\0\x01\0\0\0\x06GROUP@\0\0";
+
+// ALLOW - READ_DATA GROUP@.
+const READ_OF_THE_GROUP: &[u8] = b"\0\0\0\x01\0\0\0\0\0\0\0\0\0\0\0\x01\0\0\0\x06GROUP@\0\0";
+
+// DENY - WRITE_DATA bob, ALLOW - READ_DATA|WRITE_DATA OWNER@.
+const BOB_AND_OWNER: &[u8] = b"\0\0\0\x02\
+    \0\0\0\x01\0\0\0\0\0\0\0\x02\0\0\0\x03bob\0\
+    \0\0\0\0\0\0\0\0\0\0\0\x03\0\0\0\x06OWNER@\0\0";
+
+// ALLOW - READ_DATA OWNER@, DENY - WRITE_DATA bob, ALLOW - WRITE_DATA OWNER@.
+const OWNER_BOB_OWNER: &[u8] = b"\0\0\0\x03\
+    \0\0\0\0\0\0\0\0\0\0\0\x01\0\0\0\x06OWNER@\0\0\
+    \0\0\0\x01\0\0\0\0\0\0\0\x02\0\0\0\x03bob\0\
+    \0\0\0\0\0\0\0\0\0\0\0\x02\0\0\0\x06OWNER@\0\0";
+
+// ALLOW - READ_DATA ops, DENY GROUP READ_DATA ops.
+const OPS_FIRST: &[u8] = b"\0\0\0\x02\
+    \0\0\0\0\0\0\0\0\0\0\0\x01\0\0\0\x03ops\0\
+    \0\0\0\x01\0\0\0@\0\0\0\x01\0\0\0\x03ops\0";
+
+// ALLOW - READ_DATA ops.
+const READ_OF_OPS: &[u8] = b"\0\0\0\x01\0\0\0\0\0\0\0\0\0\0\0\x01\0\0\0\x03ops\0";
+
+// DENY GROUP READ_DATA ops, ALLOW - READ_DATA ops.
+const OPS_LAST: &[u8] = b"\0\0\0\x02\
+    \0\0\0\x01\0\0\0@\0\0\0\x01\0\0\0\x03ops\0\
+    \0\0\0\0\0\0\0\0\0\0\0\x01\0\0\0\x03ops\0";
+
+// ALLOW - READ_DATA alice, ALLOW - WRITE_DATA alice.
+const ALICE_TWICE: &[u8] = b"\0\0\0\x02\
+    \0\0\0\0\0\0\0\0\0\0\0\x01\0\0\0\x05alice\0\0\0\
+    \0\0\0\0\0\0\0\0\0\0\0\x02\0\0\0\x05alice\0\0\0";
+
+// ALLOW - READ_DATA|WRITE_DATA alice.
+const ALICE_ONCE: &[u8] = b"\0\0\0\x01\0\0\0\0\0\0\0\0\0\0\0\x03\0\0\0\x05alice\0\0\0";
+
+// DENY GROUP READ_DATA staff, ALLOW - READ_DATA|EXECUTE amy, ALLOW - EXECUTE EVERYONE@.
+const AMY_AND_ALL: &[u8] = b"\0\0\0\x03\
+    \0\0\0\x01\0\0\0@\0\0\0\x01\0\0\0\x05staff\0\0\0\
+    \0\0\0\0\0\0\0\0\0\0\0!\0\0\0\x03amy\0\
+    \0\0\0\0\0\0\0\0\0\0\0\x20\0\0\0\x09EVERYONE@\0\0\0";
+
+// DENY GROUP READ_DATA staff, ALLOW - READ_DATA amy, ALLOW - EXECUTE EVERYONE@.
+const AMY_READS: &[u8] = b"\0\0\0\x03\
+    \0\0\0\x01\0\0\0@\0\0\0\x01\0\0\0\x05staff\0\0\0\
+    \0\0\0\0\0\0\0\0\0\0\0\x01\0\0\0\x03amy\0\
+    \0\0\0\0\0\0\0\0\0\0\0\x20\0\0\0\x09EVERYONE@\0\0\0";
+
+// ALLOW - READ_DATA zoe, ALLOW - READ_DATA amy, DENY - READ_DATA EVERYONE@.
+const ZOE_FIRST: &[u8] = b"\0\0\0\x03\
+    \0\0\0\0\0\0\0\0\0\0\0\x01\0\0\0\x03zoe\0\
+    \0\0\0\0\0\0\0\0\0\0\0\x01\0\0\0\x03amy\0\
+    \0\0\0\x01\0\0\0\0\0\0\0\x01\0\0\0\x09EVERYONE@\0\0\0";
+
+// ALLOW - READ_DATA amy, ALLOW - READ_DATA zoe.
+const AMY_FIRST: &[u8] = b"\0\0\0\x02\
+    \0\0\0\0\0\0\0\0\0\0\0\x01\0\0\0\x03amy\0\
+    \0\0\0\0\0\0\0\0\0\0\0\x01\0\0\0\x03zoe\0";
+
+// ALLOW FILE|INHERITONLY READ_DATA amy, ALLOW - READ_DATA amy.
+const AMY_INHERITED: &[u8] = b"\0\0\0\x02\
+    \0\0\0\0\0\0\0\x09\0\0\0\x01\0\0\0\x03amy\0\
+    \0\0\0\0\0\0\0\0\0\0\0\x01\0\0\0\x03amy\0";
+
+// ALLOW - READ_DATA amy.
+const READ_OF_AMY: &[u8] = b"\0\0\0\x01\0\0\0\0\0\0\0\0\0\0\0\x01\0\0\0\x03amy\0";
+
+// DENY - - OWNER@.
+const NO_RIGHTS: &[u8] = b"\0\0\0\x01\0\0\0\x01\0\0\0\0\0\0\0\0\0\0\0\x06OWNER@\0\0";
+
+// ALLOW - WRITE_RETENTION bob.
+const RETENTION: &[u8] = b"\0\0\0\x01\0\0\0\0\0\0\0\0\0\0\x02\0\0\0\0\x03bob\0";
+
+// DENY GROUP READ_DATA staff, ALLOW - READ_DATA GROUP@.
+const STAFF_DENIED: &[u8] = b"\0\0\0\x02\
+    \0\0\0\x01\0\0\0@\0\0\0\x01\0\0\0\x05staff\0\0\0\
+    \0\0\0\0\0\0\0\0\0\0\0\x01\0\0\0\x06GROUP@\0\0";
+
+// ALLOW - WRITE_DATA EVERYONE@.
+const WRITE_OF_ALL: &[u8] = b"\0\0\0\x01\0\0\0\0\0\0\0\0\0\0\0\x02\0\0\0\x09EVERYONE@\0\0\0";
+
+// ALLOW - READ_DATA|EXECUTE OWNER@.
+const OWNER_RUNS: &[u8] = b"\0\0\0\x01\0\0\0\0\0\0\0\0\0\0\0!\0\0\0\x06OWNER@\0\0";
+
+// ALLOW - READ_DATA bob, DENY - READ_DATA OWNER@.
+const BOB_FIRST: &[u8] = b"\0\0\0\x02\
+    \0\0\0\0\0\0\0\0\0\0\0\x01\0\0\0\x03bob\0\
+    \0\0\0\x01\0\0\0\0\0\0\0\x01\0\0\0\x06OWNER@\0\0";
+
+// DENY - READ_DATA OWNER@, ALLOW - READ_DATA bob.
+const BOB_LAST: &[u8] = b"\0\0\0\x02\
+    \0\0\0\x01\0\0\0\0\0\0\0\x01\0\0\0\x06OWNER@\0\0\
+    \0\0\0\0\0\0\0\0\0\0\0\x01\0\0\0\x03bob\0";
+
+// The first ten bytes of a list, and a list with a byte behind it.
+const BEGUN: &[u8] = b"\0\0\0\x01\0\0\0\0\0\0";
+
+const WITH_A_BYTE: &[u8] = b"\0\0\0\x01\0\0\0\0\0\0\0\0\0\0\0\x01\0\0\0\x09EVERYONE@\0\0\0\0";
+
+// ---- rows
+
+// Two lists, one behind the other, with the status and what `compare` writes of them.
+const COMPARISONS: [(&[u8], &[u8], u8, &[u8]); 6] = [
+    (WITHOUT_BOB, BEHIND_ALICE, 0, b"same\n"),
+    (
+        OPS_FIRST,
+        OPS_LAST,
+        1,
+        b"differ\nowner oooo\ngroup gggg\nuser ops\nmember ops\nmask READ_DATA\nfirst granted\nsecond denied\n",
+    ),
+    (
+        STAFF_DENIED,
+        READ_OF_THE_GROUP,
+        1,
+        b"differ\nowner oooooo\ngroup staff\nuser uuuuuu\nmember staff\nmask READ_DATA\nfirst denied\n\
+        second granted\n",
+    ),
+    (
+        EMPTY,
+        WRITE_OF_ALL,
+        1,
+        b"differ\nowner o\ngroup g\nuser u\nmask WRITE_DATA\nfirst denied\nsecond granted\n",
+    ),
+    (
+        OWNER_RUNS,
+        READ_OF_THE_OWNER,
+        1,
+        b"differ\nowner u\ngroup g\nuser u\nmask EXECUTE\nfirst granted\nsecond denied\n",
+    ),
+    (
+        BOB_FIRST,
+        BOB_LAST,
+        1,
+        b"differ\nowner bob\ngroup gggg\nuser bob\nmask READ_DATA\nfirst granted\nsecond denied\n",
+    ),
+];
+
+// Lines of words and two lists, one behind the other, with what is told of them.
+const REFUSED_COMPARISONS: [(&str, &[u8], &[u8], &str); 4] = [
+    (
+        "compare",
+        READ_OF_ALL,
+        BEGUN,
+        "aclck: Truncated at byte 40\n",
+    ),
+    (
+        "compare",
+        READ_OF_ALL,
+        WITH_A_BYTE,
+        "aclck: TrailingBytes at byte 64\n",
+    ),
+    (
+        "compare --profile narrow",
+        EMPTY,
+        RETENTION,
+        "aclck: MaskBits at byte 16\n",
+    ),
+    ("compare", EMPTY, b"", "aclck: Truncated at byte 4\n"),
+];
+
+// Lines of words with an input and what is written.
+const ROWS: [(&str, &[u8], &[u8]); 23] = [
+    ("normalize", EMPTY, EMPTY),
+    ("normalize", READ_OF_ALL, READ_OF_ALL),
+    ("normalize", WITHOUT_BOB, READ_OF_ALICE),
+    ("normalize", BEHIND_ALICE, READ_OF_ALICE),
+    ("normalize", ALL_BUT_BOB, ALL_BUT_BOB),
+    ("normalize", OWNER_TWICE, READ_OF_THE_OWNER),
+    ("normalize", GROUP_FLAGGED, READ_OF_THE_GROUP),
+    ("normalize --profile narrow", BOB_AND_OWNER, OWNER_BOB_OWNER),
+    ("normalize", OPS_FIRST, READ_OF_OPS),
+    ("normalize", OPS_LAST, OPS_LAST),
+    ("normalize --profile=full", ALICE_TWICE, ALICE_ONCE),
+    ("normalize", AMY_AND_ALL, AMY_READS),
+    ("normalize", ZOE_FIRST, AMY_FIRST),
+    ("normalize", AMY_INHERITED, READ_OF_AMY),
+    ("normalize --", NO_RIGHTS, EMPTY),
+    (
+        "table --bit WRITE_DATA",
+        BOB_AND_OWNER,
+        b"0 DENY - bob\n1 ALLOW - OWNER@\n",
+    ),
+    (
+        "table --bit=READ_DATA",
+        BOB_AND_OWNER,
+        b"1 ALLOW - OWNER@\n",
+    ),
+    ("table --bit EXECUTE", AMY_AND_ALL, b"2 ALLOW - EVERYONE@\n"),
+    (
+        "table --bit LIST_DIRECTORY",
+        AMY_AND_ALL,
+        b"0 DENY GROUP staff\n1 ALLOW - amy\n",
+    ),
+    (
+        "table --profile narrow --bit READ_DATA",
+        AMY_INHERITED,
+        b"1 ALLOW - amy\n",
+    ),
+    (
+        "table --bit READ_DATA",
+        GROUP_FLAGGED,
+        b"0 ALLOW - GROUP@\n",
+    ),
+    ("table --bit WRITE_RETENTION", RETENTION, b"0 ALLOW - bob\n"),
+    ("table --bit DELETE", BOB_AND_OWNER, b""),
+];
+
+// Lines that are refused, or ask for nothing.
+const REFUSALS: [(&str, &[u8], u8, &str); 12] = [
+    (
+        "normalize --profile narrow",
+        RETENTION,
+        2,
+        "aclck: MaskBits at byte 12\n",
+    ),
+    (
+        "table --bit READ_DATA --profile=narrow",
+        RETENTION,
+        2,
+        "aclck: MaskBits at byte 12\n",
+    ),
+    (
+        "normalize",
+        b"\0\0\0\0\0",
+        2,
+        "aclck: TrailingBytes at byte 4\n",
+    ),
+    (
+        "table --bit READ_DATA",
+        b"\0\0\0",
+        2,
+        "aclck: Truncated at byte 0\n",
+    ),
+    ("normalize x", EMPTY, 3, "aclck: usage\n"),
+    ("normalize --profile wide", EMPTY, 3, "aclck: usage\n"),
+    ("table", EMPTY, 3, "aclck: usage\n"),
+    ("table --bit none", EMPTY, 3, "aclck: usage\n"),
+    ("table --bit -", EMPTY, 3, "aclck: usage\n"),
+    ("table --bit=-", EMPTY, 3, "aclck: usage\n"),
+    (
+        "table --bit READ_DATA|READ_DATA",
+        EMPTY,
+        3,
+        "aclck: usage\n",
+    ),
+    (
+        "table --bit WRITE_RETENTION --profile narrow",
+        EMPTY,
+        3,
+        "aclck: usage\n",
+    ),
+];
+
+// What a command answered, and what it wrote.
+#[derive(Clone, Copy)]
+struct Ran {
+    status: u8,
+    out: [u8; ROOM],
+    written: usize,
+    err: [u8; ROOM],
+}
+
+impl Ran {
+    // Whether it is this answer, or want of memory, where memory may be wanting.
+    fn is(&self, status: u8, out: &[u8], err: &str, is_ample: bool) -> bool {
+        let is_told = self.status == status && self.wrote(out) && self.told(err);
+        let is_memory = self.status == 4 && self.wrote(b"") && self.told("aclck: out of memory\n");
+        is_told || !is_ample && is_memory
+    }
+
+    fn wrote(&self, text: &[u8]) -> bool {
+        self.written == text.len() && self.out.starts_with(text)
+    }
+
+    fn told(&self, line: &str) -> bool {
+        self.err.starts_with(line.as_bytes())
+            && self.err.iter().skip(line.len()).all(|byte| *byte == 0)
+    }
+}
+
+// The words of a line, where memory is there.
+fn words_of<'a>(alloc: Global, line: &'a str) -> Result<Vec<&'a str>, AllocError> {
+    line.split(' ').collect::<Vec<&str>>(alloc)
+}
+
+fn run(alloc: Global, words: &[&str], input: &[u8]) -> Ran {
+    let mut out = [0u8; ROOM];
+    let mut err = [0u8; ROOM];
+    let mut sink = Counted::new(out.as_mut_slice());
+    let status = command(
+        alloc,
+        words,
+        &mut Counted::new(input),
+        &mut sink,
+        &mut Counted::new(err.as_mut_slice()),
+    );
+    let left = sink.into_inner().len();
+    Ran {
+        status,
+        out,
+        written: ROOM.saturating_sub(left),
+        err,
+    }
+}
+
+fn tables<A: Abort>(rt: &A, alloc: Global, is_ample: bool) {
+    for (line, input, text) in &ROWS {
+        let Ok(words) = words_of(alloc, line) else {
+            assert!(rt; !is_ample);
+            continue;
+        };
+        let ran = run(alloc, words.as_slice(), input);
+        assert!(rt; ran.is(0, text, "", is_ample), "{line}: {input:?}");
+    }
+    for (line, input, status, told) in &REFUSALS {
+        let Ok(words) = words_of(alloc, line) else {
+            assert!(rt; !is_ample);
+            continue;
+        };
+        let ran = run(alloc, words.as_slice(), input);
+        assert!(rt; ran.is(*status, b"", told, is_ample), "{line}: {input:?}");
+    }
+}
+
+// Two lists, one behind the other.
+fn behind_one_another(alloc: Global, first: &[u8], second: &[u8]) -> Result<Vec<u8>, AllocError> {
+    let mut input = Vec::from_slice(alloc, first)?;
+    input.extend_from_slice(second)?;
+    Ok(input)
+}
+
+fn comparisons<A: Abort>(rt: &A, alloc: Global, is_ample: bool) {
+    for (first, second, status, text) in &COMPARISONS {
+        let Ok(input) = behind_one_another(alloc, first, second) else {
+            assert!(rt; !is_ample);
+            continue;
+        };
+        let ran = run(alloc, &["compare"], &input);
+        assert!(rt;
+            ran.is(*status, text, "", is_ample),
+            "{first:?}, {second:?}"
+        );
+    }
+    for (line, first, second, told) in &REFUSED_COMPARISONS {
+        let (Ok(words), Ok(input)) = (
+            words_of(alloc, line),
+            behind_one_another(alloc, first, second),
+        ) else {
+            assert!(rt; !is_ample);
+            continue;
+        };
+        let ran = run(alloc, words.as_slice(), &input);
+        assert!(rt;
+            ran.is(2, b"", told, is_ample),
+            "{line}: {first:?}, {second:?}"
+        );
+    }
+}
+
+#[test]
+fn ample_rows(rt: HostRuntime) {
+    tables(&rt, rt.alloc(), true);
+    comparisons(&rt, rt.alloc(), true);
+}
+
+#[test]
+fn rows_where_memory_may_be_wanting(rt: HostRuntime) {
+    tables(&rt, rt.alloc(), false);
+    comparisons(&rt, rt.alloc(), false);
+}
+
+// ---- devices
+
+// The source fails at each read in turn, of four bytes each, the one after the list too: nothing is written.
+fn fails_at_each_read<A: Abort>(rt: &A, alloc: Global, words: &[&str], input: &[u8]) {
+    for reads in 0..=(input.len() / 4) as u64 {
+        let mut out = [0u8; ROOM];
+        let mut err = [0u8; ROOM];
+        let mut source = Counted::new(Fused::new(input, reads, 4));
+        let mut sink = Counted::new(out.as_mut_slice());
+        let answer = command(
+            alloc,
+            words,
+            &mut source,
+            &mut sink,
+            &mut Counted::new(err.as_mut_slice()),
+        );
+        assert!(rt;
+            answer == 4 && source.failures() == 1,
+            "{words:?}: {input:?}"
+        );
+        assert!(rt;
+            err.starts_with(b"aclck: read failed\n"),
+            "{words:?}: {input:?}"
+        );
+        assert_eq!(rt; sink.into_inner().len(), ROOM, "{words:?}: {input:?}");
+    }
+}
+
+// The sink fails at each write in turn, of one byte each: what went out begins the text.
+fn fails_at_each_write<A: Abort>(rt: &A, alloc: Global, words: &[&str], input: &[u8], text: &[u8]) {
+    for writes in 0..text.len() {
+        let mut out = [0u8; ROOM];
+        let mut err = [0u8; ROOM];
+        let mut sink = Counted::new(Fused::new(out.as_mut_slice(), writes as u64, 1));
+        let answer = command(
+            alloc,
+            words,
+            &mut Counted::new(input),
+            &mut sink,
+            &mut Counted::new(err.as_mut_slice()),
+        );
+        assert!(rt; answer == 4 && sink.failures() == 1, "{words:?}: {input:?}");
+        let left = sink.into_inner().into_inner().len();
+        assert!(rt;
+            err.starts_with(b"aclck: write failed\n"),
+            "{words:?}: {input:?}"
+        );
+        assert_eq!(rt; left.saturating_add(writes), ROOM, "{words:?}: {input:?}");
+        assert_eq!(rt;
+            out.get(..writes),
+            text.get(..writes),
+            "{words:?}: {input:?}"
+        );
+    }
+}
+
+#[test]
+fn ample_devices_fail(rt: HostRuntime) -> Result<(), Fail> {
+    for (line, input, text) in &ROWS {
+        let words = words_of(rt.alloc(), line)?;
+        fails_at_each_read(&rt, rt.alloc(), words.as_slice(), input);
+        fails_at_each_write(&rt, rt.alloc(), words.as_slice(), input, text);
+    }
+    for (first, second, _, text) in &COMPARISONS {
+        let input = behind_one_another(rt.alloc(), first, second)?;
+        fails_at_each_read(&rt, rt.alloc(), &["compare"], &input);
+        fails_at_each_write(&rt, rt.alloc(), &["compare"], &input, text);
+    }
+    Ok(())
+}
+
+// The output of `normalize` is what it makes of that.
+#[test]
+fn ample_normal_forms_again(rt: HostRuntime) -> Result<(), Fail> {
+    for (line, _, text) in &ROWS {
+        if line.starts_with("normalize") {
+            let words = words_of(rt.alloc(), line)?;
+            let ran = run(rt.alloc(), words.as_slice(), text);
+            assert!(rt; ran.is(0, text, "", true), "{line}: {text:?}");
+        }
+    }
+    Ok(())
+}
+
+// ALLOW - all rights EVERYONE@.
+const ALL_OF_ALL: &[u8] = b"\0\0\0\x01\0\0\0\0\0\0\0\0\0\x1f\x07\xff\0\0\0\x09EVERYONE@\0\0\0";
+
+// One ACE, some times over.
+fn repeated(alloc: Global, count: u32) -> Result<Vec<u8>, AllocError> {
+    let mut list = Vec::new(alloc);
+    list.extend_from_slice(&count.to_be_bytes())?;
+    let ace = ALL_OF_ALL.get(4..).unwrap_or(&[]);
+    for _ in 0..count {
+        list.extend_from_slice(ace)?;
+    }
+    Ok(list)
+}
+
+// The heaviest list of one ACE is that ACE once; a heavier one is none.
+#[test]
+fn ample_one_ace_many_times(rt: HostRuntime) -> Result<(), Fail> {
+    let list = repeated(rt.alloc(), 4096)?;
+    let ran = run(rt.alloc(), &["normalize"], &list);
+    assert!(rt; ran.is(0, ALL_OF_ALL, "", true));
+    let list = repeated(rt.alloc(), 4097)?;
+    let ran = run(rt.alloc(), &["normalize"], &list);
+    assert!(rt; ran.is(2, b"", "aclck: TooHeavy at byte 114700\n", true));
+    Ok(())
+}

@@ -1,0 +1,76 @@
+//! `bridge`: the NFSv4 list that stands for a POSIX ACL.
+ghost use Rattle.std.specs.Prelude.{◌≡◌, ◌⊎◌, IfErr, IfOk, OnOk, map, option_and_then, option_map, true};
+ghost use Rattle.std.specs.Io.KnownBytes.{IsAtEnd};
+ghost use Rattle.clap.specs.Words.{found_of, rows_of};
+ghost use Rattle.acl_perm.specs.Devices.{failures_after};
+ghost use Rattle.acl_nfs4.specs.Spelling.{spelling};
+ghost use Rattle.aclck.specs.Line.{Reads, term};
+ghost use Rattle.aclck.specs.Answer.{Ran, has_read_failed, has_write_failed, is_refusal, is_write};
+ghost use Rattle.aclck.specs.Bridge.{BridgeAnswer, Bridges, IsBridgeRefusal, bridge_in, bridge_terms};
+
+use crate::answer::{Outcome, RunFault};
+use crate::line::{Argument, LineFault};
+use crate::name_words::names_in;
+use crate::posix::read_file;
+use acl_eval::{BridgeFault, bridge};
+use acl_nfs4::Acl;
+use acl_perm::{Sink, Source, read_all};
+use acl_posix::Names;
+use clap::ArgMatches;
+use std::alloc::Global;
+
+const ARGUMENTS: [Argument; 1] = [Argument::Words];
+
+/// The arguments of `bridge`.
+pub(crate) fn arguments() -> &'static [Argument]
+    ensures { map term result.now ≡ bridge_terms }
+{
+    &ARGUMENTS
+}
+
+/// The names that a text may have.
+pub(crate) fn read(alloc: Global, matches: &ArgMatches<'_>) -> Result<Names, LineFault>
+    ensures { Reads (λ n. n) (bridge_in (rows_of (found_of matches.now))) result }
+{
+    names_in(alloc, matches)
+}
+
+/// Writes the XDR of the NFSv4 list that stands for the access ACL of the file whose text the input is. The default ACL
+/// takes no part, but where it is invalid the input is refused. Nothing is written before the list is ready.
+pub fn run_bridge<S: Source, K: Sink>(
+    alloc: Global,
+    source: &mut S,
+    sink: &mut K,
+    names: &Names,
+) -> Result<Outcome, RunFault>
+    ensures ran { Ran (BridgeAnswer names.now)
+        (S.remaining source.old) (K.contents sink.old) (K.contents sink.new) result }
+    ensures whole { OnOk result (IsAtEnd (S.remaining source.new)) }
+    ensures unwritten { IfErr result (λ e. (is_write e ≡ true) ⊎ (sink.new ≡ sink.old)) }
+    ensures reads { S.failure_count source.new
+        ≡ failures_after (S.failure_count source.old) (has_read_failed result) }
+    ensures writes { K.failure_count sink.new
+        ≡ failures_after (K.failure_count sink.old) (has_write_failed result) }
+{
+    let input = read_all(alloc, source)?;
+    let list = bridged(alloc, input, names)?;
+    match list.encode(sink) {
+        Ok(()) => Ok(Outcome::Yes),
+        Err(fault) => Err(RunFault::Write(fault)),
+    }
+}
+
+// The list that stands for the access ACL of the file.
+fn bridged(alloc: Global, input: Vec<u8>, names: &Names) -> Result<Acl, RunFault>
+    ensures made { IfOk result (λ list. Bridges names.now input.items (spelling list)) }
+    ensures refused { IfErr result (λ e. (e ≡ RunFault.Memory)
+        ⊎ ((is_refusal e ≡ true) × IsBridgeRefusal names.now input.items e)) }
+{
+    let file = read_file(alloc, &input, names)?;
+    drop(input);
+    match bridge(alloc, &file.access) {
+        Ok(list) => Ok(list),
+        Err(BridgeFault::Limits) => Err(RunFault::Limits),
+        Err(BridgeFault::Memory) => Err(RunFault::Memory),
+    }
+}

@@ -1,0 +1,95 @@
+//! `child`: the list that a new object takes from its directory.
+ghost use Rattle.std.specs.Prelude.{◌≡◌, ◌⊎◌, Err, IfErr, OnOk, map, option_and_then, option_map, true};
+ghost use Rattle.std.specs.Io.KnownBytes.{IsAtEnd};
+ghost use Rattle.clap.specs.Words.{found_of, rows_of};
+ghost use Rattle.acl_perm.specs.Devices.{failures_after};
+ghost use Rattle.acl_perm.specs.Profile.{profile_of};
+ghost use Rattle.aclck.specs.Line.{Reads, term};
+ghost use Rattle.aclck.specs.Answer.{Ran, has_read_failed, has_write_failed, is_write};
+ghost use Rattle.aclck.specs.ListInput.{TakesLittle};
+ghost use Rattle.aclck.specs.Child.{ChildAnswer, child_held, child_in, child_terms, kind_value};
+
+use crate::answer::{Outcome, RunFault};
+use crate::line::{Argument, LineFault, text_of};
+use crate::list_input::read_list;
+use crate::values::profile_in;
+use acl_eval::{ChildKind, child};
+use acl_perm::{Profile, Sink, Source};
+use clap::ArgMatches;
+use std::alloc::Global;
+
+const ARGUMENTS: [Argument; 2] = [
+    Argument::Required("kind"),
+    Argument::Default("profile", "full"),
+];
+
+/// The arguments of `child`.
+pub(crate) fn arguments() -> &'static [Argument]
+    ensures { map term result.now ≡ child_terms }
+{
+    &ARGUMENTS
+}
+
+/// What is created, and what a list may have.
+#[derive(Clone, Copy, Debug)]
+pub struct Child {
+    pub kind: ChildKind,
+    pub profile: Profile,
+}
+
+/// The values that the words spell.
+#[tactic(auto, unfolding(crate::specs::Child::child_in))]
+pub(crate) fn read(matches: &ArgMatches<'_>) -> Result<Child, LineFault>
+    ensures { Reads child_held (child_in (rows_of (found_of matches.now))) result }
+{
+    let kind = kind_in(text_of(matches, "kind"))?;
+    let profile = profile_in(text_of(matches, "profile"))?;
+    Ok(Child { kind, profile })
+}
+
+fn kind_in(word: Option<&str>) -> Result<ChildKind, LineFault>
+    ensures { Reads (λ kind. kind) (option_and_then kind_value (option_map (λ s. s.now) word.entry)) result }
+{
+    word.and_then(kind_value).ok_or(LineFault::Usage)
+}
+
+#[tactic(auto, unfolding(crate::specs::Child::kind_value))]
+fn kind_value(word: &str) -> Option<ChildKind>
+    ensures { result ≡ kind_value word.now }
+{
+    match word {
+        "file" => Some(ChildKind::File),
+        "dir" => Some(ChildKind::Directory),
+        _ => None,
+    }
+}
+
+/// Writes the bytes that spell the list that a new file or directory takes from that of its directory, which the whole
+/// input spells. Nothing is written before the input is accepted, as a list that keeps to the profile. Nothing is read
+/// after a refusal.
+pub fn run_child<S: Source, K: Sink>(
+    alloc: Global,
+    source: &mut S,
+    sink: &mut K,
+    kind: ChildKind,
+    profile: Profile,
+) -> Result<Outcome, RunFault>
+    ensures ran { Ran (ChildAnswer (record { created = kind; profile = profile_of profile }))
+        (S.remaining source.old) (K.contents sink.old) (K.contents sink.new) result }
+    ensures whole { OnOk result (IsAtEnd (S.remaining source.new)) }
+    ensures bound { (result ≡ Err RunFault.Memory)
+        ⊎ TakesLittle (profile_of profile) (S.remaining source.old) (S.remaining source.new) }
+    ensures unwritten { IfErr result (λ e. (is_write e ≡ true) ⊎ (sink.new ≡ sink.old)) }
+    ensures reads { S.failure_count source.new
+        ≡ failures_after (S.failure_count source.old) (has_read_failed result) }
+    ensures writes { K.failure_count sink.new
+        ≡ failures_after (K.failure_count sink.old) (has_write_failed result) }
+{
+    let parent = read_list(alloc, source, profile)?;
+    let list = child(alloc, &parent, kind)?;
+    drop(parent);
+    match list.encode(sink) {
+        Ok(()) => Ok(Outcome::Yes),
+        Err(fault) => Err(RunFault::Write(fault)),
+    }
+}

@@ -1,0 +1,190 @@
+//! `compare`: whether two lists grant the same, and where not.
+ghost use Rattle.std.specs.Prelude.{◌≡◌, ◌⊎◌, ◌++◌, ◌<◌, ◌^◌, [], Err, codes, IfErr, IfOk, OnOk, flat_map, map, true, unwrap_or};
+ghost use Rattle.std.specs.Io.KnownBytes.{IsAtEnd};
+ghost use Rattle.clap.specs.Words.{found_of, rows_of};
+ghost use Rattle.acl_perm.specs.Devices.{failures_after};
+ghost use Rattle.acl_perm.specs.Profile.{profile_of};
+ghost use Rattle.acl_nfs4.specs.BitNames.{first_name};
+ghost use Rattle.acl_nfs4.specs.Rights.{rights};
+ghost use Rattle.acl_normal.specs.Difference.{situation_of};
+ghost use Rattle.aclck.specs.Line.{Reads, term};
+ghost use Rattle.aclck.specs.Answer.{Ran, has_read_failed, has_write_failed, is_write};
+ghost use Rattle.aclck.specs.Compare.{AreTwo, CompareAnswer, compare_in, compare_terms, compared_outcome, compared_text, decision, difference_text, line};
+ghost use Rattle.aclck.specs.ListInput.{HasInput};
+ghost use Rattle.aclck.specs.TwoLists.{AreNotRead, StandsBelow, TakesLittleOfTwo, later};
+
+use crate::answer::{Outcome, RunFault};
+use crate::line::{Argument, LineFault, text_of};
+use crate::list_input::{Pulled, Value, read_end, read_value};
+use crate::values::profile_in;
+use acl_nfs4::{Acl, Fault, bit_name};
+use acl_normal::{Difference, compare};
+use acl_perm::{Mask, Profile, Sink, Source, put_all};
+use clap::ArgMatches;
+use std::alloc::{AllocError, Global};
+
+const ARGUMENTS: [Argument; 1] = [Argument::Default("profile", "full")];
+
+/// The arguments of `compare`.
+pub(crate) fn arguments() -> &'static [Argument]
+    ensures { map term result.now ≡ compare_terms }
+{
+    &ARGUMENTS
+}
+
+/// The profile that the words spell.
+#[tactic(auto, unfolding(crate::specs::Compare::compare_in))]
+pub(crate) fn read(matches: &ArgMatches<'_>) -> Result<Profile, LineFault>
+    ensures { Reads profile_of (compare_in (rows_of (found_of matches.now))) result }
+{
+    profile_in(text_of(matches, "profile"))
+}
+
+/// Writes whether the two lists that the whole input spells, one after the other, grant the same: `same`, or the first
+/// small situation in which they don't, the lowest right on which they differ there, what both answer, and No. A fault
+/// counts from the start of the input. Nothing is written before the input is accepted, as lists that keep to the
+/// profile. Nothing is read after a refusal.
+pub fn run_compare<S: Source, K: Sink>(
+    alloc: Global,
+    source: &mut S,
+    sink: &mut K,
+    profile: Profile,
+) -> Result<Outcome, RunFault>
+    ensures ran { Ran (CompareAnswer (profile_of profile))
+        (S.remaining source.old) (K.contents sink.old) (K.contents sink.new) result }
+    ensures whole { OnOk result (IsAtEnd (S.remaining source.new)) }
+    ensures bound { (result ≡ Err RunFault.Memory)
+        ⊎ TakesLittleOfTwo (profile_of profile) (S.remaining source.old) (S.remaining source.new) }
+    ensures unwritten { IfErr result (λ e. (is_write e ≡ true) ⊎ (sink.new ≡ sink.old)) }
+    ensures reads { S.failure_count source.new
+        ≡ failures_after (S.failure_count source.old) (has_read_failed result) }
+    ensures writes { K.failure_count sink.new
+        ≡ failures_after (K.failure_count sink.old) (has_write_failed result) }
+{
+    let (list, other) = read_two(alloc, source, profile)?;
+    let difference = compare(alloc, &list, &other)?;
+    let text = text_of_answer(alloc, &difference)?;
+    match put_all(sink, &text) {
+        Ok(()) => Ok(outcome_of(&difference)),
+        Err(fault) => Err(RunFault::Write(fault)),
+    }
+}
+
+// The two lists of the profile that an input is, one after the other, and nothing more.
+fn read_two<S: Source>(
+    alloc: Global,
+    source: &mut S,
+    profile: Profile,
+) -> Result<(Acl, Acl), RunFault>
+    ensures found { IfOk result (λ two.
+        HasInput (λ input. AreTwo (profile_of profile) two.0 two.1 input) (S.remaining source.old)) }
+    ensures whole { OnOk result (IsAtEnd (S.remaining source.new)) }
+    ensures not_read { IfErr result (λ e. AreNotRead (profile_of profile) (S.remaining source.old) e) }
+    ensures bound { (result ≡ Err RunFault.Memory)
+        ⊎ TakesLittleOfTwo (profile_of profile) (S.remaining source.old) (S.remaining source.new) }
+    ensures reads { S.failure_count source.new
+        ≡ failures_after (S.failure_count source.old) (has_read_failed result) }
+{
+    let mut pulled = Pulled::new();
+    let first = read_value(alloc, source, &mut pulled, profile)?;
+    match read_value(alloc, source, &mut pulled, profile) {
+        Ok(second) => {
+            read_end(source, &mut pulled, first.len + second.len)?;
+            Ok((first.list, second.list))
+        }
+        Err(fault) => Err(behind(fault, first.len)),
+    }
+}
+
+// The fault of what stands behind so many bytes, counted from their start.
+fn behind(fault: RunFault, len: u64) -> RunFault
+    requires fault { StandsBelow (2 ^ 32) fault }
+    requires len { len < 2 ^ 32 }
+    ensures { result ≡ later fault len }
+{
+    match fault {
+        RunFault::Nfs(found) => RunFault::Nfs(Fault {
+            offset: found.offset + len,
+            reason: found.reason,
+        }),
+        RunFault::NfsText(_)
+        | RunFault::Posix(_)
+        | RunFault::Limits
+        | RunFault::Read
+        | RunFault::Write(_)
+        | RunFault::Memory => fault,
+    }
+}
+
+// Yes where there is no difference.
+fn outcome_of(difference: &Option<Difference>) -> Outcome
+    ensures { result ≡ compared_outcome difference.now }
+{
+    match difference {
+        None => Outcome::Yes,
+        Some(_) => Outcome::No,
+    }
+}
+
+// The text of an answer.
+fn text_of_answer(alloc: Global, difference: &Option<Difference>) -> Result<Vec<u8>, AllocError>
+    ensures { IfOk result (λ text. text.items ≡ compared_text difference.now) }
+{
+    match difference {
+        None => Vec::from_slice(alloc, b"same\n"),
+        Some(found) => text_of_difference(alloc, found),
+    }
+}
+
+fn text_of_difference(alloc: Global, found: &Difference) -> Result<Vec<u8>, AllocError>
+    ensures { IfOk result (λ text. text.items
+        ≡ difference_text (situation_of found.now) found.now.bit.bits found.now.first_grants) }
+{
+    let mut text = Vec::from_slice(alloc, b"differ\n")?;
+    add_line(&mut text, b"owner", &found.owner)?;
+    add_line(&mut text, b"group", &found.group)?;
+    add_line(&mut text, b"user", &found.user)?;
+    add_members(&mut text, &found.groups)?;
+    add_line(&mut text, b"mask", right_name(found.bit))?;
+    add_line(&mut text, b"first", decision(found.first_grants))?;
+    add_line(&mut text, b"second", decision(!found.first_grants))?;
+    Ok(text)
+}
+
+// A line of a word and what it is followed by.
+fn add_line(text: &mut Vec<u8>, word: &[u8], value: &[u8]) -> Result<(), AllocError>
+    ensures { OnOk result (text.new.items ≡ text.old.items ++ line word.now value.now) }
+{
+    text.extend_from_slice(word)?;
+    text.push(b' ')?;
+    text.extend_from_slice(value)?;
+    text.push(b'\n')?;
+    Ok(())
+}
+
+// A line for each group.
+fn add_members(text: &mut Vec<u8>, groups: &[Vec<u8>]) -> Result<(), AllocError>
+    ensures { OnOk result (text.new.items
+        ≡ text.old.items ++ flat_map (line (codes "member")) (map (λ g. g.items) groups.now)) }
+{
+    for group in groups {
+        add_line(text, b"member", group)?;
+    }
+    Ok(())
+}
+
+// The name of a right; each has one.
+fn right_name(bit: Mask) -> &'static [u8]
+    ensures { result.now ≡ unwrap_or (first_name rights bit.bits) [] }
+{
+    match bit_name(bit) {
+        Some(name) => name.as_bytes(),
+        None => b"",
+    }
+}
+
+fn decision(is_granted: bool) -> &'static [u8]
+    ensures { result.now ≡ decision is_granted }
+{
+    if is_granted { b"granted" } else { b"denied" }
+}

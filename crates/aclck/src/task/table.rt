@@ -1,0 +1,181 @@
+//! `table`: what the normal form of a list says of one right.
+ghost use Rattle.std.specs.Prelude.{◌≡◌, ◌⊎◌, ◌++◌, ◌∷◌, [], Err, IfErr, IfOk, List, OnOk, decimal, map, option_and_then, option_map, true};
+ghost use Rattle.std.specs.Io.KnownBytes.{IsAtEnd};
+ghost use Rattle.clap.specs.Words.{found_of, rows_of};
+ghost use Rattle.acl_perm.specs.Devices.{failures_after};
+ghost use Rattle.acl_perm.specs.Profile.{profile_of};
+ghost use Rattle.acl_perm.specs.Lines.{line_feed};
+ghost use Rattle.acl_nfs4.specs.AceText.{kind_name, space};
+ghost use Rattle.aclck.specs.Line.{Reads, term};
+ghost use Rattle.aclck.specs.Answer.{Ran, has_read_failed, has_write_failed, is_write};
+ghost use Rattle.aclck.specs.ListInput.{TakesLittle};
+ghost use Rattle.aclck.specs.BitTable.{AreTableOf, TableAnswer, bit_value, group_word, right_named, row_line, rows_text, table_held, table_in, table_terms};
+
+use crate::answer::{Outcome, RunFault};
+use crate::line::{Argument, LineFault, text_of};
+use crate::list_input::read_list;
+use crate::values::profile_in;
+use acl_nfs4::{Acl, read_mask};
+use acl_normal::{Row, table};
+use acl_perm::{Kind, Mask, Profile, Sink, Source, put_all};
+use clap::ArgMatches;
+use itoa::Buffer;
+use std::alloc::{AllocError, Global};
+
+const ARGUMENTS: [Argument; 2] = [
+    Argument::Required("bit"),
+    Argument::Default("profile", "full"),
+];
+
+/// The arguments of `table`.
+pub(crate) fn arguments() -> &'static [Argument]
+    ensures { map term result.now ≡ table_terms }
+{
+    &ARGUMENTS
+}
+
+/// The mask of the one right that is asked for, and what a list may have.
+#[derive(Clone, Copy, Debug)]
+pub struct BitTable {
+    pub bit: Mask,
+    pub profile: Profile,
+}
+
+/// The values that the words spell.
+#[tactic(auto, unfolding(crate::specs::BitTable::table_in))]
+pub(crate) fn read(matches: &ArgMatches<'_>) -> Result<BitTable, LineFault>
+    ensures { Reads table_held (table_in (rows_of (found_of matches.now))) result }
+{
+    let profile = profile_in(text_of(matches, "profile"))?;
+    let Some(bit) = bit_in(text_of(matches, "bit"), profile.masks) else {
+        return Err(LineFault::Usage);
+    };
+    Ok(BitTable { bit, profile })
+}
+
+fn bit_in(word: Option<&str>, rights: Mask) -> Option<Mask>
+    ensures { option_map (λ mask. mask.bits) result
+        ≡ option_and_then (bit_value rights.bits) (option_map (λ s. s.now) word.entry) }
+{
+    bit_value(word?, rights)
+}
+
+// The right that a word names, where it is among these.
+fn bit_value(word: &str, rights: Mask) -> Option<Mask>
+    ensures { option_map (λ mask. mask.bits) result ≡ bit_value rights.bits word.now }
+{
+    let bit = right_named(word.as_bytes())?;
+    if rights.contains(bit) {
+        Some(bit)
+    } else {
+        None
+    }
+}
+
+// The right that a field of one name stands for.
+#[tactic(auto, unfolding(crate::specs::BitTable::right_named))]
+fn right_named(word: &[u8]) -> Option<Mask>
+    ensures { option_map (λ mask. mask.bits) result ≡ right_named word.now }
+{
+    if word == b"-".as_slice() || word.contains(&b'|') {
+        return None;
+    }
+    read_mask(word)
+}
+
+/// Writes the rows of one right of the list that the whole input spells: a line for each ACE of its normal form that
+/// has the right, in order, with the place in the given list from which it comes. Nothing is written before the input is
+/// accepted, as a list that keeps to the profile. Nothing is read after a refusal.
+pub fn run_table<S: Source, K: Sink>(
+    alloc: Global,
+    source: &mut S,
+    sink: &mut K,
+    bit: Mask,
+    profile: Profile,
+) -> Result<Outcome, RunFault>
+    ensures ran { Ran (TableAnswer (record { bit = bit.bits; profile = profile_of profile }))
+        (S.remaining source.old) (K.contents sink.old) (K.contents sink.new) result }
+    ensures whole { OnOk result (IsAtEnd (S.remaining source.new)) }
+    ensures bound { (result ≡ Err RunFault.Memory)
+        ⊎ TakesLittle (profile_of profile) (S.remaining source.old) (S.remaining source.new) }
+    ensures unwritten { IfErr result (λ e. (is_write e ≡ true) ⊎ (sink.new ≡ sink.old)) }
+    ensures reads { S.failure_count source.new
+        ≡ failures_after (S.failure_count source.old) (has_read_failed result) }
+    ensures writes { K.failure_count sink.new
+        ≡ failures_after (K.failure_count sink.old) (has_write_failed result) }
+{
+    let list = read_list(alloc, source, profile)?;
+    let text = table_text(alloc, &list, bit)?;
+    drop(list);
+    match put_all(sink, text.as_slice()) {
+        Ok(()) => Ok(Outcome::Yes),
+        Err(fault) => Err(RunFault::Write(fault)),
+    }
+}
+
+// The text of the rows of a list at a right.
+fn table_text(alloc: Global, list: &Acl, bit: Mask) -> Result<Vec<u8>, AllocError>
+    ensures { IfOk result (λ text.
+        (rows : List Row) × AreTableOf bit.bits list.now rows × (text.items ≡ rows_text rows)) }
+{
+    let rows = table(alloc, list, bit)?;
+    text_of_rows(alloc, &rows)
+}
+
+// The lines of the rows.
+fn text_of_rows(alloc: Global, rows: &[Row]) -> Result<Vec<u8>, AllocError>
+    ensures { IfOk result (λ text. text.items ≡ rows_text rows.now) }
+{
+    let mut text = Vec::new(alloc);
+    for row in rows {
+        add_line(&mut text, row)?;
+    }
+    Ok(text)
+}
+
+fn add_line(text: &mut Vec<u8>, row: &Row) -> Result<(), AllocError>
+    ensures { OnOk result (text.new.items ≡ text.old.items ++ row_line row.now) }
+{
+    add_place(text, row.source)?;
+    add_word(text, kind_name(row.kind))?;
+    add_word(text, group_word(row.group))?;
+    add_who(text, &row.who)
+}
+
+fn add_place(text: &mut Vec<u8>, place: usize) -> Result<(), AllocError>
+    ensures { OnOk result (text.new.items ≡ text.old.items ++ (decimal place ++ space ∷ [])) }
+{
+    let mut buffer = Buffer::new();
+    add_word(text, buffer.format(place).as_bytes())
+}
+
+fn add_word(text: &mut Vec<u8>, word: &[u8]) -> Result<(), AllocError>
+    ensures { OnOk result (text.new.items ≡ text.old.items ++ (word.now ++ space ∷ [])) }
+{
+    text.extend_from_slice(word)?;
+    text.push(b' ')?;
+    Ok(())
+}
+
+fn add_who(text: &mut Vec<u8>, who: &[u8]) -> Result<(), AllocError>
+    ensures { OnOk result (text.new.items ≡ text.old.items ++ (who.now ++ line_feed ∷ [])) }
+{
+    text.extend_from_slice(who)?;
+    text.push(b'\n')?;
+    Ok(())
+}
+
+fn kind_name(kind: Kind) -> &'static [u8]
+    ensures { result.now ≡ kind_name kind }
+{
+    match kind {
+        Kind::Allow => b"ALLOW",
+        Kind::Deny => b"DENY",
+    }
+}
+
+fn group_word(group: bool) -> &'static [u8]
+    ensures { result.now ≡ group_word group }
+{
+    if group { b"GROUP" } else { b"-" }
+}
