@@ -1,5 +1,11 @@
-# Both want the kit's `rt` on the PATH.
-.PHONY: run test bench
+# The kit's `rt` has to be on the PATH for `run` and `test`.
+.PHONY: run test bench install uninstall
+
+# Where `install` puts things: under PREFIX, in a tree that DESTDIR is the root of.
+PREFIX ?= /usr/local
+PROGRAM = $(DESTDIR)$(PREFIX)/bin/aclck
+MANUAL = $(DESTDIR)$(PREFIX)/share/man/man1/aclck.1
+COMPLETION = $(DESTDIR)$(PREFIX)/share/bash-completion/completions/aclck
 
 # Proves and builds aclck, and asks a list of six entries whether bob, an editor, may read and execute.
 run:
@@ -13,3 +19,15 @@ test:
 # where valgrind is there.
 bench:
 	bench/run
+
+# Puts the program that `run` or `test` left, its manual and its completion for bash in place.
+install: crates/aclck/out/aclck
+	install -D -m 755 crates/aclck/out/aclck '$(PROGRAM)'
+	install -D -m 644 man/aclck.1 '$(MANUAL)'
+	install -D -m 644 completions/aclck.bash '$(COMPLETION)'
+
+uninstall:
+	rm -f '$(PROGRAM)' '$(MANUAL)' '$(COMPLETION)'
+
+crates/aclck/out/aclck:
+	@echo 'aclck is not built: make run' >&2; exit 1
