@@ -1,21 +1,22 @@
 -- One more ACE at the end of a list.
-use Rattle.std.proofs.Common.{◌≡◌, ℕ, ◌+◌, ◌<◌, ◌≤◌, false, ltb, leb, List, [], ◌∷◌, ◌++◌, length, refl, sym, ap, ◌∙◌, arith}
+use Rattle.std.proofs.Common.{◌≡◌, ℕ, ◌+◌, ◌<◌, ◌≤◌, false, ltb, leb, List, [], ◌∷◌, ◌++◌, length, take, refl, sym, ap, ◌∙◌, append_assoc, arith}
 use Rattle.std.specs.Prelude.{count_ones, replicate, None, option_map}
 use Rattle.std.specs.List.{flat_map, AllByRecursion}
 use Rattle.std.proofs.lemmas.Bool.{le-ltb}
-use Rattle.std.proofs.lemmas.List.{append-nil, length-append}
+use Rattle.std.proofs.Math.Seq.{take-append-add}
+use Rattle.std.proofs.lemmas.List.{append-nil, length-append, take-replicate}
 use Rattle.std.proofs.lemmas.Grind.{flat_map-append}
 use Rattle.std.proofs.lemmas.List.Concat.{flat_map-cons}
 use Rattle.acl_perm.specs.Profile.{Profile, full}
 use Rattle.acl_nfs4.specs.Ace.{Ace}
 use Rattle.acl_nfs4.specs.Limits.{most_aces, most_weight}
 use Rattle.acl_nfs4.specs.Who.{who_fault, IsWho}
-use Rattle.acl_nfs4.specs.Spelling.{piece, word, kind_number, pad_len, weight, IsAce, IsAccepted}
+use Rattle.acl_nfs4.specs.Spelling.{piece, weight, IsAce, IsAccepted}
 use Rattle.acl_nfs4.specs.Body.{aces_of, Spells}
 use Rattle.acl_nfs4.specs.Owned.{IsOwned}
 use Rattle.acl_nfs4.specs.Push.{who_refusal, push_refusal}
 use Rattle.acl_nfs4.proofs.Body.{aces_of-flat_map, is_body}
-use Rattle.acl_nfs4.proofs.Faults.{weight-push, regroup}
+use Rattle.acl_nfs4.proofs.Faults.{weight-push}
 
 -- one more ACE at the end of a list of ACEs
 pub each_push : (profile : Profile) (list : List Ace) (a : Ace) → AllByRecursion (IsAce profile) list → IsAce profile a
@@ -94,14 +95,12 @@ push_passes list a ok =
     le-ltb most_weight _ (omega (arith, ok.weight, weight-push list a)) in
     rw (room, light) (who_passes a.who (each_last full list a ok.each).who)
 
--- the fields one after the other are the piece
-pub fields_appended : (o b c d e f g : List ℕ) (a : Ace) → b ≡ o ++ word (kind_number a.kind) → c ≡ b ++ word a.flags
-    → d ≡ c ++ word a.mask → e ≡ d ++ word (length a.who)
-    → f ≡ e ++ a.who → g ≡ f ++ replicate (pad_len (length a.who)) 0 → g ≡ o ++ piece a
-fields_appended o b c d e f g a be ce de ee fe ge =
-    ge ∙ ap (λ (t : List ℕ). t ++ replicate (pad_len (length a.who)) 0)
-    (fe ∙ ap (λ (t : List ℕ). t ++ a.who) (ee
-    ∙ ap (λ (t : List ℕ). t ++ word (length a.who))
-    (de ∙ ap (λ (t : List ℕ). t ++ word a.mask) (ce ∙ ap (λ (t : List ℕ). t ++ word a.flags) be))))
-    ∙ regroup o (word (kind_number a.kind)) (word a.flags) (word a.mask) (word (length a.who)) a.who
-    (replicate (pad_len (length a.who)) 0)
+-- a head and a who behind a text, and of three zero bytes as many as are wanted
+pub fields_appended : (old head who b c d : List ℕ) (n pad : ℕ) → b ≡ old ++ head → c ≡ b ++ who
+    → d ≡ c ++ replicate 3 0 → n ≡ length c → pad ≤ 3
+    → take (n + pad) d ≡ old ++ ((head ++ who) ++ replicate pad 0)
+fields_appended old head who b c d n pad be ce de ne few =
+    let front : c ≡ old ++ (head ++ who) = ce ∙ ap (λ (t : List ℕ). t ++ who) be ∙ append_assoc old head who in
+    ap (λ (k : ℕ). take (k + pad) d) ne ∙ ap (take (length c + pad)) de ∙ take-append-add c (replicate 3 0) pad
+    ∙ ap (λ (t : List ℕ). c ++ t) (take-replicate pad 3 0 few)
+    ∙ ap (λ (t : List ℕ). t ++ replicate pad 0) front ∙ append_assoc old (head ++ who) (replicate pad 0)

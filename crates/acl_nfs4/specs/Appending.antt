@@ -5,7 +5,3 @@ use Rattle.std.specs.Prelude.{◌≡◌, ℕ, List, ◌++◌, Result, Ok, Err}
 abbrev pub Extended : {E : Type 0} → List ℕ → List ℕ → List ℕ → Result (Unit {0}) E → Type 0
 Extended old new more (Ok _) = new ≡ old ++ more
 Extended old new more (Err _) = new ≡ old
-
--- the one text begins the other
-abbrev pub IsBeginning : List ℕ → List ℕ → Type 0
-IsBeginning front whole = (more : List ℕ) × (whole ≡ front ++ more)

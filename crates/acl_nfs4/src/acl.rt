@@ -6,7 +6,7 @@ ghost use Rattle.acl_nfs4.specs.Spelling.{piece, word, kind_number, IsAccepted, 
 ghost use Rattle.acl_nfs4.specs.Spelling as spelled;
 ghost use Rattle.acl_nfs4.specs.Owned.{same_list};
 ghost use Rattle.acl_nfs4.specs.Push.{who_refusal, push_refusal, PushAnswers};
-ghost use Rattle.acl_nfs4.specs.Appending.{Extended, IsBeginning};
+ghost use Rattle.acl_nfs4.specs.Appending.{Extended};
 ghost use Rattle.acl_nfs4.specs.Limits.{most_aces, most_weight, longest_who};
 ghost use Rattle.acl_nfs4.specs.Reading.{Judges};
 ghost use Rattle.acl_nfs4.specs.Who.{IsWho, who_fault};
@@ -162,7 +162,7 @@ impl Acl {
         ensures err { OnErr result (self.new ≡ self.old) }
         ensures accepted { OnOk result (IsAccepted full (self.old ++ ace item.entry ∷ [])) }
     {
-        append_piece(&mut self.body, item)?;
+        append_piece(&mut self.body, &item)?;
         self.count += 1;
         self.weight += item.mask.bits().count_ones();
         Ok(())
@@ -189,28 +189,18 @@ fn who_refusal(fault: WhoFault) -> PushFault
     }
 }
 
-// The word of a number at the end.
-fn append_word(body: &mut Vec<u8>, number: u32) -> Result<(), AllocError>
-    ensures { Extended body.old.items body.new.items (word number) result }
+// The four words that an ACE begins with.
+fn head(item: &AceRef<'_>) -> [u8; 16]
+    requires { length item.now.who.now ≤ longest_who }
+    ensures { result ≡ word (kind_number item.now.kind) ++ word item.now.flags.bits ++ word item.now.mask.bits
+        ++ word (length item.now.who.now) }
 {
-    let mut bytes = [0u8; 4];
-    BigEndian::write_u32(&mut bytes, number);
-    body.extend_from_slice(&bytes)
-}
-
-// The piece of an ACE at the end, or a beginning of it.
-fn append_fields(body: &mut Vec<u8>, item: AceRef<'_>) -> Result<(), AllocError>
-    requires { length item.who.now ≤ longest_who }
-    ensures ok { OnOk result (body.new.items ≡ body.old.items ++ piece (ace item.entry)) }
-    ensures err { OnErr result (IsBeginning body.old.items body.new.items) }
-{
-    append_word(body, kind_word(item.kind))?;
-    append_word(body, item.flags.bits() as u32)?;
-    append_word(body, item.mask.bits())?;
-    append_word(body, item.who.len() as u32)?;
-    body.extend_from_slice(item.who)?;
-    body.extend_from_slice(zeros((4 - item.who.len() % 4) % 4))?;
-    Ok(())
+    let mut bytes = [0u8; 16];
+    BigEndian::write_u32(&mut bytes, kind_word(item.kind));
+    BigEndian::write_u32(&mut bytes[4..], item.flags.bits() as u32);
+    BigEndian::write_u32(&mut bytes[8..], item.mask.bits());
+    BigEndian::write_u32(&mut bytes[12..], item.who.len() as u32);
+    bytes
 }
 
 fn kind_word(kind: Kind) -> u32
@@ -222,31 +212,21 @@ fn kind_word(kind: Kind) -> u32
     }
 }
 
-fn zeros(count: usize) -> &'static [u8]
-    requires { count < 4 }
-    ensures { result.now ≡ replicate count 0 }
-{
-    match count {
-        0 => &[],
-        1 => &[0],
-        2 => &[0, 0],
-        _ => &[0, 0, 0],
-    }
-}
-
 // The piece of an ACE at the end, or nothing.
-fn append_piece(body: &mut Vec<u8>, item: AceRef<'_>) -> Result<(), AllocError>
-    requires { length item.who.now ≤ longest_who }
-    ensures { Extended body.old.items body.new.items (piece (ace item.entry)) result }
+fn append_piece(body: &mut Vec<u8>, item: &AceRef<'_>) -> Result<(), AllocError>
+    requires { length item.now.who.now ≤ longest_who }
+    ensures { Extended body.old.items body.new.items (piece (ace item.now)) result }
 {
-    let len = body.len();
-    match append_fields(body, item) {
-        Ok(()) => Ok(()),
-        Err(fault) => {
-            body.truncate(len);
-            Err(fault)
-        }
-    }
+    let len = item.who.len();
+    // Behind this, nothing wants memory.
+    body.reserve(16 + len + 3)?;
+    body.extend_from_slice(&head(item))?;
+    body.extend_from_slice(item.who)?;
+    // Three bytes and a cut cost less than a copy of as many as are wanted.
+    let end = body.len() + (4 - len % 4) % 4;
+    body.extend_from_slice(&[0; 3])?;
+    body.truncate(end);
+    Ok(())
 }
 
 #[tactic(auto, using(crate::proofs::Within::tests))]
