@@ -18,7 +18,6 @@ use Rattle.aclck.specs.PosixValues.{id_value, ids_value, mode_value, want_value}
 use Rattle.aclck.specs.declared.posix.Form.TheVariants as form
 use Rattle.acl_eval.specs.declared.inherit.ChildKind.TheVariants as kind
 use Rattle.aclck.specs.Child.{child_in, kind_value}
-use Rattle.aclck.specs.ListMode.{mode_in}
 use Rattle.aclck.specs.Task.{Task, bridge, calc_mask, check_nfs, check_posix, child, chmod, create, encode, mode, show_nfs, show_posix, task_named, task_of}
 use Rattle.aclck.specs.Values.{mask_value, profile_value}
 
@@ -201,17 +200,17 @@ unknown_kind = refl
 
 -- no word but the command's own
 mode_alone : task_of (codes "mode" ∷ []) ≡ Some (mode full)
-unfolding clap_on_literals is_taken rows_at app_from task_named mode_in profile_value
+unfolding clap_on_literals is_taken rows_at app_from task_named profile_in profile_value
 mode_alone = refl
 
 -- two hyphens with no word behind them
 mode_of_no_words : task_of (codes "mode" ∷ codes "--profile" ∷ codes "narrow" ∷ codes "--" ∷ []) ≡ Some (mode narrow)
-unfolding clap_on_literals is_taken rows_at app_from task_named mode_in profile_value
+unfolding clap_on_literals is_taken rows_at app_from task_named profile_in profile_value
 mode_of_no_words = refl
 
 -- a word that is no option's
 mode_of_a_word : task_of (codes "mode" ∷ codes "660" ∷ []) ≡ None
-unfolding clap_on_literals is_taken rows_at app_from task_named mode_in profile_value
+unfolding clap_on_literals is_taken rows_at app_from task_named profile_in profile_value
 mode_of_a_word = refl
 
 -- ---- `show-posix`

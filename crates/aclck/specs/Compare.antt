@@ -1,8 +1,6 @@
 -- `compare`: its words, and what it makes of an input (this library's own, over RFC 8881, section 6.2.1).
 use Rattle.std.specs.Prelude.{◌≡◌, ◌+◌, ◌∷◌, ◌++◌, [], List, ℕ, Bool, true, false, not, Option, Some, None, codes, length, unwrap_or}
 use Rattle.std.specs.List.{flat_map}
-use Rattle.std.specs.Option.{option_and_then}
-use Rattle.clap.specs.Words.{Row, first_of}
 use Rattle.acl_perm.specs.Bits.{all_rights}
 use Rattle.acl_perm.specs.Profile.{Profile}
 use Rattle.acl_perm.specs.Situation.{Situation}
@@ -17,23 +15,11 @@ use Rattle.acl_eval.specs.Grant.{SameGrants}
 use Rattle.acl_normal.specs.Difference.{situation_of}
 use Rattle.acl_normal.specs.SmallSets.{IsFirstDifference}
 use Rattle.acl_normal.specs.declared.comparison.Difference.{Difference}
-use Rattle.aclck.specs.Line.{Term, default}
-use Rattle.aclck.specs.Values.{profile_value}
 use Rattle.aclck.specs.Answer.{Answer, done, refused}
 use Rattle.aclck.specs.declared.answer.Outcome.{Outcome}
 use Rattle.aclck.specs.declared.answer.Outcome.TheVariants as outcome
 use Rattle.aclck.specs.declared.answer.RunFault.{RunFault}
 use Rattle.aclck.specs.declared.answer.RunFault.TheVariants as fault
-
--- ---- words
-
--- `compare [--profile full|narrow]`
-abbrev pub compare_terms : List Term
-compare_terms = default (codes "profile") (codes "full") ∷ []
-
--- the profile that the rows of a parse spell
-unfoldable pub compare_in : List Row → Option Profile
-compare_in rows = option_and_then profile_value (first_of (codes "profile") rows)
 
 -- ---- two lists
 

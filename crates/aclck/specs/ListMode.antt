@@ -1,24 +1,10 @@
--- `mode`: its words, and what it makes of an input (this library's own, over RFC 8881, section 6.3.2).
-use Rattle.std.specs.Prelude.{◌+◌, ◌∷◌, [], List, ℕ, Option, codes}
-use Rattle.std.specs.Option.{option_and_then}
-use Rattle.clap.specs.Words.{Row, first_of}
+-- `mode`: what it makes of an input (this library's own, over RFC 8881, section 6.3.2).
+use Rattle.std.specs.Prelude.{◌+◌, ◌∷◌, [], List, ℕ}
 use Rattle.acl_perm.specs.Mode.{group_part, others_part, owner_part}
 use Rattle.acl_perm.specs.Profile.{Profile}
 use Rattle.acl_eval.specs.ListMode.{mode_of_list}
-use Rattle.aclck.specs.Line.{Term, default}
-use Rattle.aclck.specs.Values.{profile_value}
 use Rattle.aclck.specs.Answer.{Answer}
 use Rattle.aclck.specs.XdrAnswer.{MakesAnswer}
-
--- ---- words
-
--- `mode [--profile full|narrow]`
-abbrev pub mode_terms : List Term
-mode_terms = default (codes "profile") (codes "full") ∷ []
-
--- the profile that the rows of a parse spell
-unfoldable pub mode_in : List Row → Option Profile
-mode_in rows = option_and_then profile_value (first_of (codes "profile") rows)
 
 -- ---- the answer
 

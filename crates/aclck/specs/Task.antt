@@ -14,9 +14,9 @@ use Rattle.aclck.specs.Bridge.{BridgeAnswer, bridge_in, bridge_terms}
 use Rattle.aclck.specs.Create.{CreateAnswer, CreateValues, create_held, create_in, create_terms}
 use Rattle.aclck.specs.Child.{ChildAnswer, ChildValues, child_held, child_in, child_terms}
 use Rattle.aclck.specs.BitTable.{TableAnswer, TableValues, table_held, table_in, table_terms}
-use Rattle.aclck.specs.Normalize.{NormalizeAnswer, normalize_in, normalize_terms}
-use Rattle.aclck.specs.ListMode.{ModeAnswer, mode_in, mode_terms}
-use Rattle.aclck.specs.Compare.{CompareAnswer, compare_in, compare_terms}
+use Rattle.aclck.specs.Normalize.{NormalizeAnswer}
+use Rattle.aclck.specs.ListMode.{ModeAnswer}
+use Rattle.aclck.specs.Compare.{CompareAnswer}
 use Rattle.aclck.specs.ShowNfs.{ShowNfsAnswer}
 use Rattle.aclck.specs.Encode.{EncodeAnswer}
 use Rattle.aclck.specs.ProfileArgument.{profile_in, profile_terms}
@@ -62,11 +62,11 @@ terms_of name.ShowNfs = profile_terms
 terms_of name.Encode = profile_terms
 terms_of name.CheckNfs = check_nfs_terms
 terms_of name.Child = child_terms
-terms_of name.Mode = mode_terms
+terms_of name.Mode = profile_terms
 terms_of name.Bridge = bridge_terms
 terms_of name.Table = table_terms
-terms_of name.Normalize = normalize_terms
-terms_of name.Compare = compare_terms
+terms_of name.Normalize = profile_terms
+terms_of name.Compare = profile_terms
 
 -- a command with its values
 pub data Task : Type 0 where
@@ -96,11 +96,11 @@ task_in name.ShowNfs rows words = option_map show_nfs (profile_in rows)
 task_in name.Encode rows words = option_map encode (profile_in rows)
 task_in name.CheckNfs rows words = option_map check_nfs (check_nfs_in rows words)
 task_in name.Child rows words = option_map child (child_in rows)
-task_in name.Mode rows words = option_map mode (mode_in rows)
+task_in name.Mode rows words = option_map mode (profile_in rows)
 task_in name.Bridge rows words = option_map bridge (bridge_in rows)
 task_in name.Table rows words = option_map table (table_in rows)
-task_in name.Normalize rows words = option_map normalize (normalize_in rows)
-task_in name.Compare rows words = option_map compare (compare_in rows)
+task_in name.Normalize rows words = option_map normalize (profile_in rows)
+task_in name.Compare rows words = option_map compare (profile_in rows)
 
 -- what a task makes of an input
 unfoldable pub Answers : Task → List ℕ → Answer → Type 0

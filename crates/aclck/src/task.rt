@@ -128,14 +128,12 @@ impl Name {
             Name::CalcMask => calc_mask::arguments(),
             Name::Chmod => chmod::arguments(),
             Name::Create => create::arguments(),
-            Name::ShowNfs | Name::Encode => profile_argument::arguments(),
+            Name::ShowNfs | Name::Encode | Name::Mode | Name::Normalize | Name::Compare =>
+                profile_argument::arguments(),
             Name::CheckNfs => check_nfs::arguments(),
             Name::Child => child::arguments(),
-            Name::Mode => mode::arguments(),
             Name::Bridge => bridge::arguments(),
             Name::Table => table::arguments(),
-            Name::Normalize => normalize::arguments(),
-            Name::Compare => compare::arguments(),
         }
     }
 
@@ -217,11 +215,11 @@ impl<'a> Task<'a> {
             Name::Encode => Ok(Task::Encode(profile_argument::read(matches)?)),
             Name::CheckNfs => Ok(Task::CheckNfs(check_nfs::read(matches, words)?)),
             Name::Child => Ok(Task::Child(child::read(matches)?)),
-            Name::Mode => Ok(Task::Mode(mode::read(matches)?)),
+            Name::Mode => Ok(Task::Mode(profile_argument::read(matches)?)),
             Name::Bridge => Ok(Task::Bridge(bridge::read(alloc, matches)?)),
             Name::Table => Ok(Task::Table(table::read(matches)?)),
-            Name::Normalize => Ok(Task::Normalize(normalize::read(matches)?)),
-            Name::Compare => Ok(Task::Compare(compare::read(matches)?)),
+            Name::Normalize => Ok(Task::Normalize(profile_argument::read(matches)?)),
+            Name::Compare => Ok(Task::Compare(profile_argument::read(matches)?)),
         }
     }
 

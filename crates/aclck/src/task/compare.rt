@@ -1,44 +1,22 @@
 //! `compare`: whether two lists grant the same, and where not.
 ghost use Rattle.std.specs.Prelude.{◌≡◌, ◌⊎◌, ◌++◌, ◌<◌, ◌^◌, [], Err, codes, IfErr, IfOk, OnOk, flat_map, map, true, unwrap_or};
 ghost use Rattle.std.specs.Io.KnownBytes.{IsAtEnd};
-ghost use Rattle.clap.specs.Words.{found_of, rows_of};
 ghost use Rattle.acl_perm.specs.Devices.{failures_after};
 ghost use Rattle.acl_perm.specs.Profile.{profile_of};
 ghost use Rattle.acl_nfs4.specs.BitNames.{first_name};
 ghost use Rattle.acl_nfs4.specs.Rights.{rights};
 ghost use Rattle.acl_normal.specs.Difference.{situation_of};
-ghost use Rattle.aclck.specs.Line.{Reads, term};
 ghost use Rattle.aclck.specs.Answer.{Ran, has_read_failed, has_write_failed, is_write};
-ghost use Rattle.aclck.specs.Compare.{AreTwo, CompareAnswer, compare_in, compare_terms, compared_outcome, compared_text, decision, difference_text, line};
+ghost use Rattle.aclck.specs.Compare.{AreTwo, CompareAnswer, compared_outcome, compared_text, decision, difference_text, line};
 ghost use Rattle.aclck.specs.ListInput.{HasInput};
 ghost use Rattle.aclck.specs.TwoLists.{AreNotRead, StandsBelow, TakesLittleOfTwo, later};
 
 use crate::answer::{Outcome, RunFault};
-use crate::line::{Argument, LineFault, text_of};
 use crate::list_input::{Pulled, Value, read_end, read_value};
-use crate::values::profile_in;
 use acl_nfs4::{Acl, Fault, bit_name};
 use acl_normal::{Difference, compare};
 use acl_perm::{Mask, Profile, Sink, Source, put_all};
-use clap::ArgMatches;
 use std::alloc::{AllocError, Global};
-
-const ARGUMENTS: [Argument; 1] = [Argument::Default("profile", "full")];
-
-/// The arguments of `compare`.
-pub(crate) fn arguments() -> &'static [Argument]
-    ensures { map term result.now ≡ compare_terms }
-{
-    &ARGUMENTS
-}
-
-/// The profile that the words spell.
-#[tactic(auto, unfolding(crate::specs::Compare::compare_in))]
-pub(crate) fn read(matches: &ArgMatches<'_>) -> Result<Profile, LineFault>
-    ensures { Reads profile_of (compare_in (rows_of (found_of matches.now))) result }
-{
-    profile_in(text_of(matches, "profile"))
-}
 
 /// Writes whether the two lists that the whole input spells, one after the other, grant the same: `same`, or the first
 /// small situation in which they don't, the lowest right on which they differ there, what both answer, and No. A fault

@@ -1,39 +1,17 @@
 //! `mode`: the mode of a list.
-ghost use Rattle.std.specs.Prelude.{◌≡◌, ◌⊎◌, Err, IfErr, OnOk, map, true};
+ghost use Rattle.std.specs.Prelude.{◌≡◌, ◌⊎◌, Err, IfErr, OnOk, true};
 ghost use Rattle.std.specs.Io.KnownBytes.{IsAtEnd};
-ghost use Rattle.clap.specs.Words.{found_of, rows_of};
 ghost use Rattle.acl_perm.specs.Devices.{failures_after};
 ghost use Rattle.acl_perm.specs.Profile.{profile_of};
-ghost use Rattle.aclck.specs.Line.{Reads, term};
 ghost use Rattle.aclck.specs.Answer.{Ran, has_read_failed, has_write_failed, is_write};
 ghost use Rattle.aclck.specs.ListInput.{TakesLittle};
-ghost use Rattle.aclck.specs.ListMode.{ModeAnswer, mode_in, mode_line, mode_terms, octal_digit};
+ghost use Rattle.aclck.specs.ListMode.{ModeAnswer, mode_line, octal_digit};
 
 use crate::answer::{Outcome, RunFault};
-use crate::line::{Argument, LineFault, text_of};
 use crate::list_input::read_list;
-use crate::values::profile_in;
 use acl_eval::mode_of;
 use acl_perm::{Mode, Perm, Profile, Sink, Source, put_all};
-use clap::ArgMatches;
 use std::alloc::Global;
-
-const ARGUMENTS: [Argument; 1] = [Argument::Default("profile", "full")];
-
-/// The arguments of `mode`.
-pub(crate) fn arguments() -> &'static [Argument]
-    ensures { map term result.now ≡ mode_terms }
-{
-    &ARGUMENTS
-}
-
-/// What a list may have.
-#[tactic(auto, unfolding(crate::specs::ListMode::mode_in))]
-pub(crate) fn read(matches: &ArgMatches<'_>) -> Result<Profile, LineFault>
-    ensures { Reads profile_of (mode_in (rows_of (found_of matches.now))) result }
-{
-    profile_in(text_of(matches, "profile"))
-}
 
 /// Writes the mode of the list that the whole input spells, as three octal digits and a line feed. Nothing is written
 /// before the input is accepted, as a list that keeps to the profile. Nothing is read after a refusal.

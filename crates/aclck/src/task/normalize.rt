@@ -1,40 +1,18 @@
 //! `normalize`: the normal form of a list.
-ghost use Rattle.std.specs.Prelude.{◌≡◌, ◌⊎◌, Err, IfErr, IfOk, OnOk, map, true};
+ghost use Rattle.std.specs.Prelude.{◌≡◌, ◌⊎◌, Err, IfErr, IfOk, OnOk, true};
 ghost use Rattle.std.specs.Io.KnownBytes.{IsAtEnd};
-ghost use Rattle.clap.specs.Words.{found_of, rows_of};
 ghost use Rattle.acl_perm.specs.Devices.{failures_after};
 ghost use Rattle.acl_perm.specs.Profile.{profile_of};
 ghost use Rattle.acl_normal.specs.NormalForm.{IsNormalFormOf};
-ghost use Rattle.aclck.specs.Line.{Reads, term};
 ghost use Rattle.aclck.specs.Answer.{Ran, has_read_failed, has_write_failed, is_write};
 ghost use Rattle.aclck.specs.ListInput.{TakesLittle};
-ghost use Rattle.aclck.specs.Normalize.{NormalizeAnswer, normalize_in, normalize_terms};
+ghost use Rattle.aclck.specs.Normalize.{NormalizeAnswer};
 
 use crate::answer::{Outcome, RunFault};
-use crate::line::{Argument, LineFault, text_of};
 use crate::list_input::read_list;
-use crate::values::profile_in;
 use acl_normal::normalize;
 use acl_perm::{Profile, Sink, Source};
-use clap::ArgMatches;
 use std::alloc::Global;
-
-const ARGUMENTS: [Argument; 1] = [Argument::Default("profile", "full")];
-
-/// The arguments of `normalize`.
-pub(crate) fn arguments() -> &'static [Argument]
-    ensures { map term result.now ≡ normalize_terms }
-{
-    &ARGUMENTS
-}
-
-/// What a list may have.
-#[tactic(auto, unfolding(crate::specs::Normalize::normalize_in))]
-pub(crate) fn read(matches: &ArgMatches<'_>) -> Result<Profile, LineFault>
-    ensures { Reads profile_of (normalize_in (rows_of (found_of matches.now))) result }
-{
-    profile_in(text_of(matches, "profile"))
-}
 
 /// Writes the bytes that spell the normal form of the list that the whole input spells: the one list that grants the
 /// same in every situation and is normal. Nothing is written before the input is accepted, as a list that keeps to the
