@@ -1,5 +1,5 @@
 -- The first small set, by least numbers.
-use Rattle.std.specs.Prelude.{◌≡◌, ℕ, ◌<◌, ◌≤◌, ◌+◌, ◌-◌, Bool, true, false, not, ◌&&◌, ◌||◌, cond, nat_lt, List, [], ◌∷◌, ◌++◌, Some, None, refl, length, take, drop, slice_index_or, ◌⊎◌}
+use Rattle.std.specs.Prelude.{◌≡◌, ℕ, ◌<◌, ◌≤◌, ◌+◌, ◌-◌, Bool, true, false, ◌&&◌, ◌||◌, cond, nat_lt, List, [], ◌∷◌, ◌++◌, Some, None, refl, length, take, drop, slice_index_or, ◌⊎◌}
 use Rattle.std.specs.List.{AllByRecursion}
 use Rattle.std.proofs.Common.{sym, ◌∙◌, ap, subst, arith, suc, zero, inl, inr}
 use Rattle.std.proofs.lemmas.List.{drop_more, take-append-drop, get_or-take, get_or-drop, length-take, length-drop}
@@ -13,7 +13,6 @@ use Rattle.acl_nfs4.specs.Who.{principal_of}
 use Rattle.acl_normal.proofs.Names.{overlaps_back}
 use Rattle.acl_normal.proofs.Numbers.{principal_at}
 use Rattle.acl_normal.proofs.PairGrants.{no_pairs, pair_granted, pairs_after}
-use Rattle.acl_normal.proofs.SameEntries.{alike}
 use Rattle.acl_normal.proofs.SetEvaluation.{granted_to-cons}
 use Rattle.acl_normal.proofs.SetSearchLemmas.{found_left, found_right}
 use Rattle.acl_normal.specs.Entries.{principal_eq}

@@ -1,9 +1,11 @@
 -- Single bits of a mask.
-use Rattle.std.specs.Prelude.{◌≡◌, ◌≢◌, ℕ, ◌^◌, true, false, ◌==◌, bit_and, refl}
+use Rattle.std.specs.Prelude.{◌≡◌, ◌≢◌, ℕ, ◌+◌, ◌*◌, ◌/◌, ◌^◌, ◌<◌, ◌≤◌, true, false, ◌==◌, bit_and, refl}
 use Rattle.std.specs.Int.{bit_at}
-use Rattle.std.proofs.Common.{sym, ◌∙◌, ap, arith, ⊎_elim}
+use Rattle.std.proofs.Common.{sym, ◌∙◌, ap, subst, arith, ⊎_elim}
 use Rattle.std.proofs.lemmas.Bool.{eqb-true, eqb-false, ne_eqb, cases_eq}
-use Rattle.std.proofs.lemmas.Nat.Bits.{bit_at_xor, bit_at_and, bit_at-pow_same, bit_at-pow_other, bit_at-lt, same_from_bits, bit_at-zero}
+use Rattle.std.proofs.lemmas.Nat.Bits.{bit_at_xor, bit_at_and, bit_at-pow_same, bit_at-pow_other, bit_at-lt, same_from_bits, bit_at-zero, bit_at_above}
+use Rattle.std.proofs.Math.Nat.{lt-div-mul-add}
+use Rattle.std.proofs.lemmas.Nat.{pow_pos}
 use Rattle.acl_perm.specs.Bits.{has_bit}
 -- sets with the same bits are equal
 pub use Rattle.acl_perm.proofs.Sets.{same_set as masks_same}
@@ -52,3 +54,13 @@ no_bit m b h =
 -- a set without bits is zero
 pub no_bits : (m : ℕ) → ((b : ℕ) → has_bit m b ≡ false) → m ≡ 0
 no_bits m h = same_from_bits m 0 (λ b. no_bit m b (h b) ∙ sym (bit_at-zero b))
+
+-- a number that is shifted to nothing has no bit more
+pub no_more_bits : (m n b : ℕ) → m / 2 ^ n ≡ 0 → n ≤ b → has_bit m b ≡ false
+no_more_bits m n b none l = ap (λ v. v == 1) (bit_at_above m n b below l)
+  where
+    below : m < 2 ^ n
+    below = less (2 ^ n) (subst (λ v. m < v * 2 ^ n + 2 ^ n) none (lt-div-mul-add {a = m} {b = 2 ^ n} (pow_pos n)))
+      where
+        less : (p : ℕ) → m < 0 * p + p → m < p
+        less p h = omega (arith, h)

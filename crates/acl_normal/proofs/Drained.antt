@@ -1,10 +1,6 @@
 -- The loop that emits: what it keeps, what a turn does, and that it ends.
-use Rattle.std.specs.Prelude.{◌≡◌, ◌≢◌, ℕ, zero, suc, ◌<◌, ◌≤◌, Bool, true, false, cond, not, ◌&&◌, ◌⊎◌, ◌==◌, List, [], ◌∷◌, ◌++◌, Option, Some, None, is_some, unwrap_or, length, refl}
-use Rattle.std.specs.Map.{lookup}
-use Rattle.std.specs.BTreeMap.{is_at}
-use Rattle.std.specs.Ordering.{is_le, is_gt}
-use Rattle.std.specs.declared.cmp.Ordering.{Ordering}
-use Rattle.std.specs.declared.cmp.Ordering.TheVariants.{Less, Equal, Greater}
+use Rattle.std.specs.Prelude.{◌≡◌, ◌≢◌, ℕ, zero, suc, ◌*◌, ◌/◌, ◌<◌, ◌≤◌, Bool, true, false, cond, not, ◌&&◌, ◌⊎◌, ◌==◌, List, [], ◌∷◌, ◌++◌, Some, None, length, slice_index_or, slice_set, refl}
+use Rattle.std.specs.Ordering.{is_le}
 use Rattle.std.specs.Str.{bytes_eq}
 use Rattle.std.proofs.Common.{sym, ◌∙◌, ap, subst, arith, inl, inr, ⊎_elim}
 use Rattle.std.proofs.lemmas.Bool.{cases_eq, cases_lt, or_cases, and_parts, or_left, or_right, and_from, false_from_ne_true}
@@ -14,20 +10,18 @@ use Rattle.acl_perm.specs.Overlap.{may_overlap}
 use Rattle.acl_perm.specs.declared.kind.Kind.{Kind}
 use Rattle.acl_perm.specs.declared.kind.Kind.TheVariants.{Deny, Allow}
 use Rattle.acl_perm.specs.Bits.{has_bit}
-use Rattle.acl_perm.specs.declared.key.Key.{Key}
-use Rattle.acl_perm.specs.contracts.key.KeyOrd.TheImpl.{cmp-value}
 use Rattle.acl_nfs4.specs.Ace.{Ace}
 use Rattle.acl_nfs4.specs.Who.{principal_of, owner_name, group_name, everyone_name}
 use Rattle.acl_normal.specs.declared.draining.Emitted.{Emitted}
 use Rattle.acl_eval.specs.Column.{Column, first_kind, column}
 use Rattle.acl_normal.specs.Entries.{principal_eq, Entry, entry_cmp, entry_of, conflicts, kind_eq}
-use Rattle.acl_normal.specs.Places.{is_user, principal_named, other_kind, take_out, entry_here}
+use Rattle.acl_normal.specs.Places.{is_user, principal_named, other_kind, take_out, entry_here, nothing_left}
 use Rattle.acl_normal.specs.Alike.{is_either}
 use Rattle.acl_normal.specs.Normal.{is_free, flags_for}
 use Rattle.acl_normal.specs.Plain.{without_principal}
 use Rattle.acl_normal.specs.Emissions.{IsOnce, HasOnceColumns, IsStep, IsEmission}
-use Rattle.acl_normal.specs.Keys.{key_entry}
-use Rattle.acl_normal.specs.Ready.{Marked, entry_eq, mask_for, HasNoZero, Frees, HoldsFree, who_for, emitted}
+use Rattle.acl_normal.specs.Ready.{Marked, entry_eq, marks, FitsKeys, IsKeyNumber, IsLeastReady, Frees, HoldsFree, who_for, emitted}
+use Rattle.acl_normal.specs.Rows.{IsRow, is_named, key_number}
 use Rattle.acl_normal.specs.Counts.{count_left}
 use Rattle.acl_normal.proofs.Names.{principal_eq_same, principal_eq_itself, overlaps_itself, bytes_eq_same, bytes_eq_itself}
 use Rattle.acl_normal.proofs.Free.{kind_eq_same, kind_eq_itself, ahead_from_free, no_conflict, some_same}
@@ -38,10 +32,11 @@ use Rattle.acl_normal.proofs.Invariant.{without_absent}
 use Rattle.acl_normal.proofs.Emission.{lacks_principal}
 use Rattle.acl_normal.proofs.Emitted.{Completes, completes_more, completes_all}
 use Rattle.acl_normal.proofs.TakeOut.{column_taken, once_taken, low_taken}
-use Rattle.acl_normal.proofs.Lookups.{lookup_same}
-use Rattle.acl_normal.proofs.Marks.{entry_eq_same, entry_eq_itself, key_order_is, mask_found}
+use Rattle.acl_normal.proofs.Marks.{entry_eq_same, entry_eq_itself, fits_written, mark_named, mark_written, number_order, number_row, number_within, some_bits}
+use Rattle.acl_normal.proofs.Rows.{named_outline, outline_taken, row_outline}
 use Rattle.acl_normal.proofs.Walk.{stands_free}
 use Rattle.acl_normal.specs.Emitted.{emitted_ace, emitted_aces}
+use Rattle.acl_normal.proofs.Outline.{outline_length}
 
 kinds_differ : (j k : Kind) → not (kind_eq j k) ≡ true → k ≡ other_kind j
 kinds_differ Deny Allow h = refl
@@ -197,56 +192,72 @@ some_below m (suc n) = go (some_below m n) (has_bit m n) refl
         inr (λ b l. ⊎_elim (λ d. ap (has_bit m) d ∙ e)
         (λ d. f b (⊎_elim (λ g. g) (λ g. absurd (d (omega (arith, g, l)))) (cases_lt b n))) (cases_eq b n))
 
--- ---- the first of the marked keys
-
--- what is found has a key that the test passes
-pub found_key : (t : Key → Bool) (es : Marked) (v : ℕ) → lookup t es ≡ Some v → (q : Key) × (t q ≡ true)
-found_key t [] v h = cc
-found_key t (e ∷ es) v h = go (t e.0) refl (found_key t es v)
-  where
-    go : (b : Bool) → t e.0 ≡ b → (lookup t es ≡ Some v → (q : Key) × (t q ≡ true)) → (q : Key) × (t q ≡ true)
-    go true b ih = (e.0, b)
-    go false b ih = ih (rw b at h)
-
--- the order of the keys of the code
-pub key_cmp_is : (p q : Key) → cmp-value.it p q ≡ entry_cmp (key_entry p) (key_entry q)
-key_cmp_is p q = refl
-
--- the first of the marked keys is the least
-pub marked_least : (old : Marked) (q : Key) (l : Entry) (b : ℕ)
-    → ((r : Key) → is_some (lookup (is_at (cmp-value.it r)) old) ≡ true → is_gt (cmp-value.it q r) ≡ false)
-    → has_bit (mask_for l old) b ≡ true → is_le (entry_cmp (key_entry q) l) ≡ true
-marked_least old q l b least has = go (lookup (λ x. entry_eq l (key_entry x)) old) refl
-  where
-    not_above : (o : Ordering) → is_gt o ≡ false → is_le o ≡ true
-    not_above Less h = refl
-    not_above Equal h = refl
-    not_above Greater h = cc
-
-    go : (o : Option ℕ) → lookup (λ x. entry_eq l (key_entry x)) old ≡ o → is_le (entry_cmp (key_entry q) l) ≡ true
-    go None e =
-        let none : has_bit (mask_for l old) b ≡ false =
-        ap (λ o. has_bit (unwrap_or o 0) b) e ∙ ap (λ v. v == 1) (bit_at-zero b) in
-        cc
-    go (Some v) e = from (found_key (λ x. entry_eq l (key_entry x)) old v e)
-      where
-        from : (r : Key) × (entry_eq l (key_entry r) ≡ true) → is_le (entry_cmp (key_entry q) l) ≡ true
-        from (r, t) =
-            let same : key_entry r ≡ l = sym (entry_eq_same l (key_entry r) t) in
-            let here : lookup (is_at (cmp-value.it r)) old ≡ Some v =
-            lookup_same (is_at (cmp-value.it r)) (λ x. entry_eq l (key_entry x)) old
-            (λ x. key_order_is r x ∙ ap (λ w. entry_eq w (key_entry x)) same) ∙ e in
-            subst (λ w. is_le (entry_cmp (key_entry q) w) ≡ true) same
-            (not_above (entry_cmp (key_entry q) (key_entry r)) (ap is_gt (sym (key_cmp_is q r))
-            ∙ least r (ap is_some here)))
-
 -- ---- the step
 
--- the first of the marked keys was taken
-pub record Popped (old : Marked) (q : Key) (m : ℕ) (rest : Marked) : Type 0 where
-  pub is : old ≡ (q, m) ∷ rest
-  pub gone : lookup (is_at (cmp-value.it q)) rest ≡ None
-  pub least : (r : Key) → is_some (lookup (is_at (cmp-value.it r)) old) ≡ true → is_gt (cmp-value.it q r) ≡ false
+-- the least of the marked keys was taken, with its bits
+pub record Popped (old : Marked) (q : Entry) (m : ℕ) (rest : Marked) : Type 0 where
+  pub is : old q ≡ m
+  pub some : m ≢ 0
+  pub after : (l : Entry) → rest l ≡ cond (entry_eq l q) 0 (old l)
+  pub least : (l : Entry) → old l ≢ 0 → is_le (entry_cmp q l) ≡ true
+
+-- the bits of the least number are those of the least key
+pub popped : (xs : List Ace) (old new : List ℕ) (n m : ℕ) → FitsKeys xs old → IsLeastReady old n m
+    → new ≡ slice_set old n 0 → (k : IsKeyNumber xs n) → Popped (marks xs old) k.key m (marks xs new)
+popped xs old new n m f l set k = record {
+  is = mark_named k.key xs old k.named ∙ ap (λ v. slice_index_or old v 0) (sym k.is) ∙ sym l.is;
+  some = l.some;
+  after = λ e. mark_written xs old new n 0 k.key e k.named k.is (number_within old n there) set;
+  least = λ e some. go e some (is_named e.0 xs) refl;
+}
+  where
+    there : slice_index_or old n 0 ≢ 0
+    there none = l.some (l.is ∙ none)
+
+    go : (e : Entry) → marks xs old e ≢ 0 → (t : Bool) → is_named e.0 xs ≡ t → is_le (entry_cmp k.key e) ≡ true
+    go e some true named =
+        let less : n ≤ key_number e xs = l.least (key_number e xs) (λ none. some (mark_named e xs old named ∙ none)) in
+        number_order k.key e xs k.named named (subst (λ v. v ≤ key_number e xs) k.is less)
+    go e some false unnamed = absurd (some (rw unnamed refl))
+
+-- a number with bits is below twice as many as there are ACEs
+pub ready_within : (xs : List Ace) (old : List ℕ) (n m : ℕ) → FitsKeys (nothing_left xs) old → IsLeastReady old n m
+    → n < 2 * length xs
+ready_within xs old n m f l =
+    omega (arith, number_within old n (λ none. l.some (l.is ∙ none)), f.count, outline_length xs)
+
+-- the key of the least number was taken
+pub record Takes (xs : List Ace) (old new : List ℕ) (n m : ℕ) (q : Entry) : Type 0 where
+  pub row : IsRow (n / 2) q.0 xs
+  pub popped : Popped (marks (nothing_left xs) old) q m (marks (nothing_left xs) new)
+  pub fits : FitsKeys (nothing_left xs) new
+
+-- whatever key has that number
+pub takes : (xs : List Ace) (old new : List ℕ) (n m : ℕ) (q : Entry) → FitsKeys (nothing_left xs) old
+    → IsLeastReady old n m → new ≡ slice_set old n 0
+    → ((k : Entry) → is_named k.0 xs ≡ true → n ≡ key_number k xs → q ≡ k) → Takes xs old new n m q
+takes xs old new n m q f l set whose = go (f.sound n (λ none. l.some (l.is ∙ none)))
+  where
+    go : IsKeyNumber (nothing_left xs) n → Takes xs old new n m q
+    go k =
+        let named : is_named k.key.0 xs ≡ true = sym (named_outline k.key.0 xs) ∙ k.named in
+        let is : n ≡ key_number k.key xs = omega (arith, k.is, row_outline k.key.0 xs) in
+        let same : k.key ≡ q = sym (whose k.key named is) in
+        record {
+          row =
+              subst (λ (e : Entry). IsRow (n / 2) e.0 xs) same (record {
+                named = named;
+                is = number_row k.key xs n is;
+              });
+          popped =
+              subst (λ e. Popped (marks (nothing_left xs) old) e m (marks (nothing_left xs) new)) same
+              (popped (nothing_left xs) old new n m f l set k);
+          fits = fits_written (nothing_left xs) old new n 0 f k set;
+        }
+
+-- what is left has the outline that was
+pub outline_left : (p : Principal) (m : ℕ) (xs ys : List Ace) → ys ≡ take_out p m xs → nothing_left ys ≡ nothing_left xs
+outline_left p m xs ys taken = ap nothing_left taken ∙ outline_taken p m xs
 
 -- what the loop keeps
 pub record Drains (whole : List Ace) (out : List Emitted) (ready : Marked) (xs : List Ace) : Type 0 where
@@ -261,202 +272,207 @@ pub drain_starts : (xs : List Ace) (ready : Marked) → HasOnceColumns xs → ((
 drain_starts xs ready once low free = record { once = once; low = low; free = free; completes = λ ns e. e }
 
 -- what is marked at the key that was popped is what is free there
-pub popped_bits : (old rest : Marked) (q : Key) (m : ℕ) (xs : List Ace) → HoldsFree old xs → Popped old q m rest
-    → (b : ℕ) → has_bit m b ≡ is_free (column xs b) (key_entry q)
-popped_bits old rest q m xs h p b =
-    let mask : mask_for (key_entry q) old ≡ m =
-    ap (mask_for (key_entry q)) p.is ∙ rw (entry_eq_itself (key_entry q)) refl in
-    ap (λ v. has_bit v b) (sym mask) ∙ h.bits (key_entry q) b
+pub popped_bits : (old rest : Marked) (q : Entry) (m : ℕ) (xs : List Ace) → HoldsFree old xs → Popped old q m rest
+    → (b : ℕ) → has_bit m b ≡ is_free (column xs b) q
+popped_bits old rest q m xs h p b = ap (λ v. has_bit v b) (sym p.is) ∙ h q b
 
 -- the bits of a marked key are among the first 21
-pub popped_low : (whole : List Ace) (out : List Emitted) (old rest : Marked) (q : Key) (m : ℕ) (xs : List Ace)
+pub popped_low : (whole : List Ace) (out : List Emitted) (old rest : Marked) (q : Entry) (m : ℕ) (xs : List Ace)
     → Drains whole out old xs → Popped old q m rest → (b : ℕ) → 21 ≤ b → has_bit m b ≡ false
 popped_low whole out old rest q m xs d p b l =
-    popped_bits old rest q m xs d.free p b ∙ ap (λ c. is_free c (key_entry q)) (d.low b l)
+    popped_bits old rest q m xs d.free p b ∙ ap (λ c. is_free c q) (d.low b l)
 
 -- and its principal is named
-pub popped_named : (whole : List Ace) (out : List Emitted) (old rest : Marked) (q : Key) (m : ℕ) (xs : List Ace)
-    → Drains whole out old xs → Popped old q m rest → IsNamed (key_entry q).0
+pub popped_named : (whole : List Ace) (out : List Emitted) (old rest : Marked) (q : Entry) (m : ℕ) (xs : List Ace)
+    → Drains whole out old xs → Popped old q m rest → IsNamed q.0
 popped_named whole out old rest q m xs d p = go (some_below m 21)
   where
-    full : m ≢ 0
-    full = (subst HasNoZero p.is d.free.full).0
-
-    go : ((b : ℕ) × (has_bit m b ≡ true)) ⊎ ((b : ℕ) → b < 21 → has_bit m b ≡ false) → IsNamed (key_entry q).0
+    go : ((b : ℕ) × (has_bit m b ≡ true)) ⊎ ((b : ℕ) → b < 21 → has_bit m b ≡ false) → IsNamed q.0
     go (inl (b, e)) =
         let s =
-        stands_free (key_entry q).1 (is_user (key_entry q).0) b xs (key_entry q).0 (d.once b) refl
+        stands_free q.1 (is_user q.0) b xs q.0 (d.once b) refl
         (sym (popped_bits old rest q m xs d.free p b) ∙ e) in
         subst (λ (k : Entry). IsNamed k.0) s.key_entry (here_named xs s.place)
     go (inr f) =
-        absurd (full (no_bits m (λ b. ⊎_elim (λ l. f b l) (λ l. popped_low whole out old rest q m xs d p b l)
+        absurd (p.some (no_bits m (λ b. ⊎_elim (λ l. f b l) (λ l. popped_low whole out old rest q m xs d p b l)
         (cases_lt b 21))))
 
 -- the key with its marked bits is what comes first
-pub steps : (whole : List Ace) (out : List Emitted) (old rest : Marked) (q : Key) (m : ℕ) (xs : List Ace)
+pub steps : (whole : List Ace) (out : List Emitted) (old rest : Marked) (q : Entry) (m : ℕ) (xs : List Ace)
     → Drains whole out old xs → Popped old q m rest
-    → IsStep xs (emitted (key_entry q) m) (take_out (key_entry q).0 m xs)
+    → IsStep xs (emitted q m) (take_out q.0 m xs)
 steps whole out old rest q m xs d p = record {
   flags = ap flags_for (sym named);
-  mask = (subst HasNoZero p.is d.free.full).0;
+  mask = p.some;
   least =
       λ l b free. subst (λ v. is_le (entry_cmp v l) ≡ true) (sym whole_key)
-      (marked_least old q l b p.least (d.free.bits l b ∙ free));
+      (p.least l (some_bits (old l) b (d.free l b ∙ free)));
   all = λ b. popped_bits old rest q m xs d.free p b ∙ ap (is_free (column xs b)) (sym whole_key);
-  taken = λ b h. column_taken b (key_entry q).0 m xs ∙ rw h (ap (λ v. without_principal v (column xs b)) (sym named));
-  kept = λ b h. column_taken b (key_entry q).0 m xs ∙ rw h refl;
+  taken = λ b h. column_taken b q.0 m xs ∙ rw h (ap (λ v. without_principal v (column xs b)) (sym named));
+  kept = λ b h. column_taken b q.0 m xs ∙ rw h refl;
 }
   where
-    named : principal_of (emitted (key_entry q) m) ≡ (key_entry q).0
-    named = emitted_principal (key_entry q) m (popped_named whole out old rest q m xs d p)
+    named : principal_of (emitted q m) ≡ q.0
+    named = emitted_principal q m (popped_named whole out old rest q m xs d p)
 
-    whole_key : entry_of (emitted (key_entry q) m) ≡ key_entry q
-    whole_key = ap (λ v. (v, (key_entry q).1)) named
+    whole_key : entry_of (emitted q m) ≡ q
+    whole_key = ap (λ v. (v, q.1)) named
 
 -- what is marked is what is free, one turn later
-pub holds_on : (whole : List Ace) (out : List Emitted) (old rest next : Marked) (q : Key) (m : ℕ) (xs : List Ace)
-    → Drains whole out old xs → Popped old q m rest → Frees (key_entry q) m (take_out (key_entry q).0 m xs) rest next
-    → HoldsFree next (take_out (key_entry q).0 m xs)
-holds_on whole out old rest next q m xs d p f = record {
-  bits =
-      λ l b. same_answers (has_bit (mask_for l next) b) (is_free (column (take_out (key_entry q).0 m xs) b) l)
-      (λ h. sound l b (f.grows.sound l b h)) (λ h. complete l b h);
-  full = f.grows.full (subst HasNoZero p.is d.free.full).1;
-}
+pub holds_on : (whole : List Ace) (out : List Emitted) (old rest next : Marked) (q : Entry) (m : ℕ) (xs : List Ace)
+    → Drains whole out old xs → Popped old q m rest → Frees q m (take_out q.0 m xs) rest next
+    → HoldsFree next (take_out q.0 m xs)
+holds_on whole out old rest next q m xs d p f l b =
+    same_answers (has_bit (next l) b) (is_free (column (take_out q.0 m xs) b) l)
+    (λ h. sound l b (f.grows.sound l b h)) (λ h. complete l b h)
   where
     clash : true ≡ false → ⊥
     clash h = cc
 
     taken : (b : ℕ) → has_bit m b ≡ true
-        → column (take_out (key_entry q).0 m xs) b ≡ without_principal (key_entry q).0 (column xs b)
-    taken b h = column_taken b (key_entry q).0 m xs ∙ rw h refl
+        → column (take_out q.0 m xs) b ≡ without_principal q.0 (column xs b)
+    taken b h = column_taken b q.0 m xs ∙ rw h refl
 
-    kept : (b : ℕ) → has_bit m b ≡ false → column (take_out (key_entry q).0 m xs) b ≡ column xs b
-    kept b h = column_taken b (key_entry q).0 m xs ∙ rw h refl
+    kept : (b : ℕ) → has_bit m b ≡ false → column (take_out q.0 m xs) b ≡ column xs b
+    kept b h = column_taken b q.0 m xs ∙ rw h refl
 
     -- nothing is marked at the key any more
-    gone : (b : ℕ) → has_bit (mask_for (key_entry q) rest) b ≡ false
-    gone b =
-        ap (λ v. has_bit v b) (sym (mask_found q rest) ∙ ap (λ o. unwrap_or o 0) p.gone)
-        ∙ ap (λ v. v == 1) (bit_at-zero b)
+    gone : (b : ℕ) → has_bit (rest q) b ≡ false
+    gone b = ap (λ v. has_bit v b) (p.after q ∙ rw (entry_eq_itself q) refl) ∙ ap (λ v. v == 1) (bit_at-zero b)
 
-    others : (l : Entry) → entry_eq l (key_entry q) ≡ false → mask_for l old ≡ mask_for l rest
-    others l n = ap (mask_for l) p.is ∙ rw n refl
+    others : (l : Entry) → entry_eq l q ≡ false → old l ≡ rest l
+    others l n = sym (p.after l ∙ rw n refl)
 
-    marked : (l : Entry) (b : ℕ) → has_bit (mask_for l rest) b ≡ true → entry_eq l (key_entry q) ≡ false
+    marked : (l : Entry) (b : ℕ) → has_bit (rest l) b ≡ true → entry_eq l q ≡ false
     marked l b h =
         false_from_ne_true _ (λ t. absurd
-        (clash (sym h ∙ ap (λ v. has_bit (mask_for v rest) b) (entry_eq_same l (key_entry q) t) ∙ gone b)))
+        (clash (sym h ∙ ap (λ v. has_bit (rest v) b) (entry_eq_same l q t) ∙ gone b)))
 
     sound : (l : Entry) (b : ℕ)
-        → (has_bit (mask_for l rest) b ≡ true) ⊎ (is_free (column (take_out (key_entry q).0 m xs) b) l ≡ true)
-        → is_free (column (take_out (key_entry q).0 m xs) b) l ≡ true
+        → (has_bit (rest l) b ≡ true) ⊎ (is_free (column (take_out q.0 m xs) b) l ≡ true)
+        → is_free (column (take_out q.0 m xs) b) l ≡ true
     sound l b (inr h) = h
     sound l b (inl h) = at (has_bit m b) refl
       where
-        apart : entry_eq l (key_entry q) ≡ false
+        apart : entry_eq l q ≡ false
         apart = marked l b h
 
         was : is_free (column xs b) l ≡ true
-        was = sym (d.free.bits l b) ∙ ap (λ v. has_bit v b) (others l apart) ∙ h
+        was = sym (d.free l b) ∙ ap (λ v. has_bit v b) (others l apart) ∙ h
 
-        at : (t : Bool) → has_bit m b ≡ t → is_free (column (take_out (key_entry q).0 m xs) b) l ≡ true
+        at : (t : Bool) → has_bit m b ≡ t → is_free (column (take_out q.0 m xs) b) l ≡ true
         at false e = rw (kept b e) was
-        at true e = rw (taken b e) (free_without (column xs b) (key_entry q).0 l other was)
+        at true e = rw (taken b e) (free_without (column xs b) q.0 l other was)
           where
-            other : principal_eq l.0 (key_entry q).0 ≡ false
+            other : principal_eq l.0 q.0 ≡ false
             other = false_from_ne_true _ (λ t. absurd (two t))
               where
-                two : principal_eq l.0 (key_entry q).0 ≡ true → ⊥
+                two : principal_eq l.0 q.0 ≡ true → ⊥
                 two t =
-                    let same : l.0 ≡ (key_entry q).0 = principal_eq_same l.0 (key_entry q).0 t in
-                    let mine : is_free (column xs b) ((key_entry q).0, (key_entry q).1) ≡ true =
+                    let same : l.0 ≡ q.0 = principal_eq_same l.0 q.0 t in
+                    let mine : is_free (column xs b) (q.0, q.1) ≡ true =
                     sym (popped_bits old rest q m xs d.free p b) ∙ e in
-                    let its : is_free (column xs b) ((key_entry q).0, l.1) ≡ true =
+                    let its : is_free (column xs b) (q.0, l.1) ≡ true =
                     subst (λ v. is_free (column xs b) (v, l.1) ≡ true) same was in
-                    let kind : l.1 ≡ (key_entry q).1 =
-                    one_free (column xs b) (key_entry q).0 l.1 (key_entry q).1 its mine in
-                    let equal : entry_eq l (key_entry q) ≡ true =
-                    and_from (principal_eq l.0 (key_entry q).0) (kind_eq l.1 (key_entry q).1) t
+                    let kind : l.1 ≡ q.1 =
+                    one_free (column xs b) q.0 l.1 q.1 its mine in
+                    let equal : entry_eq l q ≡ true =
+                    and_from (principal_eq l.0 q.0) (kind_eq l.1 q.1) t
                     (subst (λ v. kind_eq l.1 v ≡ true) kind (kind_eq_itself l.1)) in
                     clash (sym equal ∙ apart)
 
     -- what was free before is marked still
-    before : (l : Entry) (b : ℕ) → entry_eq l (key_entry q) ≡ false → is_free (column xs b) l ≡ true
-        → has_bit (mask_for l next) b ≡ true
-    before l b n h = f.grows.kept l b (ap (λ v. has_bit v b) (sym (others l n)) ∙ d.free.bits l b ∙ h)
+    before : (l : Entry) (b : ℕ) → entry_eq l q ≡ false → is_free (column xs b) l ≡ true
+        → has_bit (next l) b ≡ true
+    before l b n h = f.grows.kept l b (ap (λ v. has_bit v b) (sym (others l n)) ∙ d.free l b ∙ h)
 
-    complete : (l : Entry) (b : ℕ) → is_free (column (take_out (key_entry q).0 m xs) b) l ≡ true
-        → has_bit (mask_for l next) b ≡ true
+    complete : (l : Entry) (b : ℕ) → is_free (column (take_out q.0 m xs) b) l ≡ true
+        → has_bit (next l) b ≡ true
     complete l b h = at (has_bit m b) refl
       where
-        at : (t : Bool) → has_bit m b ≡ t → has_bit (mask_for l next) b ≡ true
+        at : (t : Bool) → has_bit m b ≡ t → has_bit (next l) b ≡ true
         at false e = before l b other was
           where
             was : is_free (column xs b) l ≡ true
             was = subst (λ c. is_free c l ≡ true) (kept b e) h
 
-            other : entry_eq l (key_entry q) ≡ false
+            other : entry_eq l q ≡ false
             other =
                 false_from_ne_true _ (λ t. absurd
-                (clash (sym was ∙ ap (is_free (column xs b)) (entry_eq_same l (key_entry q) t)
+                (clash (sym was ∙ ap (is_free (column xs b)) (entry_eq_same l q t)
                 ∙ sym (popped_bits old rest q m xs d.free p b) ∙ e)))
-        at true e = by (conflicts (key_entry q) l) refl
+        at true e = by (conflicts q l) refl
           where
-            left : is_free (without_principal (key_entry q).0 (column xs b)) l ≡ true
+            left : is_free (without_principal q.0 (column xs b)) l ≡ true
             left = subst (λ c. is_free c l ≡ true) (taken b e) h
 
-            other : principal_eq l.0 (key_entry q).0 ≡ false
+            other : principal_eq l.0 q.0 ≡ false
             other =
                 false_from_ne_true _ (λ t. absurd
-                (lacks_free (column xs b) (key_entry q).0 l.1
-                (subst (λ v. is_free (without_principal (key_entry q).0 (column xs b)) (v, l.1) ≡ true)
-                (principal_eq_same l.0 (key_entry q).0 t) left)))
+                (lacks_free (column xs b) q.0 l.1
+                (subst (λ v. is_free (without_principal q.0 (column xs b)) (v, l.1) ≡ true)
+                (principal_eq_same l.0 q.0 t) left)))
 
-            by : (t : Bool) → conflicts (key_entry q) l ≡ t → has_bit (mask_for l next) b ≡ true
+            by : (t : Bool) → conflicts q l ≡ t → has_bit (next l) b ≡ true
             by false c =
-                let mine : is_free (column xs b) ((key_entry q).0, (key_entry q).1) ≡ true =
+                let mine : is_free (column xs b) (q.0, q.1) ≡ true =
                 sym (popped_bits old rest q m xs d.free p b) ∙ e in
-                before l b (rw other refl) (free_back (column xs b) (key_entry q).0 (key_entry q).1 l (d.once b) mine
+                before l b (rw other refl) (free_back (column xs b) q.0 q.1 l (d.once b) mine
                 c left)
             by true c =
-                let both = and_parts (may_overlap (key_entry q).0 l.0) (not (kind_eq (key_entry q).1 l.1)) c in
-                let kind : l.1 ≡ other_kind (key_entry q).1 = kinds_differ (key_entry q).1 l.1 both.1 in
-                let whole_pair : (l.0, other_kind (key_entry q).1) ≡ l = ap (λ v. (l.0, v)) (sym kind) in
+                let both = and_parts (may_overlap q.0 l.0) (not (kind_eq q.1 l.1)) c in
+                let kind : l.1 ≡ other_kind q.1 = kinds_differ q.1 l.1 both.1 in
+                let whole_pair : (l.0, other_kind q.1) ≡ l = ap (λ v. (l.0, v)) (sym kind) in
                 let low : b < 21 =
                 ⊎_elim (λ g. g) (λ g. absurd (clash (sym e ∙ popped_low whole out old rest q m xs d p b g)))
                 (cases_lt b 21) in
-                subst (λ v. has_bit (mask_for v next) b ≡ true) whole_pair
-                (f.all l.0 b low e (one_is_other (key_entry q).0 l.0 both.0 other)
-                (subst (λ v. is_free (column (take_out (key_entry q).0 m xs) b) v ≡ true) (sym whole_pair) h))
+                subst (λ v. has_bit (next v) b ≡ true) whole_pair
+                (f.all l.0 b low e (one_is_other q.0 l.0 both.0 other)
+                (subst (λ v. is_free (column (take_out q.0 m xs) b) v ≡ true) (sym whole_pair) h))
 
 -- a turn
-pub drain_on : (whole : List Ace) (out more : List Emitted) (old rest next : Marked) (q : Key) (m : ℕ)
+pub drain_on : (whole : List Ace) (out more : List Emitted) (old rest next : Marked) (q : Entry) (m : ℕ)
     (xs : List Ace) (a : Emitted) → Drains whole out old xs → Popped old q m rest → more ≡ out ++ a ∷ []
-    → emitted_ace a ≡ emitted (key_entry q) m → Frees (key_entry q) m (take_out (key_entry q).0 m xs) rest next
-    → Drains whole more next (take_out (key_entry q).0 m xs)
+    → emitted_ace a ≡ emitted q m → Frees q m (take_out q.0 m xs) rest next
+    → Drains whole more next (take_out q.0 m xs)
 drain_on whole out more old rest next q m xs a d p is same f =
     let step =
-    subst (λ v. IsStep xs v (take_out (key_entry q).0 m xs)) (sym same) (steps whole out old rest q m xs d p) in
+    subst (λ v. IsStep xs v (take_out q.0 m xs)) (sym same) (steps whole out old rest q m xs d p) in
     record {
-      once = once_taken (key_entry q).0 m xs d.once;
-      low = low_taken (key_entry q).0 m xs d.low;
+      once = once_taken q.0 m xs d.once;
+      low = low_taken q.0 m xs d.low;
       free = holds_on whole out old rest next q m xs d p f;
-      completes = completes_more whole out more xs (take_out (key_entry q).0 m xs) a is d.once step d.completes;
+      completes = completes_more whole out more xs (take_out q.0 m xs) a is d.once step d.completes;
     }
+
+-- a turn, by number: the outline stays
+pub drain_turn : (whole : List Ace) (out more : List Emitted) (old rest next : List ℕ) (n m : ℕ) (q : Entry)
+    (xs ys : List Ace) (a : Emitted) → Drains whole out (marks (nothing_left xs) old) xs → Takes xs old rest n m q
+    → more ≡ out ++ a ∷ [] → emitted_ace a ≡ emitted q m → ys ≡ take_out q.0 m xs
+    → Frees q m ys (marks (nothing_left ys) rest) (marks (nothing_left ys) next)
+    → Drains whole more (marks (nothing_left ys) next) ys
+drain_turn whole out more old rest next n m q xs ys a d t is same taken f =
+    let outline : nothing_left ys ≡ nothing_left xs = outline_left q.0 m xs ys taken in
+    let frees : Frees q m (take_out q.0 m xs) (marks (nothing_left xs) rest) (marks (nothing_left xs) next) =
+    subst (λ v. Frees q m v (marks (nothing_left xs) rest) (marks (nothing_left xs) next)) taken
+    (subst (λ v. Frees q m ys (marks v rest) (marks v next)) outline f) in
+    subst (λ v. Drains whole more (marks v next) ys) (sym outline)
+    (subst (λ v. Drains whole more (marks (nothing_left xs) next) v) (sym taken)
+    (drain_on whole out more (marks (nothing_left xs) old) (marks (nothing_left xs) rest)
+    (marks (nothing_left xs) next) q m xs a d t.popped is same frees))
 
 -- without a marked key all is emitted
 pub drain_ends : (whole : List Ace) (out : List Emitted) (ready : Marked) (xs : List Ace) → Drains whole out ready xs
-    → ready ≡ [] → IsEmission whole (emitted_aces out)
+    → ((k : Entry) → ready k ≡ 0) → IsEmission whole (emitted_aces out)
 drain_ends whole out ready xs d empty = completes_all whole out xs d.completes (λ b. go b (column xs b) refl)
   where
     go : (b : ℕ) (c : Column) → column xs b ≡ c → column xs b ≡ []
     go b [] e = e
     go b (k ∷ c) e =
         let free : is_free (column xs b) k ≡ true = ap (λ v. is_free v k) e ∙ head_is_free k c in
-        let none : has_bit (mask_for k ready) b ≡ false =
-        ap (λ v. has_bit (mask_for k v) b) empty ∙ ap (λ v. v == 1) (bit_at-zero b) in
-        cc (d.free.bits k b)
+        let none : has_bit (ready k) b ≡ false =
+        ap (λ v. has_bit v b) (empty k) ∙ ap (λ v. v == 1) (bit_at-zero b) in
+        cc (d.free k b)
 
 -- no column grows
 pub no_longer : (p : Principal) (c : Column) → length (without_principal p c) ≤ length c
@@ -515,33 +531,25 @@ count_falls (suc n) p m xs b l h = go (cases_eq b n) (count_falls n p m xs b)
         rw (column_taken n p m xs) (at (has_bit m n)) in
         omega (arith, here, ih below h)
 
--- a map of no length has no entries
-pub no_entries : (es : Marked) → (0 < length es → false ≡ true) → es ≡ []
-no_entries [] h = refl
-no_entries (e ∷ es) h = cc (h (omega arith))
-
 -- each turn leaves less
-pub drain_falls : (whole : List Ace) (out : List Emitted) (old rest : Marked) (q : Key) (m : ℕ) (xs : List Ace)
-    → Drains whole out old xs → Popped old q m rest → count_left 21 (take_out (key_entry q).0 m xs) < count_left 21 xs
+pub drain_falls : (whole : List Ace) (out : List Emitted) (old rest : Marked) (q : Entry) (m : ℕ) (xs : List Ace)
+    → Drains whole out old xs → Popped old q m rest → count_left 21 (take_out q.0 m xs) < count_left 21 xs
 drain_falls whole out old rest q m xs d p = go (some_below m 21)
   where
-    full : m ≢ 0
-    full = (subst HasNoZero p.is d.free.full).0
-
     go : ((b : ℕ) × (has_bit m b ≡ true)) ⊎ ((b : ℕ) → b < 21 → has_bit m b ≡ false)
-        → count_left 21 (take_out (key_entry q).0 m xs) < count_left 21 xs
+        → count_left 21 (take_out q.0 m xs) < count_left 21 xs
     go (inl (b, e)) =
         let free = sym (popped_bits old rest q m xs d.free p b) ∙ e in
         let first =
-        ahead_from_free (column xs b) (key_entry q).0 (key_entry q).1 free (key_entry q).0
-        (overlaps_itself (key_entry q).0) in
-        count_falls 21 (key_entry q).0 m xs b
+        ahead_from_free (column xs b) q.0 q.1 free q.0
+        (overlaps_itself q.0) in
+        count_falls 21 q.0 m xs b
         (⊎_elim (λ l. l) (λ l. absurd (clash (sym e ∙ popped_low whole out old rest q m xs d p b l)))
-        (cases_lt b 21)) (rw (column_taken b (key_entry q).0 m xs, e)
-        (shorter (key_entry q).0 (column xs b) (key_entry q).1 first))
+        (cases_lt b 21)) (rw (column_taken b q.0 m xs, e)
+        (shorter q.0 (column xs b) q.1 first))
       where
         clash : true ≡ false → ⊥
         clash h = cc
     go (inr f) =
-        absurd (full (no_bits m (λ b. ⊎_elim (λ l. f b l) (λ l. popped_low whole out old rest q m xs d p b l)
+        absurd (p.some (no_bits m (λ b. ⊎_elim (λ l. f b l) (λ l. popped_low whole out old rest q m xs d p b l)
         (cases_lt b 21))))

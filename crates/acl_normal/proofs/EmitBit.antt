@@ -1,11 +1,10 @@
 -- One bit of a principal taken out of the rows.
-use Rattle.std.specs.Prelude.{◌≡◌, ◌≢◌, ℕ, ◌<◌, ◌^◌, zero, suc, Bool, true, false, cond, ◌&&◌, ◌==◌, ◌⊎◌, List, [], ◌∷◌, Some, None, length, vec_len, slice_index_or, slice_set, refl}
+use Rattle.std.specs.Prelude.{◌≡◌, ◌≢◌, ℕ, ◌<◌, ◌^◌, zero, suc, Bool, true, false, cond, ◌&&◌, ◌==◌, ◌⊎◌, List, [], ◌∷◌, Some, None, length, vec_len, option_map, slice_index_or, slice_set, refl}
 use Rattle.std.specs.Ordering.{nat_cmp, is_eq}
 use Rattle.std.specs.declared.cmp.Ordering.TheVariants.{Equal}
 use Rattle.std.specs.Cmp.{nat_cmp_is, Equal-is}
 use Rattle.std.specs.Vec.{with_item}
 use Rattle.std.specs.BTreeMap.{is_at}
-use Rattle.std.specs.declared.collections.BTreeMap.{BTreeMap}
 use Rattle.std.specs.declared.collections.BTreeSet.{BTreeSet}
 use Rattle.std.specs.List.{list_any}
 use Rattle.std.proofs.Common.{sym, ◌∙◌, ap, subst, arith, ⊎_elim, inl, inr, Global}
@@ -14,27 +13,29 @@ use Rattle.std.proofs.lemmas.Bool.{eq-eqb, ne_eqb, eqb-true, and_parts, cases_eq
 use Rattle.acl_perm.specs.Principal.{Principal}
 use Rattle.acl_perm.specs.declared.kind.Kind.{Kind}
 use Rattle.acl_perm.specs.declared.kind.Kind.TheVariants.{Deny, Allow}
-use Rattle.acl_perm.specs.declared.principal.Principal.{Principal as PrincipalRef}
 use Rattle.acl_perm.specs.Bits.{has_bit}
 use Rattle.acl_nfs4.specs.Ace.{Ace}
 use Rattle.acl_nfs4.specs.declared.ace.AceRef.{AceRef}
 use Rattle.acl_eval.specs.Scan.{without}
 use Rattle.acl_eval.specs.Column.{column}
 use Rattle.acl_normal.specs.Entries.{principal_eq, kind_eq}
-use Rattle.acl_normal.specs.Places.{is_user, waits, first_at, slot_of, take_out, same_class}
+use Rattle.acl_normal.specs.Places.{is_user, waits, first_at, slot_of, take_out, same_class, nothing_left}
 use Rattle.acl_normal.specs.Normal.{IsQuiet}
 use Rattle.acl_normal.specs.Emissions.{IsOnce}
 use Rattle.acl_normal.specs.Shown.{with_masks}
-use Rattle.acl_normal.specs.declared.row_map.Cells.{Cells}
+use Rattle.acl_normal.specs.declared.cells.Cells.{Cells}
 use Rattle.acl_normal.specs.declared.merged_rows.MergedRows.TheInside.{Inside}
-use Rattle.acl_normal.specs.Cells.{cell_of, row_at}
+use Rattle.acl_normal.specs.Cells.{first_place, place_at, place_in}
+use Rattle.acl_normal.specs.Rows.{IsRow, is_named, row_of}
 use Rattle.acl_normal.specs.Merged.{left_of, IsRight}
+use Rattle.acl_normal.proofs.CellsOf.{cells_written, order_alike, row_within, rows_alike}
 use Rattle.acl_normal.proofs.Quiet.{quiet_taken}
+use Rattle.acl_normal.proofs.Rows.{named_alike, outline_taken, row_alike}
 use Rattle.acl_normal.proofs.Names.{principal_eq_same}
 use Rattle.acl_normal.proofs.Free.{kind_eq_same}
 use Rattle.acl_normal.proofs.Bits.{has_power, power_has}
 use Rattle.std.proofs.lemmas.Map.Lookups.{exact_unsigned}
-use Rattle.acl_normal.proofs.TakeOut.{IsHere, IsThere, first_cases, first_gone, first_kept, waits_kept, waits_gone, waits_apart, waits_first, once_taken, low_taken, written, take_none}
+use Rattle.acl_normal.proofs.TakeOut.{IsHere, IsThere, first_cases, first_gone, first_kept, waits_kept, waits_gone, waits_apart, waits_first, none_taken, once_taken, written}
 
 -- within the list the default plays no part
 pub same_default : {A : Type 0} (xs : List A) (i : ℕ) (d e : A) → i < length xs
@@ -137,38 +138,44 @@ abbrev pub NoKeys : BTreeSet ℕ Global
 NoKeys = record { keys = [] }
 
 -- the rows are right without the bit
-pub emit_right : (s : Inside) (p : Principal) (b : ℕ) (j : Kind) (i mask : ℕ)
-    (rows : BTreeMap PrincipalRef Cells Global) (set : BTreeSet ℕ Global) → IsRight s → b < 21
-    → Some (j, i) ≡ cell_of (row_at p s.rows.entries) b
-    → cell_of (row_at p rows.entries) b ≡ None
-    → ((q : Principal) (c : ℕ) → (principal_eq p q && (c == b)) ≡ false → cell_of (row_at q rows.entries) c ≡ cell_of
-    (row_at q s.rows.entries) c)
+pub emit_right : (s : Inside) (p : Principal) (b : ℕ) (j : Kind) (i row mask : ℕ) (new : Cells)
+    (set : BTreeSet ℕ Global) → IsRight s → b < 21 → IsRow row p (left_of s)
+    → first_at b p (left_of s) ≡ Some (j, i)
+    → ((c : ℕ) → place_in new c ≡ cond (c == b) None (place_at s.cells.items row c))
     → mask ≡ without (slice_index_or s.masks.items i 0) (2 ^ b)
     → Without i (slice_index_or s.waiting.items (slot_of j (is_user p) b) NoKeys).keys set.keys
     → IsRight (record {
       aces = s.aces;
       masks = with_item s.masks i mask;
-      rows = rows;
+      rows = s.rows;
+      order = s.order;
+      cells = with_item s.cells row new;
       waiting = with_item s.waiting
           (slot_of j (is_user p) b) set;
     })
-emit_right s p b j i mask rows set right low found gone kept is less = record {
+emit_right s p b j i row mask new set right low at_row first gone is less = record {
+  few = right.few;
   masks = right.masks;
   sets = right.sets;
+  count = right.count;
   once = λ c. subst (λ v. IsOnce (column v c)) (sym view) (once_taken p (2 ^ b) (left_of s) right.once c);
   quiet = subst IsQuiet (sym view) (quiet_taken p (2 ^ b) (left_of s) right.quiet);
-  low = λ c h. ap (λ v. column v c) view ∙ low_taken p (2 ^ b) (left_of s) right.low c h;
+  low = λ c h. ap (λ v. column v c) view ∙ none_taken p (2 ^ b) (left_of s) c (right.low c h);
+  rights =
+      λ c h. ap (λ v. column v c) view ∙ none_taken p (2 ^ b) (left_of s) c (right.rights c h);
+  rows = rows_alike (left_of s) _ s.rows.items (sym outline) right.rows;
+  order = order_alike (left_of s) _ s.order.items (sym outline) right.order;
   waiting = λ k u c l h. rw view (places k u c l h);
-  cells = λ q c h. rw view (cells q c h);
+  cells = λ q c h. rw view (cells q c (subst (λ v. is_named q v ≡ true) view h));
 }
   where
-    first : first_at b p (left_of s) ≡ Some (j, i)
-    first = sym (right.cells p b low) ∙ sym found
-
     view : with_masks s.aces.items (slice_set s.masks.items i mask) ≡ take_out p (2 ^ b) (left_of s)
     view =
         ap (λ v. with_masks s.aces.items (slice_set s.masks.items i v)) is ∙ written b p s.aces.items s.masks.items j
         i (right.once b) first
+
+    outline : nothing_left (with_masks s.aces.items (slice_set s.masks.items i mask)) ≡ nothing_left (left_of s)
+    outline = ap nothing_left view ∙ outline_taken p (2 ^ b) (left_of s)
 
     at : ℕ
     at = slot_of j (is_user p) b
@@ -240,36 +247,39 @@ emit_right s p b j i mask rows set right low found gone kept is less = record {
             (get_or-set_other s.waiting.items at (slot_of k u c) set NoKeys n) ∙ right.waiting k u c l h
             ∙ sym (others k u c l n)
 
-    cells : (q : Principal) (c : ℕ) → c < 21
-        → cell_of (row_at q rows.entries) c ≡ first_at c q (take_out p (2 ^ b) (left_of s))
-    cells q c h = go (principal_eq p q && (c == b)) refl
+    cells : (q : Principal) (c : ℕ) → is_named q (take_out p (2 ^ b) (left_of s)) ≡ true
+        → place_at (slice_set s.cells.items row new) (row_of q (take_out p (2 ^ b) (left_of s))) c ≡ first_place c q
+        (take_out p (2 ^ b) (left_of s))
+    cells q c h =
+        let same = outline_taken p (2 ^ b) (left_of s) in
+        let named : is_named q (left_of s) ≡ true = sym (named_alike q _ (left_of s) same) ∙ h in
+        ap (λ v. place_at (slice_set s.cells.items row new) v c) (row_alike q _ (left_of s) same)
+        ∙ cells_written (left_of s) s.cells.items row b p new None (row_within s p row right at_row) at_row gone q c
+        named
+        ∙ go (principal_eq p q && (c == b)) refl
       where
         go : (t : Bool) → (principal_eq p q && (c == b)) ≡ t
-            → cell_of (row_at q rows.entries) c ≡ first_at c q (take_out p (2 ^ b) (left_of s))
+            → cond t None (place_at s.cells.items (row_of q (left_of s)) c) ≡ first_place c q
+            (take_out p (2 ^ b) (left_of s))
         go true e =
             let both = and_parts (principal_eq p q) (c == b) e in
             rw (← principal_eq_same p q both.0, eqb-true c b both.1)
-            (gone ∙ sym (first_gone b p (2 ^ b) (left_of s) (has_power b)))
+            (sym (ap (option_map (λ (e : Kind × ℕ). e.1)) (first_gone b p (2 ^ b) (left_of s) (has_power b))))
         go false e =
-            kept q c e ∙ right.cells q c h
-            ∙ sym (first_kept c p q (2 ^ b) (left_of s) (ap (λ v. principal_eq p q && v) (power_is b c) ∙ e))
-
--- where nothing of the principal has the bit
-pub emit_nothing : (s : Inside) (p : Principal) (b : ℕ) → IsRight s → b < 21
-    → None ≡ cell_of (row_at p s.rows.entries) b → left_of s ≡ take_out p (2 ^ b) (left_of s)
-emit_nothing s p b right low e = sym (take_none b p (left_of s) (sym (right.cells p b low) ∙ sym e))
+            right.cells q c (sym (named_alike q _ (left_of s) (outline_taken p (2 ^ b) (left_of s))) ∙ h)
+            ∙ sym (ap (option_map (λ (e : Kind × ℕ). e.1))
+            (first_kept c p q (2 ^ b) (left_of s) (ap (λ v. principal_eq p q && v) (power_is b c) ∙ e)))
 
 -- what they show then
-pub emit_view : (s : Inside) (p : Principal) (b : ℕ) (j : Kind) (i mask : ℕ) → IsRight s → b < 21
-    → Some (j, i) ≡ cell_of (row_at p s.rows.entries) b
+pub emit_view : (s : Inside) (p : Principal) (b : ℕ) (j : Kind) (i mask : ℕ) → IsRight s
+    → first_at b p (left_of s) ≡ Some (j, i)
     → mask ≡ without (slice_index_or s.masks.items i 0) (2 ^ b)
     → with_masks s.aces.items (slice_set s.masks.items i mask) ≡ take_out p (2 ^ b) (left_of s)
-emit_view s p b j i mask right low found is =
+emit_view s p b j i mask right first is =
     ap (λ v. with_masks s.aces.items (slice_set s.masks.items i v)) is ∙ written b p s.aces.items s.masks.items j i
-    (right.once b) (sym (right.cells p b low) ∙ sym found)
+    (right.once b) first
 
 -- the place of a cell is one of the list
-pub emit_place : (s : Inside) (p : Principal) (b : ℕ) (j : Kind) (i : ℕ) → IsRight s → b < 21
-    → Some (j, i) ≡ cell_of (row_at p s.rows.entries) b → i < vec_len s.masks
-emit_place s p b j i right low found =
-    omega (arith, s.masks.ok, first_below b p s.aces.items s.masks.items j i (sym (right.cells p b low) ∙ sym found))
+pub emit_place : (s : Inside) (p : Principal) (b : ℕ) (j : Kind) (i : ℕ) → first_at b p (left_of s) ≡ Some (j, i)
+    → i < vec_len s.masks
+emit_place s p b j i first = omega (arith, s.masks.ok, first_below b p s.aces.items s.masks.items j i first)

@@ -12,14 +12,14 @@ use Rattle.acl_eval.specs.Column.{column}
 use Rattle.acl_normal.specs.Places.{is_user}
 use Rattle.acl_normal.specs.Entries.{Entry}
 use Rattle.acl_normal.specs.Normal.{is_free}
-use Rattle.acl_normal.specs.Ready.{Marked, mask_for, Grows, Enters, HoldsFree}
+use Rattle.acl_normal.specs.Ready.{Marked, Grows, Enters, HoldsFree}
 use Rattle.acl_normal.proofs.Realised.{same_answers}
 use Rattle.acl_normal.proofs.Freed.{grows_nothing, grows_on}
 
 -- what is free at the bits below a place is marked
 pub record Fills (xs : List Ace) (old new : Marked) (n : ℕ) : Type 0 where
   pub grows : Grows xs old new
-  pub all : (k : Entry) (b : ℕ) → b < n → is_free (column xs b) k ≡ true → has_bit (mask_for k new) b ≡ true
+  pub all : (k : Entry) (b : ℕ) → b < n → is_free (column xs b) k ≡ true → has_bit (new k) b ≡ true
 
 -- below the first bit
 pub fills_nothing : (xs : List Ace) (old : Marked) → Fills xs old old 0
@@ -40,39 +40,36 @@ fills_on xs old new v w x y n f a b c d = record {
     all = grows_on xs new v y a.grows tail
 
     here : (q : Principal) (j : Kind) (u : Bool) → is_user q ≡ u → is_free (column xs n) (q, j) ≡ true
-        → has_bit (mask_for (q, j) y) n ≡ true
+        → has_bit (y (q, j)) n ≡ true
     here q Deny false e free = tail.kept (q, Deny) n (a.all q e free)
     here q Deny true e free = d.grows.kept (q, Deny) n (c.grows.kept (q, Deny) n (b.all q e free))
     here q Allow false e free = d.grows.kept (q, Allow) n (c.all q e free)
     here q Allow true e free = d.all q e free
 
     go : (k : Entry) (i : ℕ) → i < n + 1 → is_free (column xs i) k ≡ true → (i ≡ n) ⊎ (i ≡ n → ⊥)
-        → has_bit (mask_for k y) i ≡ true
+        → has_bit (y k) i ≡ true
     go (q, j) i l free (inl e) =
         rw e (here q j (is_user q) refl (subst (λ v. is_free (column xs v) (q, j) ≡ true) e free))
     go k i l free (inr d) =
         all.kept k i (f.all k i (⊎_elim (λ g. g) (λ g. absurd (d (omega (arith, g, l)))) (cases_lt i n)) free)
 
 -- all bits
-pub fills_all : (xs : List Ace) (old new : Marked) (n : ℕ) → Fills xs old new n → old ≡ [] → n ≡ 21
+pub fills_all : (xs : List Ace) (old new : Marked) (n : ℕ) → Fills xs old new n → ((k : Entry) → old k ≡ 0) → n ≡ 21
     → ((b : ℕ) → 21 ≤ b → column xs b ≡ []) → HoldsFree new xs
-fills_all xs old new n f empty end low = record {
-  bits =
-      λ k b. same_answers (has_bit (mask_for k new) b) (is_free (column xs b) k)
-      (λ h. sound k b (f.grows.sound k b h)) (λ h. complete k b h (cases_lt b 21));
-  full = f.grows.full (rw empty tt);
-}
+fills_all xs old new n f empty end low k b =
+    same_answers (has_bit (new k) b) (is_free (column xs b) k) (λ h. sound k b (f.grows.sound k b h))
+    (λ h. complete k b h (cases_lt b 21))
   where
-    sound : (k : Entry) (b : ℕ) → (has_bit (mask_for k old) b ≡ true) ⊎ (is_free (column xs b) k ≡ true)
+    sound : (k : Entry) (b : ℕ) → (has_bit (old k) b ≡ true) ⊎ (is_free (column xs b) k ≡ true)
         → is_free (column xs b) k ≡ true
     sound k b (inl h) =
-        let none : has_bit (mask_for k old) b ≡ false =
-        ap (λ v. has_bit (mask_for k v) b) empty ∙ ap (λ v. v == 1) (bit_at-zero b) in
+        let none : has_bit (old k) b ≡ false =
+        ap (λ v. has_bit v b) (empty k) ∙ ap (λ v. v == 1) (bit_at-zero b) in
         cc
     sound k b (inr h) = h
 
     complete : (k : Entry) (b : ℕ) → is_free (column xs b) k ≡ true → (b < 21) ⊎ (21 ≤ b)
-        → has_bit (mask_for k new) b ≡ true
+        → has_bit (new k) b ≡ true
     complete k b h (inl l) = f.all k b (subst (λ v. b < v) (sym end) l) h
     complete k b h (inr l) =
         let none : is_free (column xs b) k ≡ false = ap (λ c. is_free c k) (low b l) in

@@ -1,15 +1,16 @@
 -- The masks of what later ACEs have, and of what everyone is allowed.
-use Rattle.std.specs.Prelude.{◌≡◌, ℕ, ◌+◌, ◌<◌, ◌≤◌, ◌^◌, ◌⊎◌, zero, suc, Bool, true, false, cond, not, ◌||◌, ◌&&◌, ◌==◌, List, [], ◌∷◌, Option, Some, None, unwrap_or, option_map, bit_or, bit_and, length, slice_index_or, refl}
+use Rattle.std.specs.Prelude.{◌≡◌, ℕ, ◌+◌, ◌<◌, ◌≤◌, zero, suc, Bool, true, false, cond, not, ◌||◌, ◌&&◌, ◌==◌, List, [], ◌∷◌, ◌++◌, take, Option, Some, None, option_map, bit_or, bit_and, length, slice_index_or, refl}
 use Rattle.std.specs.Int.{bit_at}
-use Rattle.std.proofs.Common.{sym, ◌∙◌, ap, arith, ⊎_elim, inl, inr}
-use Rattle.std.proofs.lemmas.Bool.{cases_eq, cases_lt, eq-eqb, ne_eqb, eqb-true}
+use Rattle.std.proofs.Common.{sym, ◌∙◌, ap, subst, arith}
+use Rattle.std.proofs.lemmas.Bool.{eq-eqb, ne_eqb, eqb-true}
+use Rattle.std.proofs.lemmas.List.{take_all, take_more}
 use Rattle.std.proofs.lemmas.Nat.Bits.{bit_at_and, bit_at-zero, bit_at-lt}
 use Rattle.acl_perm.specs.Principal.{Principal, everyone}
 use Rattle.acl_perm.specs.declared.kind.Kind.{Kind}
 use Rattle.acl_perm.specs.declared.kind.Kind.TheVariants.{Deny, Allow}
 use Rattle.acl_perm.specs.Bits.{has_bit}
 use Rattle.acl_perm.proofs.Sets.{has_bit-or}
-use Rattle.acl_nfs4.specs.Ace.{Ace}
+use Rattle.acl_nfs4.specs.Ace.{Ace, ace}
 use Rattle.acl_nfs4.specs.Who.{principal_of}
 use Rattle.acl_nfs4.specs.declared.ace.AceRef.{AceRef}
 use Rattle.acl_eval.specs.Column.{first_kind, column}
@@ -18,14 +19,18 @@ use Rattle.acl_eval.proofs.Scans.{has_bit-without}
 use Rattle.acl_normal.specs.Entries.{principal_eq, Entry, kind_eq}
 use Rattle.acl_normal.specs.Places.{is_user, other_kind, same_class, counts, first_at, mask_here}
 use Rattle.acl_normal.specs.Alike.{is_either}
+use Rattle.acl_normal.specs.Emissions.{HasOnceColumns, IsOnce}
+use Rattle.acl_normal.specs.Normal.{IsQuiet, is_inherit_only}
 use Rattle.acl_normal.specs.Plain.{default}
 use Rattle.acl_normal.specs.Shown.{with_masks}
 use Rattle.acl_normal.specs.declared.later.Later.{Later}
 use Rattle.acl_normal.specs.declared.merged_rows.MergedRows.TheInside.{Inside}
 use Rattle.acl_normal.specs.Merged.{left_of, IsRight}
-use Rattle.acl_normal.specs.Needed.{default_at, is_allowed, later_mask, opposes, is_kept}
+use Rattle.acl_normal.specs.Needed.{default_at, later_mask, opposes, is_kept}
 use Rattle.acl_normal.proofs.Bits.{no_bit}
-use Rattle.acl_normal.proofs.PutIn.{has_put, has_put_other}
+use Rattle.acl_normal.proofs.FirstMasks.{masked}
+use Rattle.acl_normal.proofs.Names.{principal_eq_same}
+use Rattle.acl_normal.proofs.Normal.{counts_mask}
 
 -- the bits of both of two masks
 pub has_bit-and : (m n b : ℕ) → has_bit (bit_and m n) b ≡ (has_bit m b && has_bit n b)
@@ -40,7 +45,8 @@ has_bit-and m n b = go (has_bit m b) refl (has_bit n b) refl
         (omega (arith, g, bit_at_and m n b, eqb-true (bit_at m b) 1 e, no_bit n b f))))
     go false e t f = rw e (ne_eqb _ _ (λ g. absurd (omega (arith, g, bit_at_and m n b, no_bit m b e, bit_at-lt n b))))
 
-no_bits_of_zero : (b : ℕ) → has_bit 0 b ≡ false
+-- no mask, no bit
+pub no_bits_of_zero : (b : ℕ) → has_bit 0 b ≡ false
 no_bits_of_zero b = ap (λ v. v == 1) (bit_at-zero b)
 
 -- ---- the four masks
@@ -145,68 +151,123 @@ kind_first b p (a ∷ xs) = go (counts b a) refl (principal_eq (principal_of a) 
     go true e true f ih = rw (e, f) refl
     go true e false f ih = rw (e, f) (ih ∙ kind_behind (first_at b p xs))
 
--- the default by the cell of everyone
-pub default_is : (b : ℕ) (xs : List Ace) → cond (is_allowed (first_at b everyone xs)) Allow Deny ≡ default (column xs b)
-default_is b xs = of (first_at b everyone xs) ∙ ap (λ o. unwrap_or o Deny) (sym (kind_first b everyone xs))
+-- an ACE of everyone that allows has the bit
+abbrev pub allowed_in : ℕ → List Ace → Bool
+allowed_in b [] = false
+allowed_in b (a ∷ xs) =
+    (counts b a && (principal_eq (principal_of a) everyone && kind_eq a.kind Allow)) || allowed_in b xs
+
+and_false : (t : Bool) → (t && false) ≡ false
+and_false true = refl
+and_false false = refl
+
+none_allowed : (b : ℕ) (xs : List Ace) → first_kind (is_either everyone everyone) (column xs b) ≡ None
+    → allowed_in b xs ≡ false
+none_allowed b [] h = refl
+none_allowed b (a ∷ xs) h =
+    go (counts b a) refl (principal_eq (principal_of a) everyone) refl (none_allowed b xs)
   where
-    of : (o : Option (Kind × ℕ)) → cond (is_allowed o) Allow Deny ≡ unwrap_or (kind_in o) Deny
-    of None = refl
-    of (Some (Deny, i)) = refl
-    of (Some (Allow, i)) = refl
+    go : (t : Bool) → counts b a ≡ t → (s : Bool) → principal_eq (principal_of a) everyone ≡ s
+        → (first_kind (is_either everyone everyone) (column xs b) ≡ None → allowed_in b xs ≡ false)
+        → allowed_in b (a ∷ xs) ≡ false
+    go false e s f ih = rw e (ih (rw e at h))
+    go true e false f ih = rw (e, f) (ih (rw (e, f) at h))
+    go true e true f ih = cc (rw (e, f) at h)
 
--- the bits below a place are those that everyone is allowed
-pub record AllowsBelow (xs : List Ace) (bits bit : ℕ) : Type 0 where
-  pub below : (b : ℕ) → b < bit → has_bit bits b ≡ is_allowed (first_at b everyone xs)
-  pub above : (b : ℕ) → bit ≤ b → has_bit bits b ≡ false
-
--- below the first bit
-pub allows_start : (xs : List Ace) → AllowsBelow xs 0 0
-allows_start xs = record { below = λ b h. absurd (omega (arith, h)); above = λ b h. no_bits_of_zero b }
-
-within : (b bit : ℕ) → b < bit + 1 → (b ≡ bit → ⊥) → b < bit
-within b bit h n = ⊎_elim (λ l. l) (λ l. absurd (n (omega (arith, l, h)))) (cases_lt b bit)
-
--- a bit that everyone is allowed
-pub allows_with : (xs : List Ace) (bits bit : ℕ) → AllowsBelow xs bits bit
-    → is_allowed (first_at bit everyone xs) ≡ true → AllowsBelow xs (bit_or bits (2 ^ bit)) (bit + 1)
-allows_with xs bits bit a is = record {
-  below = λ b h. below b h (cases_eq b bit);
-  above = λ b h. has_put_other bits
-      bit b (λ e. absurd (past b h e)) ∙ a.above b (omega (arith, h));
-}
+-- the default by that, where everyone stands once in the column
+pub default_is : (b : ℕ) (xs : List Ace) → IsOnce (column xs b)
+    → cond (allowed_in b xs) Allow Deny ≡ default (column xs b)
+default_is b [] once = refl
+default_is b (a ∷ xs) once =
+    go (counts b a) refl (principal_eq (principal_of a) everyone) refl (default_is b xs)
   where
-    past : (b : ℕ) → bit + 1 ≤ b → b ≡ bit → ⊥
-    past b h e = omega (arith, h, e)
+    kind : (k : Kind) → cond (kind_eq k Allow || false) Allow Deny ≡ k
+    kind Allow = refl
+    kind Deny = refl
 
-    below : (b : ℕ) → b < bit + 1 → (b ≡ bit) ⊎ (b ≡ bit → ⊥)
-        → has_bit (bit_or bits (2 ^ bit)) b ≡ is_allowed (first_at b everyone xs)
-    below b h (inl e) = rw e (has_put bits bit ∙ sym is)
-    below b h (inr n) = has_put_other bits bit b n ∙ a.below b (within b bit h n)
+    go : (t : Bool) → counts b a ≡ t → (s : Bool) → principal_eq (principal_of a) everyone ≡ s
+        → (IsOnce (column xs b) → cond (allowed_in b xs) Allow Deny ≡ default (column xs b))
+        → cond (allowed_in b (a ∷ xs)) Allow Deny ≡ default (column (a ∷ xs) b)
+    go false e s f ih = rw e (ih (rw e at once))
+    go true e false f ih =
+        let all : IsOnce ((principal_of a, a.kind) ∷ column xs b) = rw e at once in
+        rw (e, f) (ih all.1)
+    go true e true f ih =
+        let all : IsOnce ((principal_of a, a.kind) ∷ column xs b) = rw e at once in
+        let none : allowed_in b xs ≡ false =
+        none_allowed b xs (subst (λ v. first_kind (is_either v v) (column xs b) ≡ None)
+        (principal_eq_same (principal_of a) everyone f) all.0) in
+        rw (e, f, none) (kind a.kind)
 
--- one that everyone is not
-pub allows_same : (xs : List Ace) (bits bit : ℕ) → AllowsBelow xs bits bit
-    → is_allowed (first_at bit everyone xs) ≡ false → AllowsBelow xs bits (bit + 1)
-allows_same xs bits bit a is = record {
-  below = λ b h. below b h (cases_eq b bit);
-  above = λ b h. a.above b
-      (omega (arith, h));
-}
+-- what the loop keeps: the bits that everyone is allowed by the places that are done
+abbrev pub AllowsTo : List Ace → ℕ → ℕ → Type 0
+AllowsTo xs n bits = (b : ℕ) → has_bit bits b ≡ allowed_in b (take n xs)
+
+-- before the first place
+pub allows_start : (xs : List Ace) → AllowsTo xs 0 0
+allows_start xs b = no_bits_of_zero b
+
+allowed_push : (b : ℕ) (xs : List Ace) (a : Ace) → allowed_in b (xs ++ a ∷ [])
+    ≡ (allowed_in b xs || (counts b a && (principal_eq (principal_of a) everyone && kind_eq a.kind Allow)))
+allowed_push b [] a = swap (counts b a && (principal_eq (principal_of a) everyone && kind_eq a.kind Allow))
   where
-    here : bit ≤ bit
-    here = omega arith
+    swap : (t : Bool) → (t || false) ≡ (false || t)
+    swap true = refl
+    swap false = refl
+allowed_push b (x ∷ xs) a =
+    ap (λ t. (counts b x && (principal_eq (principal_of x) everyone && kind_eq x.kind Allow)) || t)
+    (allowed_push b xs a)
+    ∙ together (counts b x && (principal_eq (principal_of x) everyone && kind_eq x.kind Allow)) (allowed_in b xs)
+    (counts b a && (principal_eq (principal_of a) everyone && kind_eq a.kind Allow))
+  where
+    together : (x y z : Bool) → (x || (y || z)) ≡ ((x || y) || z)
+    together true y z = refl
+    together false y z = refl
 
-    below : (b : ℕ) → b < bit + 1 → (b ≡ bit) ⊎ (b ≡ bit → ⊥) → has_bit bits b ≡ is_allowed (first_at b everyone xs)
-    below b h (inl e) = rw e (a.above bit here ∙ sym is)
-    below b h (inr n) = a.below b (within b bit h n)
+allowed_more : (xs : List Ace) (n bits b : ℕ) (a : Ace) → AllowsTo xs n bits → n < length xs
+    → slice_index_or xs n a ≡ a → allowed_in b (take (n + 1) xs)
+    ≡ (has_bit bits b || (counts b a && (principal_eq (principal_of a) everyone && kind_eq a.kind Allow)))
+allowed_more xs n bits b a h l is =
+    ap (allowed_in b) (take_more xs n a l ∙ ap (λ v. take n xs ++ v ∷ []) is) ∙ allowed_push b (take n xs) a
+    ∙ ap (λ t. t || (counts b a && (principal_eq (principal_of a) everyone && kind_eq a.kind Allow))) (sym (h b))
 
--- all bits
-pub allows_all : (xs : List Ace) (bits bit : ℕ) → AllowsBelow xs bits bit → 21 ≤ bit → (b : ℕ) → b < 21
+-- an ACE that allows everyone its bits
+pub allows_with : (xs : List Ace) (n bits : ℕ) (a : Ace) → AllowsTo xs n bits → n < length xs
+    → slice_index_or xs n a ≡ a → (is_inherit_only a ≡ true → a.mask ≡ 0)
+    → principal_eq (principal_of a) everyone ≡ true → kind_eq a.kind Allow ≡ true
+    → AllowsTo xs (n + 1) (bit_or bits a.mask)
+allows_with xs n bits a h l is quiet e k b =
+    has_bit-or bits a.mask b ∙ ap (λ t. has_bit bits b || t) (sym (counts_mask b a quiet) ∙ sym (all (counts b a)))
+    ∙ ap (λ t. has_bit bits b || (counts b a && (t && true))) (sym e)
+    ∙ ap (λ t. has_bit bits b || (counts b a && (principal_eq (principal_of a) everyone && t))) (sym k)
+    ∙ sym (allowed_more xs n bits b a h l is)
+  where
+    all : (t : Bool) → (t && (true && true)) ≡ t
+    all true = refl
+    all false = refl
+
+-- one that does not
+pub allows_same : (xs : List Ace) (n bits : ℕ) (a : Ace) → AllowsTo xs n bits → n < length xs
+    → slice_index_or xs n a ≡ a → (principal_eq (principal_of a) everyone && kind_eq a.kind Allow) ≡ false
+    → AllowsTo xs (n + 1) bits
+allows_same xs n bits a h l is e b =
+    none (has_bit bits b) (counts b a) ∙ ap (λ t. has_bit bits b || (counts b a && t)) (sym e)
+    ∙ sym (allowed_more xs n bits b a h l is)
+  where
+    none : (t s : Bool) → t ≡ (t || (s && false))
+    none true s = refl
+    none false s = sym (and_false s)
+
+-- all places
+pub allows_all : (xs : List Ace) (n bits : ℕ) → AllowsTo xs n bits → length xs ≤ n → HasOnceColumns xs → (b : ℕ)
     → default_at bits b ≡ default (column xs b)
-allows_all xs bits bit a h b l = ap (λ t. cond t Allow Deny) (a.below b (omega (arith, h, l))) ∙ default_is b xs
+allows_all xs n bits h l once b =
+    ap (λ t. cond t Allow Deny) (h b ∙ ap (allowed_in b) (take_all n xs l)) ∙ default_is b xs (once b)
 
 -- ---- places
 
-length_masks : (aces : List AceRef) (masks : List ℕ) → length masks ≡ length aces
+-- as many ACEs as masks
+pub length_masks : (aces : List AceRef) (masks : List ℕ) → length masks ≡ length aces
     → length (with_masks aces masks) ≡ length aces
 length_masks [] masks h = refl
 length_masks (x ∷ aces) [] h = absurd (omega (arith, h))
@@ -223,3 +284,21 @@ mask_there [] masks i d h = absurd (omega arith)
 mask_there (x ∷ aces) [] i d h = absurd (omega arith)
 mask_there (x ∷ aces) (m ∷ masks) zero d h = refl
 mask_there (x ∷ aces) (m ∷ masks) (suc i) d h = mask_there aces masks i d (omega arith)
+
+-- the ACE with the mask at a place
+pub masked_at : (aces : List AceRef) (masks : List ℕ) (i : ℕ) (x : AceRef) → i < length aces
+    → length masks ≡ length aces → x ≡ slice_index_or aces i x
+    → slice_index_or (with_masks aces masks) i (masked (ace x) (slice_index_or masks i 0))
+    ≡ masked (ace x) (slice_index_or masks i 0)
+masked_at [] masks i x l h is = absurd (omega (arith, l))
+masked_at (y ∷ aces) [] i x l h is = absurd (omega (arith, h))
+masked_at (y ∷ aces) (n ∷ masks) zero x l h is = ap (λ v. masked (ace v) n) (sym is)
+masked_at (y ∷ aces) (n ∷ masks) (suc i) x l h is =
+    masked_at aces masks i x (omega (arith, l)) (omega (arith, h)) is
+
+-- what takes no part has no bit
+pub quiet_index : (xs : List Ace) (i : ℕ) (a : Ace) → IsQuiet xs → i < length xs → slice_index_or xs i a ≡ a
+    → is_inherit_only a ≡ true → a.mask ≡ 0
+quiet_index [] i a q l is = absurd (omega (arith, l))
+quiet_index (x ∷ xs) zero a q l is = subst (λ v. is_inherit_only v ≡ true → v.mask ≡ 0) is q.0
+quiet_index (x ∷ xs) (suc i) a q l is = quiet_index xs i a q.1 (omega (arith, l)) is

@@ -31,8 +31,9 @@ pub mod Profiles
 pub mod Spelled
 pub mod Accepted
 mod Order
-mod Lookups
 mod CellsOf
+mod FromCells
+mod Outline
 mod PairParts
 mod Waits
 mod Quiet
@@ -43,15 +44,19 @@ mod EmitBit
 mod Emit
 mod Emitted
 mod Marks
+mod Heaped
 mod Walk
 mod Freed
+pub mod Rows
+mod WaitingPlaces
+mod FilledCells
+mod RowNumbers
 mod Filled
 mod Leaving
 mod Drained
-mod PutIn
-mod PutRight
-mod Nothing
+mod Few
 mod FirstRows
+pub mod FirstMasks
 mod LaterBits
 mod Unneeded
 mod Reducing
@@ -64,6 +69,7 @@ pub mod SetEvaluation
 pub mod SameTests
 pub mod SetSearchLemmas
 pub mod MentionedNames
+pub mod Ordered
 pub mod FirstSet
 pub mod Numbers
 pub mod Lookup

@@ -1,31 +1,28 @@
--- The keys and bits that are marked as free.
-use Rattle.std.specs.Prelude.{◌≡◌, ◌≢◌, ℕ, ◌^◌, Bool, true, false, cond, ◌||◌, ◌&&◌, ◌==◌, [], ◌∷◌, Some, unwrap_or, bit_or, refl}
-use Rattle.std.specs.Map.{lookup}
-use Rattle.std.specs.BTreeMap.{is_at, insert_entry}
-use Rattle.std.specs.Ordering.{is_eq, ordering_then, nat_cmp}
+-- The keys and bits that are marked as free, by number.
+use Rattle.std.specs.Prelude.{◌≡◌, ◌≢◌, ℕ, ◌+◌, ◌*◌, ◌/◌, ◌%◌, ◌^◌, ◌<◌, ◌≤◌, Bool, true, false, cond, ◌||◌, ◌&&◌, ◌==◌, ◌⊎◌, List, length, replicate, slice_index_or, slice_set, bit_or, refl}
+use Rattle.std.specs.Ordering.{is_le, nat_cmp}
 use Rattle.std.specs.declared.cmp.Ordering.{Ordering}
 use Rattle.std.specs.declared.cmp.Ordering.TheVariants.{Less, Equal, Greater}
-use Rattle.std.specs.Cmp.{Equal-is}
-use Rattle.std.proofs.Common.{sym, ◌∙◌, ap, subst}
-use Rattle.std.proofs.lemmas.Bool.{and_parts, and_from}
+use Rattle.std.proofs.Common.{sym, ◌∙◌, ap, subst, arith, inl, inr}
+use Rattle.std.proofs.lemmas.Bool.{and_parts, and_from, cases_eq, cases_lt}
+use Rattle.std.proofs.lemmas.List.{get_or-replicate, get_or_past, get_or-set_same, get_or-set_other, length-replicate, length-set}
 use Rattle.std.proofs.lemmas.Nat.Bits.{bit_at-zero}
 use Rattle.acl_perm.specs.declared.kind.Kind.{Kind}
 use Rattle.acl_perm.specs.declared.kind.Kind.TheVariants.{Deny, Allow}
 use Rattle.acl_perm.specs.Bits.{has_bit}
+use Rattle.acl_perm.specs.Order.{kind_rank, principal_cmp}
+use Rattle.acl_perm.proofs.Orders.{principal_exact, principal_order}
 use Rattle.acl_perm.proofs.Sets.{has_bit-or}
-use Rattle.acl_perm.specs.declared.key.Key.{Key}
-use Rattle.acl_perm.specs.contracts.key.KeyOrd.TheImpl.{cmp-value}
-use Rattle.acl_perm.specs.Principal.{principal}
-use Rattle.acl_normal.specs.Entries.{principal_eq, Entry, kind_eq}
-use Rattle.acl_normal.specs.Keys.{key_entry}
-use Rattle.acl_normal.specs.Ready.{Marked, entry_eq, mask_for, HasNoZero, Adds}
+use Rattle.acl_nfs4.specs.Ace.{Ace}
+use Rattle.acl_normal.specs.Entries.{principal_eq, Entry, entry_cmp, kind_eq}
+use Rattle.acl_normal.specs.Places.{nothing_left}
+use Rattle.acl_normal.specs.Ready.{entry_eq, marks, IsKeyNumber, FitsKeys, Adds}
+use Rattle.acl_normal.specs.Rows.{IsRow, is_named, key_number, row_of}
 use Rattle.acl_normal.proofs.Names.{principal_eq_same, principal_eq_itself}
 use Rattle.acl_normal.proofs.Free.{kind_eq_same, kind_eq_itself}
 use Rattle.acl_normal.proofs.Bits.{has_power}
-use Rattle.acl_normal.proofs.Lookups.{lookup_same, lookup-inserted}
-use Rattle.acl_normal.proofs.Order.{order_is}
 use Rattle.acl_normal.proofs.EmitBit.{power_is}
-use Rattle.acl_perm.specs.Order.{kind_rank, principal_cmp}
+use Rattle.acl_normal.proofs.Rows.{named_outline, row_below, row_less, row_outline, row_same}
 
 -- entries that are told to be the same are
 pub entry_eq_same : (k l : Entry) → entry_eq k l ≡ true → k ≡ l
@@ -37,98 +34,192 @@ entry_eq_same k l h =
 pub entry_eq_itself : (k : Entry) → entry_eq k k ≡ true
 entry_eq_itself k = and_from (principal_eq k.0 k.0) (kind_eq k.1 k.1) (principal_eq_itself k.0) (kind_eq_itself k.1)
 
--- types are equal in the order if they are the same
-pub kind_order_is : (j k : Kind) → is_eq (nat_cmp (kind_rank j) (kind_rank k)) ≡ kind_eq j k
-kind_order_is Deny Deny = refl
-kind_order_is Deny Allow = refl
-kind_order_is Allow Deny = refl
-kind_order_is Allow Allow = refl
+-- ---- numbers of keys
 
-then_is : (a b : Ordering) → is_eq (ordering_then a b) ≡ (is_eq a && is_eq b)
-then_is Less b = refl
-then_is Equal b = refl
-then_is Greater b = refl
+rank_below : (k : Kind) → kind_rank k < 2
+rank_below Deny = omega arith
+rank_below Allow = omega arith
 
--- and so are keys
-pub key_order_is : (p q : Key) → is_eq (cmp-value.it p q) ≡ entry_eq (key_entry p) (key_entry q)
-key_order_is p q =
-    let kinds = nat_cmp (kind_rank p.kind) (kind_rank q.kind) in
-    then_is (principal_cmp (principal p.principal) (principal q.principal)) kinds
-    ∙ ap (λ v. v && is_eq kinds) (order_is p.principal q.principal)
-    ∙ ap (λ v. principal_eq (principal p.principal) (principal q.principal) && v) (kind_order_is p.kind q.kind)
+rank_same : (j k : Kind) → kind_rank j ≡ kind_rank k → j ≡ k
+rank_same Deny Deny h = refl
+rank_same Deny Allow h = cc
+rank_same Allow Deny h = cc
+rank_same Allow Allow h = refl
 
--- the mask that a query finds
-pub mask_found : (at : Key) (es : Marked)
-    → unwrap_or (lookup (is_at (cmp-value.it at)) es) 0 ≡ mask_for (key_entry at) es
-mask_found at es =
-    ap (λ o. unwrap_or o 0) (lookup_same (is_at (cmp-value.it at)) (λ q. entry_eq (key_entry at) (key_entry q)) es
-    (key_order_is at))
+-- a number is that of one key alone
+pub number_same : (k l : Entry) (xs : List Ace) → is_named k.0 xs ≡ true → is_named l.0 xs ≡ true
+    → key_number k xs ≡ key_number l xs → k ≡ l
+number_same k l xs h i e =
+    let rows : row_of k.0 xs ≡ row_of l.0 xs = omega (arith, e, rank_below k.1, rank_below l.1) in
+    let kinds : kind_rank k.1 ≡ kind_rank l.1 = omega (arith, e, rows) in
+    ap (λ v. (v, k.1)) (row_same k.0 l.0 xs h i rows) ∙ ap (λ v. (l.0, v)) (rank_same k.1 l.1 kinds)
 
-equal_keys : (p q : Key) → cmp-value.it p q ≡ Equal → key_entry p ≡ key_entry q
-equal_keys p q h = entry_eq_same (key_entry p) (key_entry q) (sym (key_order_is p q) ∙ ap is_eq h)
+-- what twice a row and a type come to
+pub record IsNumberOf (k : Entry) (xs : List Ace) (number : ℕ) : Type 0 where
+  pub below : number < 2 * length xs
+  pub named : is_named k.0 (nothing_left xs) ≡ true
+  pub is : number ≡ key_number k (nothing_left xs)
 
--- the bits of each key after one was written
-pub mask_inserted : (at : Key) (v : ℕ) (es : Marked) (l : Entry)
-    → mask_for l (insert_entry cmp-value.it es at v) ≡ cond (entry_eq l (key_entry at)) v (mask_for l es)
-mask_inserted at v es l =
-    ap (λ o. unwrap_or o 0) (lookup-inserted cmp-value.it (λ q. entry_eq l (key_entry q)) at v es
-    (λ q h. ap (entry_eq l) (sym (equal_keys at q h))) back) ∙ pull (entry_eq l (key_entry at))
+-- the number of a key, whatever masks there are
+pub number_at : (k : Entry) (xs : List Ace) (row rank : ℕ) → IsRow row k.0 xs → rank ≡ kind_rank k.1
+    → IsNumberOf k xs (2 * row + rank)
+number_at k xs row rank r is = record {
+  below = omega (arith, row_below k.0 xs r.named, r.is, is, rank_below k.1);
+  named = named_outline k.0 xs ∙ r.named;
+  is = omega (arith, r.is, is, row_outline k.0 xs);
+}
+
+-- half of a number is the row
+pub number_row : (k : Entry) (xs : List Ace) (n : ℕ) → n ≡ key_number k xs → n / 2 ≡ row_of k.0 xs
+number_row k xs n is = omega (arith, is, rank_below k.1)
+
+-- and what is over is the type
+pub number_rank : (k : Entry) (xs : List Ace) (n : ℕ) → n ≡ key_number k xs → n % 2 ≡ kind_rank k.1
+number_rank k xs n is = omega (arith, is, rank_below k.1)
+
+-- numbers rise with the keys
+pub number_order : (k l : Entry) (xs : List Ace) → is_named k.0 xs ≡ true → is_named l.0 xs ≡ true
+    → key_number k xs ≤ key_number l xs → is_le (entry_cmp k l) ≡ true
+number_order k l xs h i le = go (principal_cmp k.0 l.0) (principal_cmp l.0 k.0) refl refl
   where
-    pull : (t : Bool)
-        → unwrap_or (cond t (Some v) (lookup (λ q. entry_eq l (key_entry q)) es)) 0 ≡ cond t v (mask_for l es)
-    pull true = refl
-    pull false = refl
+    kinds : (j m : Kind) → kind_rank j ≤ kind_rank m → is_le (nat_cmp (kind_rank j) (kind_rank m)) ≡ true
+    kinds Deny m h = go m
+      where
+        go : (m : Kind) → is_le (nat_cmp (kind_rank Deny) (kind_rank m)) ≡ true
+        go Deny = refl
+        go Allow = refl
+    kinds Allow Allow h = refl
+    kinds Allow Deny h = absurd (omega (arith, h))
 
-    back : (q : Key) → entry_eq l (key_entry q) ≡ true → entry_eq l (key_entry at) ≡ true → cmp-value.it at q ≡ Equal
-    back q h g =
-        let same : key_entry at ≡ key_entry q =
-        sym (entry_eq_same l (key_entry at) g) ∙ entry_eq_same l (key_entry q) h in
-        (Equal-is (cmp-value.it at q)).0 (key_order_is at q ∙ ap (entry_eq (key_entry at)) (sym same)
-        ∙ entry_eq_itself (key_entry at))
+    go : (o w : Ordering) → principal_cmp k.0 l.0 ≡ o → principal_cmp l.0 k.0 ≡ w → is_le (entry_cmp k l) ≡ true
+    go Less w e f = rw e refl
+    go Equal w e f =
+        let rows : row_of k.0 xs ≡ row_of l.0 xs = ap (λ p. row_of p xs) (principal_exact k.0 l.0 e) in
+        rw e (kinds k.1 l.1 (omega (arith, le, rows)))
+    go Greater Less e f =
+        absurd (omega (arith, le, row_less l.0 k.0 xs i f, rank_below k.1, rank_below l.1))
+    go Greater Equal e f =
+        let turned = principal_order.reversed k.0 l.0 in
+        absurd (cc)
+    go Greater Greater e f =
+        let turned = principal_order.reversed k.0 l.0 in
+        absurd (cc)
 
-full_inserted : (at : Key) (v : ℕ) (es : Marked) → v ≢ 0 → HasNoZero es → HasNoZero (insert_entry cmp-value.it es at v)
-full_inserted at v [] n h = (n, tt)
-full_inserted at v (e ∷ es) n h = go (cmp-value.it at e.0) refl (full_inserted at v es n h.1)
+-- ---- what is marked
+
+-- the bits of a key whose principal is named
+pub mark_named : (k : Entry) (xs : List Ace) (bits : List ℕ) → is_named k.0 xs ≡ true
+    → marks xs bits k ≡ slice_index_or bits (key_number k xs) 0
+mark_named k xs bits h = rw h refl
+
+-- one key alone has other bits where those of its number were written
+pub mark_written : (xs : List Ace) (old new : List ℕ) (n v : ℕ) (k l : Entry) → is_named k.0 xs ≡ true
+    → n ≡ key_number k xs → n < length old → new ≡ slice_set old n v
+    → marks xs new l ≡ cond (entry_eq l k) v (marks xs old l)
+mark_written xs old new n v k l named is within set = go (is_named l.0 xs) refl (entry_eq l k) refl
   where
-    go : (o : Ordering) → cmp-value.it at e.0 ≡ o → HasNoZero (insert_entry cmp-value.it es at v)
-        → HasNoZero (insert_entry cmp-value.it (e ∷ es) at v)
-    go Less o ih = rw o (n, h)
-    go Equal o ih = rw o (n, h.1)
-    go Greater o ih = rw o (h.0, ih)
+    go : (s : Bool) → is_named l.0 xs ≡ s → (t : Bool) → entry_eq l k ≡ t
+        → marks xs new l ≡ cond (entry_eq l k) v (marks xs old l)
+    go s e true f =
+        let same : k ≡ l = sym (entry_eq_same l k f) in
+        let here : n ≡ key_number l xs = is ∙ ap (λ w. key_number w xs) same in
+        let its : is_named l.0 xs ≡ true = ap (λ (w : Entry). is_named w.0 xs) (sym same) ∙ named in
+        rw f (mark_named l xs new its ∙ ap (λ w. slice_index_or w (key_number l xs) 0) set
+        ∙ ap (λ w. slice_index_or (slice_set old n v) w 0) (sym here) ∙ get_or-set_same old n v 0 within)
+    go true e false f =
+        rw f (mark_named l xs new e ∙ ap (λ w. slice_index_or w (key_number l xs) 0) set
+        ∙ get_or-set_other old n (key_number l xs) v 0 (λ same. apart same) ∙ sym (mark_named l xs old e))
+      where
+        apart : key_number l xs ≡ n → ⊥
+        apart same =
+            let one : l ≡ k = number_same l k xs e named (same ∙ is) in
+            let equal : entry_eq l k ≡ true = ap (entry_eq l) (sym one) ∙ entry_eq_itself l in
+            cc
+    go false e false f = rw (f, e) refl
 
--- one bit more of a key
-pub adds : (at : Key) (bit bits : ℕ) (old new : Marked) → bits ≡ mask_for (key_entry at) old
-    → new ≡ insert_entry cmp-value.it old at (bit_or bits (2 ^ bit)) → Adds (key_entry at) bit old new
-adds at bit bits old new is ins = record {
-  bits =
-      λ l b. ap (λ v. has_bit (mask_for l v) b) ins
-      ∙ ap (λ v. has_bit v b) (mask_inserted at (bit_or bits (2 ^ bit)) old l)
-      ∙ go l b (entry_eq l (key_entry at)) refl;
-  full = λ h. subst HasNoZero (sym ins) (full_inserted at (bit_or bits (2 ^ bit)) old some h);
+-- bits of a key whose principal is named fit still
+pub fits_written : (xs : List Ace) (old new : List ℕ) (n v : ℕ) → FitsKeys xs old → IsKeyNumber xs n
+    → new ≡ slice_set old n v → FitsKeys xs new
+fits_written xs old new n v f k set = record {
+  count = ap length set ∙ length-set old n v ∙ f.count;
+  sound = λ m some. go m some (cases_eq m n);
 }
   where
-    right : (t : Bool) → (t || true) ≡ true
-    right true = refl
-    right false = refl
+    go : (m : ℕ) → slice_index_or new m 0 ≢ 0 → (m ≡ n) ⊎ (m ≡ n → ⊥) → IsKeyNumber xs m
+    go m some (inl e) = subst (IsKeyNumber xs) (sym e) k
+    go m some (inr d) =
+        f.sound m (λ none. some (ap (λ w. slice_index_or w m 0) set ∙ get_or-set_other old n m v 0 d ∙ none))
 
-    some : bit_or bits (2 ^ bit) ≢ 0
-    some zero =
-        let set : has_bit (bit_or bits (2 ^ bit)) bit ≡ true =
-        has_bit-or bits (2 ^ bit) bit ∙ rw (has_power bit) (right (has_bit bits bit)) in
-        let none : has_bit 0 bit ≡ false = ap (λ v. v == 1) (bit_at-zero bit) in
-        let both = ap (λ v. has_bit v bit) zero in
-        cc
+-- a number with bits is one of the list
+pub number_within : (bits : List ℕ) (n : ℕ) → slice_index_or bits n 0 ≢ 0 → n < length bits
+number_within bits n some = go (cases_lt n (length bits))
+  where
+    go : (n < length bits) ⊎ (length bits ≤ n) → n < length bits
+    go (inl l) = l
+    go (inr l) = absurd (some (get_or_past bits n 0 l))
+
+-- zeros are zeros
+pub zero_at : (count n : ℕ) → slice_index_or {A = ℕ} (replicate count 0) n 0 ≡ 0
+zero_at count n = go (cases_lt n count)
+  where
+    go : (n < count) ⊎ (count ≤ n) → slice_index_or {A = ℕ} (replicate count 0) n 0 ≡ 0
+    go (inl l) = get_or-replicate count n 0 0 l
+    go (inr l) = get_or_past (replicate count 0) n 0 (omega (arith, l, length-replicate {A = ℕ} count 0))
+
+-- no bits fit
+pub fits_zeros : (xs : List Ace) (count : ℕ) → count ≡ 2 * length xs → FitsKeys xs (replicate count 0)
+fits_zeros xs count is = record {
+  count = length-replicate count 0 ∙ is;
+  sound = λ n some. absurd (some (zero_at count n));
+}
+
+-- and mark none
+pub nothing_marked : (xs : List Ace) (bits : List ℕ) → ((n : ℕ) → slice_index_or bits n 0 ≡ 0) → (k : Entry)
+    → marks xs bits k ≡ 0
+nothing_marked xs bits none k = go (is_named k.0 xs) refl
+  where
+    go : (t : Bool) → is_named k.0 xs ≡ t → marks xs bits k ≡ 0
+    go true e = rw e (none (key_number k xs))
+    go false e = rw e refl
+
+-- one bit more of a key
+pub adds : (xs : List Ace) (old new : List ℕ) (n bit : ℕ) (k : Entry) → is_named k.0 xs ≡ true
+    → n ≡ key_number k xs → n < length old
+    → new ≡ slice_set old n (bit_or (slice_index_or old n 0) (2 ^ bit)) → Adds k bit (marks xs old) (marks xs new)
+adds xs old new n bit k named is within set = record {
+  bits =
+      λ l b. ap (λ v. has_bit v b)
+      (mark_written xs old new n (bit_or (slice_index_or old n 0) (2 ^ bit)) k l named is within set)
+      ∙ go l b (entry_eq l k) refl;
+}
+  where
+    was : marks xs old k ≡ slice_index_or old n 0
+    was = mark_named k xs old named ∙ ap (λ v. slice_index_or old v 0) (sym is)
 
     other : (t : Bool) → t ≡ (t || false)
     other true = refl
     other false = refl
 
-    go : (l : Entry) (b : ℕ) (t : Bool) → entry_eq l (key_entry at) ≡ t
-        → has_bit (cond (entry_eq l (key_entry at)) (bit_or bits (2 ^ bit)) (mask_for l old)) b
-        ≡ (has_bit (mask_for l old) b || (entry_eq l (key_entry at) && (b == bit)))
+    go : (l : Entry) (b : ℕ) (t : Bool) → entry_eq l k ≡ t
+        → has_bit (cond (entry_eq l k) (bit_or (slice_index_or old n 0) (2 ^ bit)) (marks xs old l)) b
+        ≡ (has_bit (marks xs old l) b || (entry_eq l k && (b == bit)))
     go l b true e =
-        rw (e, is) (has_bit-or (mask_for (key_entry at) old) (2 ^ bit) b
-        ∙ ap (λ v. has_bit (mask_for (key_entry at) old) b || v) (power_is bit b)
-        ∙ subst (λ v. (has_bit (mask_for v old) b || (b == bit)) ≡ (has_bit (mask_for l old) b || (b == bit)))
-        (entry_eq_same l (key_entry at) e) refl)
-    go l b false e = rw e (other (has_bit (mask_for l old) b))
+        let mine : marks xs old l ≡ slice_index_or old n 0 = ap (marks xs old) (entry_eq_same l k e) ∙ was in
+        rw (e, mine) (has_bit-or (slice_index_or old n 0) (2 ^ bit) b
+        ∙ ap (λ v. has_bit (slice_index_or old n 0) b || v) (power_is bit b))
+    go l b false e = rw e (other (has_bit (marks xs old l) b))
+
+-- a mask with a bit is some
+pub some_bits : (m b : ℕ) → has_bit m b ≡ true → m ≢ 0
+some_bits m b h zero =
+    let none : has_bit m b ≡ false = ap (λ v. has_bit v b) zero ∙ ap (λ v. v == 1) (bit_at-zero b) in
+    cc
+
+-- with a bit more it is
+pub added_some : (m bit : ℕ) → bit_or m (2 ^ bit) ≢ 0
+added_some m bit =
+    some_bits (bit_or m (2 ^ bit)) bit (has_bit-or m (2 ^ bit) bit ∙ rw (has_power bit) (right (has_bit m bit)))
+  where
+    right : (t : Bool) → (t || true) ≡ true
+    right true = refl
+    right false = refl

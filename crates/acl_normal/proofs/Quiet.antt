@@ -1,12 +1,12 @@
 -- What takes no part has no bit, whatever is taken out or put in.
-use Rattle.std.specs.Prelude.{◌≡◌, ℕ, zero, suc, Bool, true, false, not, ◌&&◌, List, [], ◌∷◌, refl}
+use Rattle.std.specs.Prelude.{◌≡◌, ℕ, Bool, true, false, not, ◌&&◌, List, [], ◌∷◌, refl}
 use Rattle.std.proofs.lemmas.Bool.{and_parts}
 use Rattle.acl_perm.specs.Principal.{Principal}
 use Rattle.acl_nfs4.specs.Ace.{Ace}
 use Rattle.acl_nfs4.specs.Who.{principal_of}
 use Rattle.acl_normal.specs.Entries.{principal_eq}
 use Rattle.acl_normal.specs.Normal.{is_inherit_only, IsQuiet}
-use Rattle.acl_normal.specs.Places.{without_bits, take_out, put_at, is_active, nothing_left}
+use Rattle.acl_normal.specs.Places.{without_bits, take_out}
 
 -- after bits were taken out
 pub quiet_taken : (p : Principal) (m : ℕ) (xs : List Ace) → IsQuiet xs → IsQuiet (take_out p m xs)
@@ -21,14 +21,3 @@ quiet_taken p m (a ∷ xs) h =
       where
         clash : {A : Type 0} → is_inherit_only a ≡ true → not (is_inherit_only a) ≡ true → A
         clash i n = cc (rw i at n)
-
--- after a bit was put in where the ACE takes part
-pub quiet_put : (i b : ℕ) (xs : List Ace) → is_active xs i ≡ true → IsQuiet xs → IsQuiet (put_at i b xs)
-quiet_put i b [] h q = tt
-quiet_put zero b (a ∷ xs) h q = ((λ e. cc (rw e at h)), q.1)
-quiet_put (suc i) b (a ∷ xs) h q = (q.0, quiet_put i b xs h q.1)
-
--- with nothing left
-pub nothing_quiet : (xs : List Ace) → IsQuiet (nothing_left xs)
-nothing_quiet [] = tt
-nothing_quiet (a ∷ xs) = ((λ e. refl), nothing_quiet xs)

@@ -460,3 +460,7 @@ reduced_settled c = needed_settled (default (unshadowed [] c)) (unshadowed [] c)
 pub reduced_once : (c : Column) → IsOnce (reduced c)
 reduced_once c =
     once_from_clean (reduced c) (needed_clean (default (unshadowed [] c)) (unshadowed [] c) (unshadowed_clean [] c))
+
+-- and in a column without what is shadowed
+pub unshadowed_once : (c : Column) → IsOnce (unshadowed [] c)
+unshadowed_once c = once_from_clean (unshadowed [] c) (unshadowed_clean [] c)

@@ -6,21 +6,23 @@ use Rattle.std.proofs.lemmas.Bool.{cases_lt, eqb-true, eqb-false}
 use Rattle.std.proofs.lemmas.Nat.Bits.{bit_at_above}
 use Rattle.acl_perm.specs.Situation.{matches}
 use Rattle.acl_perm.specs.Bits.{has_bit, all_rights}
+use Rattle.acl_perm.specs.Profile.{full}
 use Rattle.acl_nfs4.specs.Ace.{Ace}
+use Rattle.acl_nfs4.specs.Spelling.{IsAccepted}
 use Rattle.acl_eval.specs.Column.{verdict, column}
 use Rattle.acl_eval.specs.Grant.{SameGrants}
 use Rattle.acl_normal.specs.Alike.{IsIrreducible}
 use Rattle.acl_normal.specs.Normal.{HasNoEmptyMask, IsIrreducibleList, IsNormal, IsQuiet, HasMasks, HasNames}
 use Rattle.acl_normal.specs.Plain.{unshadowed, default, needed_entries, reduced}
-use Rattle.acl_normal.specs.Left.{left}
+use Rattle.acl_normal.specs.Left.{IsTidy, left}
 use Rattle.acl_normal.specs.Places.{counts, nothing_left}
+use Rattle.acl_normal.proofs.Accepted.{accepted_masks, accepted_names}
 use Rattle.acl_normal.proofs.ListColumns.{names_in_column, same_grants_from_columns}
 use Rattle.acl_normal.proofs.Normal.{irreducible_list, column_quiet, clique_of}
 use Rattle.acl_normal.proofs.Reduced.{same_reduced, reduced_settled}
 use Rattle.acl_normal.proofs.Settled.{IsSettled, settled_irreducible}
 use Rattle.acl_normal.proofs.Unique.{unique}
 use Rattle.acl_normal.proofs.Leaving.{column_left}
-use Rattle.acl_normal.proofs.Unneeded.{IsTidy}
 
 -- two passes that reduce each column
 pub reduces : (xs ys zs : List Ace) → ((b : ℕ) → b < 21 → column ys b ≡ unshadowed [] (column xs b))
@@ -43,7 +45,8 @@ names_kept xs ys e h = names_back ys (subst HasNames (sym e) (names_on xs h))
 
 -- ---- no bit outside the sixteen
 
-no_column : (b : ℕ) (xs : List Ace) → HasMasks xs → has_bit all_rights b ≡ false → column xs b ≡ []
+-- a bit that is no right has an empty column
+pub no_column : (b : ℕ) (xs : List Ace) → HasMasks xs → has_bit all_rights b ≡ false → column xs b ≡ []
 no_column b [] h out = refl
 no_column b (a ∷ xs) h out = go (has_bit a.mask b) refl (no_column b xs h.1 out)
   where
@@ -73,6 +76,14 @@ below b h = ⊎_elim (λ l. l) (λ l. absurd (high l)) (cases_lt b 21)
   where
     high : 21 ≤ b → ⊥
     high l = omega (arith, bit_at_above all_rights 21 b (omega arith) l, eqb-true (bit_at all_rights b) 1 h)
+
+-- and no bit above these is one
+pub no_right : (b : ℕ) → 21 ≤ b → has_bit all_rights b ≡ false
+no_right b h = go (has_bit all_rights b) refl
+  where
+    go : (t : Bool) → has_bit all_rights b ≡ t → t ≡ false
+    go true e = absurd (omega (arith, h, below b e))
+    go false e = refl
 
 -- ---- without the empty entries
 
@@ -106,18 +117,32 @@ pub record IsReduction (xs ys : List Ace) : Type 0 where
   pub masks : HasMasks xs
   pub tidy : IsTidy ys
 
+-- so it is after two passes over an accepted list
+pub two_passes : (xs ys zs : List Ace) → IsAccepted full xs → nothing_left ys ≡ nothing_left xs
+    → ((b : ℕ) → column ys b ≡ unshadowed [] (column xs b)) → nothing_left zs ≡ nothing_left ys → IsTidy zs
+    → ((b : ℕ) → b < 21 → column zs b ≡ needed_entries (default (column ys b)) (column ys b)) → IsReduction xs zs
+two_passes xs ys zs accepted e f g tidy h = record {
+  outline = g ∙ e;
+  columns = reduces xs ys zs (λ b l. f b) h;
+  names = accepted_names full xs accepted;
+  masks = accepted_masks xs accepted;
+  tidy = tidy;
+}
+
+-- it has no bit that is no right
+pub reduction_rights : (xs ys : List Ace) → IsReduction xs ys → (b : ℕ) → has_bit all_rights b ≡ false
+    → column ys b ≡ []
+reduction_rights xs ys r b out =
+    ⊎_elim (λ l. r.columns b l ∙ ap reduced (no_column b xs r.masks out)) (λ l. r.tidy.low b l) (cases_lt b 21)
+
 -- what is left of it is irreducible
 pub reduction_irreducible : (xs ys : List Ace) → IsReduction xs ys → IsIrreducibleList (left ys)
 reduction_irreducible xs ys r =
     irreducible_list (left ys) (full_left ys)
-    (masks_of (left ys) (quiet_left ys r.tidy.quiet) (λ b out. column_left b ys ∙ outside b out))
+    (masks_of (left ys) (quiet_left ys r.tidy.quiet) (λ b out. column_left b ys ∙ reduction_rights xs ys r b out))
     (quiet_left ys r.tidy.quiet)
     (λ b. subst IsIrreducible (sym (column_left b ys)) (irr b))
   where
-    outside : (b : ℕ) → has_bit all_rights b ≡ false → column ys b ≡ []
-    outside b out =
-        ⊎_elim (λ l. r.columns b l ∙ ap reduced (no_column b xs r.masks out)) (λ l. r.tidy.low b l) (cases_lt b 21)
-
     irr : (b : ℕ) → IsIrreducible (column ys b)
     irr b = ⊎_elim
         (λ l. settled_irreducible (column ys b) (default (unshadowed [] (column xs b))) (r.tidy.once b)

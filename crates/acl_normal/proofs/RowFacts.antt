@@ -18,7 +18,7 @@ use Rattle.acl_normal.specs.SetSearch.{AreRightsOf, is_granted_to, principals}
 use Rattle.acl_normal.specs.declared.comparison.rows.First.{First}
 use Rattle.acl_normal.specs.declared.comparison.rows.Row.{Row}
 use Rattle.acl_perm.specs.Bits.{all_rights, has_bit}
-use Rattle.acl_perm.specs.Principal.{Principal, everyone, principal, user}
+use Rattle.acl_perm.specs.Principal.{Principal, everyone, principal}
 
 -- what all ACEs say first
 pub first_of_all : (xs : List Ace) (b : ℕ) (p : Principal) (f : First) → IsFirstFrom xs b 0 p f → IsFirst xs b p f

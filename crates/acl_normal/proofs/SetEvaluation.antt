@@ -1,9 +1,9 @@
 -- What a list grants to a small set of principals, as the code finds it: for all rights at once.
-use Rattle.std.specs.Prelude.{◌==◌, ◌≡◌, ◌≢◌, ◌↔◌, ℕ, ◌<◌, ◌≤◌, ◌+◌, ◌^◌, Bool, true, false, not, ◌&&◌, ◌||◌, cond, IsTrue, List, [], ◌∷◌, refl, drop, length, slice_index_or}
+use Rattle.std.specs.Prelude.{◌==◌, ◌≡◌, ◌≢◌, ◌↔◌, ℕ, ◌<◌, ◌≤◌, ◌+◌, ◌^◌, Bool, true, false, not, ◌&&◌, ◌||◌, cond, IsTrue, List, ◌∷◌, refl, drop, length, slice_index_or}
 use Rattle.std.specs.Int.{bit_at, trailing_zeros, w32}
 use Rattle.std.proofs.Common.{sym, ◌∙◌, ap, subst, arith}
 use Rattle.std.proofs.lemmas.Nat.Bits.{bit_at-trailing_zeros}
-use Rattle.std.proofs.lemmas.Bool.{eqb-true, false≢true, false_from_ne_true, ne_eqb, or_parts}
+use Rattle.std.proofs.lemmas.Bool.{false≢true, false_from_ne_true, ne_eqb, or_parts}
 use Rattle.std.proofs.lemmas.List.{at_drop_more, drop_all}
 use Rattle.acl_eval.specs.Column.{column, takes_part, verdict}
 use Rattle.acl_eval.specs.Grant.{is_allow}

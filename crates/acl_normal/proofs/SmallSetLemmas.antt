@@ -13,7 +13,6 @@ use Rattle.acl_normal.proofs.ListColumns.{same_grants_from_columns, same_verdict
 use Rattle.acl_normal.proofs.Mentioned.{IsOneOf, column_is_short, first_has, mentioned_named, mentioned_others, mentioned_rising, one_is_short, second_has}
 use Rattle.acl_normal.proofs.Names.{overlaps_itself, principal_eq_same}
 use Rattle.acl_normal.proofs.Realised.{AllNamed, AreShort, HasOneUser, first_kind_alike, one_user, small_is_situation, small_matches}
-use Rattle.acl_normal.proofs.SameEntries.{alike}
 use Rattle.acl_normal.proofs.Small.{IsSmallSet, none, one, small_suffice, two}
 use Rattle.acl_normal.specs.Entries.{principal_eq}
 use Rattle.acl_normal.specs.Normal.{HasNames}

@@ -1,9 +1,7 @@
 -- Bits of a principal taken out of a list.
-use Rattle.std.specs.Prelude.{◌≡◌, ◌≢◌, ℕ, ◌≤◌, ◌^◌, ◌⊎◌, zero, suc, Bool, true, false, cond, not, ◌&&◌, List, [], ◌∷◌, Option, Some, None, bit_and, slice_set, slice_index_or, refl}
-use Rattle.std.specs.Int.{bit_at}
-use Rattle.std.proofs.Common.{sym, ◌∙◌, ap, subst, arith, inl, inr}
-use Rattle.std.proofs.lemmas.Bool.{eq-eqb, ne_eqb, eqb-true, and_parts}
-use Rattle.std.proofs.lemmas.Nat.Bits.{bit_at_xor, bit_at_and, bit_at-lt}
+use Rattle.std.specs.Prelude.{◌≡◌, ◌≢◌, ℕ, ◌≤◌, ◌^◌, ◌⊎◌, zero, suc, Bool, true, false, cond, not, ◌&&◌, List, [], ◌∷◌, Option, Some, None, slice_set, slice_index_or, refl}
+use Rattle.std.proofs.Common.{sym, ◌∙◌, ap, subst, inl, inr}
+use Rattle.std.proofs.lemmas.Bool.{and_parts}
 use Rattle.acl_perm.specs.Principal.{Principal}
 use Rattle.acl_perm.specs.declared.kind.Kind.{Kind}
 use Rattle.acl_perm.specs.Bits.{has_bit}
@@ -12,6 +10,7 @@ use Rattle.acl_nfs4.specs.Who.{principal_of}
 use Rattle.acl_nfs4.specs.declared.ace.AceRef.{AceRef}
 use Rattle.acl_eval.specs.Column.{Column, first_kind, column}
 use Rattle.acl_eval.specs.Scan.{without}
+use Rattle.acl_eval.proofs.Scans.{has_bit-without}
 use Rattle.acl_normal.specs.Entries.{principal_eq, kind_eq}
 use Rattle.acl_normal.specs.Places.{is_user, counts, same_class, is_waiting, waits, first_at, without_bits, take_out}
 use Rattle.acl_normal.specs.Alike.{is_either}
@@ -20,45 +19,10 @@ use Rattle.acl_normal.specs.Emissions.{IsOnce, HasOnceColumns}
 use Rattle.acl_normal.specs.Plain.{without_principal}
 use Rattle.acl_normal.specs.Shown.{with_masks}
 use Rattle.acl_normal.proofs.Names.{principal_eq_same, principal_eq_itself}
-use Rattle.acl_normal.proofs.Bits.{no_bit, power_has, masks_same}
+use Rattle.acl_normal.proofs.Bits.{power_has, masks_same}
 use Rattle.acl_normal.proofs.Emission.{once_without}
 use Rattle.acl_normal.proofs.PairParts.{some_pair}
 use Rattle.acl_normal.proofs.Columns.{column_first}
-
-pub has_bit-without : (m n b : ℕ) → has_bit (without m n) b ≡ (has_bit m b && not (has_bit n b))
-has_bit-without m n b = go (has_bit m b) refl (has_bit n b) refl
-  where
-    go : (s : Bool) → has_bit m b ≡ s → (t : Bool) → has_bit n b ≡ t
-        → has_bit (without m n) b ≡ (has_bit m b && not (has_bit n b))
-    go true e true f =
-        rw (e, f) (ne_eqb _ _ (λ g. absurd
-        (omega (
-          arith,
-          g,
-          bit_at_xor m (bit_and m n) b,
-          bit_at_and m n b,
-          eqb-true (bit_at m b) 1 e,
-          eqb-true
-              (bit_at n b) 1 f,
-        ))))
-    go true e false f =
-        rw (e, f) (eq-eqb _ _ (omega (
-          arith,
-          bit_at_xor m (bit_and m n) b,
-          bit_at_and m n b,
-          eqb-true (bit_at m b) 1
-              e,
-          no_bit n b f,
-        )))
-    go false e t f =
-        rw e (ne_eqb _ _ (λ g. absurd (omega (
-          arith,
-          g,
-          bit_at_xor m (bit_and m n) b,
-          bit_at_and m n b,
-          no_bit m b e,
-          bit_at-lt n b,
-        ))))
 
 -- the ACEs keep their principals
 pub principal_kept : (p : Principal) (m : ℕ) (a : Ace) → principal_of (without_bits p m a) ≡ principal_of a
@@ -425,11 +389,15 @@ written b p (x ∷ aces) (m ∷ masks) j i once f =
         (ih there.before (once_rest b head (with_masks aces masks) once) there.first)
         ∙ ap (λ v. v ∷ take_out p (2 ^ b) (with_masks aces masks)) (sym (bits_absent b p head there.other)))
 
--- no bit above the columns appears
-pub low_taken : (p : Principal) (m : ℕ) (xs : List Ace) → ((b : ℕ) → 21 ≤ b → column xs b ≡ []) → (b : ℕ) → 21 ≤ b
-    → column (take_out p m xs) b ≡ []
-low_taken p m xs low b h = column_taken b p m xs ∙ rw (low b h) (both (has_bit m b))
+-- what no column has does not appear
+pub none_taken : (p : Principal) (m : ℕ) (xs : List Ace) (b : ℕ) → column xs b ≡ [] → column (take_out p m xs) b ≡ []
+none_taken p m xs b none = column_taken b p m xs ∙ rw none (both (has_bit m b))
   where
     both : (t : Bool) → cond t (without_principal p []) [] ≡ []
     both true = refl
     both false = refl
+
+-- no bit above the columns appears
+pub low_taken : (p : Principal) (m : ℕ) (xs : List Ace) → ((b : ℕ) → 21 ≤ b → column xs b ≡ []) → (b : ℕ) → 21 ≤ b
+    → column (take_out p m xs) b ≡ []
+low_taken p m xs low b h = none_taken p m xs b (low b h)

@@ -1,5 +1,5 @@
 -- The needless bits dropped, from the last ACE to the first.
-use Rattle.std.specs.Prelude.{◌≡◌, ℕ, ◌+◌, ◌<◌, ◌≤◌, suc, Bool, true, false, cond, not, ◌||◌, ◌&&◌, List, [], ◌∷◌, ◌++◌, Some, None, length, refl}
+use Rattle.std.specs.Prelude.{◌≡◌, ℕ, ◌+◌, ◌<◌, ◌≤◌, zero, suc, Bool, true, false, cond, not, ◌||◌, ◌&&◌, List, [], ◌∷◌, ◌++◌, Some, None, length, slice_index_or, slice_set, refl}
 use Rattle.std.proofs.Common.{sym, ◌∙◌, ap, subst, arith, append_assoc}
 use Rattle.std.proofs.lemmas.Bool.{and_parts}
 use Rattle.std.proofs.lemmas.List.{length-append, append-nil}
@@ -8,8 +8,9 @@ use Rattle.acl_perm.specs.Overlap.{may_overlap}
 use Rattle.acl_perm.specs.declared.kind.Kind.{Kind}
 use Rattle.acl_perm.specs.declared.kind.Kind.TheVariants.{Deny, Allow}
 use Rattle.acl_perm.specs.Bits.{has_bit}
-use Rattle.acl_nfs4.specs.Ace.{Ace}
+use Rattle.acl_nfs4.specs.Ace.{Ace, ace}
 use Rattle.acl_nfs4.specs.Who.{principal_of}
+use Rattle.acl_nfs4.specs.declared.ace.AceRef.{AceRef}
 use Rattle.acl_eval.specs.Column.{Column, first_kind, column}
 use Rattle.acl_eval.specs.Scan.{without}
 use Rattle.acl_eval.proofs.Scans.{has_bit-without}
@@ -19,18 +20,19 @@ use Rattle.acl_normal.specs.Alike.{is_either}
 use Rattle.acl_normal.specs.Normal.{is_inherit_only, IsQuiet}
 use Rattle.acl_normal.specs.Emissions.{IsOnce, HasOnceColumns}
 use Rattle.acl_normal.specs.Plain.{default, has_opposite, is_needed, needed_entries}
-use Rattle.acl_normal.specs.Left.{KeepsFirsts}
+use Rattle.acl_normal.specs.Left.{IsTidy, KeepsFirsts}
+use Rattle.acl_normal.specs.Shown.{with_masks}
 use Rattle.acl_normal.specs.declared.later.Later.{Later}
 use Rattle.acl_normal.specs.Needed.{default_at, some_of, later_mask, opposes, is_kept}
-use Rattle.acl_normal.specs.declared.merged_rows.MergedRows.TheInside.{Inside}
-use Rattle.acl_normal.specs.Merged.{left_of, IsRight}
 use Rattle.acl_normal.proofs.Bits.{masks_same}
+use Rattle.acl_normal.proofs.LaterBits.{no_bits_of_zero}
 use Rattle.acl_normal.proofs.Names.{principal_eq_itself, principal_eq_same, overlaps_back}
 use Rattle.acl_normal.proofs.ListColumns.{column-append}
 use Rattle.acl_normal.proofs.Normal.{counts_mask, quiet_at}
 use Rattle.acl_normal.proofs.SameOrder.{once_before}
 use Rattle.acl_normal.proofs.Settled.{once_after}
-use Rattle.acl_normal.proofs.FirstRows.{same_length}
+use Rattle.acl_normal.proofs.FirstMasks.{masked}
+use Rattle.acl_normal.proofs.Outline.{nothing_append}
 use Rattle.acl_normal.proofs.Quiet.{quiet_taken}
 use Rattle.acl_normal.proofs.TakeOut.{first_kept, first_gone, once_taken, low_taken, principal_kept, kind_kept, counts_left, none_cases, absent_first}
 use Rattle.acl_normal.proofs.Columns.{column_first}
@@ -288,16 +290,6 @@ later_more l l' a back quiet later more k users b =
 
 -- ---- the loop, from the last entry to the first
 
--- each column has each principal once, and what takes no part or is no bit of the twenty-one is absent
-pub record IsTidy (xs : List Ace) : Type 0 where
-  pub once : HasOnceColumns xs
-  pub quiet : IsQuiet xs
-  pub low : (b : ℕ) → 21 ≤ b → column xs b ≡ []
-
--- rows are tidy
-pub tidy_of : (s : Inside) → IsRight s → IsTidy (left_of s)
-tidy_of s right = record { once = right.once; quiet = right.quiet; low = right.low }
-
 -- and stay so
 pub tidy_taken : (p : Principal) (m : ℕ) (xs : List Ace) → IsTidy xs → IsTidy (take_out p m xs)
 tidy_taken p m xs t = record {
@@ -357,17 +349,6 @@ drops_start ys l h = record {
   columns = λ b i. refl;
   later = λ k u b. h k u b;
 }
-
--- no place goes
-pub drops_length : (ys : List Ace) (n : ℕ) (xs : List Ace) (l : Later) → Drops ys n xs l → length xs ≡ length ys
-drops_length ys n xs l d =
-    ap length d.is ∙ length-append d.front d.tail
-    ∙ ap (λ v. length d.front + v) (same_length d.tail d.back d.outline) ∙ sym (length-append d.front d.back)
-    ∙ sym (ap length d.whole)
-
-nothing_append : (xs ys : List Ace) → nothing_left (xs ++ ys) ≡ nothing_left xs ++ nothing_left ys
-nothing_append [] ys = refl
-nothing_append (a ∷ xs) ys = ap (λ v. record a { mask = 0 } ∷ v) (nothing_append xs ys)
 
 -- nor does any type, flag or who
 pub drops_outline : (ys : List Ace) (n : ℕ) (xs : List Ace) (l : Later) → Drops ys n xs l
@@ -526,21 +507,75 @@ drops_on ys n xs l l' allowed place m new k mask d h key_entry is ty tx def t =
         (subst (λ v. Turns allowed l l' v p.ace.mask m xs new) p.key_entry
         (subst (λ v. Turns allowed l l' k v m xs new) p.mask t))
 
--- the mask at a place has no high bit
-pub mask_low : (ys : List Ace) (n : ℕ) (xs : List Ace) (l : Later) (place : ℕ) (k : Entry) (mask : ℕ)
-    → AtPlace ys n xs l place k mask → IsTidy xs → (b : ℕ) → 21 ≤ b → has_bit mask b ≡ false
-mask_low ys n xs l place k mask p tx b h = ap (λ v. has_bit v b) p.mask ∙ go (counts b p.ace) refl
+-- ---- masks by place
+
+-- the list at a place, whatever mask stands there
+pub record SplitsAtPlace (aces : List AceRef) (masks : List ℕ) (i : ℕ) (a : Ace) : Type 0 where
+  pub front : List Ace
+  pub back : List Ace
+  pub is : with_masks aces masks ≡ front ++ a ∷ back
+  pub set : (m : ℕ) → with_masks aces (slice_set masks i m) ≡ front ++ masked a m ∷ back
+
+-- so it splits
+pub splits_at_place : (aces : List AceRef) (masks : List ℕ) (i : ℕ) (x : AceRef) → i < length aces
+    → length masks ≡ length aces → x ≡ slice_index_or aces i x
+    → SplitsAtPlace aces masks i (masked (ace x) (slice_index_or masks i 0))
+splits_at_place [] masks i x l h is = absurd (omega (arith, l))
+splits_at_place (y ∷ aces) [] i x l h is = absurd (omega (arith, h))
+splits_at_place (y ∷ aces) (n ∷ masks) zero x l h is = record {
+  front = [];
+  back = with_masks aces masks;
+  is = ap (λ v. masked (ace v) n ∷ with_masks aces masks) (sym is);
+  set = λ m. ap (λ v. masked (ace v) m ∷ with_masks aces masks) (sym is);
+}
+splits_at_place (y ∷ aces) (n ∷ masks) (suc i) x l h is =
+    behind (splits_at_place aces masks i x (omega (arith, l)) (omega (arith, h)) is)
   where
-    quiet : is_inherit_only p.ace ≡ true → p.ace.mask ≡ 0
-    quiet = quiet_at p.front p.ace p.tail (subst IsQuiet p.is tx.quiet)
+    behind : SplitsAtPlace aces masks i (masked (ace x) (slice_index_or masks i 0))
+        → SplitsAtPlace (y ∷ aces) (n ∷ masks) (suc i) (masked (ace x) (slice_index_or masks i 0))
+    behind s = record {
+      front = masked (ace y) n ∷ s.front;
+      back = s.back;
+      is = ap (λ v. masked (ace y) n ∷ v) s.is;
+      set = λ m. ap (λ v. masked (ace y) n ∷ v) (s.set m);
+    }
 
-    nothing : (f : Column) (e : Entry) (c : Column) → f ++ e ∷ c ≡ [] → ⊥
-    nothing [] e c h = cc
-    nothing (g ∷ f) e c h = cc
+-- bits that an ACE has, taken out of it
+own_without : (m : ℕ) (a : Ace) → (is_inherit_only a ≡ true → a.mask ≡ 0)
+    → without_bits (principal_of a) m a ≡ masked a (without a.mask m)
+own_without m a quiet = go (is_inherit_only a) refl
+  where
+    nothing : a.mask ≡ 0 → a.mask ≡ without a.mask m
+    nothing e =
+        masks_same _ _ (λ b. none b ∙ sym (has_bit-without a.mask m b ∙ ap (λ t. t && not (has_bit m b)) (none b)))
+      where
+        none : (b : ℕ) → has_bit a.mask b ≡ false
+        none b = ap (λ v. has_bit v b) e ∙ no_bits_of_zero b
 
-    go : (t : Bool) → counts b p.ace ≡ t → has_bit p.ace.mask b ≡ false
-    go false e = sym (counts_mask b p.ace quiet) ∙ e
-    go true e =
-        let whole : column xs b ≡ column p.front b ++ entry_of p.ace ∷ column p.tail b =
-        ap (λ v. column v b) p.is ∙ column-append b p.front (p.ace ∷ p.tail) ∙ rw e refl in
-        absurd (nothing (column p.front b) (entry_of p.ace) (column p.tail b) (sym whole ∙ tx.low b h))
+    go : (t : Bool) → is_inherit_only a ≡ t → without_bits (principal_of a) m a ≡ masked a (without a.mask m)
+    go false e = rw (principal_eq_itself (principal_of a), e) refl
+    go true e = rw (principal_eq_itself (principal_of a), e) (ap (λ v. record a { mask = v }) (nothing (quiet e)))
+
+-- bits cleared in the mask at a place are taken out of the list
+pub cleared_there : (aces : List AceRef) (masks : List ℕ) (i : ℕ) (x : AceRef) (m : ℕ) → i < length aces
+    → length masks ≡ length aces → x ≡ slice_index_or aces i x → IsTidy (with_masks aces masks)
+    → ((b : ℕ) → has_bit m b ≡ true → has_bit (slice_index_or masks i 0) b ≡ true)
+    → with_masks aces (slice_set masks i (without (slice_index_or masks i 0) m))
+    ≡ take_out (principal_of (ace x)) m (with_masks aces masks)
+cleared_there aces masks i x m l h is tidy own = at (splits_at_place aces masks i x l h is)
+  where
+    item : Ace
+    item = masked (ace x) (slice_index_or masks i 0)
+
+    at : SplitsAtPlace aces masks i item
+        → with_masks aces (slice_set masks i (without (slice_index_or masks i 0) m))
+        ≡ take_out (principal_of (ace x)) m (with_masks aces masks)
+    at s =
+        s.set (without (slice_index_or masks i 0) m)
+        ∙ ap (λ v. s.front ++ v ∷ s.back) (sym (own_without m item quiet))
+        ∙ sym (take_here m s.front item s.back (subst HasOnceColumns s.is tidy.once)
+        (λ b e. counts_mask b item quiet ∙ own b e))
+        ∙ ap (take_out (principal_of (ace x)) m) (sym s.is)
+      where
+        quiet : is_inherit_only item ≡ true → item.mask ≡ 0
+        quiet = quiet_at s.front item s.back (subst IsQuiet s.is tidy.quiet)

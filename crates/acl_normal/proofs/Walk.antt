@@ -19,7 +19,7 @@ use Rattle.acl_normal.specs.Entries.{principal_eq, Entry, kind_eq}
 use Rattle.acl_normal.specs.Places.{is_user, counts, same_class, is_waiting, waits, waits_before, is_blocked, first_at, entry_here, other_kind}
 use Rattle.acl_normal.specs.Normal.{is_free}
 use Rattle.acl_normal.specs.Emissions.{IsOnce}
-use Rattle.acl_normal.specs.Ready.{Marked, entry_eq, mask_for, Adds, Grows, Enters}
+use Rattle.acl_normal.specs.Ready.{Marked, entry_eq, Adds, Grows, Enters}
 use Rattle.acl_normal.proofs.Names.{principal_eq_same, principal_eq_itself}
 use Rattle.acl_normal.proofs.Free.{kind_eq_same, kind_eq_itself}
 use Rattle.acl_normal.proofs.Waits.{AreWaiting}
@@ -173,13 +173,13 @@ pub record Walks (k : Kind) (u : Bool) (b : ℕ) (xs : List Ace) (rest : List �
   pub sorted : IsStrictlySortedBy nat_cmp rest
   pub within : (i : ℕ) → list_any (is_at (nat_cmp i)) rest ≡ true → waits k u b xs i ≡ true
   pub covers : (i : ℕ) → waits k u b xs i ≡ true → list_any (is_at (nat_cmp i)) rest ≡ false
-      → has_bit (mask_for (entry_here xs i) new) b ≡ true
+      → has_bit (new (entry_here xs i)) b ≡ true
 
 -- before the first place
 pub walk_starts : (k : Kind) (u : Bool) (b : ℕ) (xs : List Ace) (keys rest : List ℕ) (old : Marked)
     → AreWaiting k u b xs keys → IsStrictlySortedBy nat_cmp keys → rest ≡ keys → Walks k u b xs rest old old
 walk_starts k u b xs keys rest old w s e = subst (λ v. Walks k u b xs v old old) (sym e) (record {
-  grows = record { kept = λ l i h. h; sound = λ l i h. inl h; full = λ h. h };
+  grows = record { kept = λ l i h. h; sound = λ l i h. inl h };
   sorted = s;
   within = λ i h. sym (w i) ∙ h;
   covers = λ i h out. absurd (clash i h out);
@@ -209,12 +209,11 @@ walk_on k u b xs i all rest old new more once before is clear adds =
         record {
           grows = record {
             kept =
-                λ l c h. adds.bits l c ∙ or_left (has_bit (mask_for l new) c)
+                λ l c h. adds.bits l c ∙ or_left (has_bit (new l) c)
                 (entry_eq l (entry_here xs i) && (c == b)) (w.grows.kept l c h);
             sound =
-                λ l c h. sound l c here (or_cases (has_bit (mask_for l new) c)
+                λ l c h. sound l c here (or_cases (has_bit (new l) c)
                 (entry_eq l (entry_here xs i) && (c == b)) (sym (adds.bits l c) ∙ h));
-            full = λ h. adds.full (w.grows.full h);
           };
           sorted = sorted_tail nat_cmp i rest w.sorted;
           within = λ j h. w.within j (or_right (is_at (nat_cmp j) i) (list_any (is_at (nat_cmp j)) rest) h);
@@ -222,8 +221,8 @@ walk_on k u b xs i all rest old new more once before is clear adds =
         }
       where
         sound : (l : Entry) (c : ℕ) → waits k u b xs i ≡ true
-            → (has_bit (mask_for l new) c ≡ true) ⊎ ((entry_eq l (entry_here xs i) && (c == b)) ≡ true)
-            → (has_bit (mask_for l old) c ≡ true) ⊎ (is_free (column xs c) l ≡ true)
+            → (has_bit (new l) c ≡ true) ⊎ ((entry_eq l (entry_here xs i) && (c == b)) ≡ true)
+            → (has_bit (old l) c ≡ true) ⊎ (is_free (column xs c) l ≡ true)
         sound l c here (inl h) = w.grows.sound l c h
         sound l c here (inr h) =
             let both = and_parts (entry_eq l (entry_here xs i)) (c == b) h in
@@ -231,9 +230,9 @@ walk_on k u b xs i all rest old new more once before is clear adds =
             (clear_is_free k u b xs i once here clear))
 
         covers : (j : ℕ) → waits k u b xs j ≡ true → list_any (is_at (nat_cmp j)) rest ≡ false → (j ≡ i) ⊎ (j ≡ i → ⊥)
-            → has_bit (mask_for (entry_here xs j) more) b ≡ true
+            → has_bit (more (entry_here xs j)) b ≡ true
         covers j h gone (inl e) =
-            adds.bits (entry_here xs j) b ∙ or_right (has_bit (mask_for (entry_here xs j) new) b)
+            adds.bits (entry_here xs j) b ∙ or_right (has_bit (new (entry_here xs j)) b)
             (entry_eq (entry_here xs j) (entry_here xs i) && (b == b))
             (and_from (entry_eq (entry_here xs j) (entry_here xs i)) (b == b)
             (subst (λ v. entry_eq (entry_here xs j) (entry_here xs v) ≡ true) e (entry_eq_itself (entry_here xs j)))
@@ -241,7 +240,7 @@ walk_on k u b xs i all rest old new more once before is clear adds =
         covers j h gone (inr n) =
             let apart : is_at (nat_cmp j) i ≡ false = false_from_ne_true _ (λ t. n (is_eq_same j i t)) in
             let out : list_any (is_at (nat_cmp j)) (i ∷ rest) ≡ false = rw (apart, gone) refl in
-            adds.bits (entry_here xs j) b ∙ or_left (has_bit (mask_for (entry_here xs j) new) b)
+            adds.bits (entry_here xs j) b ∙ or_left (has_bit (new (entry_here xs j)) b)
             (entry_eq (entry_here xs j) (entry_here xs i) && (b == b)) (w.covers j h out)
 
 -- all that is free has been passed
@@ -253,11 +252,11 @@ walk_ends k u b xs rest old new once w blocked = record {
   all = λ q class free. found q (stands_free k u b xs q once class free);
 }
   where
-    found : (q : Principal) → StandsFree k u b xs q → has_bit (mask_for (q, k) new) b ≡ true
+    found : (q : Principal) → StandsFree k u b xs q → has_bit (new (q, k)) b ≡ true
     found q s =
         let out : list_any (is_at (nat_cmp s.place)) rest ≡ false =
         false_from_ne_true _ (λ t. absurd (clash (blocked s.place t))) in
-        subst (λ v. has_bit (mask_for v new) b ≡ true) s.key_entry (w.covers s.place s.waits out)
+        subst (λ v. has_bit (new v) b ≡ true) s.key_entry (w.covers s.place s.waits out)
       where
         clash : is_blocked k u b xs s.place ≡ true → ⊥
         clash h = cc (s.clear)

@@ -1,6 +1,6 @@
 -- Where two lists first speak of each principal, and what they say there (this library's own): words that only code
 -- needs.
-use Rattle.std.specs.Prelude.{◌≡◌, ℕ, ◌<◌, ◌≤◌, ◌+◌, Bool, true, false, not, ◌&&◌, ◌||◌, if◌then◌else◌, IsTrue, nat_lt, ◌==◌, drop, slice_index_or, slice_set, List, [], ◌∷◌, length}
+use Rattle.std.specs.Prelude.{◌≡◌, ℕ, ◌<◌, ◌≤◌, ◌+◌, Bool, true, false, not, ◌&&◌, ◌||◌, if◌then◌else◌, nat_lt, ◌==◌, drop, slice_index_or, slice_set, List, [], ◌∷◌, length}
 use Rattle.std.specs.List.{AllByRecursion, AllZip}
 use Rattle.acl_eval.specs.Column.{takes_part}
 use Rattle.acl_eval.specs.Grant.{is_allow}

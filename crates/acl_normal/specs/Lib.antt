@@ -13,10 +13,13 @@ pub mod Keys
 pub mod Shown
 pub mod Cells
 pub mod Left
+pub mod Rows
+pub mod Waiting
+pub mod RowNumbers
 pub mod Merged
 pub mod Ready
+pub mod Heaped
 pub mod Emitted
-pub mod Firsts
 pub mod Needed
 pub mod SmallSets
 pub mod SetSearch

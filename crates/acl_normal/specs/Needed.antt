@@ -1,5 +1,5 @@
 -- Which bits are needed, told from masks (this library's own): words that only code needs.
-use Rattle.std.specs.Prelude.{ℕ, Bool, true, false, cond, not, ◌||◌, ◌&&◌, [], ◌∷◌, Option, Some, None}
+use Rattle.std.specs.Prelude.{ℕ, Bool, true, false, cond, not, ◌||◌, ◌&&◌, [], ◌∷◌}
 use Rattle.acl_perm.specs.Principal.{everyone}
 use Rattle.acl_perm.specs.declared.kind.Kind.{Kind}
 use Rattle.acl_perm.specs.declared.kind.Kind.TheVariants.{Deny, Allow}
@@ -12,11 +12,6 @@ use Rattle.acl_normal.specs.declared.later.Later.{Later}
 -- the kind that a bit has by default, where a mask holds the bits that everyone is allowed
 abbrev pub default_at : ℕ → ℕ → Kind
 default_at allowed b = cond (has_bit allowed b) Allow Deny
-
--- the entry is there, and allows
-abbrev pub is_allowed : Option (Kind × ℕ) → Bool
-is_allowed None = false
-is_allowed (Some e) = kind_eq e.0 Allow
 
 -- an entry of a kind and a class is in the column
 abbrev pub some_of : Kind → Bool → Column → Bool

@@ -1,6 +1,6 @@
 -- ACEs by their places in a list (RFC 8881, section 6.2.1): which wait at a bit, by type and class, and which stands
 -- first.
-use Rattle.std.specs.Prelude.{ℕ, ◌+◌, ◌*◌, ◌^◌, bit_or, zero, suc, Bool, true, false, cond, not, ◌&&◌, ◌||◌, List, [], ◌∷◌, Option, Some, None, option_map, map}
+use Rattle.std.specs.Prelude.{ℕ, ◌+◌, ◌*◌, zero, suc, Bool, true, false, cond, not, ◌&&◌, ◌||◌, List, [], ◌∷◌, Option, Some, None, option_map, map}
 use Rattle.acl_perm.specs.Principal.{Principal, owner, user, group, group_named, everyone}
 use Rattle.acl_perm.specs.declared.kind.Kind.{Kind}
 use Rattle.acl_perm.specs.declared.kind.Kind.TheVariants.{Deny, Allow}
@@ -94,23 +94,11 @@ slot_of Deny true b = 4 * b + 0 + 1
 slot_of Allow false b = 4 * b + 2 + 0
 slot_of Allow true b = 4 * b + 2 + 1
 
--- the list with a bit more at a place
-abbrev pub put_at : ℕ → ℕ → List Ace → List Ace
-put_at i b [] = []
-put_at zero b (a ∷ xs) = record a { mask = bit_or a.mask (2 ^ b) } ∷ xs
-put_at (suc i) b (a ∷ xs) = a ∷ put_at i b xs
-
 -- the mask of the entry at a place
 abbrev pub mask_here : List Ace → ℕ → ℕ
 mask_here [] i = 0
 mask_here (a ∷ xs) zero = a.mask
 mask_here (a ∷ xs) (suc i) = mask_here xs i
-
--- the entry at a place takes part
-abbrev pub is_active : List Ace → ℕ → Bool
-is_active [] i = false
-is_active (a ∷ xs) zero = not (is_inherit_only a)
-is_active (a ∷ xs) (suc i) = is_active xs i
 
 -- the entries with no bits
 abbrev pub nothing_left : List Ace → List Ace

@@ -1,64 +1,70 @@
 -- The keys that have a free bit (this library's own).
-use Rattle.std.specs.Prelude.{◌≡◌, ◌≢◌, ℕ, ◌<◌, zero, suc, Bool, true, false, cond, ◌||◌, ◌&&◌, ◌==◌, ◌⊎◌, ◌^◌, List, [], ◌∷◌, unwrap_or, bit_or}
-use Rattle.std.specs.Map.{lookup}
+use Rattle.std.specs.Prelude.{◌≡◌, ◌≢◌, ℕ, ◌*◌, ◌<◌, ◌≤◌, zero, suc, Bool, true, false, cond, ◌||◌, ◌&&◌, ◌==◌, ◌⊎◌, ◌^◌, List, length, slice_index_or, bit_or}
 use Rattle.acl_perm.specs.Principal.{Principal, owner, user, group, group_named, everyone}
 use Rattle.acl_perm.specs.declared.kind.Kind.{Kind}
 use Rattle.acl_perm.specs.Bits.{has_bit}
-use Rattle.acl_perm.specs.declared.key.Key.{Key}
 use Rattle.acl_nfs4.specs.Ace.{Ace}
 use Rattle.acl_nfs4.specs.Who.{owner_name, group_name, everyone_name}
 use Rattle.acl_eval.specs.Column.{column}
 use Rattle.acl_normal.specs.Entries.{principal_eq, Entry, kind_eq}
 use Rattle.acl_normal.specs.Places.{is_user, other_kind}
 use Rattle.acl_normal.specs.Normal.{is_free, flags_for}
-use Rattle.acl_normal.specs.Keys.{key_entry}
+use Rattle.acl_normal.specs.Rows.{is_named, key_number}
 
--- keys with their marked bits
+-- the marked bits of each entry of a column
 abbrev pub Marked : Type 0
-Marked = List (Key × ℕ)
+Marked = Entry → ℕ
 
 -- the same entry
 abbrev pub entry_eq : Entry → Entry → Bool
 entry_eq k l = principal_eq k.0 l.0 && kind_eq k.1 l.1
 
--- the bits that are marked at a key
-abbrev pub mask_for : Entry → Marked → ℕ
-mask_for k es = unwrap_or (lookup (λ q. entry_eq k (key_entry q)) es) 0
+-- what bits by number mark, where the keys are numbered by a list
+abbrev pub marks : List Ace → List ℕ → Marked
+marks outline bits k = cond (is_named k.0 outline) (slice_index_or bits (key_number k outline) 0) 0
 
--- each key has a bit
-abbrev pub HasNoZero : Marked → Type 0
-HasNoZero [] = Unit {0}
-HasNoZero (e ∷ es) = (e.1 ≢ 0) × HasNoZero es
+-- the number of a key whose principal the list names
+pub record IsKeyNumber (outline : List Ace) (number : ℕ) : Type 0 where
+  pub key : Entry
+  pub named : is_named key.0 outline ≡ true
+  pub is : number ≡ key_number key outline
+
+-- bits by number have room for the keys of a list, and only those have some
+pub record FitsKeys (outline : List Ace) (bits : List ℕ) : Type 0 where
+  pub count : length bits ≡ 2 * length outline
+  pub sound : (number : ℕ) → slice_index_or bits number 0 ≢ 0 → IsKeyNumber outline number
+
+-- the least number that has bits, with them
+pub record IsLeastReady (bits : List ℕ) (number found : ℕ) : Type 0 where
+  pub is : found ≡ slice_index_or bits number 0
+  pub some : found ≢ 0
+  pub least : (n : ℕ) → slice_index_or bits n 0 ≢ 0 → number ≤ n
 
 -- a bit of a key was marked
 pub record Adds (k : Entry) (bit : ℕ) (old new : Marked) : Type 0 where
-  pub bits : (l : Entry) (b : ℕ)
-      → has_bit (mask_for l new) b ≡ (has_bit (mask_for l old) b || (entry_eq l k && (b == bit)))
-  pub full : HasNoZero old → HasNoZero new
+  pub bits : (l : Entry) (b : ℕ) → has_bit (new l) b ≡ (has_bit (old l) b || (entry_eq l k && (b == bit)))
 
 -- only free bits were added
 pub record Grows (xs : List Ace) (old new : Marked) : Type 0 where
-  pub kept : (k : Entry) (b : ℕ) → has_bit (mask_for k old) b ≡ true → has_bit (mask_for k new) b ≡ true
-  pub sound : (k : Entry) (b : ℕ) → has_bit (mask_for k new) b ≡ true
-      → (has_bit (mask_for k old) b ≡ true) ⊎ (is_free (column xs b) k ≡ true)
-  pub full : HasNoZero old → HasNoZero new
+  pub kept : (k : Entry) (b : ℕ) → has_bit (old k) b ≡ true → has_bit (new k) b ≡ true
+  pub sound : (k : Entry) (b : ℕ) → has_bit (new k) b ≡ true
+      → (has_bit (old k) b ≡ true) ⊎ (is_free (column xs b) k ≡ true)
 
 -- and all of a kind and a class are there
 pub record Enters (kind : Kind) (users : Bool) (bit : ℕ) (xs : List Ace) (old new : Marked) : Type 0 where
   pub grows : Grows xs old new
   pub all : (q : Principal) → is_user q ≡ users → is_free (column xs bit) (q, kind) ≡ true
-      → has_bit (mask_for (q, kind) new) bit ≡ true
+      → has_bit (new (q, kind)) bit ≡ true
 
 -- all of the other kind that overlap the key are there, at some bits
 pub record Frees (k : Entry) (bits : ℕ) (xs : List Ace) (old new : Marked) : Type 0 where
   pub grows : Grows xs old new
   pub all : (q : Principal) (b : ℕ) → b < 21 → has_bit bits b ≡ true → (is_user k.0 && is_user q) ≡ false
-      → is_free (column xs b) (q, other_kind k.1) ≡ true → has_bit (mask_for (q, other_kind k.1) new) b ≡ true
+      → is_free (column xs b) (q, other_kind k.1) ≡ true → has_bit (new (q, other_kind k.1)) b ≡ true
 
 -- what is marked is what is free
-pub record HoldsFree (es : Marked) (xs : List Ace) : Type 0 where
-  pub bits : (k : Entry) (b : ℕ) → has_bit (mask_for k es) b ≡ is_free (column xs b) k
-  pub full : HasNoZero es
+abbrev pub HoldsFree : Marked → List Ace → Type 0
+HoldsFree es xs = (k : Entry) (b : ℕ) → has_bit (es k) b ≡ is_free (column xs b) k
 
 -- the who of a principal
 abbrev pub who_for : Principal → List ℕ

@@ -1,5 +1,5 @@
 //! The order of a normal form: at each place the least key that has a free bit, with all its free bits.
-ghost use Rattle.std.specs.Prelude.{◌≡◌, ℕ, ◌<◌, [], List, IfOk, OnOk};
+ghost use Rattle.std.specs.Prelude.{◌≡◌, ℕ, ◌*◌, ◌<◌, List, length, replicate, IfOk, OnOk};
 ghost use Rattle.acl_perm.specs.Bits.{all_rights};
 ghost use Rattle.acl_nfs4.specs.Ace.{Ace};
 ghost use Rattle.acl_eval.specs.Grant.{SameGrants};
@@ -8,15 +8,16 @@ ghost use Rattle.acl_normal.specs.Emitted.{emitted_aces};
 ghost use Rattle.acl_normal.specs.Keys.{key_entry};
 ghost use Rattle.acl_normal.specs.Left.{left};
 ghost use Rattle.acl_normal.specs.Normal.{IsIrreducibleList, IsNormal};
-ghost use Rattle.acl_normal.specs.Ready.{Adds, Enters, Frees, HoldsFree};
+ghost use Rattle.acl_normal.specs.Places.{entry_here, nothing_left};
+ghost use Rattle.acl_normal.specs.Ready.{Adds, Enters, FitsKeys, Frees, HoldsFree, marks};
 ghost use Rattle.acl_normal.specs.Counts.{count_left};
 
 use crate::bit_tests::{has, with};
 use crate::merged_rows::MergedRows;
-use crate::words::{is_user, other};
+use crate::ready::Ready;
+use crate::words::{is_user, other, rank};
 use acl_perm::{Key, Kind};
 use std::alloc::{AllocError, Global};
-use std::collections::BTreeMap;
 
 /// An ACE of a normal form: a key and its bits.
 #[derive(Clone, Copy)]
@@ -25,34 +26,41 @@ pub(crate) struct Emitted<'a> {
     pub(crate) bits: u32,
 }
 
-/// Marks a bit of a key as free.
-fn add<'a>(ready: &mut BTreeMap<Key<'a>, u32>, at: Key<'a>, bit: usize) -> Result<(), AllocError>
-    requires { bit < 21 }
-    ensures { OnOk result (Adds (key_entry at.entry) bit ready.old.entries ready.new.entries) }
+/// Marks a bit of the ACE at a place as free.
+fn add(rows: &MergedRows<'_>, place: usize, bit: usize, ready: &mut Ready) -> Result<(), AllocError>
+    requires place { place < length rows.now }
+    requires bit { bit < 21 }
+    requires keys { FitsKeys (nothing_left rows.now) ready.old }
+    ensures keys { OnOk result (FitsKeys (nothing_left rows.now) ready.new) }
+    ensures marks { OnOk result (Adds (entry_here rows.now place) bit (marks (nothing_left rows.now) ready.old)
+        (marks (nothing_left rows.now) ready.new)) }
 {
-    let bits = ready.get(&at).copied().unwrap_or(0);
-    ready.insert(at, with(bits, bit))?;
-    Ok(())
+    let _ = &rows.masks;
+    let number = 2 * rows.row_at(place) + rank(rows.kind_at(place));
+    ready.add(number, bit)
 }
 
 /// Marks what is free of the ACEs that wait in a type and a class with a bit: the places before
 /// the first that something blocks.
-fn enter<'a>(
-    rows: &MergedRows<'a>,
+fn enter(
+    rows: &MergedRows<'_>,
     kind: Kind,
     users: bool,
     bit: usize,
-    ready: &mut BTreeMap<Key<'a>, u32>,
+    ready: &mut Ready,
 ) -> Result<(), AllocError>
-    requires { bit < 21 }
-    ensures { OnOk result (Enters kind users bit rows.now ready.old.entries ready.new.entries) }
+    requires bit { bit < 21 }
+    requires keys { FitsKeys (nothing_left rows.now) ready.old }
+    ensures keys { OnOk result (FitsKeys (nothing_left rows.now) ready.new) }
+    ensures marks { OnOk result (Enters kind users bit rows.now (marks (nothing_left rows.now) ready.old)
+        (marks (nothing_left rows.now) ready.new)) }
 {
     let _ = &rows.masks;
     for place in rows.waiting_at(kind, users, bit) {
         if !rows.is_clear(*place, kind, users, bit) {
             return Ok(());
         }
-        add(ready, rows.key_at(*place), bit)?;
+        add(rows, *place, bit, ready)?;
     }
     Ok(())
 }
@@ -62,12 +70,18 @@ fn free_after<'a>(
     rows: &MergedRows<'a>,
     at: Key<'a>,
     bits: u32,
-    ready: &mut BTreeMap<Key<'a>, u32>,
+    ready: &mut Ready,
 ) -> Result<(), AllocError>
-    ensures { OnOk result (Frees (key_entry at.entry) bits rows.now ready.old.entries ready.new.entries) }
+    requires { FitsKeys (nothing_left rows.now) ready.old }
+    ensures keys { OnOk result (FitsKeys (nothing_left rows.now) ready.new) }
+    ensures marks { OnOk result (Frees (key_entry at.entry) bits rows.now (marks (nothing_left rows.now) ready.old)
+        (marks (nothing_left rows.now) ready.new)) }
 {
     let opposite = other(at.kind);
     for bit in 0..21usize {
+        if bits >> bit == 0 {
+            return Ok(());
+        }
         if has(bits, bit) {
             enter(rows, opposite, false, bit, ready)?;
             if !is_user(at.principal) {
@@ -79,9 +93,10 @@ fn free_after<'a>(
 }
 
 /// Marks all that is free.
-fn fill<'a>(rows: &MergedRows<'a>, ready: &mut BTreeMap<Key<'a>, u32>) -> Result<(), AllocError>
-    requires { ready.old.entries ≡ [] }
-    ensures { OnOk result (HoldsFree ready.new.entries rows.now) }
+fn fill(rows: &MergedRows<'_>, ready: &mut Ready) -> Result<(), AllocError>
+    requires { ready.old ≡ replicate (2 * length rows.now) 0 }
+    ensures keys { OnOk result (FitsKeys (nothing_left rows.now) ready.new) }
+    ensures marks { OnOk result (HoldsFree (marks (nothing_left rows.now) ready.new) rows.now) }
 {
     let _ = &rows.masks;
     for bit in 0..21usize {
@@ -101,12 +116,13 @@ pub(crate) fn drain<'a>(
     ensures { IfOk result (λ v. IsEmission rows.old (emitted_aces v.items)) }
 {
     let _ = &rows.masks;
-    let mut ready = BTreeMap::new(alloc);
+    let mut ready = Ready::new(alloc, rows.len())?;
     fill(rows, &mut ready)?;
     let mut out = Vec::new(alloc);
-    'emitted: while let Some((key, bits)) = ready.pop_first() {
+    'emitted: while let Some((number, bits)) = ready.pop() {
+        let key = rows.key_of(number);
         out.push(Emitted { key, bits })?;
-        rows.emit_bits(key.principal, bits);
+        rows.emit_row(number / 2, key.principal, bits);
         free_after(rows, key, bits, &mut ready)?;
     }
     Ok(out)

@@ -1,19 +1,21 @@
 //! The needless bits: those that only repeat what everyone gets, and that nothing later conflicts with.
-ghost use Rattle.std.specs.Prelude.{◌≡◌, ℕ, ◌<◌, Bool, not, ◌||◌, ◌&&◌};
+ghost use Rattle.std.specs.Prelude.{◌≡◌, ℕ, ◌<◌, Bool, not, ◌||◌, ◌&&◌, length};
 ghost use Rattle.acl_perm.specs.Bits.{has_bit};
 ghost use Rattle.acl_perm.specs.declared.kind.Kind.{Kind as Sort};
+ghost use Rattle.acl_nfs4.specs.Ace.{ace};
 ghost use Rattle.acl_eval.specs.Column.{column};
-ghost use Rattle.acl_normal.specs.Left.{KeepsFirsts};
-ghost use Rattle.acl_normal.specs.Entries.{kind_eq};
+ghost use Rattle.acl_normal.specs.Left.{IsTidy, KeepsFirsts};
+ghost use Rattle.acl_normal.specs.Entries.{entry_of, kind_eq};
 ghost use Rattle.acl_normal.specs.Keys.{key_entry};
 ghost use Rattle.acl_normal.specs.Needed.{default_at, is_kept, later_mask, opposes};
 ghost use Rattle.acl_normal.specs.Places.{is_user, nothing_left, same_class};
 ghost use Rattle.acl_normal.specs.Plain.{default, needed_entries};
+ghost use Rattle.acl_normal.specs.Shown.{with_masks};
 
-use crate::bit_tests::{with, without};
-use crate::merged_rows::MergedRows;
-use crate::words::{is_everyone, is_user};
-use acl_perm::{Key, Kind, Principal};
+use crate::bit_tests::without;
+use crate::words::{is_allow, is_everyone, is_user};
+use acl_nfs4::AceRef;
+use acl_perm::{Key, Kind};
 
 /// The bits that later ACEs have, by type and class.
 #[derive(Clone, Copy, Drop)]
@@ -95,43 +97,58 @@ fn needless(at: Key<'_>, mask: u32, allowed: u32, opposite: u32) -> u32
     }
 }
 
-/// The bits that everyone is allowed.
-fn allowed_to_everyone<'a>(rows: &MergedRows<'a>) -> u32
-    ensures { (b : ℕ) → b < 21 → default_at result b ≡ default (column rows.now b) }
+/// The bits that everyone is allowed by the ACEs, with these masks.
+fn allowed_to_everyone(aces: &[AceRef<'_>], masks: &[u32]) -> u32
+    requires places { length masks.now ≡ length aces.now }
+    requires tidy { IsTidy (with_masks aces.now masks.now) }
+    ensures { (b : ℕ) → default_at result b ≡ default (column (with_masks aces.now masks.now) b) }
 {
-    let mut bits = 0;
-    for bit in 0..21usize {
-        if rows.allows(Principal::Everyone, bit) {
-            bits = with(bits, bit);
+    let mut bits = 0u32;
+    for place in 0..aces.len() {
+        let ace = aces[place];
+        if is_everyone(ace.principal()) && is_allow(ace.kind) {
+            bits |= masks[place];
         }
     }
     bits
 }
 
-/// Drops the bits that no situation needs, of rows that hold first ACEs: one pass, from the last ACE
-/// to the first.
-pub(crate) fn drop_needless<'a>(rows: &mut MergedRows<'a>)
-    ensures outline { nothing_left rows.new ≡ nothing_left rows.old }
-    ensures columns { (b : ℕ) → b < 21
-        → column rows.new b ≡ needed_entries (default (column rows.old b)) (column rows.old b) }
-    ensures firsts { KeepsFirsts rows.old rows.new }
+/// Whom the ACE names, and its type.
+fn key(item: AceRef<'_>) -> Key<'_>
+    ensures { key_entry result ≡ entry_of (ace item.entry) }
 {
-    let _ = &rows.masks;
-    let count = rows.len();
-    let allowed = allowed_to_everyone(rows);
+    Key {
+        principal: item.principal(),
+        kind: item.kind,
+    }
+}
+
+/// Drops the bits that no situation needs from the masks of first ACEs: one pass, from the last ACE to the first.
+pub(crate) fn drop_needless(aces: &[AceRef<'_>], masks: &mut [u32])
+    requires places { length masks.old ≡ length aces.now }
+    requires tidy { IsTidy (with_masks aces.now masks.old) }
+    ensures places { length masks.new ≡ length aces.now }
+    ensures outline { nothing_left (with_masks aces.now masks.new) ≡ nothing_left (with_masks aces.now masks.old) }
+    ensures tidy { IsTidy (with_masks aces.now masks.new) }
+    ensures columns { (b : ℕ) → b < 21 → column (with_masks aces.now masks.new) b
+        ≡ needed_entries (default (column (with_masks aces.now masks.old) b))
+        (column (with_masks aces.now masks.old) b) }
+    ensures firsts { KeepsFirsts (with_masks aces.now masks.old) (with_masks aces.now masks.new) }
+{
+    let allowed = allowed_to_everyone(aces, masks);
     let mut later = Later {
         deny_users: 0,
         deny_others: 0,
         allow_users: 0,
         allow_others: 0,
     };
-    for done in 0..count {
-        let place = count - 1 - done;
-        let at = rows.key_at(place);
-        let mask = rows.mask_at(place);
-        let opposite = opposite(later, at);
-        let dropped = needless(at, mask, allowed, opposite);
-        rows.emit_bits(at.principal, dropped);
+    for done in 0..aces.len() {
+        let place = aces.len() - 1 - done;
+        let ace = aces[place];
+        let at = key(ace);
+        let mask = masks[place];
+        let dropped = needless(at, mask, allowed, opposite(later, at));
+        masks[place] = without(mask, dropped);
         later = noted(later, at, mask);
     }
 }

@@ -4,10 +4,12 @@
 mod appending;
 mod bit_table;
 mod bit_tests;
+mod cells;
 mod comparison;
 #[cfg(test)]
 mod comparison_tests;
 mod draining;
+mod filling;
 mod later;
 pub mod laws;
 mod listing;
@@ -18,9 +20,11 @@ mod normal_tests;
 pub mod plain;
 #[cfg(test)]
 mod plain_tests;
+mod ready;
 mod reduction;
-mod row_map;
+mod row_numbers;
 mod shadows;
+mod waiting;
 mod words;
 
 pub use bit_table::{Row, table};

@@ -1,27 +1,32 @@
 //! What is left of a list, by rows and by places that wait.
-ghost use Rattle.std.specs.Prelude.{◌≡◌, ℕ, ◌<◌, ◌≤◌, ◌^◌, true, false, not, ◌||◌, length, ◌↔◌, IfOk, IsTrue, OnOk, None, is_some};
+ghost use Rattle.std.specs.Prelude.{◌≡◌, ℕ, ◌*◌, ◌<◌, ◌≤◌, ◌^◌, true, false, not, ◌||◌, [], length, vec_len, ◌↔◌, IfNone, IfOk, IfSome, IsTrue, OnOk, None};
 ghost use Rattle.std.specs.Ordering.{nat_cmp};
 ghost use Rattle.std.specs.BTreeSet.{contains};
 ghost use Rattle.acl_perm.specs.Bits.{all_rights, has_bit};
-ghost use Rattle.acl_perm.specs.Principal.{principal};
+ghost use Rattle.acl_perm.specs.Principal.{Principal as Who, principal};
 ghost use Rattle.acl_perm.specs.declared.kind.Kind.TheVariants.{Deny, Allow};
 ghost use Rattle.acl_eval.specs.Column.{column};
 ghost use Rattle.acl_eval.specs.Grant.{SameGrants};
-ghost use Rattle.acl_normal.specs.Left.{HasFree, IsLowest, KeepsFirsts, left};
+ghost use Rattle.acl_normal.specs.Cells.{first_place};
+ghost use Rattle.acl_normal.specs.Entries.{Entry};
+ghost use Rattle.acl_normal.specs.Left.{HasFree, IsLowest, IsTidy, KeepsFirsts, left};
 ghost use Rattle.acl_normal.specs.Normal.{IsIrreducibleList, is_free};
 ghost use Rattle.acl_normal.specs.Keys.{key_entry};
-ghost use Rattle.acl_normal.specs.Needed.{is_allowed};
-ghost use Rattle.acl_normal.specs.Places.{entry_here, first_at, is_active, is_blocked, mask_here, nothing_left, put_at, take_out, waits, waits_before};
-ghost use Rattle.acl_normal.specs.Shown.{aces_in};
+ghost use Rattle.acl_normal.specs.Places.{entry_here, first_at, is_blocked, nothing_left, take_out, waits, waits_before};
+ghost use Rattle.acl_normal.specs.Rows.{AreRowNumbers, IsByPrincipal, IsRow, is_named, key_number};
+ghost use Rattle.acl_normal.specs.Shown.{aces_in, with_masks};
 
-use crate::bit_tests::{cleared, has, with};
+use crate::bit_tests::{cleared, has};
+use crate::cells::Cells;
+use crate::filling::filled_cells;
 use crate::reduction::reduced_rows;
-use crate::row_map::{Cells, add_row, put_cell, take_cell};
-use crate::words::{is_allow, is_user, other, slot};
+use crate::row_numbers::{RowNumbers, find_row};
+use crate::waiting::waiting_sets;
+use crate::words::{is_user, other, slot};
 use acl_nfs4::{AceRef, Acl};
 use acl_perm::{Key, Kind, Mask, Principal};
 use std::alloc::{AllocError, Global};
-use std::collections::{BTreeMap, BTreeSet};
+use std::collections::BTreeSet;
 use std::marker::Model;
 
 /// What is left of a list while its normal form is made: the needed bits that were not emitted yet, by principal, and
@@ -30,7 +35,12 @@ use std::marker::Model;
 pub struct MergedRows<'a> {
     pub(crate) aces: Vec<AceRef<'a>>,
     pub(crate) masks: Vec<u32>,
-    pub(crate) rows: BTreeMap<Principal<'a>, Cells>,
+    /// By place, the row of the principal that the ACE names.
+    pub(crate) rows: Vec<usize>,
+    /// The places in the order of the principals that their ACEs name.
+    pub(crate) order: Vec<usize>,
+    /// By row.
+    pub(crate) cells: Vec<Cells>,
     pub(crate) waiting: Vec<BTreeSet<usize>>,
 }
 
@@ -138,12 +148,10 @@ impl<'a> MergedRows<'a> {
         ensures { result ≡ (is_free (column self.now bit) (principal p.entry, Deny)
             || is_free (column self.now bit) (principal p.entry, Allow)) }
     {
-        match self.rows.get(&p) {
+        let _ = &self.masks;
+        match self.source(p, bit) {
             None => false,
-            Some(row) => match row.cells[bit] {
-                None => false,
-                Some((kind, place)) => self.is_clear(place, kind, is_user(p), bit),
-            },
+            Some((kind, place)) => self.is_clear(place, kind, is_user(p), bit),
         }
     }
 
@@ -160,6 +168,33 @@ impl<'a> MergedRows<'a> {
         }
     }
 
+    /// The type of the ACE at a place.
+    pub(crate) fn kind_at(&self, place: usize) -> Kind
+        requires { place < length self.now }
+        ensures { result ≡ (entry_here self.now place).1 }
+    {
+        let aces = &self.aces;
+        aces[place].kind
+    }
+
+    /// The key of a number.
+    pub(crate) fn key_of(&self, number: usize) -> Key<'a>
+        requires { number < 2 * length self.now }
+        ensures { (k : Entry) → is_named k.0 self.now ≡ true → number ≡ key_number k self.now
+            → key_entry result ≡ k }
+    {
+        let first = self.key_at(self.order[number / 2]);
+        let kind = if number % 2 == 0 {
+            Kind::Deny
+        } else {
+            Kind::Allow
+        };
+        Key {
+            principal: first.principal,
+            kind,
+        }
+    }
+
     /// How many ACEs the source has.
     pub(crate) fn len(&self) -> usize
         ensures { result ≡ length self.now }
@@ -168,25 +203,30 @@ impl<'a> MergedRows<'a> {
         aces.len()
     }
 
-    /// The bits that are left of the ACE at a place.
-    pub(crate) fn mask_at(&self, place: usize) -> u32
+    /// The row of the principal that the ACE at a place names.
+    pub(crate) fn row_at(&self, place: usize) -> usize
         requires { place < length self.now }
-        ensures { result ≡ mask_here self.now place }
+        ensures { IsRow result (entry_here self.now place).0 self.now }
     {
-        self.masks[place]
+        self.rows[place]
     }
 
-    /// Whether the principal has the bit, to allow it.
-    pub(crate) fn allows(&self, p: Principal<'a>, bit: usize) -> bool
-        requires { bit < 21 }
-        ensures { result ≡ is_allowed (first_at bit (principal p.entry) self.now) }
+    /// The row of a principal, if an ACE names it.
+    fn row_named(&self, p: Principal<'a>) -> Option<usize>
+        ensures found { IfSome result (λ row. IsRow row (principal p.entry) self.now) }
+        ensures missing { IfNone result (is_named (principal p.entry) self.now ≡ false) }
     {
-        match self.rows.get(&p) {
-            None => false,
-            Some(row) => match row.cells[bit] {
-                None => false,
-                Some((kind, _place)) => is_allow(kind),
-            },
+        find_row(&self.aces, &self.rows, &self.order, p)
+    }
+
+    /// The place of the ACE of a row that still waits with a bit.
+    fn place_in(&self, row: usize, bit: usize) -> Option<usize>
+        requires { row < length self.now }
+        ensures { (p : Who) → IsRow row p self.now → result ≡ first_place bit p self.now }
+    {
+        match self.cells[row].get(bit) {
+            None => None,
+            Some(place) => Some(place as usize),
         }
     }
 
@@ -195,10 +235,9 @@ impl<'a> MergedRows<'a> {
         requires { bit < 21 }
         ensures { result ≡ first_at bit (principal p.entry) self.now }
     {
-        match self.rows.get(&p) {
-            None => None,
-            Some(row) => row.cells[bit],
-        }
+        let row = self.row_named(p)?;
+        let place = self.place_in(row, bit)?;
+        Some((self.kind_at(place), place))
     }
 
     /// Takes bits of a principal out.
@@ -206,73 +245,69 @@ impl<'a> MergedRows<'a> {
         requires { (b : ℕ) → 21 ≤ b → has_bit bits b ≡ false }
         ensures { self.new ≡ take_out (principal p.entry) bits self.old }
     {
+        if let Some(row) = self.row_named(p) {
+            self.emit_row(row, p, bits);
+        }
+    }
+
+    /// Takes bits of the principal of a row out.
+    pub(crate) fn emit_row(&mut self, row: usize, p: Principal<'a>, bits: u32)
+        requires row { IsRow row (principal p) self.old }
+        requires rights { (b : ℕ) → 21 ≤ b → has_bit bits b ≡ false }
+        ensures { self.new ≡ take_out (principal p.entry) bits self.old }
+    {
         for bit in 0..21usize {
+            if bits >> bit == 0 {
+                return;
+            }
             if has(bits, bit) {
-                self.emit_bit(p, bit);
+                self.emit_bit(row, p, bit);
             }
         }
     }
 
-    /// The source with nothing left.
-    pub(crate) fn empty(alloc: Global, aces: &[AceRef<'a>]) -> Result<MergedRows<'a>, AllocError>
-        ensures { IfOk result (λ r. r ≡ nothing_left (aces_in aces.now)) }
-    {
-        let given = Vec::from_slice(alloc, aces)?;
-        let mut masks = Vec::new(alloc);
-        for _ace in aces {
-            masks.push(0)?;
-        }
-        let mut waiting = Vec::new(alloc);
-        for _made in 0..84usize {
-            waiting.push(BTreeSet::new(alloc))?;
-        }
-        Ok(MergedRows {
-            aces: given,
-            masks,
-            rows: BTreeMap::new(alloc),
-            waiting,
-        })
-    }
-
-    /// Whether the principal has the bit.
-    pub(crate) fn stands(&self, p: Principal<'a>, bit: usize) -> bool
-        requires { bit < 21 }
-        ensures { result ≡ is_some (first_at bit (principal p.entry) self.now) }
-    {
-        match self.rows.get(&p) {
-            None => false,
-            Some(row) => row.cells[bit].is_some(),
-        }
-    }
-
-    /// Adds a bit of an ACE, which its principal does not have yet.
-    pub(crate) fn add_bit(&mut self, place: usize, bit: usize) -> Result<(), AllocError>
+    /// Takes one bit of the principal of a row out.
+    fn emit_bit(&mut self, row: usize, p: Principal<'a>, bit: usize)
         requires bit { bit < 21 }
-        requires place { place < length self.old }
-        requires counts { is_active self.old place ≡ true }
-        requires fresh { first_at bit (entry_here self.old place).0 self.old ≡ None }
-        ensures { OnOk result (self.new ≡ put_at place bit self.old) }
-    {
-        let at = self.key_at(place);
-        add_row(&mut self.rows, at.principal)?;
-        let slot = slot(at.kind, is_user(at.principal), bit);
-        let set = &mut self.waiting[slot];
-        set.insert(place)?;
-        put_cell(&mut self.rows, at.principal, bit, at.kind, place);
-        self.masks[place] = with(self.masks[place], bit);
-        Ok(())
-    }
-
-    /// Takes one bit of a principal out.
-    fn emit_bit(&mut self, p: Principal<'a>, bit: usize)
-        requires { bit < 21 }
+        requires row { IsRow row (principal p) self.old }
         ensures { self.new ≡ take_out (principal p.entry) (2 ^ bit) self.old }
     {
-        if let Some((kind, place)) = take_cell(&mut self.rows, p, bit) {
+        if let Some(place) = self.place_in(row, bit) {
+            let kind = self.kind_at(place);
+            let cells = &mut self.cells[row];
+            cells.put(bit, None);
             let at = slot(kind, is_user(p), bit);
             let set = &mut self.waiting[at];
             set.remove(&place);
             self.masks[place] = cleared(self.masks[place], bit);
         }
+    }
+
+    /// The rows of ACEs with the masks that are left of them.
+    pub(crate) fn of(
+        alloc: Global,
+        aces: Vec<AceRef<'a>>,
+        masks: Vec<u32>,
+        numbers: RowNumbers,
+    ) -> Result<MergedRows<'a>, AllocError>
+        requires few { vec_len aces < 2 ^ 32 }
+        requires places { vec_len masks ≡ vec_len aces }
+        requires tidy { IsTidy (with_masks aces.items masks.items) }
+        requires rights { (b : ℕ) → has_bit all_rights b ≡ false → column (with_masks aces.items masks.items) b ≡ [] }
+        requires rows { AreRowNumbers (with_masks aces.items masks.items) numbers.rows.items }
+        requires order { IsByPrincipal (with_masks aces.items masks.items) numbers.order.items }
+        ensures { IfOk result (λ r. r ≡ with_masks aces.entry.items masks.items) }
+    {
+        let waiting = waiting_sets(alloc, &aces, &masks)?;
+        let cells = filled_cells(alloc, &aces, &masks, &numbers.rows)?;
+        let RowNumbers { rows, order } = numbers;
+        Ok(MergedRows {
+            aces,
+            masks,
+            rows,
+            order,
+            cells,
+            waiting,
+        })
     }
 }

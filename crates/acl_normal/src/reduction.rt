@@ -1,29 +1,50 @@
 //! A list without the bits that play no part.
-ghost use Rattle.std.specs.Prelude.{◌≡◌, ℕ, ◌<◌, IfOk};
-ghost use Rattle.acl_perm.specs.Bits.{all_rights};
+ghost use Rattle.std.specs.Prelude.{◌≡◌, ℕ, ◌<◌, false, [], length, IfOk, vec_len};
+ghost use Rattle.acl_perm.specs.Bits.{all_rights, has_bit};
+ghost use Rattle.acl_perm.specs.Profile.{full};
+ghost use Rattle.acl_nfs4.specs.Spelling.{IsAccepted};
 ghost use Rattle.acl_eval.specs.Column.{column};
 ghost use Rattle.acl_eval.specs.Grant.{SameGrants};
-ghost use Rattle.acl_normal.specs.Left.{KeepsFirsts, left};
+ghost use Rattle.acl_normal.specs.Left.{IsTidy, KeepsFirsts, left};
 ghost use Rattle.acl_normal.specs.Normal.{IsIrreducibleList};
 ghost use Rattle.acl_normal.specs.Places.{nothing_left};
 ghost use Rattle.acl_normal.specs.Plain.{reduced};
-ghost use Rattle.acl_normal.specs.Shown.{aces_in};
+ghost use Rattle.acl_normal.specs.Rows.{AreRowNumbers};
+ghost use Rattle.acl_normal.specs.Shown.{aces_in, with_masks};
 
 use crate::later::drop_needless;
+use crate::listing::collect;
 use crate::merged_rows::MergedRows;
-use crate::shadows::first_rows;
+use crate::row_numbers::row_numbers;
+use crate::shadows::first_masks;
 use acl_nfs4::{AceRef, Acl};
 use std::alloc::{AllocError, Global};
 
-/// The ACEs of a list, by place.
-fn collected<'a>(alloc: Global, list: &'a Acl) -> Result<Vec<AceRef<'a>>, AllocError>
-    ensures { IfOk result (λ aces. aces_in aces.items ≡ list.now) }
+/// The masks that are left of a list's ACEs, by place: without the bits that play no part. `rows` are the rows of the
+/// principals, by place.
+pub(crate) fn reduced_masks(
+    alloc: Global,
+    aces: &[AceRef<'_>],
+    rows: &[usize],
+) -> Result<Vec<u32>, AllocError>
+    requires accepted { IsAccepted full (aces_in aces.now) }
+    requires rows { AreRowNumbers (aces_in aces.now) rows.now }
+    ensures places { IfOk result (λ masks. vec_len masks ≡ length aces.now) }
+    ensures outline { IfOk result (λ masks. nothing_left (with_masks aces.now masks.items)
+        ≡ nothing_left (aces_in aces.now)) }
+    ensures tidy { IfOk result (λ masks. IsTidy (with_masks aces.now masks.items)) }
+    ensures rights { IfOk result (λ masks. (b : ℕ) → has_bit all_rights b ≡ false
+        → column (with_masks aces.now masks.items) b ≡ []) }
+    ensures columns { IfOk result (λ masks. (b : ℕ) → b < 21
+        → column (with_masks aces.now masks.items) b ≡ reduced (column (aces_in aces.now) b)) }
+    ensures firsts { IfOk result (λ masks. KeepsFirsts (aces_in aces.now) (with_masks aces.now masks.items)) }
+    ensures grants { IfOk result (λ masks. SameGrants all_rights (aces_in aces.now)
+        (with_masks aces.now masks.items)) }
+    ensures irreducible { IfOk result (λ masks. IsIrreducibleList (left (with_masks aces.now masks.items))) }
 {
-    let mut aces = Vec::new(alloc);
-    for ace in list.aces() {
-        aces.push(ace)?;
-    }
-    Ok(aces)
+    let mut masks = first_masks(alloc, aces, rows)?;
+    drop_needless(aces, &mut masks);
+    Ok(masks)
 }
 
 /// The rows of a list, without what no situation needs.
@@ -34,11 +55,8 @@ pub(crate) fn reduced_rows<'a>(alloc: Global, list: &'a Acl) -> Result<MergedRow
     ensures grants { IfOk result (λ rows. SameGrants all_rights list.now rows) }
     ensures irreducible { IfOk result (λ rows. IsIrreducibleList (left rows)) }
 {
-    let _accepted = list.aces();
-    let aces = collected(alloc, list)?;
-    let mut rows = first_rows(alloc, &aces)?;
-    drop_needless(&mut rows);
-    // Tells the invariant of what is left.
-    let _ = &rows.masks;
-    Ok(rows)
+    let aces = collect(alloc, list)?;
+    let numbers = row_numbers(alloc, &aces)?;
+    let masks = reduced_masks(alloc, &aces, &numbers.rows)?;
+    MergedRows::of(alloc, aces, masks, numbers)
 }

@@ -1,64 +1,61 @@
 //! The first ACEs of a list: those bits that no ACE of the same principal or of `EVERYONE@` precedes.
-ghost use Rattle.std.specs.Prelude.{◌≡◌, ℕ, ◌<◌, true, [], length, IfOk, OnOk};
+ghost use Rattle.std.specs.Prelude.{◌≡◌, ℕ, [], length, IfOk, vec_len};
+ghost use Rattle.acl_perm.specs.Bits.{has_bit};
+ghost use Rattle.acl_perm.specs.Profile.{full};
 ghost use Rattle.acl_nfs4.specs.Ace.{ace};
+ghost use Rattle.acl_nfs4.specs.Spelling.{IsAccepted};
 ghost use Rattle.acl_eval.specs.Column.{column};
-ghost use Rattle.acl_normal.specs.Firsts.{Firsts, IsBlank};
-ghost use Rattle.acl_normal.specs.Left.{KeepsFirsts};
-ghost use Rattle.acl_normal.specs.Places.{counts, is_active, nothing_left};
+ghost use Rattle.acl_normal.specs.Left.{IsTidy, KeepsFirsts};
+ghost use Rattle.acl_normal.specs.Places.{counts, nothing_left};
 ghost use Rattle.acl_normal.specs.Plain.{unshadowed};
-ghost use Rattle.acl_normal.specs.Shown.{aces_in};
+ghost use Rattle.acl_normal.specs.Rows.{AreRowNumbers};
+ghost use Rattle.acl_normal.specs.Shown.{aces_in, with_masks};
 
-use crate::bit_tests::has;
-use crate::merged_rows::MergedRows;
+use crate::bit_tests::without;
+use crate::words::is_everyone;
 use acl_nfs4::AceRef;
-use acl_perm::Principal;
 use std::alloc::{AllocError, Global};
 
-/// Whether the ACE has the bit, and takes part.
-pub(crate) fn counts(item: AceRef<'_>, bit: usize) -> bool
-    requires { bit < 21 }
-    ensures { result ≡ counts bit (ace item.entry) }
+/// The bits with which the ACE takes part.
+fn active_bits(item: AceRef<'_>) -> u32
+    ensures { (b : ℕ) → has_bit result b ≡ counts b (ace item.entry) }
 {
-    has(item.mask.bits(), bit) && !item.flags.is_inherit_only()
+    if item.flags.is_inherit_only() {
+        0
+    } else {
+        item.mask.bits()
+    }
 }
 
-/// Adds a bit of an ACE, unless its principal or everyone has it already.
-fn add_first<'a>(rows: &mut MergedRows<'a>, place: usize, bit: usize) -> Result<(), AllocError>
-    requires bit { bit < 21 }
-    requires place { place < length rows.old }
-    requires active { is_active rows.old place ≡ true }
-    requires blank { IsBlank bit place rows.old }
-    ensures { OnOk result (Firsts place bit rows.old rows.new) }
-{
-    let _ = &rows.masks;
-    let at = rows.key_at(place);
-    if rows.stands(at.principal, bit) {
-        return Ok(());
-    }
-    if rows.stands(Principal::Everyone, bit) {
-        return Ok(());
-    }
-    rows.add_bit(place, bit)?;
-    Ok(())
-}
-
-/// The rows of the first ACEs: those that none of the same principal or of everyone precedes.
-pub(crate) fn first_rows<'a>(
+/// The masks of the first ACEs, by place: the bits that none of the same principal or of everyone has before.
+/// `rows` are the rows of the principals, by place.
+pub(crate) fn first_masks(
     alloc: Global,
-    aces: &[AceRef<'a>],
-) -> Result<MergedRows<'a>, AllocError>
-    ensures outline { IfOk result (λ r. nothing_left r ≡ nothing_left (aces_in aces.now)) }
-    ensures columns { IfOk result (λ r. (b : ℕ) → b < 21 → column r b ≡ unshadowed [] (column (aces_in aces.now) b)) }
-    ensures firsts { IfOk result (λ r. KeepsFirsts (aces_in aces.now) r) }
+    aces: &[AceRef<'_>],
+    rows: &[usize],
+) -> Result<Vec<u32>, AllocError>
+    requires accepted { IsAccepted full (aces_in aces.now) }
+    requires rows { AreRowNumbers (aces_in aces.now) rows.now }
+    ensures places { IfOk result (λ masks. vec_len masks ≡ length aces.now) }
+    ensures outline { IfOk result (λ masks. nothing_left (with_masks aces.now masks.items)
+        ≡ nothing_left (aces_in aces.now)) }
+    ensures tidy { IfOk result (λ masks. IsTidy (with_masks aces.now masks.items)) }
+    ensures columns { IfOk result (λ masks. (b : ℕ)
+        → column (with_masks aces.now masks.items) b ≡ unshadowed [] (column (aces_in aces.now) b)) }
+    ensures firsts { IfOk result (λ masks. KeepsFirsts (aces_in aces.now) (with_masks aces.now masks.items)) }
 {
-    let mut rows = MergedRows::empty(alloc, aces)?;
+    let mut seen = vec![in alloc; 0u32; aces.len()]?;
+    let mut everyone = 0u32;
+    let mut masks = Vec::with_capacity(alloc, aces.len())?;
     for place in 0..aces.len() {
         let ace = aces[place];
-        for bit in 0..21usize {
-            if counts(ace, bit) {
-                add_first(&mut rows, place, bit)?;
-            }
+        let row = rows[place];
+        let fresh = without(active_bits(ace), seen[row] | everyone);
+        masks.push(fresh)?;
+        seen[row] |= fresh;
+        if is_everyone(ace.principal()) {
+            everyone |= fresh;
         }
     }
-    Ok(rows)
+    Ok(masks)
 }

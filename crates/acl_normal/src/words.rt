@@ -1,5 +1,6 @@
 //! Tests of types and principals.
 ghost use Rattle.std.specs.Prelude.{◌≡◌, ◌<◌};
+ghost use Rattle.acl_perm.specs.Order.{kind_rank};
 ghost use Rattle.acl_perm.specs.Principal.{principal, everyone};
 ghost use Rattle.acl_perm.specs.declared.kind.Kind.TheVariants.{Allow};
 ghost use Rattle.acl_normal.specs.Entries.{kind_eq, principal_eq};
@@ -44,6 +45,16 @@ pub(crate) fn is_everyone(p: Principal<'_>) -> bool
     match p {
         Principal::Everyone => true,
         _ => false,
+    }
+}
+
+/// The number of a type, in the order of types.
+pub(crate) fn rank(kind: Kind) -> usize
+    ensures { result ≡ kind_rank kind }
+{
+    match kind {
+        Kind::Deny => 0,
+        Kind::Allow => 1,
     }
 }
 

@@ -3,34 +3,43 @@ ghost use Rattle.std.specs.Prelude.{◌≡◌, ◌∷◌, [], ◌+◌, ◌<◌, 
 ghost use Rattle.acl_perm.specs.Order.{principal_name};
 ghost use Rattle.acl_perm.specs.Principal.{principal};
 ghost use Rattle.acl_nfs4.specs.Ace.{ace};
-ghost use Rattle.acl_normal.specs.SmallSets.{longest, mentioned as in_order, mentioned_with};
+ghost use Rattle.acl_normal.specs.SmallSets.{AreMentioned, longest, mentioned as in_order};
 ghost use Rattle.acl_normal.specs.Passes.{list_of};
-ghost use Rattle.acl_normal.specs.SetSearch.{principals};
+ghost use Rattle.acl_normal.specs.SetSearch.{IsRising, principals};
 
 use super::small_set::is_same;
 use acl_nfs4::AceRef;
 use acl_perm::Principal;
 use std::alloc::{AllocError, Global};
-use std::collections::BTreeSet;
 
-// Puts the principal of an ACE that takes part in its place, unless that is everyone.
-fn mention_one<'a>(set: &mut BTreeSet<Principal<'a>>, item: &AceRef<'a>) -> Result<(), AllocError>
-    ensures { OnOk result (principals set.new.keys ≡ mentioned_with (principals set.old.keys) (ace item.now ∷ [])) }
+// Adds the principal of an ACE that takes part, unless that is everyone.
+fn mention_one<'a>(names: &mut Vec<Principal<'a>>, item: &AceRef<'a>) -> Result<(), AllocError>
+    ensures { OnOk result (AreMentioned (principals names.old.items) (ace item.now ∷ []) (principals names.new.items)) }
 {
     let p = item.principal();
     if !item.flags.is_inherit_only() && !is_same(p, Principal::Everyone) {
-        set.insert(p)?;
+        names.push(p)?;
     }
     Ok(())
 }
 
-// Puts the principals that a list mentions in their places.
-fn mention<'a>(set: &mut BTreeSet<Principal<'a>>, list: &[AceRef<'a>]) -> Result<(), AllocError>
-    ensures { OnOk result (principals set.new.keys ≡ mentioned_with (principals set.old.keys) (list_of list.now)) }
+// Adds the principals that a list mentions, each as often as the list does.
+fn mention<'a>(names: &mut Vec<Principal<'a>>, list: &[AceRef<'a>]) -> Result<(), AllocError>
+    ensures { OnOk result (AreMentioned (principals names.old.items) (list_of list.now) (principals names.new.items)) }
 {
     for item in list {
-        mention_one(set, item)?;
+        mention_one(names, item)?;
     }
+    Ok(())
+}
+
+// Puts principals in order, each once.
+fn put_in_order(names: &mut Vec<Principal<'_>>) -> Result<(), AllocError>
+    ensures rising { OnOk result (IsRising (principals names.new.items)) }
+    ensures same { OnOk result (AreMentioned (principals names.old.items) [] (principals names.new.items)) }
+{
+    names.sort()?;
+    names.dedup();
     Ok(())
 }
 
@@ -42,10 +51,11 @@ pub(crate) fn mentioned<'a>(
 ) -> Result<Vec<Principal<'a>>, AllocError>
     ensures { IfOk result (λ v. principals v.items ≡ in_order (list_of list.now) (list_of other.now)) }
 {
-    let mut set = BTreeSet::new(alloc);
-    mention(&mut set, list)?;
-    mention(&mut set, other)?;
-    set.iter().copied().collect(alloc)
+    let mut names = Vec::new(alloc);
+    mention(&mut names, list)?;
+    mention(&mut names, other)?;
+    put_in_order(&mut names)?;
+    Ok(names)
 }
 
 // The length of a name, and 0 where there is none.

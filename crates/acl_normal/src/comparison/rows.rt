@@ -48,21 +48,32 @@ pub(crate) struct Compared<'a> {
     pub rights: Mask,
 }
 
-// The number of a principal.
-fn number_of(whole: &[Principal<'_>], p: Principal<'_>) -> Option<usize>
+// Whether the principal has the number.
+fn has_number(whole: &[Principal<'_>], p: Principal<'_>, i: usize) -> bool
+    ensures { result ≡ true → (i < length (principals whole.now))
+        × (principal p.entry ≡ slice_index_or (principals whole.now) i everyone) }
+{
+    i < whole.len() && is_same(p, whole[i])
+}
+
+// The number of a principal. The one that is guessed is tried first, as it costs much less than a search.
+fn number_of(whole: &[Principal<'_>], p: Principal<'_>, guess: usize) -> Option<usize>
     requires { IsRising (principals whole.now) }
     ensures found { IfSome result (λ i. (i < length (principals whole.now))
         × (principal p.entry ≡ slice_index_or (principals whole.now) i everyone)) }
     ensures missing { IfNone result (is_among (principal p.entry) (principals whole.now) ≡ false) }
 {
+    if has_number(whole, p, guess) {
+        return Some(guess);
+    }
     match whole.binary_search(&p) {
         Ok(i) => Some(i),
         Err(_) => None,
     }
 }
 
-// Whom an ACE names.
-fn named_by(whole: &[Principal<'_>], item: &AceRef<'_>) -> Whom
+// Whom an ACE names, where its number may be guessed.
+fn named_by(whole: &[Principal<'_>], item: &AceRef<'_>, guess: usize) -> Whom
     requires { IsRising (principals whole.now) }
     ensures { IsWhom (principals whole.now) (ace item.now) result }
 {
@@ -72,10 +83,18 @@ fn named_by(whole: &[Principal<'_>], item: &AceRef<'_>) -> Whom
     } else if is_same(p, Principal::Everyone) {
         Whom::Everyone
     } else {
-        match number_of(whole, p) {
+        match number_of(whole, p, guess) {
             Some(i) => Whom::One(i),
             None => Whom::Nobody,
         }
+    }
+}
+
+// The number that the next ACE is guessed to name: lists often stand in the order of names.
+fn next_guess(whom: Whom, guess: usize) -> usize {
+    match whom {
+        Whom::One(i) => i.wrapping_add(1),
+        _ => guess,
     }
 }
 
@@ -89,8 +108,11 @@ pub(crate) fn whoms(
     ensures { IfOk result (λ v. AreWhoms (principals whole.now) (list_of list.now) v.items) }
 {
     let mut out = Vec::new(alloc);
+    let mut guess = 0;
     for item in list {
-        out.push(named_by(whole, item))?;
+        let whom = named_by(whole, item, guess);
+        guess = next_guess(whom, guess);
+        out.push(whom)?;
     }
     Ok(out)
 }

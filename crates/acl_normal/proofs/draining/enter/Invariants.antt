@@ -1,3 +1,5 @@
+use Rattle.acl_normal.specs.Places.{nothing_left}
+use Rattle.acl_normal.specs.Ready.{FitsKeys, marks}
 use Rattle.acl_normal.proofs.Walk.{Walks}
 use Rattle.acl_normal.proofs.draining.enter.Given as goal
 
@@ -5,4 +7,6 @@ abbrev pub invariant-loop-place : goal.invariant-loop-place
 invariant-loop-place l =
     (goal.iterator-loop-place).can_next l.place-iterator ×
     (goal.iterator-loop-place).is_finite l.place-iterator ×
-    Walks l.kind l.users l.bit l.rows l.place-iterator l.fn.ready.entries l.ready.entries
+    Walks l.kind l.users l.bit l.rows l.place-iterator (marks (nothing_left l.rows) l.fn.ready)
+    (marks (nothing_left l.rows) l.ready) ×
+    FitsKeys (nothing_left l.rows) l.ready

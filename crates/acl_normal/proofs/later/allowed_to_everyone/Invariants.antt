@@ -1,5 +1,6 @@
-use Rattle.acl_normal.proofs.LaterBits.{AllowsBelow}
+use Rattle.acl_normal.specs.Shown.{with_masks}
+use Rattle.acl_normal.proofs.LaterBits.{AllowsTo}
 use Rattle.acl_normal.proofs.later.allowed_to_everyone.Given as goal
 
-abbrev pub invariant-loop-bit : goal.invariant-loop-bit
-invariant-loop-bit l = AllowsBelow l.rows l.bits l.bit
+abbrev pub invariant-loop-place : goal.invariant-loop-place
+invariant-loop-place l = AllowsTo (with_masks l.aces l.masks) l.place l.bits

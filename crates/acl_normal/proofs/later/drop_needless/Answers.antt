@@ -1,91 +1,90 @@
-use Rattle.std.proofs.Common.{◌≡◌, ◌+◌, ◌-◌, length, not, ◌&&◌, suc, ◌∙◌, sym, ap, subst, arith}
+use Rattle.std.proofs.Common.{◌≡◌, ◌+◌, ◌-◌, ◌<◌, length, true, not, ◌&&◌, suc, ◌∙◌, sym, ap, subst, arith}
+use Rattle.std.specs.Prelude.{ℕ, slice_index_or, slice_set}
+use Rattle.std.proofs.lemmas.Bool.{and_parts}
 use Rattle.acl_perm.specs.Bits.{has_bit}
-use Rattle.acl_perm.specs.Principal.{principal}
+use Rattle.acl_nfs4.specs.Ace.{ace}
+use Rattle.acl_normal.specs.Entries.{entry_of}
 use Rattle.acl_normal.specs.Keys.{key_entry}
+use Rattle.acl_normal.specs.Left.{IsTidy, KeepsFirsts}
 use Rattle.acl_normal.specs.Needed.{default_at, is_kept}
-use Rattle.acl_normal.specs.Left.{KeepsFirsts}
-use Rattle.acl_normal.proofs.LaterBits.{no_later}
-use Rattle.acl_normal.proofs.Unneeded.{taken_firsts, firsts_through, IsTidy, tidy_of, tidy_taken, drops_start, drops_at, drops_on, drops_length, drops_outline, drops_end, mask_low}
+use Rattle.acl_normal.specs.Places.{entry_here, take_out}
+use Rattle.acl_normal.specs.Shown.{with_masks}
+use Rattle.acl_normal.proofs.FirstMasks.{masked}
+use Rattle.acl_normal.proofs.FirstRows.{key_at_index}
+use Rattle.acl_normal.proofs.LaterBits.{length_masks, mask_there, masked_at, no_later}
+use Rattle.acl_normal.proofs.Unneeded.{cleared_there, taken_firsts, firsts_through, tidy_taken, drops_start, drops_on, drops_outline, drops_end}
 use Rattle.acl_normal.proofs.later.drop_needless.Goals as goal
 
 pub loop-done-init : goal.loop-done-init
 loop-done-init c = record {
-  drops = drops_start c.args.rows.now _ no_later;
+  drops = drops_start (with_masks c.args.aces.now c.args.masks.now) _ no_later;
+  tidy = c.requires.tidy;
   firsts = λ b p k i h. h;
-  tidy = subst
-      IsTidy c.rows.view_is (tidy_of c.rows.inside c.rows.invariant);
 }
-
-pub key_at-at-requires : goal.key_at-at-requires
-key_at-at-requires c =
-    omega (
-      arith,
-      drops_length c.args.rows.now c.loop-done.done c.loop-done.rows c.loop-done.later
-          c.loop-done.invariant.drops,
-      c.len-count.ensures,
-      c.loop-done-test.true,
-    )
-
-pub mask_at-mask-requires : goal.mask_at-mask-requires
-mask_at-mask-requires c =
-    omega (
-      arith,
-      drops_length c.args.rows.now c.loop-done.done c.loop-done.rows c.loop-done.later
-          c.loop-done.invariant.drops,
-      c.len-count.ensures,
-      c.loop-done-test.true,
-    )
-
-pub emit_bits-requires : goal.emit_bits-requires
-emit_bits-requires c b h =
-    let place : (c.len-count.result - 1 - c.loop-done.done) + suc c.loop-done.done ≡ length c.args.rows.now =
-    omega (arith, c.len-count.ensures, c.loop-done-test.true) in
-    let at =
-    drops_at c.args.rows.now c.loop-done.done c.loop-done.rows c.loop-done.later _ _ _
-    c.loop-done.invariant.drops place c.key_at-at.ensures c.mask_at-mask.ensures in
-    c.needless-dropped.ensures b ∙ ap
-    (λ t. t && not (is_kept (default_at c.allowed_to_everyone-allowed.result b) (key_entry c.key_at-at.result)
-    (has_bit c.opposite-opposite.result b)))
-    (mask_low c.args.rows.now c.loop-done.done c.loop-done.rows c.loop-done.later _ _ _ at
-    c.loop-done.invariant.tidy b h)
 
 pub loop-done-preserved : goal.loop-done-preserved
 loop-done-preserved c =
-    let place : (c.len-count.result - 1 - c.loop-done.done) + suc c.loop-done.done ≡ length c.args.rows.now =
-    omega (arith, c.len-count.ensures, c.loop-done-test.true) in
+    let place = length c.args.aces.now - 1 - c.loop-done.done in
+    let whole = with_masks c.args.aces.now c.args.masks.now in
+    let shown = with_masks c.args.aces.now c.loop-done.masks in
+    let mask = slice_index_or c.loop-done.masks place 0 in
+    let new = with_masks c.args.aces.now (slice_set c.loop-done.masks place c.without.result) in
+    let count : length c.loop-done.masks ≡ length c.args.aces.now = c.loop-done.auto.masks ∙ c.requires.places in
+    let here : place < length c.args.aces.now = omega (arith, c.loop-done-test.true) in
+    let within : place < length shown = omega (arith, here, length_masks c.args.aces.now c.loop-done.masks count) in
+    let last : place + suc c.loop-done.done ≡ length whole =
+    omega (
+      arith,
+      c.loop-done-test.true,
+      length_masks c.args.aces.now c.args.masks.now c.requires.places,
+    ) in
+    let item = masked (ace c.index-aces-place.result) mask in
+    let is : slice_index_or shown place item ≡ item =
+    masked_at c.args.aces.now c.loop-done.masks place c.index-aces-place.result here count
+    c.index-aces-place.is in
+    let key_is : key_entry c.key-at.result ≡ entry_here shown place =
+    c.key-at.ensures ∙ sym (key_at_index shown place item within ∙ ap entry_of is) in
+    let bits : (b : ℕ) → has_bit c.needless-dropped.result b ≡ true → has_bit mask b ≡ true =
+    λ b h. (and_parts (has_bit mask b) _ (sym (c.needless-dropped.ensures b) ∙ h)).0 in
+    let taken : new ≡ take_out (key_entry c.key-at.result).0 c.needless-dropped.result shown =
+    ap (λ v. with_masks c.args.aces.now (slice_set c.loop-done.masks place v)) c.without.ensures
+    ∙ cleared_there c.args.aces.now c.loop-done.masks place c.index-aces-place.result c.needless-dropped.result here
+    count c.index-aces-place.is c.loop-done.invariant.tidy bits
+    ∙ ap (λ k. take_out k.0 c.needless-dropped.result shown) (sym c.key-at.ensures) in
     record {
       drops =
-          drops_on c.args.rows.now c.loop-done.done c.loop-done.rows c.loop-done.later c.noted-later.result
-          c.allowed_to_everyone-allowed.result _ c.needless-dropped.result c.emit_bits.new.self _
-          c.mask_at-mask.result c.loop-done.invariant.drops place c.key_at-at.ensures c.mask_at-mask.ensures
-          (subst IsTidy c.rows.view_is (tidy_of c.rows.inside c.rows.invariant)) c.loop-done.invariant.tidy
-          c.allowed_to_everyone-allowed.ensures (record {
+          drops_on whole c.loop-done.done shown c.loop-done.later c.noted-later.result
+          c.allowed_to_everyone-allowed.result place c.needless-dropped.result new (key_entry c.key-at.result) mask
+          c.loop-done.invariant.drops last key_is (mask_there c.args.aces.now c.loop-done.masks place 0 within)
+          c.requires.tidy c.loop-done.invariant.tidy (λ b h. c.allowed_to_everyone-allowed.ensures b) (record {
             bits =
                 λ b. c.needless-dropped.ensures b
-                ∙ ap (λ t. has_bit c.mask_at-mask.result b
-                && not (is_kept (default_at c.allowed_to_everyone-allowed.result b) (key_entry c.key_at-at.result) t))
-                (c.opposite-opposite.ensures b);
-            taken = c.emit_bits.ensures;
+                ∙ ap (λ t. has_bit mask b
+                && not (is_kept (default_at c.allowed_to_everyone-allowed.result b) (key_entry c.key-at.result) t))
+                (c.opposite.ensures b);
+            taken = taken;
             noted = c.noted-later.ensures;
           });
-      firsts =
-          firsts_through c.args.rows.now c.loop-done.rows c.emit_bits.new.self c.loop-done.invariant.firsts
-          (subst (λ v. KeepsFirsts c.loop-done.rows v) (sym c.emit_bits.ensures)
-          (taken_firsts (principal c.key_at-at.result.principal) c.needless-dropped.result c.loop-done.rows));
       tidy =
-          subst IsTidy (sym c.emit_bits.ensures)
-          (tidy_taken (principal c.key_at-at.result.principal) c.needless-dropped.result c.loop-done.rows
-          c.loop-done.invariant.tidy);
+          subst IsTidy (sym taken)
+          (tidy_taken (key_entry c.key-at.result).0 c.needless-dropped.result shown c.loop-done.invariant.tidy);
+      firsts =
+          firsts_through whole shown new c.loop-done.invariant.firsts
+          (subst (λ v. KeepsFirsts shown v) (sym taken)
+          (taken_firsts (key_entry c.key-at.result).0 c.needless-dropped.result shown));
     }
 
-pub returns-clause-outline : goal.returns-clause-outline
-returns-clause-outline c =
-    drops_outline c.args.rows.now c.loop-done.done c.loop-done.rows c.loop-done.later c.loop-done.invariant.drops
-
-pub returns-clause-columns : goal.returns-clause-columns
-returns-clause-columns c =
-    drops_end c.args.rows.now c.loop-done.done c.loop-done.rows c.loop-done.later c.loop-done.invariant.drops
-    (omega (arith, c.len-count.ensures, c.loop-done-test.false))
-
-pub returns-clause-firsts : goal.returns-clause-firsts
-returns-clause-firsts c = c.loop-done.invariant.firsts
+pub returns : goal.returns
+returns c = record {
+  places = c.loop-done.auto.masks ∙ c.requires.places;
+  outline = drops_outline _ c.loop-done.done _ c.loop-done.later c.loop-done.invariant.drops;
+  tidy = c.loop-done.invariant.tidy;
+  columns =
+      drops_end _ c.loop-done.done _ c.loop-done.later c.loop-done.invariant.drops
+      (omega (
+        arith,
+        c.loop-done-test.false,
+        length_masks c.args.aces.now c.args.masks.now c.requires.places,
+      ));
+  firsts = c.loop-done.invariant.firsts;
+}

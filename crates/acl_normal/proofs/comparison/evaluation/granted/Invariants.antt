@@ -1,5 +1,5 @@
 use Rattle.acl_normal.proofs.comparison.evaluation.granted.Given as goal
-use Rattle.acl_normal.proofs.SetEvaluation.{DecidesAll, decides}
+use Rattle.acl_normal.proofs.SetEvaluation.{DecidesAll}
 use Rattle.acl_normal.specs.CodeSets.{set_of}
 use Rattle.acl_perm.specs.Bits.{IsMask}
 

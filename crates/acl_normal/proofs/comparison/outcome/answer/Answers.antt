@@ -1,5 +1,4 @@
 use Rattle.std.specs.Prelude.{refl}
-use Rattle.std.proofs.Common.{subst}
 use Rattle.acl_normal.proofs.comparison.outcome.answer.Goals as goal
 use Rattle.acl_normal.proofs.FirstSet.{differs_there, first_is, found_is, none_same, requester_is, some_not_same}
 use Rattle.acl_normal.specs.Passes.{list_of}

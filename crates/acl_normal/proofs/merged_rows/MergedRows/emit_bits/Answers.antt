@@ -1,25 +1,7 @@
-use Rattle.std.proofs.Common.{◌≡◌, ◌+◌, ◌∙◌, sym, ap, subst, arith}
+use Rattle.std.proofs.Common.{sym}
 use Rattle.acl_perm.specs.Principal.{principal}
-use Rattle.acl_normal.specs.Places.{take_out}
-use Rattle.acl_normal.specs.Ready.{low_bits}
-use Rattle.acl_normal.proofs.Emit.{take_zero, emit_more, emit_same, low_all}
+use Rattle.acl_normal.proofs.Rows.{unnamed_taken}
 use Rattle.acl_normal.proofs.merged_rows.MergedRows.emit_bits.Goals as goal
-use Rattle.acl_normal.proofs.merged_rows.MergedRows.emit_bits.Goals.{then-has, else-has}
 
-pub loop-bit-init : goal.loop-bit-init
-loop-bit-init c = sym (take_zero (principal c.args.p) c.args.self.now)
-
-pub loop-bit-preserved : goal.loop-bit-preserved
-loop-bit-preserved c = elim c.if-has.branch [
-  | then-has w ↦ emit_more (principal c.args.p) c.args.bits c.loop-bit.bit c.args.self.now c.loop-bit.self
-      c.if-has.self (sym c.has.ensures ∙ w.if-has.true) c.loop-bit.invariant (w.self-is ∙ w.emit_bit.ensures)
-  | else-has w ↦ subst (λ v. v ≡ take_out (principal c.args.p) (low_bits c.args.bits (c.loop-bit.bit + 1))
-      c.args.self.now) (sym w.self-is) (emit_same (principal c.args.p) c.args.bits c.loop-bit.bit c.args.self.now
-      c.loop-bit.self (sym c.has.ensures ∙ w.if-has.false) c.loop-bit.invariant)
-]
-
-pub returns : goal.returns
-returns c =
-    let end : c.loop-bit.bit ≡ 21 = omega (arith, c.loop-bit-test.false, c.loop-bit.auto.bit-end) in
-    c.loop-bit.invariant ∙ ap (λ v. take_out (principal c.args.p) (low_bits c.args.bits v) c.args.self.now) end
-    ∙ ap (λ v. take_out (principal c.args.p) v c.args.self.now) (low_all c.args.bits 21 c.requires)
+pub returns-in_default : goal.returns-in_default
+returns-in_default c = sym (unnamed_taken (principal c.args.p) c.args.bits c.args.self.now c.in_default.ensures.missing)

@@ -1,5 +1,5 @@
 use Rattle.std.proofs.Common.{◌∙◌, sym, ap, length}
-use Rattle.acl_normal.proofs.LaterBits.{length_left}
+use Rattle.acl_normal.proofs.CellsOf.{length_left}
 use Rattle.acl_normal.proofs.merged_rows.MergedRows.len.Goals as goal
 
 pub returns : goal.returns
