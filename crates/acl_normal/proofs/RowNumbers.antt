@@ -570,17 +570,17 @@ missing_row xs order p i o h = false_from_ne_true (is_named p xs) named
     point = h (search_rises xs order p o)
 
     named : is_named p xs ≡ true → ⊥
-    named n = go (cases_lt row i)
+    named n = go (cases_lt begin i)
       where
-        row : ℕ
-        row = row_of p xs
+        begin : ℕ
+        begin = row_of p xs
 
-        inside : row < length order
+        inside : begin < length order
         inside = omega (arith, row_below p xs n, o.count)
 
-        equal : principal_cmp (entry_here xs (slice_index_or order row 0)).0 p ≡ Equal
+        equal : principal_cmp (entry_here xs (slice_index_or order begin 0)).0 p ≡ Equal
         equal = ap (λ v. principal_cmp v p) (o.first p n) ∙ (principal_order.equal p p).1 refl
 
-        go : (row < i) ⊎ (i ≤ row) → ⊥
-        go (inl l) = let both : Equal ≡ Less = sym equal ∙ point.0 row 0 (omega arith) l in cc
-        go (inr l) = let both : Equal ≡ Greater = sym equal ∙ point.1 row 0 l inside in cc
+        go : (begin < i) ⊎ (i ≤ begin) → ⊥
+        go (inl l) = let both : Equal ≡ Less = sym equal ∙ point.0 begin 0 (omega arith) l in cc
+        go (inr l) = let both : Equal ≡ Greater = sym equal ∙ point.1 begin 0 l inside in cc

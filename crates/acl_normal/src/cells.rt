@@ -3,7 +3,7 @@ ghost use Rattle.std.specs.Prelude.{◌≡◌, ◌==◌, ℕ, ◌<◌, true, fal
 ghost use Rattle.acl_normal.specs.Cells.{cell_of, nowhere, place_in, place_of};
 
 /// For each of the sixteen rights, the place of the principal's ACE that still waits with it, or `NOWHERE`. A cell has
-/// four bytes, as the cells of a long list take more memory than all else.
+/// four bytes, as the cells of a long list take more memory than anything else that is made of it.
 #[derive(Clone, Copy, Drop)]
 pub(crate) struct Cells {
     pub(crate) places: [u32; 16],
