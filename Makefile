@@ -1,5 +1,5 @@
-# The kit's `rt` has to be on the PATH for `run` and `test`.
-.PHONY: run test bench install uninstall
+# The kit's `rt` has to be on the PATH for `try`, `run`, `quick` and `test`.
+.PHONY: try run quick test bench install uninstall
 
 # Where `install` puts things: under PREFIX, in a tree that DESTDIR is the root of.
 PREFIX ?= /usr/local
@@ -7,9 +7,22 @@ PROGRAM = $(DESTDIR)$(PREFIX)/bin/aclck
 MANUAL = $(DESTDIR)$(PREFIX)/share/man/man1/aclck.1
 COMPLETION = $(DESTDIR)$(PREFIX)/share/bash-completion/completions/aclck
 
-# Proves and builds aclck, and asks a list of six entries whether bob, an editor, may read and execute.
+# The first example of the README: it asks a list of six entries whether bob, an editor, may read and execute.
+EXAMPLE = check-nfs --owner alice --group staff --user bob --mask 'READ_DATA|EXECUTE' editors staff < ../../examples/shared_folder.xdr
+
+# Runs the example and proves nothing, in about a minute.
+try:
+	cd crates/aclck && rt try -- $(EXAMPLE)
+
+# Proves and builds aclck, and runs the example. The two libraries that do not use each other are proved side by side.
 run:
-	cd crates/aclck && rt run -- check-nfs --owner alice --group staff --user bob --mask 'READ_DATA|EXECUTE' editors staff < ../../examples/shared_folder.xdr
+	cd crates/acl_perm && rt lib
+	cd crates/acl_posix && rt lib --jobs 2 & cd crates/acl_nfs4 && rt lib --jobs 3; nfs4=$$?; wait $$! && exit $$nfs4
+	cd crates/aclck && rt run -- $(EXAMPLE)
+
+# One crate while it is written, over what earlier checks kept: make quick CRATE=acl_nfs4
+quick:
+	cd crates/$(CRATE) && rt test && rt fmt --check && ../../tests/edits $(CRATE)
 
 # The gate.
 test:
