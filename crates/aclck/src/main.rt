@@ -16,6 +16,8 @@ mod posix;
 mod posix_tests;
 mod posix_values;
 mod profile_argument;
+#[cfg(test)]
+mod runs;
 mod task;
 #[cfg(test)]
 mod tests;

@@ -1,6 +1,4 @@
-use crate::command::command;
-use acl_perm::{Counted, Fused};
-use std::alloc::{AllocError, Global};
+use crate::runs::{Memory, fails_at_each_read, fails_at_each_write, words_of};
 use std::process::Abort;
 use std::test::Fail;
 
@@ -19,8 +17,11 @@ const TRAILED: &[u8] = b"\0\0\0\x01\0\0\0\0\0\0\0\0\0\0\0\x01\0\0\0\x09EVERYONE@
 // ALLOW INHERITED READ_DATA bob.
 const INHERITED: &[u8] = b"\0\0\0\x01\0\0\0\0\0\0\0\x80\0\0\0\x01\0\0\0\x03bob\0";
 
-// The rows of a table: a line of words, an input, a status, and what goes out and to the errors.
-const ROWS: [(&str, &[u8], u8, &[u8], &str); 25] = [
+// The rows of two tables: a line of words, an input, a status, and what goes out and to the errors. The proof of one
+// table takes longer than that of its halves.
+type Row = (&'static str, &'static [u8], u8, &'static [u8], &'static str);
+
+const TEXTS: [Row; 10] = [
     ("encode", b"", 0, b"\0\0\0\0", ""),
     ("show-nfs", b"\0\0\0\0", 0, b"", ""),
     (
@@ -67,6 +68,9 @@ const ROWS: [(&str, &[u8], u8, &[u8], &str); 25] = [
         b"ALLOW INHERITED READ_DATA bob\n",
         "",
     ),
+];
+
+const REFUSALS: [Row; 15] = [
     (
         "encode",
         b"ALLOW FILE|| READ_DATA bob",
@@ -162,102 +166,46 @@ const ROWS: [(&str, &[u8], u8, &[u8], &str); 25] = [
     ("show-nfs bob", b"\0\0\0\0", 3, b"", "aclck: usage\n"),
 ];
 
-// Whether a room of 256 bytes, of which so many are left, holds this and nothing behind it.
-fn holds(room: &[u8], left: usize, text: &[u8]) -> bool {
-    room.starts_with(text) && 256usize.saturating_sub(left) == text.len()
+fn rows() -> [&'static [Row]; 2] {
+    [&TEXTS, &REFUSALS]
 }
 
-// The words of a line, where memory is there.
-fn words_of<'a>(alloc: Global, line: &'a str) -> Result<Vec<&'a str>, AllocError> {
-    line.split(' ').collect::<Vec<&str>>(alloc)
-}
-
-fn table<A: Abort>(rt: &A, alloc: Global, is_ample: bool) {
-    for (line, input, status, out_text, err_text) in &ROWS {
-        let Ok(words) = words_of(alloc, line) else {
-            assert!(rt; !is_ample);
-            continue;
-        };
-        let mut out = [0u8; 256];
-        let mut err = [0u8; 256];
-        let mut sink = Counted::new(out.as_mut_slice());
-        let mut told = Counted::new(err.as_mut_slice());
-        let answer = command(
-            alloc,
-            words.as_slice(),
-            &mut Counted::new(*input),
-            &mut sink,
-            &mut told,
-        );
-        let out_left = sink.into_inner().len();
-        let err_left = told.into_inner().len();
-        let is_told = answer == *status
-            && holds(&out, out_left, out_text)
-            && holds(&err, err_left, err_text.as_bytes());
-        let is_memory = answer == 4
-            && out_left == 256
-            && holds(&err, err_left, b"aclck: out of memory\n");
-        assert!(rt; is_told || !is_ample && is_memory, "{line}");
+fn table<A: Abort>(rt: &A, memory: Memory) {
+    for part in &rows() {
+        for (line, input, status, out, err) in *part {
+            assert!(rt; memory.gives(line, input, *status, out, err), "{line}");
+        }
     }
 }
 
 #[test]
 fn ample_rows_of_nfs_texts(rt: HostRuntime) {
-    table(&rt, rt.alloc(), true);
+    let memory = Memory::ample(rt.alloc());
+    table(&rt, memory);
 }
 
 #[test]
 fn rows_of_nfs_texts(rt: HostRuntime) {
-    table(&rt, rt.alloc(), false);
+    let memory = Memory::scarce(rt.alloc());
+    table(&rt, memory);
 }
 
 // The source of `encode` fails at each read in turn, of eight bytes each: nothing is written.
 #[test]
-fn ample_each_read_of_encode_fails(rt: HostRuntime) -> Result<(), Fail> {
-    let input = b"ALLOW GROUP READ_DATA GROUP@\n".as_slice();
-    for reads in 0..=(input.len() / 8) as u64 {
-        let mut out = [0u8; 256];
-        let mut err = [0u8; 256];
-        let mut source = Counted::new(Fused::new(input, reads, 8));
-        let mut sink = Counted::new(out.as_mut_slice());
-        let mut told = Counted::new(err.as_mut_slice());
-        let answer = command(rt.alloc(), &["encode"], &mut source, &mut sink, &mut told);
-        assert!(rt; answer == 4 && source.failures() == 1);
-        assert_eq!(rt; sink.into_inner().len(), 256);
-        let left = told.into_inner().len();
-        assert!(rt; holds(&err, left, b"aclck: read failed\n"));
-    }
-    Ok(())
+fn ample_each_read_of_encode_fails(rt: HostRuntime) {
+    let input = b"ALLOW GROUP READ_DATA GROUP@\n";
+    assert!(rt; fails_at_each_read(rt.alloc(), &["encode"], input, 8));
 }
 
 // The sink fails at each write in turn, of one byte each: what went out begins the answer.
 #[test]
 fn ample_each_write_of_nfs_texts_fails(rt: HostRuntime) -> Result<(), Fail> {
-    for (line, input, _, text, _) in &ROWS {
+    for (line, input, _, text, _) in &TEXTS {
         let words = words_of(rt.alloc(), line)?;
-        for writes in 0..text.len() {
-            let mut out = [0u8; 256];
-            let mut err = [0u8; 256];
-            let mut sink = Counted::new(Fused::new(out.as_mut_slice(), writes as u64, 1));
-            let mut told = Counted::new(err.as_mut_slice());
-            let answer = command(
-                rt.alloc(),
-                words.as_slice(),
-                &mut Counted::new(*input),
-                &mut sink,
-                &mut told,
-            );
-            assert!(rt; answer == 4 && sink.failures() == 1, "{line}");
-            let left = told.into_inner().len();
-            assert!(rt; holds(&err, left, b"aclck: write failed\n"), "{line}");
-            assert!(rt;
-                text.iter()
-                    .zip(out.iter())
-                    .take(writes)
-                    .all(|(a, b)| a == b),
-                "{line}"
-            );
-        }
+        assert!(rt;
+            fails_at_each_write(rt.alloc(), words.as_slice(), input, text),
+            "{line}"
+        );
     }
     Ok(())
 }

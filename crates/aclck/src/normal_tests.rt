@@ -1,11 +1,7 @@
-use crate::command::command;
-use acl_perm::{Counted, Fused};
+use crate::runs::{FINE, Memory, fails_at_each_read, fails_at_each_write, repeated, run, words_of};
 use std::alloc::{AllocError, Global};
 use std::process::Abort;
 use std::test::Fail;
-
-// Room for what a run writes.
-const ROOM: usize = 128;
 
 // ---- lists
 
@@ -295,74 +291,15 @@ const REFUSALS: [(&str, &[u8], u8, &str); 12] = [
     ),
 ];
 
-// What a command answered, and what it wrote.
-#[derive(Clone, Copy)]
-struct Ran {
-    status: u8,
-    out: [u8; ROOM],
-    written: usize,
-    err: [u8; ROOM],
-}
-
-impl Ran {
-    // Whether it is this answer, or want of memory, where memory may be wanting.
-    fn is(&self, status: u8, out: &[u8], err: &str, is_ample: bool) -> bool {
-        let is_told = self.status == status && self.wrote(out) && self.told(err);
-        let is_memory = self.status == 4 && self.wrote(b"") && self.told("aclck: out of memory\n");
-        is_told || !is_ample && is_memory
-    }
-
-    fn wrote(&self, text: &[u8]) -> bool {
-        self.written == text.len() && self.out.starts_with(text)
-    }
-
-    fn told(&self, line: &str) -> bool {
-        self.err.starts_with(line.as_bytes())
-            && self.err.iter().skip(line.len()).all(|byte| *byte == 0)
-    }
-}
-
-// The words of a line, where memory is there.
-fn words_of<'a>(alloc: Global, line: &'a str) -> Result<Vec<&'a str>, AllocError> {
-    line.split(' ').collect::<Vec<&str>>(alloc)
-}
-
-fn run(alloc: Global, words: &[&str], input: &[u8]) -> Ran {
-    let mut out = [0u8; ROOM];
-    let mut err = [0u8; ROOM];
-    let mut sink = Counted::new(out.as_mut_slice());
-    let status = command(
-        alloc,
-        words,
-        &mut Counted::new(input),
-        &mut sink,
-        &mut Counted::new(err.as_mut_slice()),
-    );
-    let left = sink.into_inner().len();
-    Ran {
-        status,
-        out,
-        written: ROOM.saturating_sub(left),
-        err,
-    }
-}
-
-fn tables<A: Abort>(rt: &A, alloc: Global, is_ample: bool) {
+fn tables<A: Abort>(rt: &A, memory: Memory) {
     for (line, input, text) in &ROWS {
-        let Ok(words) = words_of(alloc, line) else {
-            assert!(rt; !is_ample);
-            continue;
-        };
-        let ran = run(alloc, words.as_slice(), input);
-        assert!(rt; ran.is(0, text, "", is_ample), "{line}: {input:?}");
+        assert!(rt; memory.gives(line, input, 0, text, ""), "{line}: {input:?}");
     }
     for (line, input, status, told) in &REFUSALS {
-        let Ok(words) = words_of(alloc, line) else {
-            assert!(rt; !is_ample);
-            continue;
-        };
-        let ran = run(alloc, words.as_slice(), input);
-        assert!(rt; ran.is(*status, b"", told, is_ample), "{line}: {input:?}");
+        assert!(rt;
+            memory.gives(line, input, *status, b"", told),
+            "{line}: {input:?}"
+        );
     }
 }
 
@@ -373,29 +310,24 @@ fn behind_one_another(alloc: Global, first: &[u8], second: &[u8]) -> Result<Vec<
     Ok(input)
 }
 
-fn comparisons<A: Abort>(rt: &A, alloc: Global, is_ample: bool) {
+fn comparisons<A: Abort>(rt: &A, memory: Memory) {
     for (first, second, status, text) in &COMPARISONS {
-        let Ok(input) = behind_one_another(alloc, first, second) else {
-            assert!(rt; !is_ample);
+        let Ok(input) = behind_one_another(memory.alloc, first, second) else {
+            assert!(rt; !memory.is_ample);
             continue;
         };
-        let ran = run(alloc, &["compare"], &input);
         assert!(rt;
-            ran.is(*status, text, "", is_ample),
+            memory.gives_at(&["compare"], &input, *status, text, ""),
             "{first:?}, {second:?}"
         );
     }
     for (line, first, second, told) in &REFUSED_COMPARISONS {
-        let (Ok(words), Ok(input)) = (
-            words_of(alloc, line),
-            behind_one_another(alloc, first, second),
-        ) else {
-            assert!(rt; !is_ample);
+        let Ok(input) = behind_one_another(memory.alloc, first, second) else {
+            assert!(rt; !memory.is_ample);
             continue;
         };
-        let ran = run(alloc, words.as_slice(), &input);
         assert!(rt;
-            ran.is(2, b"", told, is_ample),
+            memory.gives(line, &input, 2, b"", told),
             "{line}: {first:?}, {second:?}"
         );
     }
@@ -403,122 +335,67 @@ fn comparisons<A: Abort>(rt: &A, alloc: Global, is_ample: bool) {
 
 #[test]
 fn ample_rows(rt: HostRuntime) {
-    tables(&rt, rt.alloc(), true);
-    comparisons(&rt, rt.alloc(), true);
+    let memory = Memory::ample(rt.alloc());
+    tables(&rt, memory);
+    comparisons(&rt, memory);
 }
 
 #[test]
 fn rows_where_memory_may_be_wanting(rt: HostRuntime) {
-    tables(&rt, rt.alloc(), false);
-    comparisons(&rt, rt.alloc(), false);
+    let memory = Memory::scarce(rt.alloc());
+    tables(&rt, memory);
+    comparisons(&rt, memory);
 }
 
 // ---- devices
 
-// The source fails at each read in turn, of four bytes each, the one after the list too: nothing is written.
-fn fails_at_each_read<A: Abort>(rt: &A, alloc: Global, words: &[&str], input: &[u8]) {
-    for reads in 0..=(input.len() / 4) as u64 {
-        let mut out = [0u8; ROOM];
-        let mut err = [0u8; ROOM];
-        let mut source = Counted::new(Fused::new(input, reads, 4));
-        let mut sink = Counted::new(out.as_mut_slice());
-        let answer = command(
-            alloc,
-            words,
-            &mut source,
-            &mut sink,
-            &mut Counted::new(err.as_mut_slice()),
-        );
-        assert!(rt;
-            answer == 4 && source.failures() == 1,
-            "{words:?}: {input:?}"
-        );
-        assert!(rt;
-            err.starts_with(b"aclck: read failed\n"),
-            "{words:?}: {input:?}"
-        );
-        assert_eq!(rt; sink.into_inner().len(), ROOM, "{words:?}: {input:?}");
-    }
-}
-
-// The sink fails at each write in turn, of one byte each: what went out begins the text.
-fn fails_at_each_write<A: Abort>(rt: &A, alloc: Global, words: &[&str], input: &[u8], text: &[u8]) {
-    for writes in 0..text.len() {
-        let mut out = [0u8; ROOM];
-        let mut err = [0u8; ROOM];
-        let mut sink = Counted::new(Fused::new(out.as_mut_slice(), writes as u64, 1));
-        let answer = command(
-            alloc,
-            words,
-            &mut Counted::new(input),
-            &mut sink,
-            &mut Counted::new(err.as_mut_slice()),
-        );
-        assert!(rt; answer == 4 && sink.failures() == 1, "{words:?}: {input:?}");
-        let left = sink.into_inner().into_inner().len();
-        assert!(rt;
-            err.starts_with(b"aclck: write failed\n"),
-            "{words:?}: {input:?}"
-        );
-        assert_eq!(rt; left.saturating_add(writes), ROOM, "{words:?}: {input:?}");
-        assert_eq!(rt;
-            out.get(..writes),
-            text.get(..writes),
-            "{words:?}: {input:?}"
-        );
-    }
+// The source fails at each read in turn, of four bytes each, and then the sink at each write, of one byte each.
+fn fails_everywhere(alloc: Global, words: &[&str], input: &[u8], text: &[u8]) -> bool {
+    fails_at_each_read(alloc, words, input, 4) && fails_at_each_write(alloc, words, input, text)
 }
 
 #[test]
 fn ample_devices_fail(rt: HostRuntime) -> Result<(), Fail> {
     for (line, input, text) in &ROWS {
         let words = words_of(rt.alloc(), line)?;
-        fails_at_each_read(&rt, rt.alloc(), words.as_slice(), input);
-        fails_at_each_write(&rt, rt.alloc(), words.as_slice(), input, text);
+        assert!(rt;
+            fails_everywhere(rt.alloc(), words.as_slice(), input, text),
+            "{line}: {input:?}"
+        );
     }
     for (first, second, _, text) in &COMPARISONS {
         let input = behind_one_another(rt.alloc(), first, second)?;
-        fails_at_each_read(&rt, rt.alloc(), &["compare"], &input);
-        fails_at_each_write(&rt, rt.alloc(), &["compare"], &input, text);
+        assert!(rt;
+            fails_everywhere(rt.alloc(), &["compare"], &input, text),
+            "{first:?}, {second:?}"
+        );
     }
     Ok(())
 }
 
 // The output of `normalize` is what it makes of that.
 #[test]
-fn ample_normal_forms_again(rt: HostRuntime) -> Result<(), Fail> {
+fn ample_normal_forms_again(rt: HostRuntime) {
+    let memory = Memory::ample(rt.alloc());
     for (line, _, text) in &ROWS {
         if line.starts_with("normalize") {
-            let words = words_of(rt.alloc(), line)?;
-            let ran = run(rt.alloc(), words.as_slice(), text);
-            assert!(rt; ran.is(0, text, "", true), "{line}: {text:?}");
+            assert!(rt; memory.gives(line, text, 0, text, ""), "{line}: {text:?}");
         }
     }
-    Ok(())
 }
 
 // ALLOW - all rights EVERYONE@.
 const ALL_OF_ALL: &[u8] = b"\0\0\0\x01\0\0\0\0\0\0\0\0\0\x1f\x07\xff\0\0\0\x09EVERYONE@\0\0\0";
 
-// One ACE, some times over.
-fn repeated(alloc: Global, count: u32) -> Result<Vec<u8>, AllocError> {
-    let mut list = Vec::new(alloc);
-    list.extend_from_slice(&count.to_be_bytes())?;
-    let ace = ALL_OF_ALL.get(4..).unwrap_or(&[]);
-    for _ in 0..count {
-        list.extend_from_slice(ace)?;
-    }
-    Ok(list)
-}
-
 // The heaviest list of one ACE is that ACE once; a heavier one is none.
 #[test]
 fn ample_one_ace_many_times(rt: HostRuntime) -> Result<(), Fail> {
-    let list = repeated(rt.alloc(), 4096)?;
-    let ran = run(rt.alloc(), &["normalize"], &list);
-    assert!(rt; ran.is(0, ALL_OF_ALL, "", true));
-    let list = repeated(rt.alloc(), 4097)?;
-    let ran = run(rt.alloc(), &["normalize"], &list);
-    assert!(rt; ran.is(2, b"", "aclck: TooHeavy at byte 114700\n", true));
+    let ace = ALL_OF_ALL.get(4..).unwrap_or(&[]);
+    let list = repeated(rt.alloc(), 4096, ace)?;
+    let ran = run(rt.alloc(), &["normalize"], &list, FINE);
+    assert!(rt; ran.is(0, ALL_OF_ALL, ""));
+    let list = repeated(rt.alloc(), 4097, ace)?;
+    let ran = run(rt.alloc(), &["normalize"], &list, FINE);
+    assert!(rt; ran.is(2, b"", "aclck: TooHeavy at byte 114700\n"));
     Ok(())
 }

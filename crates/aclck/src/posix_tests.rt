@@ -1,5 +1,8 @@
 use crate::command::command;
-use acl_perm::{Counted, Fused};
+use crate::runs::{
+    Calls, Devices, FINE, Memory, fails_at_each_read, fails_at_each_write, run, words_of,
+};
+use acl_perm::Counted;
 use std::alloc::{AllocError, Global};
 use std::process::Abort;
 use std::test::Fail;
@@ -45,8 +48,11 @@ const IDS_LIST: &str = "\0\0\0\x05\
     \0\0\0\x01\0\0\0\0\0\0\0\x27\0\0\0\x06GROUP@\0\0\
     \0\0\0\x01\0\0\0\x40\0\0\0\x27\0\0\0\x0a4294967294\0\0";
 
-// The rows of a table: a line of words, an input, a status, and what goes out and to the errors.
-const ROWS: [(&str, &str, u8, &str, &str); 51] = [
+// A row of a table: a line of words, an input, a status, and what goes out and to the errors.
+type Row = (&'static str, &'static str, u8, &'static str, &'static str);
+
+// Of `bridge`.
+const BRIDGES: [Row; 6] = [
     ("bridge", "u::rw-,g::r--,o::r--", 0, PLAIN_LIST, ""),
     ("bridge", GROUPS, 0, GROUPS_LIST, ""),
     (
@@ -65,6 +71,10 @@ const ROWS: [(&str, &str, u8, &str, &str); 51] = [
     ),
     ("bridge --profile full", PLAIN, 3, "", "aclck: usage\n"),
     ("bridge bob=5", PLAIN, 3, "", "aclck: usage\n"),
+];
+
+// Of the texts and the masks that are written.
+const TEXTS: [Row; 7] = [
     (
         "show-posix --form shown",
         "u::rw-,u:5:rw-,g::r--,m::r--,o::---,d:u::rwx,d:u:5:rwx,d:g::r--,d:m::rwx,d:o::---",
@@ -116,6 +126,10 @@ const ROWS: [(&str, &str, u8, &str, &str); 51] = [
         "user::rwx\ngroup::r-x\nmask::r-x\nother::---\n",
         "",
     ),
+];
+
+// Of `check-posix`.
+const CHECKS: [Row; 6] = [
     (
         "check-posix --owner 1 --group 2 --user 3 --groups 50,60 --want rw",
         GROUPS,
@@ -158,6 +172,10 @@ const ROWS: [(&str, &str, u8, &str, &str); 51] = [
         "",
         "aclck: Invalid default: Miss GROUP_OBJ\n",
     ),
+];
+
+// Of names.
+const NAMES: [Row; 4] = [
     (
         "show-posix u:bob=1002",
         PRINTED,
@@ -187,6 +205,10 @@ const ROWS: [(&str, &str, u8, &str, &str); 51] = [
         "user::r--\nuser:5:-w-\ngroup::--x\nmask::---\nother::---\n",
         "",
     ),
+];
+
+// Of texts, of which one has no fault.
+const FAULTS: [Row; 14] = [
     (
         "show-posix",
         "u::rw-,u:7:r--,g::r--,o::---",
@@ -285,6 +307,10 @@ const ROWS: [(&str, &str, u8, &str, &str); 51] = [
         "",
         "aclck: Invalid access: Miss USER_OBJ\n",
     ),
+];
+
+// Of `create`.
+const CHILDREN: [Row; 4] = [
     (
         "create --mode 640 --umask 077",
         PARENT,
@@ -314,6 +340,10 @@ const ROWS: [(&str, &str, u8, &str, &str); 51] = [
         "user::rw-\ngroup::r--\nother::r--\n",
         "",
     ),
+];
+
+// Of words that ask for nothing.
+const USAGE: [Row; 10] = [
     ("create --mode 666", PLAIN, 3, "", "aclck: usage\n"),
     ("show-posix u:12=5", PLAIN, 3, "", "aclck: usage\n"),
     ("show-posix u:=5", PLAIN, 3, "", "aclck: usage\n"),
@@ -356,101 +386,83 @@ const ROWS: [(&str, &str, u8, &str, &str); 51] = [
     ("chmod --mode 00660", PLAIN, 3, "", "aclck: usage\n"),
 ];
 
-// The text that a room begins with, and nothing behind it.
-fn holds(room: &[u8], text: &str) -> bool {
-    begins(room, text, text.len())
+// All rows: the proof of a table grows with the square of its length, so there are some.
+fn rows() -> [&'static [Row]; 7] {
+    [
+        &BRIDGES, &TEXTS, &CHECKS, &NAMES, &FAULTS, &CHILDREN, &USAGE,
+    ]
 }
 
-// So many bytes of a text, with which a room begins, and nothing behind them.
-fn begins(room: &[u8], text: &str, count: usize) -> bool {
-    let mut pairs = room.iter().zip(text.as_bytes().iter()).take(count);
-    pairs.all(|(byte, wanted)| byte == wanted) && room.iter().skip(count).all(|byte| *byte == 0)
-}
-
-fn table<A: Abort>(rt: &A, alloc: Global, is_ample: bool) {
-    for (line, input, status, out_text, err_text) in &ROWS {
-        let Ok(words) = words_of(alloc, line) else {
-            assert!(rt; !is_ample);
-            continue;
-        };
-        let mut out = [0u8; 256];
-        let mut err = [0u8; 64];
-        let answer = command(
-            alloc,
-            words.as_slice(),
-            &mut Counted::new(input.as_bytes()),
-            &mut Counted::new(out.as_mut_slice()),
-            &mut Counted::new(err.as_mut_slice()),
-        );
-        let is_told = answer == *status && holds(&out, out_text) && holds(&err, err_text);
-        let is_memory = answer == 4 && holds(&out, "") && holds(&err, "aclck: out of memory\n");
-        assert!(rt; is_told || !is_ample && is_memory, "{line}: {input}");
+fn table<A: Abort>(rt: &A, memory: Memory) {
+    for part in &rows() {
+        for (line, input, status, out, err) in *part {
+            assert!(rt;
+                memory.gives(line, input.as_bytes(), *status, out.as_bytes(), err),
+                "{line}: {input}"
+            );
+        }
     }
 }
 
 #[test]
 fn ample_posix_rows(rt: HostRuntime) {
-    table(&rt, rt.alloc(), true);
+    let memory = Memory::ample(rt.alloc());
+    table(&rt, memory);
 }
 
 #[test]
 fn posix_rows(rt: HostRuntime) {
-    table(&rt, rt.alloc(), false);
+    let memory = Memory::scarce(rt.alloc());
+    table(&rt, memory);
 }
 
-// The words of a line, where memory is there.
-fn words_of<'a>(alloc: Global, line: &'a str) -> Result<Vec<&'a str>, AllocError> {
-    line.split(' ').collect::<Vec<&str>>(alloc)
+// Whether the source of a row may fail at each read in turn, of eight bytes each: nothing is written, and the words
+// that ask for nothing are told so all the same, and read nothing.
+fn is_read_told(alloc: Global, row: &Row) -> Result<bool, AllocError> {
+    let (line, input, status, _, _) = row;
+    let words = words_of(alloc, line)?;
+    Ok(if *status == 3 {
+        asks_for_nothing(alloc, words.as_slice(), input.as_bytes())
+    } else {
+        fails_at_each_read(alloc, words.as_slice(), input.as_bytes(), 8)
+    })
 }
 
-// The source fails at each read in turn, of eight bytes each: nothing is written, and the words that ask for nothing
-// are told so all the same.
+fn asks_for_nothing(alloc: Global, words: &[&str], input: &[u8]) -> bool {
+    let ran = run(
+        alloc,
+        words,
+        input,
+        Devices {
+            source: Calls::since(1, 8),
+            ..FINE
+        },
+    );
+    ran.is(3, b"", "aclck: usage\n") && ran.reads == 0
+}
+
 #[test]
 fn ample_each_read_fails(rt: HostRuntime) -> Result<(), Fail> {
-    for (line, input, status, _, _) in &ROWS {
-        let words = words_of(rt.alloc(), line)?;
-        for reads in 0..=(input.len() / 8) as u64 {
-            let mut out = [0u8; 256];
-            let mut err = [0u8; 64];
-            let mut source = Counted::new(Fused::new(input.as_bytes(), reads, 8));
-            let answer = command(
-                rt.alloc(),
-                words.as_slice(),
-                &mut source,
-                &mut Counted::new(out.as_mut_slice()),
-                &mut Counted::new(err.as_mut_slice()),
-            );
-            if *status == 3 {
-                assert!(rt; answer == 3 && source.failures() == 0, "{line}");
-            } else {
-                assert!(rt; answer == 4 && source.failures() == 1, "{line}");
-                assert!(rt; holds(&err, "aclck: read failed\n"), "{line}");
-            }
-            assert!(rt; holds(&out, ""), "{line}");
+    for part in &rows() {
+        for row in *part {
+            assert!(rt; is_read_told(rt.alloc(), row)?, "{}", row.0);
         }
     }
     Ok(())
 }
 
 // The sink fails at each write in turn, of one byte each: what went out begins the text.
+fn is_write_told(alloc: Global, row: &Row) -> Result<bool, AllocError> {
+    let (line, input, _, text, _) = row;
+    let words = words_of(alloc, line)?;
+    Ok(fails_at_each_write(alloc, words.as_slice(), input.as_bytes(), text.as_bytes()))
+}
+
 #[test]
 fn ample_each_write_fails(rt: HostRuntime) -> Result<(), Fail> {
-    for (line, input, _, text, _) in &ROWS {
-        let words = words_of(rt.alloc(), line)?;
-        for writes in 0..text.len() {
-            let mut out = [0u8; 256];
-            let mut err = [0u8; 64];
-            let mut sink = Counted::new(Fused::new(out.as_mut_slice(), writes as u64, 1));
-            let answer = command(
-                rt.alloc(),
-                words.as_slice(),
-                &mut Counted::new(input.as_bytes()),
-                &mut sink,
-                &mut Counted::new(err.as_mut_slice()),
-            );
-            assert!(rt; answer == 4 && sink.failures() == 1, "{line}");
-            assert!(rt; holds(&err, "aclck: write failed\n"), "{line}");
-            assert!(rt; begins(&out, text, writes), "{line}");
+    for part in &rows() {
+        for row in *part {
+            assert!(rt; is_write_told(rt.alloc(), row)?, "{}", row.0);
         }
     }
     Ok(())
@@ -468,26 +480,49 @@ fn users(alloc: Global, count: u32, other: &str) -> Result<Vec<u8>, AllocError> 
     Ok(text)
 }
 
+// The status of `bridge`, and what it writes.
+fn bridged(alloc: Global, input: &[u8], err: &mut [u8]) -> (u8, Vec<u8>) {
+    let mut out = Counted::new(Vec::new(alloc));
+    let status = command(
+        alloc,
+        &["bridge"],
+        &mut Counted::new(input),
+        &mut out,
+        &mut Counted::new(err),
+    );
+    (status, out.into_inner())
+}
+
+// The text that a room begins with, and nothing behind it.
+fn holds(room: &[u8], text: &str) -> bool {
+    room.starts_with(text.as_bytes()) && room.iter().skip(text.len()).all(|byte| *byte == 0)
+}
+
+// Whether `bridge` answers a text of so many users with this status.
+fn bridges_users(
+    alloc: Global,
+    count: u32,
+    other: &str,
+    status: u8,
+    told: &str,
+) -> Result<bool, AllocError> {
+    let input = users(alloc, count, other)?;
+    let mut err = [0u8; 64];
+    let (answer, written) = bridged(alloc, &input, &mut err);
+    Ok(answer == status && written.is_empty() == (status == 2) && holds(&err, told))
+}
+
 #[test]
 fn ample_lists_past_the_limits(rt: HostRuntime) -> Result<(), Fail> {
-    for (count, other, status, err_text) in [
-        (16_382, "o::---", 0, ""),
+    for (count, other, status, err_text) in &[
+        (16_382u32, "o::---", 0u8, ""),
         (16_382, "o::r--", 2, "aclck: Limits\n"),
         (16_383, "o::---", 2, "aclck: Limits\n"),
     ] {
-        let input = users(rt.alloc(), count, other)?;
-        let mut out = Counted::new(Vec::new(rt.alloc()));
-        let mut err = [0u8; 64];
-        let answer = command(
-            rt.alloc(),
-            &["bridge"],
-            &mut Counted::new(input.as_slice()),
-            &mut out,
-            &mut Counted::new(err.as_mut_slice()),
+        assert!(rt;
+            bridges_users(rt.alloc(), *count, other, *status, err_text)?,
+            "{count} users"
         );
-        let written = out.into_inner();
-        assert!(rt; answer == status && holds(&err, err_text), "{count} users");
-        assert!(rt; written.is_empty() == (status == 2), "{count} users");
     }
     Ok(())
 }

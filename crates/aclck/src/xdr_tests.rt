@@ -1,10 +1,10 @@
-use crate::answer::RunFault;
-use crate::command::command;
+use crate::answer::{Outcome, RunFault};
+use crate::runs::{Memory, fails_at_each_read, fails_at_each_write, words_of};
 use crate::task::check_nfs::run_check_nfs;
 use acl_eval::{Object, Requester};
 use acl_nfs4::{Fault, Reason};
-use acl_perm::{Counted, Fused, Mask, Profile};
-use std::alloc::{AllocError, Global};
+use acl_perm::{Counted, Fused, Mask, Profile, Source};
+use std::alloc::Global;
 use std::process::Abort;
 use std::test::Fail;
 
@@ -110,85 +110,28 @@ const REFUSALS: [(&str, &[u8], u8, &str); 13] = [
     ("mode --kind file", EMPTY, 3, "aclck: usage\n"),
 ];
 
-// What a command answered, and what it wrote.
-#[derive(Clone, Copy)]
-struct Ran {
-    status: u8,
-    out: [u8; 64],
-    written: usize,
-    err: [u8; 64],
-}
-
-impl Ran {
-    // Whether it is this answer, or want of memory, where memory may be wanting.
-    fn is(&self, status: u8, out: &[u8], err: &str, is_ample: bool) -> bool {
-        let is_told = self.status == status && self.wrote(out) && self.told(err);
-        let is_memory = self.status == 4 && self.wrote(b"") && self.told("aclck: out of memory\n");
-        is_told || !is_ample && is_memory
-    }
-
-    fn wrote(&self, text: &[u8]) -> bool {
-        self.written == text.len() && self.out.starts_with(text)
-    }
-
-    fn told(&self, line: &str) -> bool {
-        self.err.starts_with(line.as_bytes())
-            && self.err.iter().skip(line.len()).all(|byte| *byte == 0)
-    }
-}
-
-// The words of a line, where memory is there.
-fn words_of<'a>(alloc: Global, line: &'a str) -> Result<Vec<&'a str>, AllocError> {
-    line.split(' ').collect::<Vec<&str>>(alloc)
-}
-
-fn run(alloc: Global, words: &[&str], input: &[u8]) -> Ran {
-    let mut out = [0u8; 64];
-    let mut err = [0u8; 64];
-    let mut sink = Counted::new(out.as_mut_slice());
-    let status = command(
-        alloc,
-        words,
-        &mut Counted::new(input),
-        &mut sink,
-        &mut Counted::new(err.as_mut_slice()),
-    );
-    let left = sink.into_inner().len();
-    Ran {
-        status,
-        out,
-        written: 64usize.saturating_sub(left),
-        err,
-    }
-}
-
-fn tables<A: Abort>(rt: &A, alloc: Global, is_ample: bool) {
+fn tables<A: Abort>(rt: &A, memory: Memory) {
     for (line, input, text) in &ROWS {
-        let Ok(words) = words_of(alloc, line) else {
-            assert!(rt; !is_ample);
-            continue;
-        };
-        let ran = run(alloc, words.as_slice(), input);
-        assert!(rt; ran.is(0, text, "", is_ample), "{line}: {input:?}");
+        assert!(rt; memory.gives(line, input, 0, text, ""), "{line}: {input:?}");
     }
     for (line, input, status, told) in &REFUSALS {
-        let Ok(words) = words_of(alloc, line) else {
-            assert!(rt; !is_ample);
-            continue;
-        };
-        let ran = run(alloc, words.as_slice(), input);
-        assert!(rt; ran.is(*status, b"", told, is_ample), "{line}: {input:?}");
+        assert!(rt;
+            memory.gives(line, input, *status, b"", told),
+            "{line}: {input:?}"
+        );
     }
 }
 
 #[test]
 fn ample_rows(rt: HostRuntime) {
-    tables(&rt, rt.alloc(), true);
+    let memory = Memory::ample(rt.alloc());
+    tables(&rt, memory);
 }
 
 #[test]
 fn rows_where_memory_may_be_wanting(rt: HostRuntime) {
-    tables(&rt, rt.alloc(), false);
+    let memory = Memory::scarce(rt.alloc());
+    tables(&rt, memory);
 }
 
 // ---- devices
@@ -198,22 +141,10 @@ fn rows_where_memory_may_be_wanting(rt: HostRuntime) {
 fn ample_each_read_fails(rt: HostRuntime) -> Result<(), Fail> {
     for (line, input, _) in &ROWS {
         let words = words_of(rt.alloc(), line)?;
-        for reads in 0..=(input.len() / 4) as u64 {
-            let mut out = [0u8; 64];
-            let mut err = [0u8; 64];
-            let mut source = Counted::new(Fused::new(*input, reads, 4));
-            let mut sink = Counted::new(out.as_mut_slice());
-            let answer = command(
-                rt.alloc(),
-                words.as_slice(),
-                &mut source,
-                &mut sink,
-                &mut Counted::new(err.as_mut_slice()),
-            );
-            assert!(rt; answer == 4 && source.failures() == 1, "{line}");
-            assert!(rt; err.starts_with(b"aclck: read failed\n"), "{line}");
-            assert_eq!(rt; sink.into_inner().len(), 64, "{line}");
-        }
+        assert!(rt;
+            fails_at_each_read(rt.alloc(), words.as_slice(), input, 4),
+            "{line}"
+        );
     }
     Ok(())
 }
@@ -223,66 +154,67 @@ fn ample_each_read_fails(rt: HostRuntime) -> Result<(), Fail> {
 fn ample_each_write_fails(rt: HostRuntime) -> Result<(), Fail> {
     for (line, input, text) in &ROWS {
         let words = words_of(rt.alloc(), line)?;
-        for writes in 0..text.len() {
-            let mut out = [0u8; 64];
-            let mut err = [0u8; 64];
-            let mut sink = Counted::new(Fused::new(out.as_mut_slice(), writes as u64, 1));
-            let answer = command(
-                rt.alloc(),
-                words.as_slice(),
-                &mut Counted::new(*input),
-                &mut sink,
-                &mut Counted::new(err.as_mut_slice()),
-            );
-            assert!(rt; answer == 4 && sink.failures() == 1, "{line}");
-            let left = sink.into_inner().into_inner().len();
-            assert!(rt; err.starts_with(b"aclck: write failed\n"), "{line}");
-            assert_eq!(rt; left.saturating_add(writes), 64, "{line}");
-            assert_eq!(rt; out.get(..writes), text.get(..writes), "{line}");
-        }
+        assert!(rt;
+            fails_at_each_write(rt.alloc(), words.as_slice(), input, text),
+            "{line}"
+        );
     }
     Ok(())
 }
 
-fn refused(offset: u64, reason: Reason) -> RunFault {
-    RunFault::Nfs(Fault { offset, reason })
+const AUDIT: RunFault = RunFault::Nfs(Fault {
+    offset: 4,
+    reason: Reason::AuditOrAlarm,
+});
+
+const TOO_MANY: RunFault = RunFault::Nfs(Fault {
+    offset: 0,
+    reason: Reason::TooManyAces,
+});
+
+const TRAILING: RunFault = RunFault::Nfs(Fault {
+    offset: 4,
+    reason: Reason::TrailingBytes,
+});
+
+// An input, the reads of how many bytes that pass, the fault that is told, and how many reads fail.
+const FAULTS: [(&[u8], u64, usize, RunFault, u64); 6] = [
+    (b"\0\0\0\x01\0\0\0\x02", 1, 64, AUDIT, 0),
+    (b"\0\0\0\x01\0\0\0\x02", 2, 4, AUDIT, 0),
+    (b"\0\x01\0\x01\0", 1, 4, TOO_MANY, 0),
+    (b"\0\0\0\0\0", 1, 64, TRAILING, 0),
+    (b"\0\0\0\0\0\0", 2, 4, TRAILING, 0),
+    (b"\0\0\0\x01\0\0", 2, 4, RunFault::Read, 1),
+];
+
+// A check of no rights by bob, of what alice owns.
+fn run_check<S: Source>(alloc: Global, source: &mut S) -> Option<Result<Outcome, RunFault>> {
+    let object = Object::new(b"alice", b"staff")?;
+    let requester = Requester::new(b"bob", &[])?;
+    let mut room = [0u8; 16];
+    let mut out = Counted::new(room.as_mut_slice());
+    let answer = run_check_nfs(
+        alloc,
+        source,
+        &mut out,
+        &object,
+        &requester,
+        Mask::NONE,
+        Profile::FULL,
+    );
+    Some(answer)
 }
 
 // A source that gives what is refused and then fails: the refusal is told, and nothing is read after it. What is cut
 // short is a failed read.
 #[test]
-fn ample_refusals_before_a_failed_read(rt: HostRuntime) -> Result<(), Fail> {
-    let object = Object::new(b"alice", b"staff").ok_or("a name is empty")?;
-    let requester = Requester::new(b"bob", &[]).ok_or("a name is empty")?;
-    let audit = refused(4, Reason::AuditOrAlarm);
-    let trailing = refused(4, Reason::TrailingBytes);
-    for (input, reads, step, fault, failures) in [
-        (
-            b"\0\0\0\x01\0\0\0\x02".as_slice(),
-            1u64,
-            64usize,
-            audit,
-            0u64,
-        ),
-        (b"\0\0\0\x01\0\0\0\x02", 2, 4, audit, 0),
-        (b"\0\x01\0\x01\0", 1, 4, refused(0, Reason::TooManyAces), 0),
-        (b"\0\0\0\0\0", 1, 64, trailing, 0),
-        (b"\0\0\0\0\0\0", 2, 4, trailing, 0),
-        (b"\0\0\0\x01\0\0", 2, 4, RunFault::Read, 1),
-    ] {
-        let mut out = [0u8; 16];
-        let mut source = Counted::new(Fused::new(input, reads, step));
-        let answer = run_check_nfs(
-            rt.alloc(),
-            &mut source,
-            &mut Counted::new(out.as_mut_slice()),
-            &object,
-            &requester,
-            Mask::NONE,
-            Profile::FULL,
+fn ample_refusals_before_a_failed_read(rt: HostRuntime) {
+    for (input, reads, step, fault, failures) in &FAULTS {
+        let mut source = Counted::new(Fused::new(*input, *reads, *step));
+        let answer = run_check(rt.alloc(), &mut source);
+        assert!(rt;
+            answer == Some(Err(*fault)) && source.failures() == *failures,
+            "{input:?}"
         );
-        assert_eq!(rt; answer, Err(fault), "{input:?}");
-        assert_eq!(rt; source.failures(), failures, "{input:?}");
     }
-    Ok(())
 }

@@ -1,0 +1,283 @@
+//! Runs of a command over devices in memory, for the tests.
+
+use crate::command::command;
+use acl_perm::Counted;
+use std::alloc::{AllocError, Global};
+use std::io;
+use std::io::{Read, Write};
+
+// Room for what a run writes, and for what it tells.
+const ROOM: usize = 256;
+
+// ---- devices
+
+/// The calls of a device that fail: those from the number `first` to the number `last`, counted from 1. Each other call
+/// takes a few bytes.
+#[derive(Clone, Copy)]
+pub struct Calls {
+    pub first: u64,
+    pub last: u64,
+    pub step: usize,
+}
+
+/// No call fails, and each takes what it can.
+pub const ALL_PASS: Calls = Calls {
+    first: 1,
+    last: 0,
+    step: usize::MAX,
+};
+
+impl Calls {
+    /// One call fails, and those behind it pass.
+    pub fn one(failing: u64, step: usize) -> Calls {
+        Calls {
+            first: failing,
+            last: failing,
+            step,
+        }
+    }
+
+    /// Each call from this one on fails.
+    pub fn since(failing: u64, step: usize) -> Calls {
+        Calls {
+            first: failing,
+            last: u64::MAX,
+            step,
+        }
+    }
+}
+
+// A device over memory, which counts its calls.
+#[derive(Drop)]
+struct Device<T> {
+    inner: T,
+    failing: Calls,
+    calls: u64,
+}
+
+impl<T> Device<T> {
+    fn new(inner: T, failing: Calls) -> Device<T> {
+        Device {
+            inner,
+            failing,
+            calls: 0,
+        }
+    }
+
+    fn begin(&mut self) -> io::Result<()> {
+        self.calls = self.calls.saturating_add(1);
+        if self.failing.first <= self.calls && self.calls <= self.failing.last {
+            return Err(io::Error::other("the device fails"));
+        }
+        Ok(())
+    }
+}
+
+impl<R: Read> Read for Device<R> {
+    fn read(&mut self, buf: &mut [u8]) -> io::Result<usize> {
+        self.begin()?;
+        let room = self.failing.step.min(buf.len());
+        self.inner.read(&mut buf[..room])
+    }
+}
+
+impl<W: Write> Write for Device<W> {
+    fn write(&mut self, bytes: &[u8]) -> io::Result<usize> {
+        self.begin()?;
+        let room = self.failing.step.min(bytes.len());
+        self.inner.write(&bytes[..room])
+    }
+
+    fn flush(&mut self) -> io::Result<()> {
+        self.inner.flush()
+    }
+}
+
+// ---- runs
+
+/// The calls that fail of the three devices of a run.
+#[derive(Clone, Copy)]
+pub struct Devices {
+    pub source: Calls,
+    pub out: Calls,
+    pub err: Calls,
+}
+
+/// No call fails.
+pub const FINE: Devices = Devices {
+    source: ALL_PASS,
+    out: ALL_PASS,
+    err: ALL_PASS,
+};
+
+/// What a command answered, what it wrote and told, and the calls of its devices.
+#[derive(Clone, Copy)]
+pub struct Ran {
+    pub status: u8,
+    out: [u8; ROOM],
+    written: usize,
+    err: [u8; ROOM],
+    told: usize,
+    pub reads: u64,
+    pub failed_reads: u64,
+    pub writes: u64,
+    pub failed_writes: u64,
+    pub tellings: u64,
+}
+
+impl Ran {
+    /// Whether it is this answer.
+    pub fn is(&self, status: u8, out: &[u8], err: &str) -> bool {
+        self.status == status && self.wrote(out) && self.told(err)
+    }
+
+    /// Whether this went out, and nothing more.
+    pub fn wrote(&self, text: &[u8]) -> bool {
+        self.written == text.len() && self.out.starts_with(text)
+    }
+
+    fn told(&self, line: &str) -> bool {
+        self.told == line.len() && self.err.starts_with(line.as_bytes())
+    }
+
+    // Whether a read failed, and nothing was read after it or written.
+    fn is_failed_read(&self, failing: u64) -> bool {
+        self.is(4, b"", "aclck: read failed\n") && self.failed_reads == 1 && self.reads == failing
+    }
+
+    // Whether a write failed when this had gone out, and nothing was written after it.
+    fn is_failed_write(&self, failing: u64, gone: &[u8]) -> bool {
+        self.is(4, gone, "aclck: write failed\n")
+            && self.failed_writes == 1
+            && self.writes == failing
+    }
+}
+
+/// Runs a command over devices of which some calls fail.
+pub fn run(alloc: Global, words: &[&str], input: &[u8], devices: Devices) -> Ran {
+    let mut out_room = [0u8; ROOM];
+    let mut err_room = [0u8; ROOM];
+    let mut source = Counted::new(Device::new(input, devices.source));
+    let mut out = Counted::new(Device::new(out_room.as_mut_slice(), devices.out));
+    let mut err = Counted::new(Device::new(err_room.as_mut_slice(), devices.err));
+    let status = command(alloc, words, &mut source, &mut out, &mut err);
+    let failed_reads = source.failures();
+    let failed_writes = out.failures();
+    let reads = source.into_inner().calls;
+    let out = out.into_inner();
+    let err = err.into_inner();
+    let (writes, written) = (out.calls, ROOM.saturating_sub(out.inner.len()));
+    let (tellings, told) = (err.calls, ROOM.saturating_sub(err.inner.len()));
+    Ran {
+        status,
+        out: out_room,
+        written,
+        err: err_room,
+        told,
+        reads,
+        failed_reads,
+        writes,
+        failed_writes,
+        tellings,
+    }
+}
+
+// ---- rows
+
+/// The words of a line, cut at each space, where memory is there.
+pub fn words_of<'a>(alloc: Global, line: &'a str) -> Result<Vec<&'a str>, AllocError> {
+    line.split(' ').collect::<Vec<&str>>(alloc)
+}
+
+/// Whether memory may be wanting, which is then an answer to every line.
+#[derive(Clone, Copy)]
+pub struct Memory {
+    pub alloc: Global,
+    pub is_ample: bool,
+}
+
+impl Memory {
+    pub fn ample(alloc: Global) -> Memory {
+        Memory {
+            alloc,
+            is_ample: true,
+        }
+    }
+
+    pub fn scarce(alloc: Global) -> Memory {
+        Memory {
+            alloc,
+            is_ample: false,
+        }
+    }
+
+    /// Whether a line gives this answer over the input.
+    pub fn gives(self, line: &str, input: &[u8], status: u8, out: &[u8], err: &str) -> bool {
+        match words_of(self.alloc, line) {
+            Ok(words) => self.gives_at(words.as_slice(), input, status, out, err),
+            Err(_) => !self.is_ample,
+        }
+    }
+
+    /// Whether words give this answer over the input.
+    pub fn gives_at(self, words: &[&str], input: &[u8], status: u8, out: &[u8], err: &str) -> bool {
+        let ran = run(self.alloc, words, input, FINE);
+        ran.is(status, out, err) || !self.is_ample && ran.is(4, b"", "aclck: out of memory\n")
+    }
+}
+
+/// Whether the words tell of a source that fails at these calls as soon as it does.
+pub fn fails_at_read(alloc: Global, words: &[&str], input: &[u8], source: Calls) -> bool {
+    let ran = run(alloc, words, input, Devices { source, ..FINE });
+    ran.is_failed_read(source.first)
+}
+
+/// Whether the words tell of a source that fails at each read in turn, of `step` bytes each, the one behind the input
+/// too.
+pub fn fails_at_each_read(alloc: Global, words: &[&str], input: &[u8], step: usize) -> bool {
+    let reads = input.len() / step.max(1);
+    for failing in 0..=reads as u64 {
+        if !fails_at_read(
+            alloc,
+            words,
+            input,
+            Calls::since(failing.saturating_add(1), step),
+        ) {
+            return false;
+        }
+    }
+    true
+}
+
+/// Whether the words tell of a sink that fails at these calls as soon as it does, when this has gone out.
+pub fn fails_at_write(
+    alloc: Global,
+    words: &[&str],
+    input: &[u8],
+    out: Calls,
+    gone: &[u8],
+) -> bool {
+    let ran = run(alloc, words, input, Devices { out, ..FINE });
+    ran.is_failed_write(out.first, gone)
+}
+
+/// Whether the words tell of a sink that fails at each write in turn, of one byte each, with the text begun.
+pub fn fails_at_each_write(alloc: Global, words: &[&str], input: &[u8], text: &[u8]) -> bool {
+    for writes in 0..text.len() {
+        let out = Calls::since((writes as u64).saturating_add(1), 1);
+        if !fails_at_write(alloc, words, input, out, &text[..writes]) {
+            return false;
+        }
+    }
+    true
+}
+
+/// One ACE, some times over, as a list.
+pub fn repeated(alloc: Global, count: u32, ace: &[u8]) -> Result<Vec<u8>, AllocError> {
+    let mut list = Vec::new(alloc);
+    list.extend_from_slice(&count.to_be_bytes())?;
+    for _ in 0..count {
+        list.extend_from_slice(ace)?;
+    }
+    Ok(list)
+}
