@@ -166,8 +166,12 @@ const REFUSALS: [Row; 15] = [
     ("show-nfs bob", b"\0\0\0\0", 3, b"", "aclck: usage\n"),
 ];
 
+fn texts() -> &'static [Row] {
+    &TEXTS
+}
+
 fn rows() -> [&'static [Row]; 2] {
-    [&TEXTS, &REFUSALS]
+    [texts(), &REFUSALS]
 }
 
 fn table<A: Abort>(rt: &A, memory: Memory) {
@@ -200,7 +204,7 @@ fn ample_each_read_of_encode_fails(rt: HostRuntime) {
 // The sink fails at each write in turn, of one byte each: what went out begins the answer.
 #[test]
 fn ample_each_write_of_nfs_texts_fails(rt: HostRuntime) -> Result<(), Fail> {
-    for (line, input, _, text, _) in &TEXTS {
+    for (line, input, _, text, _) in texts() {
         let words = words_of(rt.alloc(), line)?;
         assert!(rt;
             fails_at_each_write(rt.alloc(), words.as_slice(), input, text),

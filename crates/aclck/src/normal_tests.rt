@@ -140,7 +140,9 @@ const WITH_A_BYTE: &[u8] = b"\0\0\0\x01\0\0\0\0\0\0\0\0\0\0\0\x01\0\0\0\x09EVERY
 // ---- rows
 
 // Two lists, one behind the other, with the status and what `compare` writes of them.
-const COMPARISONS: [(&[u8], &[u8], u8, &[u8]); 6] = [
+type Pair = (&'static [u8], &'static [u8], u8, &'static [u8]);
+
+const COMPARISONS: [Pair; 6] = [
     (WITHOUT_BOB, BEHIND_ALICE, 0, b"same\n"),
     (
         OPS_FIRST,
@@ -175,6 +177,10 @@ const COMPARISONS: [(&[u8], &[u8], u8, &[u8]); 6] = [
     ),
 ];
 
+fn pairs() -> &'static [Pair] {
+    &COMPARISONS
+}
+
 // Lines of words and two lists, one behind the other, with what is told of them.
 const REFUSED_COMPARISONS: [(&str, &[u8], &[u8], &str); 4] = [
     (
@@ -198,8 +204,10 @@ const REFUSED_COMPARISONS: [(&str, &[u8], &[u8], &str); 4] = [
     ("compare", EMPTY, b"", "aclck: Truncated at byte 4\n"),
 ];
 
-// Lines of words with an input and what is written.
-const ROWS: [(&str, &[u8], &[u8]); 23] = [
+// A line of words with an input and what is written.
+type Row = (&'static str, &'static [u8], &'static [u8]);
+
+const NORMAL_FORMS: [Row; 15] = [
     ("normalize", EMPTY, EMPTY),
     ("normalize", READ_OF_ALL, READ_OF_ALL),
     ("normalize", WITHOUT_BOB, READ_OF_ALICE),
@@ -215,6 +223,9 @@ const ROWS: [(&str, &[u8], &[u8]); 23] = [
     ("normalize", ZOE_FIRST, AMY_FIRST),
     ("normalize", AMY_INHERITED, READ_OF_AMY),
     ("normalize --", NO_RIGHTS, EMPTY),
+];
+
+const TABLES: [Row; 8] = [
     (
         "table --bit WRITE_DATA",
         BOB_AND_OWNER,
@@ -244,6 +255,10 @@ const ROWS: [(&str, &[u8], &[u8]); 23] = [
     ("table --bit WRITE_RETENTION", RETENTION, b"0 ALLOW - bob\n"),
     ("table --bit DELETE", BOB_AND_OWNER, b""),
 ];
+
+fn rows() -> [&'static [Row]; 2] {
+    [&NORMAL_FORMS, &TABLES]
+}
 
 // Lines that are refused, or ask for nothing.
 const REFUSALS: [(&str, &[u8], u8, &str); 12] = [
@@ -292,9 +307,14 @@ const REFUSALS: [(&str, &[u8], u8, &str); 12] = [
 ];
 
 fn tables<A: Abort>(rt: &A, memory: Memory) {
-    for (line, input, text) in &ROWS {
-        assert!(rt; memory.gives(line, input, 0, text, ""), "{line}: {input:?}");
+    for part in &rows() {
+        for (line, input, text) in *part {
+            assert!(rt; memory.gives(line, input, 0, text, ""), "{line}: {input:?}");
+        }
     }
+}
+
+fn refusals<A: Abort>(rt: &A, memory: Memory) {
     for (line, input, status, told) in &REFUSALS {
         assert!(rt;
             memory.gives(line, input, *status, b"", told),
@@ -310,41 +330,53 @@ fn behind_one_another(alloc: Global, first: &[u8], second: &[u8]) -> Result<Vec<
     Ok(input)
 }
 
-fn comparisons<A: Abort>(rt: &A, memory: Memory) {
-    for (first, second, status, text) in &COMPARISONS {
-        let Ok(input) = behind_one_another(memory.alloc, first, second) else {
-            assert!(rt; !memory.is_ample);
-            continue;
-        };
-        assert!(rt;
-            memory.gives_at(&["compare"], &input, *status, text, ""),
-            "{first:?}, {second:?}"
-        );
+// Whether `compare` gives this answer.
+fn compares(memory: Memory, pair: &Pair) -> bool {
+    let (first, second, status, text) = pair;
+    match behind_one_another(memory.alloc, first, second) {
+        Ok(input) => memory.gives_at(&["compare"], &input, *status, text, ""),
+        Err(_) => !memory.is_ample,
     }
+}
+
+fn comparisons<A: Abort>(rt: &A, memory: Memory) {
+    for pair in pairs() {
+        assert!(rt; compares(memory, pair), "{pair:?}");
+    }
+}
+
+// Whether a line refuses two lists.
+fn refuses(memory: Memory, line: &str, first: &[u8], second: &[u8], told: &str) -> bool {
+    match behind_one_another(memory.alloc, first, second) {
+        Ok(input) => memory.gives(line, &input, 2, b"", told),
+        Err(_) => !memory.is_ample,
+    }
+}
+
+fn refused_comparisons<A: Abort>(rt: &A, memory: Memory) {
     for (line, first, second, told) in &REFUSED_COMPARISONS {
-        let Ok(input) = behind_one_another(memory.alloc, first, second) else {
-            assert!(rt; !memory.is_ample);
-            continue;
-        };
         assert!(rt;
-            memory.gives(line, &input, 2, b"", told),
+            refuses(memory, line, first, second, told),
             "{line}: {first:?}, {second:?}"
         );
     }
 }
 
+fn all_tables<A: Abort>(rt: &A, memory: Memory) {
+    tables(rt, memory);
+    refusals(rt, memory);
+    comparisons(rt, memory);
+    refused_comparisons(rt, memory);
+}
+
 #[test]
 fn ample_rows(rt: HostRuntime) {
-    let memory = Memory::ample(rt.alloc());
-    tables(&rt, memory);
-    comparisons(&rt, memory);
+    all_tables(&rt, Memory::ample(rt.alloc()));
 }
 
 #[test]
 fn rows_where_memory_may_be_wanting(rt: HostRuntime) {
-    let memory = Memory::scarce(rt.alloc());
-    tables(&rt, memory);
-    comparisons(&rt, memory);
+    all_tables(&rt, Memory::scarce(rt.alloc()));
 }
 
 // ---- devices
@@ -354,21 +386,27 @@ fn fails_everywhere(alloc: Global, words: &[&str], input: &[u8], text: &[u8]) ->
     fails_at_each_read(alloc, words, input, 4) && fails_at_each_write(alloc, words, input, text)
 }
 
+fn row_fails_everywhere(alloc: Global, row: &Row) -> Result<bool, AllocError> {
+    let (line, input, text) = row;
+    let words = words_of(alloc, line)?;
+    Ok(fails_everywhere(alloc, words.as_slice(), input, text))
+}
+
+fn pair_fails_everywhere(alloc: Global, pair: &Pair) -> Result<bool, AllocError> {
+    let (first, second, _, text) = pair;
+    let input = behind_one_another(alloc, first, second)?;
+    Ok(fails_everywhere(alloc, &["compare"], &input, text))
+}
+
 #[test]
 fn ample_devices_fail(rt: HostRuntime) -> Result<(), Fail> {
-    for (line, input, text) in &ROWS {
-        let words = words_of(rt.alloc(), line)?;
-        assert!(rt;
-            fails_everywhere(rt.alloc(), words.as_slice(), input, text),
-            "{line}: {input:?}"
-        );
+    for part in &rows() {
+        for row in *part {
+            assert!(rt; row_fails_everywhere(rt.alloc(), row)?, "{row:?}");
+        }
     }
-    for (first, second, _, text) in &COMPARISONS {
-        let input = behind_one_another(rt.alloc(), first, second)?;
-        assert!(rt;
-            fails_everywhere(rt.alloc(), &["compare"], &input, text),
-            "{first:?}, {second:?}"
-        );
+    for pair in pairs() {
+        assert!(rt; pair_fails_everywhere(rt.alloc(), pair)?, "{pair:?}");
     }
     Ok(())
 }
@@ -377,10 +415,8 @@ fn ample_devices_fail(rt: HostRuntime) -> Result<(), Fail> {
 #[test]
 fn ample_normal_forms_again(rt: HostRuntime) {
     let memory = Memory::ample(rt.alloc());
-    for (line, _, text) in &ROWS {
-        if line.starts_with("normalize") {
-            assert!(rt; memory.gives(line, text, 0, text, ""), "{line}: {text:?}");
-        }
+    for (line, _, text) in &NORMAL_FORMS {
+        assert!(rt; memory.gives(line, text, 0, text, ""), "{line}: {text:?}");
     }
 }
 

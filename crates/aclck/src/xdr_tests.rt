@@ -56,8 +56,10 @@ const RETENTION: &[u8] = b"\0\0\0\x01\0\0\0\0\0\0\0\0\0\0\x02\0\0\0\0\x03bob\0";
 
 // ---- rows
 
-// Lines of words with an input and what is written.
-const ROWS: [(&str, &[u8], &[u8]); 14] = [
+// A line of words with an input and what is written.
+type Row = (&'static str, &'static [u8], &'static [u8]);
+
+const ROWS: [Row; 14] = [
     ("child --kind dir", FOR_FILES, WAITING),
     ("child --kind file", WAITING, ENDED),
     ("child --kind dir", FOR_FILES_ONCE, EMPTY),
@@ -77,6 +79,10 @@ const ROWS: [(&str, &[u8], &[u8]); 14] = [
     ("mode --profile full", RETENTION, b"000\n"),
     ("mode", EMPTY, b"000\n"),
 ];
+
+fn rows() -> &'static [Row] {
+    &ROWS
+}
 
 // Lines that are refused, or ask for nothing.
 const REFUSALS: [(&str, &[u8], u8, &str); 13] = [
@@ -111,9 +117,12 @@ const REFUSALS: [(&str, &[u8], u8, &str); 13] = [
 ];
 
 fn tables<A: Abort>(rt: &A, memory: Memory) {
-    for (line, input, text) in &ROWS {
+    for (line, input, text) in rows() {
         assert!(rt; memory.gives(line, input, 0, text, ""), "{line}: {input:?}");
     }
+}
+
+fn refusals<A: Abort>(rt: &A, memory: Memory) {
     for (line, input, status, told) in &REFUSALS {
         assert!(rt;
             memory.gives(line, input, *status, b"", told),
@@ -126,12 +135,14 @@ fn tables<A: Abort>(rt: &A, memory: Memory) {
 fn ample_rows(rt: HostRuntime) {
     let memory = Memory::ample(rt.alloc());
     tables(&rt, memory);
+    refusals(&rt, memory);
 }
 
 #[test]
 fn rows_where_memory_may_be_wanting(rt: HostRuntime) {
     let memory = Memory::scarce(rt.alloc());
     tables(&rt, memory);
+    refusals(&rt, memory);
 }
 
 // ---- devices
@@ -139,7 +150,7 @@ fn rows_where_memory_may_be_wanting(rt: HostRuntime) {
 // The source fails at each read in turn, of four bytes each, the one after the list too: nothing is written.
 #[test]
 fn ample_each_read_fails(rt: HostRuntime) -> Result<(), Fail> {
-    for (line, input, _) in &ROWS {
+    for (line, input, _) in rows() {
         let words = words_of(rt.alloc(), line)?;
         assert!(rt;
             fails_at_each_read(rt.alloc(), words.as_slice(), input, 4),
@@ -152,7 +163,7 @@ fn ample_each_read_fails(rt: HostRuntime) -> Result<(), Fail> {
 // The sink fails at each write in turn, of one byte each: what went out begins the text.
 #[test]
 fn ample_each_write_fails(rt: HostRuntime) -> Result<(), Fail> {
-    for (line, input, text) in &ROWS {
+    for (line, input, text) in rows() {
         let words = words_of(rt.alloc(), line)?;
         assert!(rt;
             fails_at_each_write(rt.alloc(), words.as_slice(), input, text),
