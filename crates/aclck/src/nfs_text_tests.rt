@@ -1,5 +1,4 @@
-use crate::runs::{Memory, fails_at_each_read, fails_at_each_write, words_of};
-use std::process::Abort;
+use crate::runs::{Memory, Row, fails_at_each_read, rows_fail_at_each_write, rows_hold};
 use std::test::Fail;
 
 // ALLOW GROUP READ_DATA GROUP@.
@@ -16,10 +15,6 @@ const TRAILED: &[u8] = b"\0\0\0\x01\0\0\0\0\0\0\0\0\0\0\0\x01\0\0\0\x09EVERYONE@
 
 // ALLOW INHERITED READ_DATA bob.
 const INHERITED: &[u8] = b"\0\0\0\x01\0\0\0\0\0\0\0\x80\0\0\0\x01\0\0\0\x03bob\0";
-
-// The rows of two tables: a line of words, an input, a status, and what goes out and to the errors. The proof of one
-// table takes longer than that of its halves.
-type Row = (&'static str, &'static [u8], u8, &'static [u8], &'static str);
 
 const TEXTS: [Row; 10] = [
     ("encode", b"", 0, b"\0\0\0\0", ""),
@@ -69,6 +64,10 @@ const TEXTS: [Row; 10] = [
         "",
     ),
 ];
+
+fn texts() -> &'static [Row] {
+    &TEXTS
+}
 
 const REFUSALS: [Row; 15] = [
     (
@@ -166,32 +165,22 @@ const REFUSALS: [Row; 15] = [
     ("show-nfs bob", b"\0\0\0\0", 3, b"", "aclck: usage\n"),
 ];
 
-fn texts() -> &'static [Row] {
-    &TEXTS
-}
-
-fn rows() -> [&'static [Row]; 2] {
-    [texts(), &REFUSALS]
-}
-
-fn table<A: Abort>(rt: &A, memory: Memory) {
-    for part in &rows() {
-        for (line, input, status, out, err) in *part {
-            assert!(rt; memory.gives(line, input, *status, out, err), "{line}");
-        }
-    }
+fn refusals() -> &'static [Row] {
+    &REFUSALS
 }
 
 #[test]
 fn ample_rows_of_nfs_texts(rt: HostRuntime) {
     let memory = Memory::ample(rt.alloc());
-    table(&rt, memory);
+    rows_hold(&rt, memory, texts());
+    rows_hold(&rt, memory, refusals());
 }
 
 #[test]
 fn rows_of_nfs_texts(rt: HostRuntime) {
     let memory = Memory::scarce(rt.alloc());
-    table(&rt, memory);
+    rows_hold(&rt, memory, texts());
+    rows_hold(&rt, memory, refusals());
 }
 
 // The source of `encode` fails at each read in turn, of eight bytes each: nothing is written.
@@ -204,12 +193,6 @@ fn ample_each_read_of_encode_fails(rt: HostRuntime) {
 // The sink fails at each write in turn, of one byte each: what went out begins the answer.
 #[test]
 fn ample_each_write_of_nfs_texts_fails(rt: HostRuntime) -> Result<(), Fail> {
-    for (line, input, _, text, _) in texts() {
-        let words = words_of(rt.alloc(), line)?;
-        assert!(rt;
-            fails_at_each_write(rt.alloc(), words.as_slice(), input, text),
-            "{line}"
-        );
-    }
+    rows_fail_at_each_write(&rt, rt.alloc(), texts())?;
     Ok(())
 }

@@ -1,4 +1,7 @@
-use crate::runs::{FINE, Memory, fails_at_each_read, fails_at_each_write, repeated, run, words_of};
+use crate::runs::{
+    FINE, Memory, Refused, Written, fails_at_each_read, fails_at_each_write, refusals_hold,
+    repeated, run, texts_fail_at_each_read, texts_fail_at_each_write, texts_hold,
+};
 use std::alloc::{AllocError, Global};
 use std::process::Abort;
 use std::test::Fail;
@@ -204,10 +207,8 @@ const REFUSED_COMPARISONS: [(&str, &[u8], &[u8], &str); 4] = [
     ("compare", EMPTY, b"", "aclck: Truncated at byte 4\n"),
 ];
 
-// A line of words with an input and what is written.
-type Row = (&'static str, &'static [u8], &'static [u8]);
-
-const NORMAL_FORMS: [Row; 15] = [
+// Lines of words with an input and what is written.
+const NORMAL_FORMS: [Written; 15] = [
     ("normalize", EMPTY, EMPTY),
     ("normalize", READ_OF_ALL, READ_OF_ALL),
     ("normalize", WITHOUT_BOB, READ_OF_ALICE),
@@ -225,7 +226,11 @@ const NORMAL_FORMS: [Row; 15] = [
     ("normalize --", NO_RIGHTS, EMPTY),
 ];
 
-const TABLES: [Row; 8] = [
+fn normal_forms() -> &'static [Written] {
+    &NORMAL_FORMS
+}
+
+const TABLES: [Written; 8] = [
     (
         "table --bit WRITE_DATA",
         BOB_AND_OWNER,
@@ -256,12 +261,12 @@ const TABLES: [Row; 8] = [
     ("table --bit DELETE", BOB_AND_OWNER, b""),
 ];
 
-fn rows() -> [&'static [Row]; 2] {
-    [&NORMAL_FORMS, &TABLES]
+fn tables() -> &'static [Written] {
+    &TABLES
 }
 
 // Lines that are refused, or ask for nothing.
-const REFUSALS: [(&str, &[u8], u8, &str); 12] = [
+const REFUSALS: [Refused; 12] = [
     (
         "normalize --profile narrow",
         RETENTION,
@@ -306,23 +311,6 @@ const REFUSALS: [(&str, &[u8], u8, &str); 12] = [
     ),
 ];
 
-fn tables<A: Abort>(rt: &A, memory: Memory) {
-    for part in &rows() {
-        for (line, input, text) in *part {
-            assert!(rt; memory.gives(line, input, 0, text, ""), "{line}: {input:?}");
-        }
-    }
-}
-
-fn refusals<A: Abort>(rt: &A, memory: Memory) {
-    for (line, input, status, told) in &REFUSALS {
-        assert!(rt;
-            memory.gives(line, input, *status, b"", told),
-            "{line}: {input:?}"
-        );
-    }
-}
-
 // Two lists, one behind the other.
 fn behind_one_another(alloc: Global, first: &[u8], second: &[u8]) -> Result<Vec<u8>, AllocError> {
     let mut input = Vec::from_slice(alloc, first)?;
@@ -363,8 +351,9 @@ fn refused_comparisons<A: Abort>(rt: &A, memory: Memory) {
 }
 
 fn all_tables<A: Abort>(rt: &A, memory: Memory) {
-    tables(rt, memory);
-    refusals(rt, memory);
+    texts_hold(rt, memory, normal_forms());
+    texts_hold(rt, memory, tables());
+    refusals_hold(rt, memory, &REFUSALS);
     comparisons(rt, memory);
     refused_comparisons(rt, memory);
 }
@@ -382,29 +371,22 @@ fn rows_where_memory_may_be_wanting(rt: HostRuntime) {
 // ---- devices
 
 // The source fails at each read in turn, of four bytes each, and then the sink at each write, of one byte each.
-fn fails_everywhere(alloc: Global, words: &[&str], input: &[u8], text: &[u8]) -> bool {
-    fails_at_each_read(alloc, words, input, 4) && fails_at_each_write(alloc, words, input, text)
-}
-
-fn row_fails_everywhere(alloc: Global, row: &Row) -> Result<bool, AllocError> {
-    let (line, input, text) = row;
-    let words = words_of(alloc, line)?;
-    Ok(fails_everywhere(alloc, words.as_slice(), input, text))
-}
-
 fn pair_fails_everywhere(alloc: Global, pair: &Pair) -> Result<bool, AllocError> {
     let (first, second, _, text) = pair;
     let input = behind_one_another(alloc, first, second)?;
-    Ok(fails_everywhere(alloc, &["compare"], &input, text))
+    let words = &["compare"];
+    Ok(
+        fails_at_each_read(alloc, words, &input, 4)
+            && fails_at_each_write(alloc, words, &input, text),
+    )
 }
 
 #[test]
 fn ample_devices_fail(rt: HostRuntime) -> Result<(), Fail> {
-    for part in &rows() {
-        for row in *part {
-            assert!(rt; row_fails_everywhere(rt.alloc(), row)?, "{row:?}");
-        }
-    }
+    texts_fail_at_each_read(&rt, rt.alloc(), normal_forms())?;
+    texts_fail_at_each_write(&rt, rt.alloc(), normal_forms())?;
+    texts_fail_at_each_read(&rt, rt.alloc(), tables())?;
+    texts_fail_at_each_write(&rt, rt.alloc(), tables())?;
     for pair in pairs() {
         assert!(rt; pair_fails_everywhere(rt.alloc(), pair)?, "{pair:?}");
     }
@@ -415,7 +397,7 @@ fn ample_devices_fail(rt: HostRuntime) -> Result<(), Fail> {
 #[test]
 fn ample_normal_forms_again(rt: HostRuntime) {
     let memory = Memory::ample(rt.alloc());
-    for (line, _, text) in &NORMAL_FORMS {
+    for (line, _, text) in normal_forms() {
         assert!(rt; memory.gives(line, text, 0, text, ""), "{line}: {text:?}");
     }
 }
@@ -423,15 +405,24 @@ fn ample_normal_forms_again(rt: HostRuntime) {
 // ALLOW - all rights EVERYONE@.
 const ALL_OF_ALL: &[u8] = b"\0\0\0\x01\0\0\0\0\0\0\0\0\0\x1f\x07\xff\0\0\0\x09EVERYONE@\0\0\0";
 
+// Whether so many of that ACE give this.
+fn normalizes(
+    alloc: Global,
+    count: u32,
+    status: u8,
+    text: &[u8],
+    told: &str,
+) -> Result<bool, AllocError> {
+    let list = repeated(alloc, count, ALL_OF_ALL.get(4..).unwrap_or(&[]))?;
+    let ran = run(alloc, &["normalize"], &list, FINE);
+    Ok(ran.is(status, text, told))
+}
+
 // The heaviest list of one ACE is that ACE once; a heavier one is none.
 #[test]
 fn ample_one_ace_many_times(rt: HostRuntime) -> Result<(), Fail> {
-    let ace = ALL_OF_ALL.get(4..).unwrap_or(&[]);
-    let list = repeated(rt.alloc(), 4096, ace)?;
-    let ran = run(rt.alloc(), &["normalize"], &list, FINE);
-    assert!(rt; ran.is(0, ALL_OF_ALL, ""));
-    let list = repeated(rt.alloc(), 4097, ace)?;
-    let ran = run(rt.alloc(), &["normalize"], &list, FINE);
-    assert!(rt; ran.is(2, b"", "aclck: TooHeavy at byte 114700\n"));
+    assert!(rt; normalizes(rt.alloc(), 4096, 0, ALL_OF_ALL, "")?);
+    let told = "aclck: TooHeavy at byte 114700\n";
+    assert!(rt; normalizes(rt.alloc(), 4097, 2, b"", told)?);
     Ok(())
 }

@@ -1,30 +1,27 @@
 use crate::command::command;
-use crate::runs::{
-    Calls, Devices, FINE, Memory, fails_at_each_read, fails_at_each_write, run, words_of,
-};
+use crate::runs::{Memory, Row, rows_fail_at_each_read, rows_fail_at_each_write, rows_hold};
 use acl_perm::Counted;
 use std::alloc::{AllocError, Global};
-use std::process::Abort;
 use std::test::Fail;
 
 // A text with a mask that cuts two of its entries.
-const MASKED: &str = "u::rw-,u:1001:rw-,g::r--,g:50:rw-,m::r--,o::r--";
+const MASKED: &[u8] = b"u::rw-,u:1001:rw-,g::r--,g:50:rw-,m::r--,o::r--";
 
 // Two groups that have what is asked for together, and not alone.
-const GROUPS: &str = "u::rwx,g::---,g:50:r--,g:60:-w-,m::rw-,o::---";
+const GROUPS: &[u8] = b"u::rwx,g::---,g:50:r--,g:60:-w-,m::rw-,o::---";
 
 // What getfacl prints, with a tab before the effective permissions.
-const PRINTED: &str =
-    "# file: reports\n# owner: alice\n# group: staff\nuser::rw-\nuser:bob:rwx\t#effective:r--\n\
+const PRINTED: &[u8] =
+    b"# file: reports\n# owner: alice\n# group: staff\nuser::rw-\nuser:bob:rwx\t#effective:r--\n\
     group::r--\nmask::r--\nother::---\ndefault:user::rwx\ndefault:group::r-x\ndefault:other::---\n\n";
 
 // A directory with a default ACL, and one without.
-const PARENT: &str = "u::rwx,g::r-x,o::---,d:u::rwx,d:u:5:rwx,d:g::r-x,d:m::rwx,d:o::r-x";
+const PARENT: &[u8] = b"u::rwx,g::r-x,o::---,d:u::rwx,d:u:5:rwx,d:g::r-x,d:m::rwx,d:o::r-x";
 
-const PLAIN: &str = "u::rwx,g::r-x,o::---";
+const PLAIN: &[u8] = b"u::rwx,g::r-x,o::---";
 
 // ALLOW read and write to OWNER@ and DENY the rest, ALLOW read to GROUP@ and DENY the rest, ALLOW read to EVERYONE@.
-const PLAIN_LIST: &str = "\0\0\0\x05\
+const PLAIN_LIST: &[u8] = b"\0\0\0\x05\
     \0\0\0\0\0\0\0\0\0\0\0\x07\0\0\0\x06OWNER@\0\0\
     \0\0\0\x01\0\0\0\0\0\0\0\x20\0\0\0\x06OWNER@\0\0\
     \0\0\0\0\0\0\0\0\0\0\0\x01\0\0\0\x06GROUP@\0\0\
@@ -32,7 +29,7 @@ const PLAIN_LIST: &str = "\0\0\0\x05\
     \0\0\0\0\0\0\0\0\0\0\0\x01\0\0\0\x09EVERYONE@\0\0\0";
 
 // Two groups that have read and write apart, and what each lacks denied after both.
-const GROUPS_LIST: &str = "\0\0\0\x06\
+const GROUPS_LIST: &[u8] = b"\0\0\0\x06\
     \0\0\0\0\0\0\0\0\0\0\0\x27\0\0\0\x06OWNER@\0\0\
     \0\0\0\0\0\0\0\x40\0\0\0\x01\0\0\0\x0250\0\0\
     \0\0\0\0\0\0\0\x40\0\0\0\x06\0\0\0\x0260\0\0\
@@ -41,45 +38,44 @@ const GROUPS_LIST: &str = "\0\0\0\x06\
     \0\0\0\x01\0\0\0\x40\0\0\0\x21\0\0\0\x0260\0\0";
 
 // The least and the greatest id, and what a mask leaves of them.
-const IDS_LIST: &str = "\0\0\0\x05\
+const IDS_LIST: &[u8] = b"\0\0\0\x05\
     \0\0\0\x01\0\0\0\0\0\0\0\x27\0\0\0\x06OWNER@\0\0\
     \0\0\0\0\0\0\0\0\0\0\0\x01\0\0\0\x010\0\0\0\
     \0\0\0\x01\0\0\0\0\0\0\0\x26\0\0\0\x010\0\0\0\
     \0\0\0\x01\0\0\0\0\0\0\0\x27\0\0\0\x06GROUP@\0\0\
     \0\0\0\x01\0\0\0\x40\0\0\0\x27\0\0\0\x0a4294967294\0\0";
 
-// A row of a table: a line of words, an input, a status, and what goes out and to the errors.
-type Row = (&'static str, &'static str, u8, &'static str, &'static str);
+// ---- rows
 
 // Of `bridge`.
 const BRIDGES: [Row; 6] = [
-    ("bridge", "u::rw-,g::r--,o::r--", 0, PLAIN_LIST, ""),
+    ("bridge", b"u::rw-,g::r--,o::r--", 0, PLAIN_LIST, ""),
     ("bridge", GROUPS, 0, GROUPS_LIST, ""),
     (
         "bridge u:root=0",
-        "u::,u:root:rwx,g::,g:4294967294:wx,m::r,o::,d:u::rwx,d:g::rwx,d:o::rwx",
+        b"u::,u:root:rwx,g::,g:4294967294:wx,m::r,o::,d:u::rwx,d:g::rwx,d:o::rwx",
         0,
         IDS_LIST,
         "",
     ),
     (
         "bridge",
-        "u::rwx,g::r-x,o::---,d:u::r",
+        b"u::rwx,g::r-x,o::---,d:u::r",
         2,
-        "",
+        b"",
         "aclck: Invalid default: Miss GROUP_OBJ\n",
     ),
-    ("bridge --profile full", PLAIN, 3, "", "aclck: usage\n"),
-    ("bridge bob=5", PLAIN, 3, "", "aclck: usage\n"),
+    ("bridge --profile full", PLAIN, 3, b"", "aclck: usage\n"),
+    ("bridge bob=5", PLAIN, 3, b"", "aclck: usage\n"),
 ];
 
 // Of the texts and the masks that are written.
 const TEXTS: [Row; 7] = [
     (
         "show-posix --form shown",
-        "u::rw-,u:5:rw-,g::r--,m::r--,o::---,d:u::rwx,d:u:5:rwx,d:g::r--,d:m::rwx,d:o::---",
+        b"u::rw-,u:5:rw-,g::r--,m::r--,o::---,d:u::rwx,d:u:5:rwx,d:g::r--,d:m::rwx,d:o::---",
         0,
-        "user::rw-\nuser:5:rw-\t#effective:r--\ngroup::r--\nmask::r--\nother::---\n\
+        b"user::rw-\nuser:5:rw-\t#effective:r--\ngroup::r--\nmask::r--\nother::---\n\
          default:user::rwx\ndefault:user:5:rwx\ndefault:group::r--\ndefault:mask::rwx\ndefault:other::---\n",
         "",
     ),
@@ -87,14 +83,14 @@ const TEXTS: [Row; 7] = [
         "show-posix",
         MASKED,
         0,
-        "user::rw-\nuser:1001:rw-\ngroup::r--\ngroup:50:rw-\nmask::r--\nother::r--\n",
+        b"user::rw-\nuser:1001:rw-\ngroup::r--\ngroup:50:rw-\nmask::r--\nother::r--\n",
         "",
     ),
     (
         "show-posix --form shown",
         MASKED,
         0,
-        "user::rw-\nuser:1001:rw-\t#effective:r--\ngroup::r--\n\
+        b"user::rw-\nuser:1001:rw-\t#effective:r--\ngroup::r--\n\
         group:50:rw-\t#effective:r--\nmask::r--\nother::r--\n",
         "",
     ),
@@ -102,28 +98,28 @@ const TEXTS: [Row; 7] = [
         "show-posix --form=short",
         MASKED,
         0,
-        "u::rw-,u:1001:rw-,g::r--,g:50:rw-,m::r--,o::r--\n",
+        b"u::rw-,u:1001:rw-,g::r--,g:50:rw-,m::r--,o::r--\n",
         "",
     ),
     (
         "chmod --mode 660",
         MASKED,
         0,
-        "user::rw-\nuser:1001:rw-\ngroup::r--\ngroup:50:rw-\nmask::rw-\nother::---\n",
+        b"user::rw-\nuser:1001:rw-\ngroup::r--\ngroup:50:rw-\nmask::rw-\nother::---\n",
         "",
     ),
     (
         "calc-mask",
         MASKED,
         0,
-        "user::rw-\nuser:1001:rw-\ngroup::r--\ngroup:50:rw-\nmask::rw-\nother::r--\n",
+        b"user::rw-\nuser:1001:rw-\ngroup::r--\ngroup:50:rw-\nmask::rw-\nother::r--\n",
         "",
     ),
     (
         "calc-mask",
         PLAIN,
         0,
-        "user::rwx\ngroup::r-x\nmask::r-x\nother::---\n",
+        b"user::rwx\ngroup::r-x\nmask::r-x\nother::---\n",
         "",
     ),
 ];
@@ -134,42 +130,42 @@ const CHECKS: [Row; 6] = [
         "check-posix --owner 1 --group 2 --user 3 --groups 50,60 --want rw",
         GROUPS,
         1,
-        "denied\n",
+        b"denied\n",
         "",
     ),
     (
         "check-posix --owner 1 --group 2 --user 3 --groups 50,060 --want r",
         GROUPS,
         0,
-        "granted\n",
+        b"granted\n",
         "",
     ),
     (
         "check-posix --owner 1 --group 2 --user 003 --groups 60 --want w",
         GROUPS,
         0,
-        "granted\n",
+        b"granted\n",
         "",
     ),
     (
         "check-posix --owner 1 --group 2 --user 3 --want none",
         GROUPS,
         0,
-        "granted\n",
+        b"granted\n",
         "",
     ),
     (
         "check-posix --owner 1 --group 2 --user 1 --want xwr",
         GROUPS,
         0,
-        "granted\n",
+        b"granted\n",
         "",
     ),
     (
         "check-posix --owner 1 --group 2 --user 3 --want r",
-        "u::r,g::r,o::r,d:u::r",
+        b"u::r,g::r,o::r,d:u::r",
         2,
-        "",
+        b"",
         "aclck: Invalid default: Miss GROUP_OBJ\n",
     ),
 ];
@@ -180,7 +176,7 @@ const NAMES: [Row; 4] = [
         "show-posix u:bob=1002",
         PRINTED,
         0,
-        "user::rw-\nuser:1002:rwx\ngroup::r--\nmask::r--\nother::---\n\
+        b"user::rw-\nuser:1002:rwx\ngroup::r--\nmask::r--\nother::---\n\
         default:user::rwx\ndefault:group::r-x\ndefault:other::---\n",
         "",
     ),
@@ -188,21 +184,21 @@ const NAMES: [Row; 4] = [
         "show-posix",
         PRINTED,
         2,
-        "",
+        b"",
         "aclck: UnknownName at line 5 column 6\n",
     ),
     (
         "show-posix g:bob=1002",
         PRINTED,
         2,
-        "",
+        b"",
         "aclck: UnknownName at line 5 column 6\n",
     ),
     (
         "show-posix u:a=b=5 g:a=b=6",
-        "u::r,u:a=b:w,g::x,m::,o::",
+        b"u::r,u:a=b:w,g::x,m::,o::",
         0,
-        "user::r--\nuser:5:-w-\ngroup::--x\nmask::---\nother::---\n",
+        b"user::r--\nuser:5:-w-\ngroup::--x\nmask::---\nother::---\n",
         "",
     ),
 ];
@@ -211,100 +207,100 @@ const NAMES: [Row; 4] = [
 const FAULTS: [Row; 14] = [
     (
         "show-posix",
-        "u::rw-,u:7:r--,g::r--,o::---",
+        b"u::rw-,u:7:r--,g::r--,o::---",
         2,
-        "",
+        b"",
         "aclck: Invalid access: Miss MASK\n",
     ),
     (
         "show-posix",
-        "u::rw-,g::r--,m::r--,m::r--,o::---",
+        b"u::rw-,g::r--,m::r--,m::r--,o::---",
         2,
-        "",
+        b"",
         "aclck: Invalid access: Multi at entry 3\n",
     ),
     (
         "show-posix",
-        "u::rw-,u:7:r--,u:007:r--,g::r--,m::r--,o::---",
+        b"u::rw-,u:7:r--,u:007:r--,g::r--,m::r--,o::---",
         2,
-        "",
+        b"",
         "aclck: Invalid access: Duplicate at entry 2\n",
     ),
     (
         "show-posix",
-        "u:4294967295:r--",
+        b"u:4294967295:r--",
         2,
-        "",
+        b"",
         "aclck: Id at line 1 column 3\n",
     ),
     (
         "show-posix",
-        "u::rw-,,o::r--",
+        b"u::rw-,,o::r--",
         2,
-        "",
+        b"",
         "aclck: EmptyEntry at line 1 column 8\n",
     ),
     (
         "show-posix",
-        "m:r--",
+        b"m:r--",
         2,
-        "",
+        b"",
         "aclck: Fields at line 1 column 1\n",
     ),
     (
         "show-posix",
-        "other:5:r--",
+        b"other:5:r--",
         2,
-        "",
+        b"",
         "aclck: Qualifier at line 1 column 7\n",
     ),
     (
         "show-posix",
-        "u::rr",
+        b"u::rr",
         2,
-        "",
+        b"",
         "aclck: Permission at line 1 column 4\n",
     ),
     (
         "show-posix",
-        "x::r",
+        b"x::r",
         2,
-        "",
+        b"",
         "aclck: Tag at line 1 column 1\n",
     ),
     (
         "show-posix",
-        "",
+        b"",
         2,
-        "",
+        b"",
         "aclck: Invalid access: Miss USER_OBJ\n",
     ),
     (
         "show-posix",
-        "user : : rw- # x\ng::,o::",
+        b"user : : rw- # x\ng::,o::",
         0,
-        "user::rw-\ngroup::---\nother::---\n",
+        b"user::rw-\ngroup::---\nother::---\n",
         "",
     ),
     (
         "show-posix",
-        "u::r w",
+        b"u::r w",
         2,
-        "",
+        b"",
         "aclck: Permission at line 1 column 4\n",
     ),
     (
         "show-posix",
-        "user::rw-\n\n  g::-- , ",
+        b"user::rw-\n\n  g::-- , ",
         2,
-        "",
+        b"",
         "aclck: EmptyEntry at line 3 column 11\n",
     ),
     (
         "show-posix",
-        "d:u::rwx",
+        b"d:u::rwx",
         2,
-        "",
+        b"",
         "aclck: Invalid access: Miss USER_OBJ\n",
     ),
 ];
@@ -315,14 +311,14 @@ const CHILDREN: [Row; 4] = [
         "create --mode 640 --umask 077",
         PARENT,
         0,
-        "user::rw-\nuser:5:rwx\ngroup::r-x\nmask::r--\nother::---\n",
+        b"user::rw-\nuser:5:rwx\ngroup::r-x\nmask::r--\nother::---\n",
         "",
     ),
     (
         "create --mode 640 --umask 077 --dir",
         PARENT,
         0,
-        "user::rw-\nuser:5:rwx\ngroup::r-x\nmask::r--\nother::---\n\
+        b"user::rw-\nuser:5:rwx\ngroup::r-x\nmask::r--\nother::---\n\
         default:user::rwx\ndefault:user:5:rwx\ndefault:group::r-x\ndefault:mask::rwx\ndefault:other::r-x\n",
         "",
     ),
@@ -330,140 +326,94 @@ const CHILDREN: [Row; 4] = [
         "create --mode 666 --umask 022",
         PLAIN,
         0,
-        "user::rw-\ngroup::r--\nother::r--\n",
+        b"user::rw-\ngroup::r--\nother::r--\n",
         "",
     ),
     (
         "create --mode 666 --umask 022 --dir",
         PLAIN,
         0,
-        "user::rw-\ngroup::r--\nother::r--\n",
+        b"user::rw-\ngroup::r--\nother::r--\n",
         "",
     ),
 ];
 
 // Of words that ask for nothing.
 const USAGE: [Row; 10] = [
-    ("create --mode 666", PLAIN, 3, "", "aclck: usage\n"),
-    ("show-posix u:12=5", PLAIN, 3, "", "aclck: usage\n"),
-    ("show-posix u:=5", PLAIN, 3, "", "aclck: usage\n"),
+    ("create --mode 666", PLAIN, 3, b"", "aclck: usage\n"),
+    ("show-posix u:12=5", PLAIN, 3, b"", "aclck: usage\n"),
+    ("show-posix u:=5", PLAIN, 3, b"", "aclck: usage\n"),
     (
         "show-posix u:bob=1 g:bob=1 u:bob=1",
         PLAIN,
         3,
-        "",
+        b"",
         "aclck: usage\n",
     ),
-    ("show-posix --form long", PLAIN, 3, "", "aclck: usage\n"),
+    ("show-posix --form long", PLAIN, 3, b"", "aclck: usage\n"),
     (
         "check-posix --owner 1 --group 2 --user 3 --groups 50,,60 --want r",
         PLAIN,
         3,
-        "",
+        b"",
         "aclck: usage\n",
     ),
     (
         "check-posix --owner +1 --group 2 --user 3 --want r",
         PLAIN,
         3,
-        "",
+        b"",
         "aclck: usage\n",
     ),
     (
         "check-posix --owner 4294967295 --group 2 --user 3 --want r",
         PLAIN,
         3,
-        "",
+        b"",
         "aclck: usage\n",
     ),
     (
         "check-posix --owner 1 --group 2 --user 3 --want rr",
         PLAIN,
         3,
-        "",
+        b"",
         "aclck: usage\n",
     ),
-    ("chmod --mode 00660", PLAIN, 3, "", "aclck: usage\n"),
+    ("chmod --mode 00660", PLAIN, 3, b"", "aclck: usage\n"),
 ];
 
-// All rows: the proof of a table grows with the square of its length, so there are some.
 fn rows() -> [&'static [Row]; 7] {
     [
         &BRIDGES, &TEXTS, &CHECKS, &NAMES, &FAULTS, &CHILDREN, &USAGE,
     ]
 }
 
-fn table<A: Abort>(rt: &A, memory: Memory) {
+#[test]
+fn ample_posix_rows(rt: HostRuntime) {
     for part in &rows() {
-        for (line, input, status, out, err) in *part {
-            assert!(rt;
-                memory.gives(line, input.as_bytes(), *status, out.as_bytes(), err),
-                "{line}: {input}"
-            );
-        }
+        rows_hold(&rt, Memory::ample(rt.alloc()), part);
     }
 }
 
 #[test]
-fn ample_posix_rows(rt: HostRuntime) {
-    let memory = Memory::ample(rt.alloc());
-    table(&rt, memory);
-}
-
-#[test]
 fn posix_rows(rt: HostRuntime) {
-    let memory = Memory::scarce(rt.alloc());
-    table(&rt, memory);
-}
-
-// Whether the source of a row may fail at each read in turn, of eight bytes each: nothing is written, and the words
-// that ask for nothing are told so all the same, and read nothing.
-fn is_read_told(alloc: Global, row: &Row) -> Result<bool, AllocError> {
-    let (line, input, status, _, _) = row;
-    let words = words_of(alloc, line)?;
-    Ok(if *status == 3 {
-        asks_for_nothing(alloc, words.as_slice(), input.as_bytes())
-    } else {
-        fails_at_each_read(alloc, words.as_slice(), input.as_bytes(), 8)
-    })
-}
-
-fn asks_for_nothing(alloc: Global, words: &[&str], input: &[u8]) -> bool {
-    let ran = run(
-        alloc,
-        words,
-        input,
-        Devices {
-            source: Calls::since(1, 8),
-            ..FINE
-        },
-    );
-    ran.is(3, b"", "aclck: usage\n") && ran.reads == 0
+    for part in &rows() {
+        rows_hold(&rt, Memory::scarce(rt.alloc()), part);
+    }
 }
 
 #[test]
 fn ample_each_read_fails(rt: HostRuntime) -> Result<(), Fail> {
     for part in &rows() {
-        for row in *part {
-            assert!(rt; is_read_told(rt.alloc(), row)?, "{}", row.0);
-        }
+        rows_fail_at_each_read(&rt, rt.alloc(), part)?;
     }
     Ok(())
-}
-
-// The sink fails at each write in turn, of one byte each: what went out begins the text.
-fn is_write_told(alloc: Global, row: &Row) -> Result<bool, AllocError> {
-    let (line, input, _, text, _) = row;
-    let words = words_of(alloc, line)?;
-    Ok(fails_at_each_write(alloc, words.as_slice(), input.as_bytes(), text.as_bytes()))
 }
 
 #[test]
 fn ample_each_write_fails(rt: HostRuntime) -> Result<(), Fail> {
     for part in &rows() {
-        for row in *part {
-            assert!(rt; is_write_told(rt.alloc(), row)?, "{}", row.0);
-        }
+        rows_fail_at_each_write(&rt, rt.alloc(), part)?;
     }
     Ok(())
 }
@@ -475,9 +425,14 @@ fn users(alloc: Global, count: u32, other: &str) -> Result<Vec<u8>, AllocError> 
     text.extend_from_slice(b"u::rw-\ng::r--\nm::rwx\n")?;
     text.extend_from_slice(other.as_bytes())?;
     for id in 0..count {
-        text.extend_from_slice(format!(in alloc; "\nu:{id}:r-x")?.as_bytes())?;
+        add_user(alloc, &mut text, id)?;
     }
     Ok(text)
+}
+
+fn add_user(alloc: Global, text: &mut Vec<u8>, id: u32) -> Result<(), AllocError> {
+    let line = format!(in alloc; "\nu:{id}:r-x")?;
+    text.extend_from_slice(line.as_bytes())
 }
 
 // The status of `bridge`, and what it writes.

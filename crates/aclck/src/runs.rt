@@ -5,6 +5,7 @@ use acl_perm::Counted;
 use std::alloc::{AllocError, Global};
 use std::io;
 use std::io::{Read, Write};
+use std::process::Abort;
 
 // Room for what a run writes, and for what it tells.
 const ROOM: usize = 256;
@@ -226,6 +227,44 @@ impl Memory {
     }
 }
 
+/// A line of words, an input, a status, and what goes out and to the errors.
+pub type Row = (&'static str, &'static [u8], u8, &'static [u8], &'static str);
+
+/// A line of words, an input, and what goes out.
+pub type Written = (&'static str, &'static [u8], &'static [u8]);
+
+/// A line of words, an input, a status from 2 on, and what goes to the errors.
+pub type Refused = (&'static str, &'static [u8], u8, &'static str);
+
+/// Each row gives what it says. The proof of a table grows with the square of its length, so tables come in parts.
+pub fn rows_hold<A: Abort>(rt: &A, memory: Memory, rows: &[Row]) {
+    for (line, input, status, out, err) in rows {
+        assert!(rt;
+            memory.gives(line, input, *status, out, err),
+            "{line}: {input:?}"
+        );
+    }
+}
+
+/// Each row gives what it says, with the status 0.
+pub fn texts_hold<A: Abort>(rt: &A, memory: Memory, rows: &[Written]) {
+    for (line, input, text) in rows {
+        assert!(rt; memory.gives(line, input, 0, text, ""), "{line}: {input:?}");
+    }
+}
+
+/// Each row is refused as it says, and nothing goes out.
+pub fn refusals_hold<A: Abort>(rt: &A, memory: Memory, rows: &[Refused]) {
+    for (line, input, status, err) in rows {
+        assert!(rt;
+            memory.gives(line, input, *status, b"", err),
+            "{line}: {input:?}"
+        );
+    }
+}
+
+// ---- devices that fail
+
 /// Whether the words tell of a source that fails at these calls as soon as it does.
 pub fn fails_at_read(alloc: Global, words: &[&str], input: &[u8], source: Calls) -> bool {
     let ran = run(alloc, words, input, Devices { source, ..FINE });
@@ -270,6 +309,103 @@ pub fn fails_at_each_write(alloc: Global, words: &[&str], input: &[u8], text: &[
         }
     }
     true
+}
+
+// The source of a line fails at each read in turn.
+fn line_fails_at_each_read(
+    alloc: Global,
+    line: &str,
+    input: &[u8],
+    step: usize,
+) -> Result<bool, AllocError> {
+    let words = words_of(alloc, line)?;
+    Ok(fails_at_each_read(alloc, words.as_slice(), input, step))
+}
+
+// The sink of a line fails at each write in turn.
+fn line_fails_at_each_write(
+    alloc: Global,
+    line: &str,
+    input: &[u8],
+    text: &[u8],
+) -> Result<bool, AllocError> {
+    let words = words_of(alloc, line)?;
+    Ok(fails_at_each_write(alloc, words.as_slice(), input, text))
+}
+
+/// The source of each row fails at each read in turn, of four bytes each, the one behind the input too: nothing is
+/// written.
+pub fn texts_fail_at_each_read<A: Abort>(
+    rt: &A,
+    alloc: Global,
+    rows: &[Written],
+) -> Result<(), AllocError> {
+    for (line, input, _) in rows {
+        assert!(rt;
+            line_fails_at_each_read(alloc, line, input, 4)?,
+            "{line}: {input:?}"
+        );
+    }
+    Ok(())
+}
+
+/// The sink of each row fails at each write in turn, of one byte each: what went out begins the text.
+pub fn texts_fail_at_each_write<A: Abort>(
+    rt: &A,
+    alloc: Global,
+    rows: &[Written],
+) -> Result<(), AllocError> {
+    for (line, input, text) in rows {
+        assert!(rt;
+            line_fails_at_each_write(alloc, line, input, text)?,
+            "{line}: {input:?}"
+        );
+    }
+    Ok(())
+}
+
+/// The source of each row fails at each read in turn, of eight bytes each, the one behind the input too: nothing is
+/// written, and the words that ask for nothing are told so all the same, and read nothing.
+pub fn rows_fail_at_each_read<A: Abort>(
+    rt: &A,
+    alloc: Global,
+    rows: &[Row],
+) -> Result<(), AllocError> {
+    for row in rows {
+        assert!(rt; row_fails_at_each_read(alloc, row)?, "{row:?}");
+    }
+    Ok(())
+}
+
+fn row_fails_at_each_read(alloc: Global, row: &Row) -> Result<bool, AllocError> {
+    let (line, input, status, _, _) = row;
+    if *status == 3 {
+        line_asks_for_nothing(alloc, line, input)
+    } else {
+        line_fails_at_each_read(alloc, line, input, 8)
+    }
+}
+
+fn line_asks_for_nothing(alloc: Global, line: &str, input: &[u8]) -> Result<bool, AllocError> {
+    let words = words_of(alloc, line)?;
+    let source = Calls::since(1, 8);
+    let ran = run(alloc, words.as_slice(), input, Devices { source, ..FINE });
+    Ok(ran.is(3, b"", "aclck: usage\n") && ran.reads == 0)
+}
+
+/// The sink of each row fails at each write in turn, of one byte each: what went out begins the text.
+pub fn rows_fail_at_each_write<A: Abort>(
+    rt: &A,
+    alloc: Global,
+    rows: &[Row],
+) -> Result<(), AllocError> {
+    for (line, input, _, text, _) in rows {
+        assert!(rt;
+            line_fails_at_each_write(alloc, line, input, text)?,
+            "{line}: {input:?}"
+        );
+    }
+    Ok(())
 }
 
 /// One ACE, some times over, as a list.

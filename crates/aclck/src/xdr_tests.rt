@@ -1,11 +1,13 @@
 use crate::answer::{Outcome, RunFault};
-use crate::runs::{Memory, fails_at_each_read, fails_at_each_write, words_of};
+use crate::runs::{
+    Memory, Refused, Written, refusals_hold, texts_fail_at_each_read, texts_fail_at_each_write,
+    texts_hold,
+};
 use crate::task::check_nfs::run_check_nfs;
 use acl_eval::{Object, Requester};
 use acl_nfs4::{Fault, Reason};
 use acl_perm::{Counted, Fused, Mask, Profile, Source};
 use std::alloc::Global;
-use std::process::Abort;
 use std::test::Fail;
 
 // ---- lists
@@ -56,10 +58,8 @@ const RETENTION: &[u8] = b"\0\0\0\x01\0\0\0\0\0\0\0\0\0\0\x02\0\0\0\0\x03bob\0";
 
 // ---- rows
 
-// A line of words with an input and what is written.
-type Row = (&'static str, &'static [u8], &'static [u8]);
-
-const ROWS: [Row; 14] = [
+// Lines of words with an input and what is written.
+const ROWS: [Written; 14] = [
     ("child --kind dir", FOR_FILES, WAITING),
     ("child --kind file", WAITING, ENDED),
     ("child --kind dir", FOR_FILES_ONCE, EMPTY),
@@ -80,12 +80,12 @@ const ROWS: [Row; 14] = [
     ("mode", EMPTY, b"000\n"),
 ];
 
-fn rows() -> &'static [Row] {
+fn rows() -> &'static [Written] {
     &ROWS
 }
 
 // Lines that are refused, or ask for nothing.
-const REFUSALS: [(&str, &[u8], u8, &str); 13] = [
+const REFUSALS: [Refused; 13] = [
     (
         "child --kind file --profile narrow",
         OF_THE_GROUP,
@@ -116,60 +116,35 @@ const REFUSALS: [(&str, &[u8], u8, &str); 13] = [
     ("mode --kind file", EMPTY, 3, "aclck: usage\n"),
 ];
 
-fn tables<A: Abort>(rt: &A, memory: Memory) {
-    for (line, input, text) in rows() {
-        assert!(rt; memory.gives(line, input, 0, text, ""), "{line}: {input:?}");
-    }
-}
-
-fn refusals<A: Abort>(rt: &A, memory: Memory) {
-    for (line, input, status, told) in &REFUSALS {
-        assert!(rt;
-            memory.gives(line, input, *status, b"", told),
-            "{line}: {input:?}"
-        );
-    }
+fn refusals() -> &'static [Refused] {
+    &REFUSALS
 }
 
 #[test]
 fn ample_rows(rt: HostRuntime) {
     let memory = Memory::ample(rt.alloc());
-    tables(&rt, memory);
-    refusals(&rt, memory);
+    texts_hold(&rt, memory, rows());
+    refusals_hold(&rt, memory, refusals());
 }
 
 #[test]
 fn rows_where_memory_may_be_wanting(rt: HostRuntime) {
     let memory = Memory::scarce(rt.alloc());
-    tables(&rt, memory);
-    refusals(&rt, memory);
+    texts_hold(&rt, memory, rows());
+    refusals_hold(&rt, memory, refusals());
 }
 
 // ---- devices
 
-// The source fails at each read in turn, of four bytes each, the one after the list too: nothing is written.
 #[test]
 fn ample_each_read_fails(rt: HostRuntime) -> Result<(), Fail> {
-    for (line, input, _) in rows() {
-        let words = words_of(rt.alloc(), line)?;
-        assert!(rt;
-            fails_at_each_read(rt.alloc(), words.as_slice(), input, 4),
-            "{line}"
-        );
-    }
+    texts_fail_at_each_read(&rt, rt.alloc(), rows())?;
     Ok(())
 }
 
-// The sink fails at each write in turn, of one byte each: what went out begins the text.
 #[test]
 fn ample_each_write_fails(rt: HostRuntime) -> Result<(), Fail> {
-    for (line, input, text) in rows() {
-        let words = words_of(rt.alloc(), line)?;
-        assert!(rt;
-            fails_at_each_write(rt.alloc(), words.as_slice(), input, text),
-            "{line}"
-        );
-    }
+    texts_fail_at_each_write(&rt, rt.alloc(), rows())?;
     Ok(())
 }
 
