@@ -381,15 +381,27 @@ fn pair_fails_everywhere(alloc: Global, pair: &Pair) -> Result<bool, AllocError>
     )
 }
 
+fn texts_fail_everywhere<A: Abort>(
+    rt: &A,
+    alloc: Global,
+    rows: &[Written],
+) -> Result<(), AllocError> {
+    texts_fail_at_each_read(rt, alloc, rows)?;
+    texts_fail_at_each_write(rt, alloc, rows)
+}
+
+fn pairs_fail_everywhere<A: Abort>(rt: &A, alloc: Global) -> Result<(), AllocError> {
+    for pair in pairs() {
+        assert!(rt; pair_fails_everywhere(alloc, pair)?, "{pair:?}");
+    }
+    Ok(())
+}
+
 #[test]
 fn ample_devices_fail(rt: HostRuntime) -> Result<(), Fail> {
-    texts_fail_at_each_read(&rt, rt.alloc(), normal_forms())?;
-    texts_fail_at_each_write(&rt, rt.alloc(), normal_forms())?;
-    texts_fail_at_each_read(&rt, rt.alloc(), tables())?;
-    texts_fail_at_each_write(&rt, rt.alloc(), tables())?;
-    for pair in pairs() {
-        assert!(rt; pair_fails_everywhere(rt.alloc(), pair)?, "{pair:?}");
-    }
+    texts_fail_everywhere(&rt, rt.alloc(), normal_forms())?;
+    texts_fail_everywhere(&rt, rt.alloc(), tables())?;
+    pairs_fail_everywhere(&rt, rt.alloc())?;
     Ok(())
 }
 

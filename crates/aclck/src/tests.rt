@@ -273,7 +273,8 @@ fn ample_heavy_lists(rt: HostRuntime) -> Result<(), Fail> {
     for (count, row) in &HEAVY {
         assert!(rt;
             gives_repeated(memory, row, *count)?,
-            "{count} times {row:?}"
+            "{count} ACEs: {}",
+            row.0
         );
     }
     Ok(())
