@@ -145,53 +145,83 @@ fn ample_lists_for_acls(rt: HostRuntime) {
     assert!(rt; lists(&rt, rt.alloc()).is_ok());
 }
 
+// Whether user 3, in the groups 50 and 60, passes the check of an object of user 1 and group 2.
+fn is_checked(acl: &PosixAcl, want: u8) -> Option<bool> {
+    let groups = [Id::new(50)?, Id::new(60)?];
+    let (owner, group, user) = (Id::new(1)?, Id::new(2)?, Id::new(3)?);
+    Some(acl.check(owner, group, user, &groups, Perm::new(want)?))
+}
+
+// Whether the list grants it.
+fn is_listed(list: &Acl, mask: u32) -> Option<bool> {
+    let object = Object::new(b"1", b"2")?;
+    let requester = Requester::new(b"3", &[b"50", b"60"])?;
+    Some(grants(list.aces(), &object, &requester, Mask::new(mask)?))
+}
+
+// Permissions, the rights of the same, and whether the check and the list grant them.
+static REQUESTS: [(u8, u32, bool, bool); 4] = [
+    (6, 0x07, false, true),
+    (4, 0x01, true, true),
+    (2, 0x06, true, true),
+    (1, 0x20, false, false),
+];
+
 // Two groups that have read and write apart are denied both at once by the check, and granted them by the list.
 #[test]
 fn ample_more_at_once(rt: HostRuntime) -> Result<(), Fail> {
     let acl = acl_of(rt.alloc(), &TWO_GROUPS)?;
     let list = bridge(rt.alloc(), &acl)?;
-    let id = |number| Id::new(number).ok_or("an id");
-    let groups = [id(50)?, id(60)?];
-    let names: [&[u8]; 2] = [b"50", b"60"];
-    let object = Object::new(b"1", b"2").ok_or("a name is empty")?;
-    let requester = Requester::new(b"3", &names).ok_or("a name is empty")?;
-    for (want, mask, is_checked, is_granted) in [
-        (6, 0x07, false, true),
-        (4, 0x01, true, true),
-        (2, 0x06, true, true),
-        (1, 0x20, false, false),
-    ] {
-        let perm = Perm::new(want).ok_or("permissions")?;
-        let mask = Mask::new(mask).ok_or("rights")?;
-        let checked = acl.check(id(1)?, id(2)?, id(3)?, &groups, perm);
-        assert_eq!(rt; checked, is_checked, "the check of {want}");
-        let granted = grants(list.aces(), &object, &requester, mask);
-        assert_eq!(rt; granted, is_granted, "the list at {want}");
+    for (want, mask, checked, granted) in REQUESTS {
+        assert!(rt;
+            is_checked(&acl, want) == Some(checked),
+            "the check of {want}"
+        );
+        assert!(rt;
+            is_listed(&list, mask) == Some(granted),
+            "the list at {want}"
+        );
     }
     Ok(())
+}
+
+fn push_row(entries: &mut Vec<Entry>, row: Row) -> Result<(), Fail> {
+    let entry = entry_of(row).ok_or("an entry")?;
+    entries.push(entry)?;
+    Ok(())
+}
+
+// So many users, and the four entries without a qualifier, with these permissions of OTHER.
+fn crowd(alloc: Global, users: u32, other: u8) -> Result<Vec<Entry>, Fail> {
+    let mut entries = Vec::new(alloc);
+    for row in [
+        (Class::Owner, 0, 6),
+        (Class::OwningGroup, 0, 4),
+        (Class::Mask, 0, 7),
+        (Class::Other, 0, other),
+    ] {
+        push_row(&mut entries, row)?;
+    }
+    for id in 0..users {
+        push_row(&mut entries, (Class::User, id, 5))?;
+    }
+    Ok(entries)
+}
+
+fn judge_limit(rt: &impl Abort, alloc: Global, acl: &PosixAcl, is_within: bool) {
+    match bridge(alloc, acl) {
+        Ok(list) => assert!(rt; is_within && list.weight() == 65536),
+        Err(fault) => assert!(rt; !is_within && fault == BridgeFault::Limits),
+    }
 }
 
 // USER_OBJ, GROUP_OBJ and each USER cost four bits: 16,382 users fill a list.
 #[test]
 fn ample_limits(rt: HostRuntime) -> Result<(), Fail> {
     for (users, other, is_within) in [(16382u32, 0, true), (16382, 4, false), (16383, 0, false)] {
-        let mut entries = Vec::new(rt.alloc());
-        for row in [
-            (Class::Owner, 0, 6),
-            (Class::OwningGroup, 0, 4),
-            (Class::Mask, 0, 7),
-            (Class::Other, 0, other),
-        ] {
-            entries.push(entry_of(row).ok_or("an entry")?)?;
-        }
-        for id in 0..users {
-            entries.push(entry_of((Class::User, id, 5)).ok_or("an entry")?)?;
-        }
+        let entries = crowd(rt.alloc(), users, other)?;
         let acl = PosixAcl::from_entries(rt.alloc(), entries)?;
-        match bridge(rt.alloc(), &acl) {
-            Ok(list) => assert!(rt; is_within && list.weight() == 65536, "{users} users"),
-            Err(fault) => assert!(rt; !is_within && fault == BridgeFault::Limits, "{users} users"),
-        }
+        judge_limit(&rt, rt.alloc(), &acl, is_within);
     }
     Ok(())
 }

@@ -1,7 +1,6 @@
 use super::*;
 use acl_nfs4::AclView;
 use acl_perm::Mask;
-use std::test::Fail;
 
 const NONE: &[u8; 4] = b"\0\0\0\0";
 
@@ -29,86 +28,81 @@ const LONG_NAMES: &[u8; 68] = b"\0\0\0\x02\
     \0\0\0\x01\0\0\0\0\0\0\0\x01\0\0\0\x0dx-long-name@a\0\0\0\
     \0\0\0\0\0\0\0\0\0\0\0\x01\0\0\0\x0dy-long-name@a\0\0\0";
 
-fn is_granted(
-    bytes: &[u8],
-    owner: &str,
-    requester: &Requester<'_>,
-    bits: u32,
-) -> Result<bool, Fail> {
-    let list = AclView::parse_whole(bytes)?;
-    let object = Object::new(owner.as_bytes(), b"staff").ok_or("names")?;
-    let mask = Mask::new(bits).ok_or("rights")?;
-    Ok(grants(list.aces(), &object, requester, mask))
+fn is_granted(bytes: &[u8], owner: &str, user: &str, groups: &[&[u8]], bits: u32) -> Option<bool> {
+    let list = AclView::parse_whole(bytes).ok()?;
+    let object = Object::new(owner.as_bytes(), b"staff")?;
+    let requester = Requester::new(user.as_bytes(), groups)?;
+    Some(grants(list.aces(), &object, &requester, Mask::new(bits)?))
 }
 
-#[test]
-fn the_first_match_decides(rt: HostRuntime) -> Result<(), Fail> {
-    let rows: [(&[u8], &str, &str, u32, bool); 11] = [
-        (THREE, "bob", "bob", 2, false),
-        (THREE, "alice", "alice", 2, true),
-        // What was allowed is not denied by a later ACE.
-        (THREE, "bob", "bob", 1, true),
-        // Both bits of a request, by two ACEs, and one of them denied.
-        (THREE, "alice", "alice", 3, true),
-        (THREE, "bob", "bob", 3, false),
-        // A bit that no ACE decides.
-        (THREE, "alice", "alice", 7, false),
-        (THREE, "alice", "bob", 1, false),
-        // The empty request.
-        (THREE, "alice", "bob", 0, true),
-        (NONE, "alice", "alice", 0, true),
-        (NONE, "alice", "alice", 1, false),
-        (INHERIT_ONLY, "bob", "alice", 1, false),
-    ];
-    for (bytes, owner, user, bits, granted) in rows {
-        let requester = Requester::new(user.as_bytes(), &[b"staff"]).ok_or("names")?;
-        let answer = is_granted(bytes, owner, &requester, bits)?;
-        assert_eq!(rt; answer, granted, "{user} of {owner}, {bits}");
-    }
-    Ok(())
-}
+// A list, the owner, the requester, who is in the group staff, the rights, and whether they are granted.
+static REQUESTS: [(&[u8], &str, &str, u32, bool); 11] = [
+    (THREE, "bob", "bob", 2, false),
+    (THREE, "alice", "alice", 2, true),
+    // What was allowed is not denied by a later ACE.
+    (THREE, "bob", "bob", 1, true),
+    // Both bits of a request, by two ACEs, and one of them denied.
+    (THREE, "alice", "alice", 3, true),
+    (THREE, "bob", "bob", 3, false),
+    // A bit that no ACE decides.
+    (THREE, "alice", "alice", 7, false),
+    (THREE, "alice", "bob", 1, false),
+    // The empty request.
+    (THREE, "alice", "bob", 0, true),
+    (NONE, "alice", "alice", 0, true),
+    (NONE, "alice", "alice", 1, false),
+    (INHERIT_ONLY, "bob", "alice", 1, false),
+];
 
 #[test]
-fn names_say_who_is_meant(rt: HostRuntime) -> Result<(), Fail> {
-    let rows: [(&[u8], &str, &str, &[&[u8]], bool); 16] = [
-        // A user and an owner that are named like OWNER@.
-        (THREE, "bob", "OWNER@", &[], false),
-        (THREE, "OWNER@", "OWNER@", &[], true),
-        // The owning group, staff, is one that the requester names, also twice, and never its own by itself.
-        (OWNING_GROUP, "bob", "alice", &[b"staff"], true),
-        (
-            OWNING_GROUP,
-            "bob",
-            "alice",
-            &[b"users", b"staff", b"staff"],
-            true,
-        ),
-        (OWNING_GROUP, "bob", "alice", &[b"GROUP@"], false),
-        (OWNING_GROUP, "bob", "alice", &[], false),
-        (OWNING_GROUP, "bob", "GROUP@", &[], false),
-        // Users and groups are apart, and so are names that begin or end alike.
-        (GROUP_NAMED, "bob", "alice", &[b"staff", b"users"], false),
-        (GROUP_NAMED, "bob", "alice", &[b"users", b"users"], false),
-        (
-            GROUP_NAMED,
-            "bob",
-            "alice",
-            &[b"staff", b"superusers", b"use"],
-            true,
-        ),
-        (GROUP_NAMED, "bob", "users", &[], true),
-        (GROUP_NAMED, "bob", "alice", &[b"guest"], true),
-        (LONG_NAMES, "bob", "x-long-name@a", &[], false),
-        (LONG_NAMES, "bob", "y-long-name@a", &[], true),
-        (LONG_NAMES, "bob", "z-long-name@a", &[], false),
-        (LONG_NAMES, "bob", "long-name@a", &[], false),
-    ];
-    for (bytes, owner, user, groups, granted) in rows {
-        let requester = Requester::new(user.as_bytes(), groups).ok_or("names")?;
-        let answer = is_granted(bytes, owner, &requester, 1)?;
-        assert_eq!(rt; answer, granted, "{user} of {owner}");
+fn the_first_match_decides(rt: HostRuntime) {
+    for (bytes, owner, user, bits, granted) in REQUESTS {
+        let answer = is_granted(bytes, owner, user, &[b"staff"], bits);
+        assert!(rt; answer == Some(granted), "{user} of {owner}, {bits}");
     }
-    Ok(())
+}
+
+// A list, the owner, the requester and its groups, and whether READ_DATA is granted.
+static NAMES: [(&[u8], &str, &str, &[&[u8]], bool); 16] = [
+    // A user and an owner that are named like OWNER@.
+    (THREE, "bob", "OWNER@", &[], false),
+    (THREE, "OWNER@", "OWNER@", &[], true),
+    // The owning group, staff, is one that the requester names, also twice, and never its own by itself.
+    (OWNING_GROUP, "bob", "alice", &[b"staff"], true),
+    (
+        OWNING_GROUP,
+        "bob",
+        "alice",
+        &[b"users", b"staff", b"staff"],
+        true,
+    ),
+    (OWNING_GROUP, "bob", "alice", &[b"GROUP@"], false),
+    (OWNING_GROUP, "bob", "alice", &[], false),
+    (OWNING_GROUP, "bob", "GROUP@", &[], false),
+    // Users and groups are apart, and so are names that begin or end alike.
+    (GROUP_NAMED, "bob", "alice", &[b"staff", b"users"], false),
+    (GROUP_NAMED, "bob", "alice", &[b"users", b"users"], false),
+    (
+        GROUP_NAMED,
+        "bob",
+        "alice",
+        &[b"staff", b"superusers", b"use"],
+        true,
+    ),
+    (GROUP_NAMED, "bob", "users", &[], true),
+    (GROUP_NAMED, "bob", "alice", &[b"guest"], true),
+    (LONG_NAMES, "bob", "x-long-name@a", &[], false),
+    (LONG_NAMES, "bob", "y-long-name@a", &[], true),
+    (LONG_NAMES, "bob", "z-long-name@a", &[], false),
+    (LONG_NAMES, "bob", "long-name@a", &[], false),
+];
+
+#[test]
+fn names_say_who_is_meant(rt: HostRuntime) {
+    for (bytes, owner, user, groups, granted) in NAMES {
+        let answer = is_granted(bytes, owner, user, groups, 1);
+        assert!(rt; answer == Some(granted), "{user} of {owner}");
+    }
 }
 
 #[test]
