@@ -137,21 +137,32 @@ fn ample_copies(rt: HostRuntime) {
     assert!(rt; copies(&rt, rt.alloc()).is_ok());
 }
 
+fn viewed(
+    rt: &impl Abort,
+    alloc: Global,
+    rows: &[Row],
+    bytes: &[u8],
+    expected: &Acl,
+) -> Result<(), PushFault> {
+    let Ok(view) = AclView::parse_whole(bytes) else {
+        assert!(rt; false, "a list");
+        return Ok(());
+    };
+    let list = kept(Acl::from_view(alloc, &view))?;
+    assert!(rt; list == *expected);
+    assert!(rt; list.len() == rows.len());
+    assert!(rt; list.weight() == expected.weight());
+    assert!(rt; shows(list.aces(), rows));
+    assert!(rt; shows(view.aces(), rows));
+    Ok(())
+}
+
 // A list from a view is what the view shows.
 fn views(rt: &impl Abort, alloc: Global) -> Result<(), PushFault> {
     for rows in LISTS {
         let bytes = kept(spelled(alloc, rows))?;
         let expected = built(alloc, rows)?;
-        let view = AclView::parse_whole(&bytes);
-        assert!(rt; view.is_ok());
-        if let Ok(view) = view {
-            let list = kept(Acl::from_view(alloc, &view))?;
-            assert!(rt; list == expected);
-            assert_eq!(rt; list.len(), rows.len());
-            assert_eq!(rt; list.weight(), expected.weight());
-            assert!(rt; shows(list.aces(), rows));
-            assert!(rt; shows(view.aces(), rows));
-        }
+        viewed(rt, alloc, rows, &bytes, &expected)?;
     }
     Ok(())
 }
@@ -181,7 +192,7 @@ fn pushed(
         if pushed == Err(PushFault::Memory) {
             return pushed;
         }
-        assert_eq!(rt; pushed, answer);
+        assert!(rt; pushed == answer);
         let both = [EVERYONE, row];
         let (after, _) = both.split_at(if answer.is_ok() { 2 } else { 1 });
         assert!(rt; shows(list.aces(), after));
@@ -223,31 +234,39 @@ fn a_name_that_begins_like_the_owner_is_a_user(rt: HostRuntime) {
     let Some(ace) = item((Kind::Allow, 0, 1, b"OWNER@x")) else {
         return;
     };
-    assert_eq!(rt; ace.principal(), Principal::User(b"OWNER@x"));
+    assert!(rt; ace.principal() == Principal::User(b"OWNER@x"));
 }
 
-// Which profiles a list fits: the full one, the narrow one, and one of no right and no flag.
+// Flags and a mask, and which profiles a list with them fits: the full one, the narrow one, and one of no right and no
+// flag.
+static PROFILES: [(u32, u32, [bool; 3]); 8] = [
+    (0, 0, [true, true, true]),
+    (0, 1, [true, true, false]),
+    (0x01, 0, [true, true, false]),
+    (0, 0x200, [true, false, false]),
+    (0, 0x400, [true, false, false]),
+    (0x80, 1, [true, false, false]),
+    (0x40, 1, [true, true, false]),
+    (0x7f, 0x001f_01ff, [true, true, false]),
+];
+
+fn fitted(list: &Acl) -> [bool; 3] {
+    [
+        list.fits(Profile::FULL),
+        list.fits(Profile::NARROW),
+        list.fits(Profile::new(Mask::NONE, Flags::NONE)),
+    ]
+}
+
 fn fitting(rt: &impl Abort, alloc: Global) -> Result<(), PushFault> {
-    let rows: [(u32, u32, [bool; 3]); 8] = [
-        (0, 0, [true, true, true]),
-        (0, 1, [true, true, false]),
-        (0x01, 0, [true, true, false]),
-        (0, 0x200, [true, false, false]),
-        (0, 0x400, [true, false, false]),
-        (0x80, 1, [true, false, false]),
-        (0x40, 1, [true, true, false]),
-        (0x7f, 0x001f_01ff, [true, true, false]),
-    ];
-    let none = Profile::new(Mask::NONE, Flags::NONE);
-    for (flags, mask, [full, narrow, no]) in rows {
-        let list = built(
-            alloc,
-            &[(Kind::Allow, 0, 0, b"a"), (Kind::Deny, flags, mask, b"b")],
-        )?;
-        assert_eq!(rt; list.len(), 2);
-        assert_eq!(rt; list.fits(Profile::FULL), full, "{flags} {mask}");
-        assert_eq!(rt; list.fits(Profile::NARROW), narrow, "{flags} {mask}");
-        assert_eq!(rt; list.fits(none), no, "{flags} {mask}");
+    for (flags, mask, profiles) in PROFILES {
+        let rows = [
+            (Kind::Allow, 0, 0, b"a".as_slice()),
+            (Kind::Deny, flags, mask, b"b"),
+        ];
+        let list = built(alloc, &rows)?;
+        assert!(rt; list.len() == 2);
+        assert!(rt; fitted(&list) == profiles, "{flags} {mask}");
     }
     Ok(())
 }
@@ -273,62 +292,89 @@ fn repeated(alloc: Global, count: u32, row: Row) -> Result<Acl, PushFault> {
     Ok(list)
 }
 
+// What a list answers to an ACE of this mask whose who is empty.
+fn pushed_nameless(list: &mut Acl, mask: u32) -> Option<Result<(), PushFault>> {
+    let ace = item((Kind::Allow, 0, mask, b""))?;
+    Some(list.push(ace))
+}
+
+fn copied(rt: &impl Abort, alloc: Global, list: &Acl) -> Result<(), AllocError> {
+    let copy = list.copy(alloc)?;
+    assert!(rt; copy == *list);
+    Ok(())
+}
+
 // What is judged before the who: the number of ACEs, and then the weight.
 #[test]
-fn ample_memory_for_full_lists(rt: HostRuntime) -> Result<(), Fail> {
+fn ample_memory_for_full_lists(rt: HostRuntime) -> Result<(), PushFault> {
     let mut list = repeated(rt.alloc(), 65_536, (Kind::Allow, 0, 0, b"a"))?;
-    let nameless = item((Kind::Allow, 0, 1, b"")).ok_or("an ACE")?;
-    assert_eq!(rt; list.push(nameless), Err(PushFault::TooManyAces));
-    assert_eq!(rt; list.len(), 65_536);
-    assert_eq!(rt; list.weight(), 0);
-    let copy = list.copy(rt.alloc())?;
-    assert!(rt; copy == list);
-    let mut heavy = repeated(rt.alloc(), 4_096, (Kind::Allow, 0, 0x001f_07ff, b"a"))?;
-    assert_eq!(rt; heavy.weight(), 65_536);
-    assert_eq!(rt; heavy.push(nameless), Err(PushFault::TooHeavy));
-    let empty = item((Kind::Allow, 0, 0, b"")).ok_or("an ACE")?;
-    assert_eq!(rt; heavy.push(empty), Err(PushFault::WhoLength));
-    assert_eq!(rt; heavy.len(), 4_096);
+    assert!(rt; pushed_nameless(&mut list, 1) == Some(Err(PushFault::TooManyAces)));
+    assert!(rt; list.len() == 65_536);
+    assert!(rt; list.weight() == 0);
+    assert!(rt; copied(&rt, rt.alloc(), &list).is_ok());
+    heavy_list(&rt, rt.alloc())
+}
+
+fn heavy_list(rt: &impl Abort, alloc: Global) -> Result<(), PushFault> {
+    let mut heavy = repeated(alloc, 4_096, (Kind::Allow, 0, 0x001f_07ff, b"a"))?;
+    assert!(rt; heavy.weight() == 65_536);
+    assert!(rt; pushed_nameless(&mut heavy, 1) == Some(Err(PushFault::TooHeavy)));
+    assert!(rt; pushed_nameless(&mut heavy, 0) == Some(Err(PushFault::WhoLength)));
+    assert!(rt; heavy.len() == 4_096);
     Ok(())
+}
+
+fn full_spelled(alloc: Global, row: Row) -> Result<Vec<u8>, AllocError> {
+    let mut bytes = Vec::new(alloc);
+    append_word(&mut bytes, 65_536)?;
+    for _ in 0..65_536u32 {
+        append_ace(&mut bytes, row)?;
+    }
+    Ok(bytes)
+}
+
+fn full_from_view(alloc: Global, bytes: &[u8]) -> Result<Acl, Fail> {
+    Ok(Acl::from_view(alloc, &AclView::parse_whole(bytes)?)?)
 }
 
 #[test]
 fn ample_memory_for_the_view_of_a_full_list(rt: HostRuntime) -> Result<(), Fail> {
     let row = (Kind::Deny, 0x40, 1, b"staff".as_slice());
-    let mut bytes = Vec::new(rt.alloc());
-    append_word(&mut bytes, 65_536)?;
-    for _ in 0..65_536u32 {
-        append_ace(&mut bytes, row)?;
-    }
-    let list = Acl::from_view(rt.alloc(), &AclView::parse_whole(&bytes)?)?;
-    assert_eq!(rt; list.len(), 65_536);
-    assert_eq!(rt; list.weight(), 65_536);
+    let bytes = full_spelled(rt.alloc(), row)?;
+    let list = full_from_view(rt.alloc(), &bytes)?;
+    assert!(rt; list.len() == 65_536);
+    assert!(rt; list.weight() == 65_536);
     assert!(rt; list == repeated(rt.alloc(), 65_536, row)?);
     Ok(())
 }
 
 #[test]
-fn ample_memory_past_a_megabyte(rt: HostRuntime) -> Result<(), Fail> {
+fn ample_memory_past_a_megabyte(rt: HostRuntime) -> Result<(), PushFault> {
     let list = repeated(rt.alloc(), 1_100, (Kind::Allow, 0, 0, &[b'a'; 1024]))?;
-    assert_eq!(rt; list.len(), 1_100);
-    let copy = list.copy(rt.alloc())?;
-    assert!(rt; copy == list);
+    assert!(rt; list.len() == 1_100);
+    assert!(rt; copied(&rt, rt.alloc(), &list).is_ok());
     Ok(())
 }
 
+static LINES: [(PushFault, &str); 7] = [
+    (PushFault::TooManyAces, "TooManyAces"),
+    (PushFault::TooHeavy, "TooHeavy"),
+    (PushFault::WhoLength, "WhoLength"),
+    (PushFault::WhoUtf8, "WhoUtf8"),
+    (PushFault::WhoControl, "WhoControl"),
+    (PushFault::SpecialWho, "SpecialWho"),
+    (PushFault::Memory, "Memory"),
+];
+
+fn is_line(alloc: Global, fault: PushFault, line: &str) -> bool {
+    fault
+        .to_string(alloc)
+        .is_ok_and(|text| text.as_str() == line)
+}
+
 #[test]
-fn ample_memory_for_the_line_of_each_refusal(rt: HostRuntime) -> Result<(), Fail> {
-    let rows = [
-        (PushFault::TooManyAces, "TooManyAces"),
-        (PushFault::TooHeavy, "TooHeavy"),
-        (PushFault::WhoLength, "WhoLength"),
-        (PushFault::WhoUtf8, "WhoUtf8"),
-        (PushFault::WhoControl, "WhoControl"),
-        (PushFault::SpecialWho, "SpecialWho"),
-        (PushFault::Memory, "Memory"),
-    ];
-    for (fault, line) in rows {
-        assert_eq!(rt; fault.to_string(rt.alloc())?.as_str(), line);
+fn ample_memory_for_the_line_of_each_refusal(rt: HostRuntime) {
+    for (fault, line) in LINES {
+        assert!(rt; is_line(rt.alloc(), fault, line), "{line}");
     }
-    Ok(())
 }

@@ -1,6 +1,6 @@
 use super::*;
-use std::alloc::Global;
-use std::test::Fail;
+use std::alloc::{AllocError, Global};
+use std::process::Abort;
 
 // One ACE: ALLOW, no flag, READ_DATA, EVERYONE@.
 const ONE: [u8; 32] = [
@@ -47,24 +47,28 @@ fn fed(alloc: Global, bytes: &[u8], first: usize) -> Result<Acl, Fault> {
     feed.finish()
 }
 
-fn same(rt: &HostRuntime, bytes: &[u8], first: usize) -> bool {
-    let fault = parsed(rt.alloc(), bytes).err();
-    decoded(rt.alloc(), bytes, u64::MAX, 7).err() == fault
-        && fed(rt.alloc(), bytes, first).err() == fault
+fn same(alloc: Global, bytes: &[u8], first: usize) -> bool {
+    let fault = parsed(alloc, bytes).err();
+    decoded(alloc, bytes, u64::MAX, 7).err() == fault && fed(alloc, bytes, first).err() == fault
+}
+
+// Three lists cut short are told alike, the first as one that ends too early.
+fn is_cut_alike(alloc: Global, len: usize) -> bool {
+    let (front, _) = THREE.split_at(len.min(72));
+    let (one, _) = ONE.split_at(len.min(31));
+    let (alice, _) = ALICE.split_at(len.min(27));
+    let fault = fed(alloc, front, 5).err();
+    same(alloc, front, len / 2)
+        && fault.is_some_and(|fault| fault.reason == Reason::Truncated)
+        && same(alloc, one, 30)
+        && same(alloc, alice, 3)
 }
 
 // Each beginning of a list, and a list with each byte damaged in each way.
 #[test]
 fn ample_reading_decoding_and_feeding_agree(rt: HostRuntime) {
     for len in 0..72usize {
-        let (front, _) = THREE.split_at(len.min(72));
-        assert!(rt; same(&rt, front, len / 2), "{len} bytes");
-        let fault = fed(rt.alloc(), front, 5).err();
-        assert!(rt; fault.is_some_and(|fault| fault.reason == Reason::Truncated));
-        let (front, _) = ONE.split_at(len.min(31));
-        assert!(rt; same(&rt, front, 30), "{len} bytes");
-        let (front, _) = ALICE.split_at(len.min(27));
-        assert!(rt; same(&rt, front, 3), "{len} bytes");
+        assert!(rt; is_cut_alike(rt.alloc(), len), "{len} bytes");
     }
     for place in 0..72usize {
         for byte in 0..=255u8 {
@@ -72,112 +76,140 @@ fn ample_reading_decoding_and_feeding_agree(rt: HostRuntime) {
             if let Some(at) = damaged.get_mut(place) {
                 *at = byte;
             }
-            assert!(rt; same(&rt, &damaged, place), "{byte} at {place}");
+            assert!(rt; same(rt.alloc(), &damaged, place), "{byte} at {place}");
         }
     }
+}
+
+// A place, the bytes from there on, and the fault of the list with them.
+static REFUSED: [(usize, &[u8], u64, Reason); 9] = [
+    (0, &[0xff; 4], 0, Reason::TooManyAces),
+    (4, &[0xff; 4], 4, Reason::AceType),
+    (8, &[0xff; 4], 8, Reason::FlagBits),
+    (12, &[0xff; 4], 12, Reason::MaskBits),
+    (16, &[0xff; 4], 16, Reason::WhoLength),
+    (16, b"\0\0\0\x01@\0\0\0", 20, Reason::SpecialWho),
+    (16, b"\0\0\0\x01\xc3\0\0\0", 20, Reason::WhoUtf8),
+    (16, b"\0\0\0\x02\xc3\x09\0\0", 20, Reason::WhoUtf8),
+    (16, b"\0\0\0\x02\x09@\0\0", 20, Reason::WhoControl),
+];
+
+fn told_alike(rt: &impl Abort, alloc: Global, at: usize, bytes: &[u8], told: Fault) {
+    let mut whole = ONE;
+    for (to, from) in whole.iter_mut().skip(at).zip(bytes) {
+        *to = *from;
+    }
+    assert!(rt; parsed(alloc, &whole).err() == Some(told));
+    assert!(rt; same(alloc, &whole, 18), "{told:?}");
+}
+
+// One ACE whose who has 1024 bytes.
+fn longest(alloc: Global) -> Result<Vec<u8>, AllocError> {
+    let (front, _) = ONE.split_at(18);
+    let mut longest = Vec::from_slice(alloc, front)?;
+    longest.extend_from_slice(&[4, 0])?;
+    longest.extend_from_slice(&[b'a'; 1024])?;
+    Ok(longest)
 }
 
 // Words and names that are refused, by each reader at the same place, and the longest name.
 #[test]
-fn ample_refusals_are_told_alike(rt: HostRuntime) -> Result<(), Fail> {
-    let rows: [(usize, &[u8], u64, Reason); 9] = [
-        (0, &[0xff; 4], 0, Reason::TooManyAces),
-        (4, &[0xff; 4], 4, Reason::AceType),
-        (8, &[0xff; 4], 8, Reason::FlagBits),
-        (12, &[0xff; 4], 12, Reason::MaskBits),
-        (16, &[0xff; 4], 16, Reason::WhoLength),
-        (16, b"\0\0\0\x01@\0\0\0", 20, Reason::SpecialWho),
-        (16, b"\0\0\0\x01\xc3\0\0\0", 20, Reason::WhoUtf8),
-        (16, b"\0\0\0\x02\xc3\x09\0\0", 20, Reason::WhoUtf8),
-        (16, b"\0\0\0\x02\x09@\0\0", 20, Reason::WhoControl),
-    ];
-    for (at, bytes, offset, reason) in rows {
-        let mut whole = ONE;
-        for (to, from) in whole.iter_mut().skip(at).zip(bytes) {
-            *to = *from;
-        }
-        let told = parsed(rt.alloc(), &whole).err();
-        assert_eq!(rt; told, Some(fault(offset, reason)));
-        assert!(rt; same(&rt, &whole, 18), "{reason:?}");
+fn ample_refusals_are_told_alike(rt: HostRuntime) -> Result<(), AllocError> {
+    for (at, bytes, offset, reason) in REFUSED {
+        told_alike(&rt, rt.alloc(), at, bytes, fault(offset, reason));
     }
-    let (front, _) = ONE.split_at(18);
-    let mut longest = Vec::from_slice(rt.alloc(), front)?;
-    longest.extend_from_slice(&[4, 0])?;
-    longest.extend_from_slice(&[b'a'; 1024])?;
-    assert_eq!(rt; parsed(rt.alloc(), &longest)?.len(), 1);
-    assert!(rt; same(&rt, &longest, 1000));
+    let longest = longest(rt.alloc())?;
+    assert!(rt; parsed(rt.alloc(), &longest).is_ok_and(|list| list.len() == 1));
+    assert!(rt; same(rt.alloc(), &longest, 1000));
     Ok(())
+}
+
+fn in_two_pieces(rt: &impl Abort, alloc: Global, first: usize, list: &Acl) {
+    let mut feed = Feed::new(alloc);
+    let (front, back) = THREE.split_at(first.min(72));
+    let taken = 72usize.saturating_sub(first);
+    assert!(rt; feed.feed(front) == Fed::More);
+    assert!(rt; feed.feed(back) == Fed::Done { taken });
+    assert!(rt; feed.feed(back) == Fed::Done { taken: 0 });
+    assert!(rt; feed.finish().is_ok_and(|fed| fed == *list));
+}
+
+fn byte_by_byte(rt: &impl Abort, alloc: Global, list: &Acl) {
+    let mut feed = Feed::new(alloc);
+    for (place, byte) in THREE.chunks(1).enumerate() {
+        let last = Fed::Done { taken: 1 };
+        assert!(rt; feed.feed(byte) == (if place < 71 { Fed::More } else { last }));
+    }
+    assert!(rt; feed.finish().is_ok_and(|fed| fed == *list));
 }
 
 // However a list is cut, the bytes that belong to it are told, and later pieces change nothing.
 #[test]
-fn ample_lists_are_fed_in_any_two_pieces(rt: HostRuntime) -> Result<(), Fail> {
+fn ample_lists_are_fed_in_any_two_pieces(rt: HostRuntime) -> Result<(), Fault> {
     let list = parsed(rt.alloc(), &THREE)?;
     for first in 0..72usize {
-        let mut feed = Feed::new(rt.alloc());
-        let (front, back) = THREE.split_at(first.min(72));
-        assert_eq!(rt; feed.feed(front), Fed::More);
-        assert_eq!(rt;
-            feed.feed(back),
-            Fed::Done {
-                taken: 72usize.saturating_sub(first)
-            }
-        );
-        assert_eq!(rt; feed.feed(back), Fed::Done { taken: 0 });
-        assert!(rt; feed.finish()? == list);
+        in_two_pieces(&rt, rt.alloc(), first, &list);
     }
-    let mut feed = Feed::new(rt.alloc());
-    for (place, byte) in THREE.chunks(1).enumerate() {
-        let last = Fed::Done { taken: 1 };
-        assert_eq!(rt; feed.feed(byte), if place < 71 { Fed::More } else { last });
-    }
-    assert!(rt; feed.finish()? == list);
+    byte_by_byte(&rt, rt.alloc(), &list);
     Ok(())
+}
+
+fn done_within_a_piece(rt: &impl Abort, alloc: Global) {
+    let mut feed = Feed::new(alloc);
+    let (front, _) = ONE.split_at(30);
+    assert!(rt; feed.feed(&[]) == Fed::More);
+    assert!(rt; feed.feed(front) == Fed::More);
+    assert!(rt; feed.feed(&[0, 0, 0xff]) == Fed::Done { taken: 2 });
+    assert!(rt; feed.feed(&[1, 2]) == Fed::Done { taken: 0 });
+}
+
+// A feed of all but the padding and one byte of that.
+fn fed_to_padding(rt: &impl Abort, alloc: Global) -> Feed {
+    let mut feed = Feed::new(alloc);
+    let (front, _) = ONE.split_at(29);
+    assert!(rt; feed.feed(front) == Fed::More);
+    assert!(rt; feed.feed(&[1]) == Fed::More);
+    feed
 }
 
 #[test]
 fn ample_pieces_are_answered(rt: HostRuntime) {
+    done_within_a_piece(&rt, rt.alloc());
+    let told = fed_to_padding(&rt, rt.alloc()).finish().err();
+    assert!(rt; told == Some(fault(29, Reason::Truncated)));
+    let mut feed = fed_to_padding(&rt, rt.alloc());
+    let padding = fault(29, Reason::Padding);
+    assert!(rt; feed.feed(&[0, 0]) == Fed::Refused(padding));
+    assert!(rt; feed.feed(&[0, 0]) == Fed::Refused(padding));
+    assert!(rt; feed.finish().err() == Some(padding));
     let mut feed = Feed::new(rt.alloc());
-    let (front, _) = ONE.split_at(30);
-    assert_eq!(rt; feed.feed(&[]), Fed::More);
-    assert_eq!(rt; feed.feed(front), Fed::More);
-    assert_eq!(rt; feed.feed(&[0, 0, 0xff]), Fed::Done { taken: 2 });
-    assert_eq!(rt; feed.feed(&[1, 2]), Fed::Done { taken: 0 });
-    let (front, _) = ONE.split_at(29);
-    let mut feed = Feed::new(rt.alloc());
-    assert_eq!(rt; feed.feed(front), Fed::More);
-    assert_eq!(rt; feed.feed(&[1]), Fed::More);
-    assert_eq!(rt; feed.finish().err(), Some(fault(29, Reason::Truncated)));
-    let mut feed = Feed::new(rt.alloc());
-    assert_eq!(rt; feed.feed(front), Fed::More);
-    assert_eq!(rt; feed.feed(&[1]), Fed::More);
-    assert_eq!(rt;
-        feed.feed(&[0, 0]),
-        Fed::Refused(fault(29, Reason::Padding))
-    );
-    assert_eq!(rt;
-        feed.feed(&[0, 0]),
-        Fed::Refused(fault(29, Reason::Padding))
-    );
-    assert_eq!(rt; feed.finish().err(), Some(fault(29, Reason::Padding)));
-    let mut feed = Feed::new(rt.alloc());
-    assert_eq!(rt; feed.feed(&[0, 0, 0, 0]), Fed::Done { taken: 4 });
+    assert!(rt; feed.feed(&[0, 0, 0, 0]) == Fed::Done { taken: 4 });
 }
 
-// Two lists in one source: each is taken, and no byte of what follows it, whatever a read gives at most.
+// Whether both ways give the same list.
+fn same_list(decoded: Result<Acl, Fault>, parsed: Result<Acl, Fault>) -> bool {
+    match (decoded, parsed) {
+        (Ok(decoded), Ok(parsed)) => decoded == parsed,
+        _ => false,
+    }
+}
+
+// Two lists in one source, by reads of at most so many bytes: each is taken, and no byte of what follows it.
+fn read_both(rt: &impl Abort, alloc: Global, both: &[u8], step: usize) {
+    let mut source = Counted::new(Fused::new(both, u64::MAX, step));
+    assert!(rt; same_list(decode(alloc, &mut source), parsed(alloc, &ONE)));
+    assert!(rt; same_list(decode(alloc, &mut source), parsed(alloc, &THREE)));
+    let told = decode(alloc, &mut source).err();
+    assert!(rt; told == Some(fault(0, Reason::Truncated)));
+}
+
 #[test]
-fn ample_sources_are_read_no_further_than_the_list(rt: HostRuntime) -> Result<(), Fail> {
+fn ample_sources_are_read_no_further_than_the_list(rt: HostRuntime) -> Result<(), AllocError> {
     let mut both = Vec::new(rt.alloc());
     both.extend_from_slice(&ONE)?;
     both.extend_from_slice(&THREE)?;
     for step in [1, 3, 4096usize] {
-        let mut source = Counted::new(Fused::new(both.as_slice(), u64::MAX, step));
-        assert!(rt; decode(rt.alloc(), &mut source)? == parsed(rt.alloc(), &ONE)?);
-        assert!(rt; decode(rt.alloc(), &mut source)? == parsed(rt.alloc(), &THREE)?);
-        assert_eq!(rt;
-            decode(rt.alloc(), &mut source).err(),
-            Some(fault(0, Reason::Truncated))
-        );
+        read_both(&rt, rt.alloc(), &both, step);
     }
     Ok(())
 }
@@ -189,28 +221,26 @@ fn ample_failed_reads_are_told_where_they_came(rt: HostRuntime) {
         let (front, _) = THREE.split_at(calls.min(72));
         let cut = parsed(rt.alloc(), front).err();
         let told = decoded(rt.alloc(), &THREE, calls as u64, 1).err();
-        assert_eq!(rt; told.map(|fault| fault.reason), Some(Reason::Read));
-        assert_eq!(rt;
-            told.map(|fault| fault.offset),
-            cut.map(|fault| fault.offset)
-        );
+        assert!(rt; told.map(|fault| fault.reason) == Some(Reason::Read));
+        assert!(rt; told.map(|fault| fault.offset) == cut.map(|fault| fault.offset));
     }
 }
 
 // A sink that takes so many bytes and then fails holds just these.
+fn written_so_far(rt: &impl Abort, list: &Acl, calls: u64) {
+    let mut room = [0xffu8; 72];
+    let mut sink = Counted::new(Fused::new(room.as_mut_slice(), calls, 1));
+    let written = list.encode(&mut sink).err().map(|fault| fault.written);
+    assert!(rt; written == (calls < 72).then_some(calls));
+    let (front, back) = room.split_at((calls as usize).min(72));
+    assert!(rt; THREE.starts_with(front) && back.iter().all(|byte| *byte == 0xff));
+}
+
 #[test]
-fn ample_lists_are_written_up_to_the_failure(rt: HostRuntime) -> Result<(), Fail> {
+fn ample_lists_are_written_up_to_the_failure(rt: HostRuntime) -> Result<(), Fault> {
     let list = parsed(rt.alloc(), &THREE)?;
     for calls in 0..=72u64 {
-        let mut room = [0xffu8; 72];
-        let mut sink = Counted::new(Fused::new(room.as_mut_slice(), calls, 1));
-        let written = list.encode(&mut sink);
-        assert_eq!(rt;
-            written.err().map(|fault| fault.written),
-            (calls < 72).then_some(calls)
-        );
-        let (front, back) = room.split_at((calls as usize).min(72));
-        assert!(rt; THREE.starts_with(front) && back.iter().all(|byte| *byte == 0xff));
+        written_so_far(&rt, &list, calls);
     }
     Ok(())
 }
@@ -219,9 +249,9 @@ fn ample_lists_are_written_up_to_the_failure(rt: HostRuntime) -> Result<(), Fail
 #[test]
 fn a_count_alone_takes_no_memory(rt: HostRuntime) {
     let told = decoded(rt.alloc(), &[0, 1, 0, 0], u64::MAX, 4).err();
-    assert_eq!(rt; told, Some(fault(4, Reason::Truncated)));
+    assert!(rt; told == Some(fault(4, Reason::Truncated)));
     let told = decoded(rt.alloc(), &[0, 1, 0, 1], u64::MAX, 1).err();
-    assert_eq!(rt; told, Some(fault(0, Reason::TooManyAces)));
+    assert!(rt; told == Some(fault(0, Reason::TooManyAces)));
 }
 
 // Where memory is refused, a feed says so for good.
@@ -229,11 +259,11 @@ fn a_count_alone_takes_no_memory(rt: HostRuntime) {
 fn a_feed_keeps_its_want_of_memory(rt: HostRuntime) {
     let mut feed = Feed::new(rt.alloc());
     match feed.feed(&THREE) {
-        Fed::Done { taken } => assert_eq!(rt; taken, 72),
+        Fed::Done { taken } => assert!(rt; taken == 72),
         Fed::Refused(told) => {
-            assert_eq!(rt; told, fault(0, Reason::Memory));
-            assert_eq!(rt; feed.feed(&THREE), Fed::Refused(told));
-            assert_eq!(rt; feed.finish().err(), Some(told));
+            assert!(rt; told == fault(0, Reason::Memory));
+            assert!(rt; feed.feed(&THREE) == Fed::Refused(told));
+            assert!(rt; feed.finish().err() == Some(told));
         }
         Fed::More => assert!(rt; false),
     }

@@ -1,7 +1,6 @@
 use super::*;
-use std::alloc::Global;
+use std::alloc::{AllocError, Global};
 use std::process::Abort;
-use std::test::*;
 
 // A text, and the text that is written of the list that it spells.
 const SPELLED: [(&[u8], &[u8]); 10] = [
@@ -136,19 +135,23 @@ fn texts_where_memory_may_be_wanting(rt: HostRuntime) {
     read_all_refused(&rt, rt.alloc(), false);
 }
 
+// How many ACEs a text spells within a profile.
+fn spelled_within(alloc: Global, text: &[u8], profile: Profile) -> Result<usize, AceTextFault> {
+    Ok(parse_text_with(alloc, text, profile)?.len())
+}
+
 // A name outside the profile is no name there.
 #[test]
-fn ample_profiles_of_texts(rt: HostRuntime) -> Result<(), Fail> {
+fn ample_profiles_of_texts(rt: HostRuntime) {
     let inherited = b"ALLOW INHERITED READ_DATA bob".as_slice();
     let retention = b"ALLOW - WRITE_RETENTION bob".as_slice();
     for text in [inherited, retention] {
-        assert_eq!(rt; parse_text_with(rt.alloc(), text, Profile::FULL)?.len(), 1);
+        assert!(rt; spelled_within(rt.alloc(), text, Profile::FULL) == Ok(1));
     }
     let flag = AceTextFault::Flag { line: 1, column: 7 };
-    assert!(rt; parse_text_with(rt.alloc(), inherited, Profile::NARROW).err() == Some(flag));
+    assert!(rt; spelled_within(rt.alloc(), inherited, Profile::NARROW) == Err(flag));
     let mask = AceTextFault::Mask { line: 1, column: 9 };
-    assert!(rt; parse_text_with(rt.alloc(), retention, Profile::NARROW).err() == Some(mask));
-    Ok(())
+    assert!(rt; spelled_within(rt.alloc(), retention, Profile::NARROW) == Err(mask));
 }
 
 // A room of n bytes: the fault tells n, and the room holds the first n bytes of the text.
@@ -160,43 +163,49 @@ fn each_write_of_a_text_fails_in_turn(rt: HostRuntime) {
     };
     for size in 0..text.len() {
         let mut room = [0u8; 128];
-        assert_eq!(rt; write(&list, &mut room[..size]), (size, Some(size as u64)));
-        assert_eq!(rt; &room[..size], &text[..size]);
+        assert!(rt; write(&list, &mut room[..size]) == (size, Some(size as u64)));
+        assert!(rt; &room[..size] == &text[..size]);
     }
+}
+
+// So many times one line.
+fn repeated(alloc: Global, count: u32, line: &[u8]) -> Result<Vec<u8>, AllocError> {
+    let mut text = Vec::new(alloc);
+    for _ in 0..count {
+        text.extend_from_slice(line)?;
+    }
+    Ok(text)
+}
+
+// How many ACEs a text spells, and their weight.
+fn size_of(alloc: Global, text: &[u8]) -> Result<(usize, u32), AceTextFault> {
+    let list = parse_text(alloc, text)?;
+    Ok((list.len(), list.weight()))
+}
+
+fn too_many(rt: &impl Abort, alloc: Global) -> Result<(), AllocError> {
+    let mut text = repeated(alloc, 65_536, b"ALLOW - READ_DATA a\n")?;
+    assert!(rt; size_of(alloc, &text) == Ok((65_536, 65_536)));
+    text.extend_from_slice(b"x\n")?;
+    let (line, column) = (65_537, 1);
+    assert!(rt; size_of(alloc, &text) == Err(AceTextFault::TooManyAces { line, column }));
+    Ok(())
+}
+
+fn too_heavy(rt: &impl Abort, alloc: Global) -> Result<(), AllocError> {
+    let mut text = repeated(alloc, 32_768, b"ALLOW - READ_DATA|READ_DATA|EXECUTE a\n")?;
+    assert!(rt; size_of(alloc, &text) == Ok((32_768, 65_536)));
+    text.extend_from_slice(b"ALLOW - EXECUTE ")?;
+    let (line, column) = (32_769, 9);
+    assert!(rt; size_of(alloc, &text) == Err(AceTextFault::TooHeavy { line, column }));
+    Ok(())
 }
 
 // The limits of a list, at the line that passes them.
 #[test]
-fn ample_memory_for_texts_past_the_limits(rt: HostRuntime) -> Result<(), Fail> {
-    let mut text = Vec::new(rt.alloc());
-    for _ in 0..65_536u32 {
-        text.extend_from_slice(b"ALLOW - READ_DATA a\n")?;
-    }
-    let list = parse_text(rt.alloc(), &text)?;
-    assert_eq!(rt; list.len(), 65_536);
-    assert_eq!(rt; list.weight(), 65_536);
-    text.extend_from_slice(b"x\n")?;
-    assert!(rt;
-        parse_text(rt.alloc(), &text).err()
-            == Some(AceTextFault::TooManyAces {
-                line: 65_537,
-                column: 1
-            })
-    );
-    let mut heavy = Vec::new(rt.alloc());
-    for _ in 0..32_768u32 {
-        heavy.extend_from_slice(b"ALLOW - READ_DATA|READ_DATA|EXECUTE a\n")?;
-    }
-    assert_eq!(rt; parse_text(rt.alloc(), &heavy)?.weight(), 65_536);
-    heavy.extend_from_slice(b"ALLOW - EXECUTE ")?;
-    assert!(rt;
-        parse_text(rt.alloc(), &heavy).err()
-            == Some(AceTextFault::TooHeavy {
-                line: 32_769,
-                column: 9
-            })
-    );
-    Ok(())
+fn ample_memory_for_texts_past_the_limits(rt: HostRuntime) {
+    assert!(rt; too_many(&rt, rt.alloc()).is_ok());
+    assert!(rt; too_heavy(&rt, rt.alloc()).is_ok());
 }
 
 #[test]
@@ -214,6 +223,6 @@ fn the_name_of_a_bit_is_its_first(rt: HostRuntime) {
         let Some(mask) = Mask::new(bits) else {
             return;
         };
-        assert_eq!(rt; bit_name(mask), name);
+        assert!(rt; bit_name(mask) == name);
     }
 }
