@@ -223,17 +223,38 @@ fn tells_apart(
     Ok(one == d.first_grants && other != d.first_grants)
 }
 
+// Whether the search tells this of two lists, and its requester tells them apart.
+fn is_found(
+    alloc: Global,
+    first: &Acl,
+    second: &Acl,
+    told: Option<Told>,
+) -> Result<bool, AllocError> {
+    let found = compare(alloc, first, second)?;
+    let is_apart = match &found {
+        Some(d) => tells_apart(alloc, first, second, d)?,
+        None => true,
+    };
+    Ok(is_apart && are_told(&found, told))
+}
+
+// Whether the plain search tells this of two lists.
+fn is_plain(
+    alloc: Global,
+    first: &Acl,
+    second: &Acl,
+    told: Option<Told>,
+) -> Result<bool, AllocError> {
+    let found = plain::compare(alloc, first, second)?;
+    Ok(are_told(&found, told))
+}
+
 fn told_pairs(rt: &impl Abort, alloc: Global) -> Result<(), PushFault> {
     for (rows, others, told) in PAIRS {
         let first = built(alloc, rows)?;
         let second = built(alloc, others)?;
-        let fast = kept(compare(alloc, &first, &second))?;
-        let slow = kept(plain::compare(alloc, &first, &second))?;
-        assert!(rt; are_told(&fast, told));
-        assert!(rt; are_told(&slow, told));
-        if let Some(d) = &fast {
-            assert!(rt; kept(tells_apart(alloc, &first, &second, d))?);
-        }
+        assert!(rt; kept(is_found(alloc, &first, &second, told))?);
+        assert!(rt; kept(is_plain(alloc, &first, &second, told))?);
     }
     Ok(())
 }
@@ -342,27 +363,66 @@ fn same_difference(d: &Option<Difference>, e: &Option<Difference>) -> bool {
     }
 }
 
+// Whether the plain search finds the same.
+fn is_same_plainly(
+    alloc: Global,
+    first: &Acl,
+    second: &Acl,
+    found: &Option<Difference>,
+) -> Result<bool, AllocError> {
+    let slow = plain::compare(alloc, first, second)?;
+    Ok(same_difference(found, &slow))
+}
+
+// Of two lists none where they don't differ, and else whether two principals match.
+fn found_by_both(
+    rt: &impl Abort,
+    alloc: Global,
+    first: &Acl,
+    second: &Acl,
+) -> Result<Option<bool>, AllocError> {
+    let found = compare(alloc, first, second)?;
+    assert!(rt; is_same_plainly(alloc, first, second, &found)?);
+    match &found {
+        None => Ok(None),
+        Some(d) => {
+            assert!(rt; tells_apart(alloc, first, second, d)?);
+            Ok(Some(is_of_two(d)))
+        }
+    }
+}
+
+fn found_of_rows(
+    rt: &impl Abort,
+    alloc: Global,
+    rows: &[Row],
+    others: &[Row],
+) -> Result<Option<bool>, PushFault> {
+    let first = built(alloc, rows)?;
+    let second = built(alloc, others)?;
+    kept(found_by_both(rt, alloc, &first, &second))
+}
+
+fn found_of_next(
+    rt: &impl Abort,
+    alloc: Global,
+    dice: &mut Dice,
+) -> Result<Option<bool>, PushFault> {
+    let rows = kept(dice.rows(alloc))?;
+    let others = kept(dice.other(alloc, &rows))?;
+    found_of_rows(rt, alloc, &rows, &others)
+}
+
 #[test]
 fn ample_both_searches_find_the_same(rt: HostRuntime) -> Result<(), PushFault> {
-    let alloc = rt.alloc();
     let mut dice = Dice { state: 2026 };
     let (mut same, mut apart, mut by_two) = (0u32, 0u32, 0u32);
     for _ in 0..2_500 {
-        let rows = kept(dice.rows(alloc))?;
-        let others = kept(dice.other(alloc, &rows))?;
-        let first = built(alloc, &rows)?;
-        let second = built(alloc, &others)?;
-        let fast = kept(compare(alloc, &first, &second))?;
-        let slow = kept(plain::compare(alloc, &first, &second))?;
-        assert!(rt; same_difference(&fast, &slow));
-        match &fast {
+        match found_of_next(&rt, rt.alloc(), &mut dice)? {
             None => same = same.saturating_add(1),
-            Some(d) => {
-                assert!(rt; kept(tells_apart(alloc, &first, &second, d))?);
+            Some(is_by_two) => {
                 apart = apart.saturating_add(1);
-                if is_of_two(d) {
-                    by_two = by_two.saturating_add(1);
-                }
+                by_two = by_two.saturating_add(u32::from(is_by_two));
             }
         }
     }

@@ -123,14 +123,25 @@ fn passes(answer: Result<(), PushFault>) -> bool {
     matches!(answer, Ok(()) | Err(PushFault::Memory))
 }
 
+fn has_form(alloc: Global, list: &Acl, wanted: &Acl) -> Result<bool, AllocError> {
+    let form = normalize(alloc, list)?;
+    Ok(form == *wanted)
+}
+
+// Whether the list has this form, which has itself for its form, and each is normal just where it is its own form.
+fn is_normalized(alloc: Global, list: &Acl, wanted: &Acl) -> Result<bool, AllocError> {
+    let is_form = has_form(alloc, list, wanted)?;
+    let is_own_form = has_form(alloc, wanted, wanted)?;
+    let is_list_normal = is_normal(alloc, list)?;
+    let is_form_normal = is_normal(alloc, wanted)?;
+    Ok(is_form && is_own_form && is_form_normal && is_list_normal == (list == wanted))
+}
+
 fn normal_forms(rt: &impl Abort, alloc: Global) -> Result<(), PushFault> {
     for (lines, form) in FORMS {
         let list = built(alloc, lines)?;
         let wanted = built(alloc, form)?;
-        assert!(rt; kept(normalize(alloc, &list))? == wanted);
-        assert!(rt; kept(normalize(alloc, &wanted))? == wanted);
-        assert!(rt; kept(is_normal(alloc, &list))? == (list == wanted));
-        assert!(rt; kept(is_normal(alloc, &wanted))?);
+        assert!(rt; kept(is_normalized(alloc, &list, &wanted))?);
     }
     Ok(())
 }
@@ -146,19 +157,25 @@ fn ample_normal_forms(rt: HostRuntime) {
     assert!(rt; normal_forms(&rt, rt.alloc()).is_ok());
 }
 
-// The heaviest list of one ACE, again and again.
-#[test]
-fn ample_an_ace_that_is_repeated(rt: HostRuntime) -> Result<(), Fail> {
-    let line = (Kind::Allow, 0, 0x001f_07ff, b"EVERYONE@".as_slice());
-    let wanted = built(rt.alloc(), &[line])?;
-    let mut list = Acl::new(rt.alloc());
-    for _place in 0..4096usize {
-        for ace in wanted.aces() {
-            list.push(ace)?;
+// The ACEs of a list, so many times.
+fn repeated(alloc: Global, list: &Acl, times: usize) -> Result<Acl, PushFault> {
+    let mut whole = Acl::new(alloc);
+    for _place in 0..times {
+        for ace in list.aces() {
+            whole.push(ace)?;
         }
     }
-    assert_eq!(rt; is_normal(rt.alloc(), &list)?, false, "is normal");
-    assert!(rt; normalize(rt.alloc(), &list)? == wanted);
+    Ok(whole)
+}
+
+// The heaviest list of one ACE, again and again.
+#[test]
+fn ample_an_ace_that_is_repeated(rt: HostRuntime) -> Result<(), PushFault> {
+    let line = (Kind::Allow, 0, 0x001f_07ff, b"EVERYONE@".as_slice());
+    let wanted = built(rt.alloc(), &[line])?;
+    let list = repeated(rt.alloc(), &wanted, 4096)?;
+    assert!(rt; is_normal(rt.alloc(), &list) == Ok(false));
+    assert!(rt; has_form(rt.alloc(), &list, &wanted) == Ok(true));
     Ok(())
 }
 
@@ -193,15 +210,25 @@ fn is_shown(row: &Row, shown: &Shown) -> bool {
     row.source == source && row.kind == kind && row.who.as_slice() == who && row.group == group
 }
 
+fn are_shown(rows: &[Row], wanted: &[Shown]) -> bool {
+    for (row, shown) in rows.iter().zip(wanted) {
+        if !is_shown(row, shown) {
+            return false;
+        }
+    }
+    rows.len() == wanted.len()
+}
+
+fn is_table(alloc: Global, list: &Acl, bit: Mask, wanted: &[Shown]) -> Result<bool, AllocError> {
+    let rows = table(alloc, list, bit)?;
+    Ok(are_shown(&rows, wanted))
+}
+
 fn tables(rt: &impl Abort, alloc: Global) -> Result<(), PushFault> {
     for (lines, bits, wanted) in TABLES {
         let list = built(alloc, lines)?;
         if let Some(bit) = Mask::new(bits) {
-            let rows = kept(table(alloc, &list, bit))?;
-            assert!(rt; rows.len() == wanted.len());
-            for (row, shown) in rows.iter().zip(wanted) {
-                assert!(rt; is_shown(row, shown));
-            }
+            assert!(rt; kept(is_table(alloc, &list, bit, wanted))?);
         }
     }
     Ok(())
@@ -253,56 +280,47 @@ fn is_answer(answer: Result<Vec<u8>, Fault>, wanted: Result<&'static [u8], Fault
 // The bytes of a normal form, of every right and within the narrow profile.
 #[test]
 fn ample_bytes_of_normal_forms(rt: HostRuntime) {
-    let alloc = rt.alloc();
-    assert!(rt; is_answer(normal_bytes(alloc, EMPTY), Ok(EMPTY)));
-    assert!(rt; is_answer(normal_bytes(alloc, ALL_MAY_READ), Ok(ALL_MAY_READ)));
-    assert!(rt; is_answer(normal_bytes(alloc, SOURCE), Ok(FORM)));
-    assert!(rt; is_answer(normal_bytes(alloc, PADDED), fault(29, Reason::Padding)));
-    assert!(rt;
-        is_answer(
-            normal_bytes(alloc, TRAILED),
-            fault(32, Reason::TrailingBytes)
-        )
-    );
-    assert!(rt; is_answer(normal_bytes(alloc, RETENTION), Ok(RETENTION)));
-    let narrow = Profile::NARROW;
-    assert!(rt; is_answer(normal_bytes_with(alloc, SOURCE, narrow), Ok(FORM)));
-    assert!(rt;
-        is_answer(
-            normal_bytes_with(alloc, RETENTION, narrow),
-            fault(12, Reason::MaskBits)
-        )
-    );
+    let rows: [(&[u8], Result<&'static [u8], Fault>); 6] = [
+        (EMPTY, Ok(EMPTY)),
+        (ALL_MAY_READ, Ok(ALL_MAY_READ)),
+        (SOURCE, Ok(FORM)),
+        (PADDED, fault(29, Reason::Padding)),
+        (TRAILED, fault(32, Reason::TrailingBytes)),
+        (RETENTION, Ok(RETENTION)),
+    ];
+    for (bytes, wanted) in rows {
+        assert!(rt; is_answer(normal_bytes(rt.alloc(), bytes), wanted));
+    }
+    let rows: [(&[u8], Result<&'static [u8], Fault>); 2] = [
+        (SOURCE, Ok(FORM)),
+        (RETENTION, fault(12, Reason::MaskBits)),
+    ];
+    for (bytes, wanted) in rows {
+        let answer = normal_bytes_with(rt.alloc(), bytes, Profile::NARROW);
+        assert!(rt; is_answer(answer, wanted));
+    }
 }
 
 // Bob's ACE waits before the owner's, which is free to write once bob's is out.
+fn bob_goes_first(rt: &impl Abort, rows: &mut MergedRows<'_>, read: Mask, write: Mask) {
+    let bob = Principal::User(b"bob");
+    assert!(rt; rows.is_free(Principal::Owner, read));
+    assert!(rt; !rows.is_free(Principal::Owner, write));
+    assert!(rt; rows.is_free(bob, write));
+    assert!(rt; rows.waiting(Kind::Deny, true, write).contains(&0));
+    assert!(rt; rows.waiting(Kind::Allow, false, write).contains(&1));
+    rows.emit(bob, write);
+    assert!(rt; !rows.waiting(Kind::Deny, true, write).contains(&0));
+    assert!(rt; rows.is_free(Principal::Owner, write));
+}
+
 #[test]
 fn ample_rows_are_freed(rt: HostRuntime) -> Result<(), Fail> {
-    let list = built(rt.alloc(), &NO_WRITE)?;
     let read = Mask::new(1).ok_or("no such right")?;
     let write = Mask::new(2).ok_or("no such right")?;
-    let bob = Principal::User(b"bob");
+    let list = built(rt.alloc(), &NO_WRITE)?;
     let mut rows = MergedRows::new(rt.alloc(), &list)?;
-    assert_eq!(rt; rows.is_free(Principal::Owner, read), true, "reads");
-    assert_eq!(rt; rows.is_free(Principal::Owner, write), false, "writes");
-    assert_eq!(rt; rows.is_free(bob, write), true, "is kept from writing");
-    assert_eq!(rt;
-        rows.waiting(Kind::Deny, true, write).contains(&0),
-        true,
-        "waits"
-    );
-    assert_eq!(rt;
-        rows.waiting(Kind::Allow, false, write).contains(&1),
-        true,
-        "waits behind"
-    );
-    rows.emit(bob, write);
-    assert_eq!(rt;
-        rows.waiting(Kind::Deny, true, write).contains(&0),
-        false,
-        "is out"
-    );
-    assert_eq!(rt; rows.is_free(Principal::Owner, write), true, "writes then");
+    bob_goes_first(&rt, &mut rows, read, write);
     Ok(())
 }
 
@@ -337,18 +355,13 @@ fn after(number: u32) -> u32 {
     number.wrapping_mul(1_103_515_245).wrapping_add(12_345)
 }
 
-// Both ways to the normal form give one list, which is normal: 2,400 lists of up to four ACEs.
-#[test]
-fn ample_both_ways(rt: HostRuntime) -> Result<(), Fail> {
-    let alloc = rt.alloc();
-    let mut number = 1u32;
-    for round in 0..2400usize {
-        let mut list = Acl::new(alloc);
-        for _place in 0..round % 4 + 1 {
-            number = after(number);
-            let (kind, flags, mask, who) = chosen((number >> 16) as usize);
-            let flags = Flags::new(flags).ok_or("flags")?;
-            let mask = Mask::new(mask).ok_or("no such right")?;
+// A list of so many ACEs, chosen by the numbers from one on.
+fn chosen_list(alloc: Global, count: usize, number: &mut u32) -> Result<Acl, PushFault> {
+    let mut list = Acl::new(alloc);
+    for _place in 0..count {
+        *number = after(*number);
+        let (kind, flags, mask, who) = chosen((*number >> 16) as usize);
+        if let (Some(flags), Some(mask)) = (Flags::new(flags), Mask::new(mask)) {
             list.push(AceRef {
                 kind,
                 flags,
@@ -356,9 +369,26 @@ fn ample_both_ways(rt: HostRuntime) -> Result<(), Fail> {
                 who,
             })?;
         }
-        let form = normalize(alloc, &list)?;
-        assert!(rt; form == plain::normalize(alloc, &list)?);
-        assert!(rt; is_normal(alloc, &form)?);
+    }
+    Ok(list)
+}
+
+fn is_one_form(alloc: Global, list: &Acl) -> Result<bool, AllocError> {
+    let form = normalize(alloc, list)?;
+    let plain = plain::normalize(alloc, list)?;
+    let is_normal = is_normal(alloc, &form)?;
+    Ok(is_normal && form == plain)
+}
+
+// Both ways to the normal form give one list, which is normal: 2,400 lists of up to four ACEs.
+#[test]
+fn ample_both_ways(rt: HostRuntime) -> Result<(), PushFault> {
+    let mut number = 1u32;
+    for round in 0..2400usize {
+        let count = round % 4 + 1;
+        let list = chosen_list(rt.alloc(), count, &mut number)?;
+        assert!(rt; list.len() == count);
+        assert!(rt; kept(is_one_form(rt.alloc(), &list))?);
     }
     Ok(())
 }
