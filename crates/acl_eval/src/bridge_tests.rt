@@ -125,12 +125,21 @@ static LISTS: [(&[Row], &[AceRow], u16); 3] = [
     ),
 ];
 
+fn is_bridged(
+    alloc: Global,
+    acl: &PosixAcl,
+    aces: &[AceRow],
+    mode: u16,
+) -> Result<bool, BridgeFault> {
+    let wanted = list_of(alloc, aces)?;
+    let list = bridge(alloc, acl)?;
+    Ok(list == wanted && mode_of(list.aces()).bits() == mode)
+}
+
 fn lists(rt: &impl Abort, alloc: Global) -> Result<(), BridgeFault> {
     for (rows, aces, mode) in LISTS {
         let acl = acl_of(alloc, rows)?;
-        let list = bridge(alloc, &acl)?;
-        assert!(rt; list == list_of(alloc, aces)?);
-        assert!(rt; mode_of(list.aces()).bits() == mode);
+        assert!(rt; is_bridged(alloc, &acl, aces, mode)?);
     }
     Ok(())
 }

@@ -3,7 +3,6 @@ use acl_nfs4::{AceRef, Acl, AclView, Flags, Kind, PushFault};
 use acl_perm::Mask;
 use std::alloc::Global;
 use std::process::Abort;
-use std::test::Fail;
 
 // An ACE as its type, flags, mask and who.
 type Row = (Kind, u32, u32, &'static [u8]);
@@ -70,15 +69,28 @@ fn child_of(alloc: Global, parent: &Acl, kind: ChildKind) -> Result<Acl, PushFau
     }
 }
 
+fn has_child(
+    alloc: Global,
+    parent: &Acl,
+    kind: ChildKind,
+    wanted: &Acl,
+) -> Result<bool, PushFault> {
+    let list = child_of(alloc, parent, kind)?;
+    Ok(list == *wanted)
+}
+
+fn wanted_of(alloc: Global, expected: Option<Row>) -> Result<Acl, PushFault> {
+    match expected {
+        Some(row) => built(alloc, &[row]),
+        None => Ok(Acl::new(alloc)),
+    }
+}
+
 fn created(rt: &impl Abort, alloc: Global) -> Result<(), PushFault> {
     for (row, kind, expected) in CREATIONS {
         let parent = built(alloc, &[row])?;
-        let list = child_of(alloc, &parent, kind)?;
-        let wanted = match expected {
-            Some(row) => built(alloc, &[row])?,
-            None => Acl::new(alloc),
-        };
-        assert!(rt; list == wanted);
+        let wanted = wanted_of(alloc, expected)?;
+        assert!(rt; has_child(alloc, &parent, kind, &wanted)?);
     }
     Ok(())
 }
@@ -136,10 +148,12 @@ static MODES: [(&[Row], u16); 3] = [
 ];
 
 #[test]
-fn the_mode_of_a_view(rt: HostRuntime) -> Result<(), Fail> {
-    let list = AclView::parse_whole(NO_WRITE)?;
-    assert_eq!(rt; mode_of(list.aces()).bits(), 0o466u16, "mode");
-    Ok(())
+fn the_mode_of_a_view(rt: HostRuntime) {
+    let mode = match AclView::parse_whole(NO_WRITE) {
+        Ok(list) => Some(mode_of(list.aces()).bits()),
+        Err(_) => None,
+    };
+    assert!(rt; mode == Some(0o466));
 }
 
 fn modes(rt: &impl Abort, alloc: Global) -> Result<(), PushFault> {

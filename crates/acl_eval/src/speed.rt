@@ -69,18 +69,21 @@ fn granted(bytes: &[u8], times: usize) -> Option<usize> {
 
 #[test]
 fn input_4096(rt: HostRuntime) {
-    let bytes = spelled(rt.alloc());
-    assert!(rt; bytes.is_err() || bytes.is_ok_and(|bytes| granted(&bytes, 0) == Some(0)));
+    if let Ok(bytes) = spelled(rt.alloc()) {
+        assert!(rt; granted(&bytes, 0) == Some(0));
+    }
 }
 
 #[test]
 fn grants_4096(rt: HostRuntime) {
-    let bytes = spelled(rt.alloc());
-    assert!(rt; bytes.is_err() || bytes.is_ok_and(|bytes| granted(&bytes, 1) == Some(1)));
+    if let Ok(bytes) = spelled(rt.alloc()) {
+        assert!(rt; granted(&bytes, 1) == Some(1));
+    }
 }
 
 #[test]
 fn grants_4096_often(rt: HostRuntime) {
-    let bytes = spelled(rt.alloc());
-    assert!(rt; bytes.is_err() || bytes.is_ok_and(|bytes| granted(&bytes, 1000) == Some(1000)));
+    if let Ok(bytes) = spelled(rt.alloc()) {
+        assert!(rt; granted(&bytes, 1000) == Some(1000));
+    }
 }
