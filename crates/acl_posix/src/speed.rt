@@ -70,48 +70,56 @@ fn granted(acl: &PosixAcl) -> usize {
 
 #[test]
 fn entries_1000(rt: HostRuntime) {
-    let entries = many(rt.alloc(), 498, 7919);
-    assert!(rt; entries.is_err() || entries.is_ok_and(|entries| entries.len() == 1000));
+    if let Ok(entries) = many(rt.alloc(), 498, 7919) {
+        assert!(rt; entries.len() == 1000);
+    }
 }
 
 #[test]
 fn entries_10000(rt: HostRuntime) {
-    let entries = many(rt.alloc(), 4998, 7919);
-    assert!(rt; entries.is_err() || entries.is_ok_and(|entries| entries.len() == 10000));
+    if let Ok(entries) = many(rt.alloc(), 4998, 7919) {
+        assert!(rt; entries.len() == 10000);
+    }
 }
 
 #[test]
 fn ordered_1000(rt: HostRuntime) {
-    let acl = acl_of(rt.alloc(), 498, 1);
-    assert!(rt; acl.is_err() || acl.is_ok_and(|acl| acl.entries().len() == 1000));
+    if let Ok(acl) = acl_of(rt.alloc(), 498, 1) {
+        assert!(rt; acl.entries().len() == 1000);
+    }
 }
 
 #[test]
 fn ordered_10000(rt: HostRuntime) {
-    let acl = acl_of(rt.alloc(), 4998, 1);
-    assert!(rt; acl.is_err() || acl.is_ok_and(|acl| acl.entries().len() == 10000));
+    if let Ok(acl) = acl_of(rt.alloc(), 4998, 1) {
+        assert!(rt; acl.entries().len() == 10000);
+    }
 }
 
 #[test]
 fn shuffled_1000(rt: HostRuntime) {
-    let acl = acl_of(rt.alloc(), 498, 7919);
-    assert!(rt; acl.is_err() || acl.is_ok_and(|acl| acl.entries().len() == 1000));
+    if let Ok(acl) = acl_of(rt.alloc(), 498, 7919) {
+        assert!(rt; acl.entries().len() == 1000);
+    }
 }
 
 #[test]
 fn shuffled_10000(rt: HostRuntime) {
-    let acl = acl_of(rt.alloc(), 4998, 7919);
-    assert!(rt; acl.is_err() || acl.is_ok_and(|acl| acl.entries().len() == 10000));
+    if let Ok(acl) = acl_of(rt.alloc(), 4998, 7919) {
+        assert!(rt; acl.entries().len() == 10000);
+    }
 }
 
 #[test]
 fn check_1000(rt: HostRuntime) {
-    let acl = acl_of(rt.alloc(), 498, 7919);
-    assert!(rt; acl.is_err() || acl.is_ok_and(|acl| granted(&acl) == 10000));
+    if let Ok(acl) = acl_of(rt.alloc(), 498, 7919) {
+        assert!(rt; granted(&acl) == 10000);
+    }
 }
 
 #[test]
 fn check_10000(rt: HostRuntime) {
-    let acl = acl_of(rt.alloc(), 4998, 7919);
-    assert!(rt; acl.is_err() || acl.is_ok_and(|acl| granted(&acl) == 10000));
+    if let Ok(acl) = acl_of(rt.alloc(), 4998, 7919) {
+        assert!(rt; granted(&acl) == 10000);
+    }
 }

@@ -162,6 +162,35 @@ impl Memory {
     fn may_want(self, fault: Option<AclFault>) -> bool {
         !self.is_ample && fault == Some(AclFault::Memory)
     }
+
+    fn is_judged(self, rows: &[Row], fault: Option<AclFault>) -> bool {
+        let found = self.acl(rows).err();
+        found == fault || self.may_want(found)
+    }
+
+    fn has_mode(self, rows: &[Row], mode: u16) -> bool {
+        match self.acl(rows) {
+            Ok(acl) => acl.mode().bits == mode,
+            Err(fault) => self.may_want(Some(fault)),
+        }
+    }
+
+    fn is_answered(self, rows: &[Row], asker: Id, groups: &[Id], want: u8, granted: bool) -> bool {
+        let Some(want) = Perm::new(want) else {
+            return false;
+        };
+        match self.acl(rows) {
+            Ok(acl) => acl.check(OWNER, OWNING_GROUP, asker, groups, want) == granted,
+            Err(fault) => self.may_want(Some(fault)),
+        }
+    }
+
+    fn is_told(self, fault: AclFault, message: &str) -> bool {
+        match fault.to_string(self.alloc) {
+            Ok(text) => text.as_str() == message,
+            Err(_) => !self.is_ample,
+        }
+    }
 }
 
 fn has_rows(acl: &PosixAcl, rows: &[Row]) -> bool {
@@ -173,15 +202,16 @@ fn has_rows(acl: &PosixAcl, rows: &[Row]) -> bool {
 
 // ---- tables
 
+const THREE: [Row; 3] = [(Tag::UserObj, 7), (Tag::GroupObj, 5), (Tag::Other, 0)];
+
 fn lists<A: Abort>(rt: &A, memory: Memory) {
-    let three: [Row; 3] = [(Tag::UserObj, 7), (Tag::GroupObj, 5), (Tag::Other, 0)];
     let table: [(&[Row], Option<AclFault>); 18] = [
         (&SHARED, None),
         (&TWO_GROUPS, None),
         (&DEFAULT, None),
         (&NO_OWNER, None),
         (&MASKED, None),
-        (&three, None),
+        (&THREE, None),
         (&NO_MASK, Some(AclFault::Miss(Tag::Mask))),
         (&TWO_MASKS, Some(AclFault::Multi(3))),
         (&TWO_USERS, Some(AclFault::Duplicate(2))),
@@ -191,13 +221,29 @@ fn lists<A: Abort>(rt: &A, memory: Memory) {
         (&SHARED[..3], Some(AclFault::Miss(Tag::UserObj))),
         (&SHARED[..5], Some(AclFault::Miss(Tag::GroupObj))),
         (&SHARED[1..], Some(AclFault::Miss(Tag::Other))),
-        (&three[..1], Some(AclFault::Miss(Tag::GroupObj))),
-        (&three[..2], Some(AclFault::Miss(Tag::Other))),
+        (&THREE[..1], Some(AclFault::Miss(Tag::GroupObj))),
+        (&THREE[..2], Some(AclFault::Miss(Tag::Other))),
         (&TWO_MASKS[..3], Some(AclFault::Miss(Tag::Other))),
     ];
     for (rows, fault) in table {
-        let found = memory.acl(rows).err();
-        assert!(rt; found == fault || memory.may_want(found), "of {rows:?}");
+        assert!(rt; memory.is_judged(rows, fault), "of {rows:?}");
+    }
+}
+
+// Entries, their permissions, and what the mask leaves of them.
+const EFFECTIVE: [(Tag, u8, u8); 6] = [
+    (Tag::UserObj, 6, 6),
+    (USER_1001, 6, 4),
+    (Tag::GroupObj, 4, 4),
+    (GROUP_50, 6, 4),
+    (Tag::Mask, 4, 4),
+    (Tag::Other, 4, 4),
+];
+
+fn is_effective(acl: &PosixAcl, tag: Tag, perm: u8, effective: u8) -> bool {
+    match Perm::new(perm) {
+        Some(perm) => acl.effective(Entry { tag, perm }).bits == effective,
+        None => false,
     }
 }
 
@@ -210,21 +256,8 @@ fn effective_permissions<A: Abort>(rt: &A, memory: Memory) {
         }
     };
     assert!(rt; has_rows(&acl, &shared(4, 4)));
-    for (tag, perm, effective) in [
-        (Tag::UserObj, 6, 6),
-        (USER_1001, 6, 4),
-        (Tag::GroupObj, 4, 4),
-        (GROUP_50, 6, 4),
-        (Tag::Mask, 4, 4),
-        (Tag::Other, 4, 4),
-    ] {
-        if let Some(perm) = Perm::new(perm) {
-            assert_eq!(rt;
-                acl.effective(Entry { tag, perm }).bits,
-                effective,
-                "of {tag:?}"
-            );
-        }
+    for (tag, perm, effective) in EFFECTIVE {
+        assert!(rt; is_effective(&acl, tag, perm, effective), "of {tag:?}");
     }
 }
 
@@ -236,10 +269,7 @@ fn modes<A: Abort>(rt: &A, memory: Memory) {
         (&TWO_GROUPS, 0o760),
     ];
     for (rows, mode) in table {
-        match memory.acl(rows) {
-            Ok(acl) => assert_eq!(rt; acl.mode().bits, mode, "of {rows:?}"),
-            Err(fault) => assert!(rt; memory.may_want(Some(fault)), "of {rows:?}"),
-        }
+        assert!(rt; memory.has_mode(rows, mode), "of mode {mode:o}");
     }
 }
 
@@ -256,83 +286,89 @@ fn edits<A: Abort>(rt: &A, memory: Memory) {
     }
 }
 
+// Of the files that are asked for.
+const OWNER: Id = Id { value: 1 };
+
+const OWNING_GROUP: Id = Id { value: 2 };
+
+const USER_3: Id = Id { value: 3 };
+
+const BOTH: [Id; 2] = [Id { value: 50 }, Id { value: 60 }];
+
+const OWNING: [Id; 1] = [OWNING_GROUP];
+
 fn requests<A: Abort>(rt: &A, memory: Memory) {
-    let (owner, group, user) = (Id { value: 1 }, Id { value: 2 }, Id { value: 3 });
-    let both = [Id { value: 50 }, Id { value: 60 }];
-    let owning = [group];
+    // Entries, who asks, in which groups, for what, and whether it is granted.
     let table: [(&[Row], Id, &[Id], u8, bool); 13] = [
-        (&TWO_GROUPS, user, &both, 6, false),
-        (&TWO_GROUPS, user, &both, 4, true),
-        (&TWO_GROUPS, user, &both, 2, true),
-        (&TWO_GROUPS, user, &owning, 4, false),
-        (&MASKED, user, &owning, 2, false),
-        (&MASKED, user, &owning, 4, true),
-        (&MASKED, user, &[], 2, true),
-        (&NO_GROUP, user, &owning, 4, false),
-        (&NO_GROUP, user, &both, 7, true),
-        (&SHARED, Id { value: 1001 }, &both, 2, false),
-        (&NO_OWNER, owner, &[], 4, false),
-        (&NO_OWNER, owner, &owning, 4, false),
-        (&NO_OWNER, owner, &owning, 0, true),
+        (&TWO_GROUPS, USER_3, &BOTH, 6, false),
+        (&TWO_GROUPS, USER_3, &BOTH, 4, true),
+        (&TWO_GROUPS, USER_3, &BOTH, 2, true),
+        (&TWO_GROUPS, USER_3, &OWNING, 4, false),
+        (&MASKED, USER_3, &OWNING, 2, false),
+        (&MASKED, USER_3, &OWNING, 4, true),
+        (&MASKED, USER_3, &[], 2, true),
+        (&NO_GROUP, USER_3, &OWNING, 4, false),
+        (&NO_GROUP, USER_3, &BOTH, 7, true),
+        (&SHARED, Id { value: 1001 }, &BOTH, 2, false),
+        (&NO_OWNER, OWNER, &[], 4, false),
+        (&NO_OWNER, OWNER, &OWNING, 4, false),
+        (&NO_OWNER, OWNER, &OWNING, 0, true),
     ];
     for (rows, asker, groups, want, granted) in table {
-        match (memory.acl(rows), Perm::new(want)) {
-            (Ok(acl), Some(want)) => {
-                assert_eq!(rt;
-                    acl.check(owner, group, asker, groups, want),
-                    granted,
-                    "{want:?} of {rows:?}"
-                );
-            }
-            (answer, _) => assert!(rt; memory.may_want(answer.err()), "of {rows:?}"),
-        }
+        assert!(rt;
+            memory.is_answered(rows, asker, groups, want, granted),
+            "{want} of {asker:?}"
+        );
     }
+}
+
+const PLAIN: [Row; 3] = [(Tag::UserObj, 6), (Tag::GroupObj, 4), (Tag::Other, 4)];
+
+const CUT: [Row; 5] = [
+    (Tag::UserObj, 6),
+    (USER_5, 7),
+    (Tag::GroupObj, 5),
+    (Tag::Mask, 4),
+    (Tag::Other, 0),
+];
+
+fn is_made(file: &PosixFile, access: &[Row], is_inherited: bool) -> bool {
+    has_rows(&file.access, access)
+        && match &file.default {
+            Some(default) => is_inherited && has_rows(default, &DEFAULT),
+            None => !is_inherited,
+        }
 }
 
 // The ACLs of a new file or directory, with a umask that has no part where there is a default ACL.
 fn new_files<A: Abort>(rt: &A, memory: Memory) {
-    let three = [(Tag::UserObj, 6), (Tag::GroupObj, 4), (Tag::Other, 4)];
-    let cut = [
-        (Tag::UserObj, 6),
-        (USER_5, 7),
-        (Tag::GroupObj, 5),
-        (Tag::Mask, 4),
-        (Tag::Other, 0),
-    ];
-    let (inherited, plain) = (Mode { bits: 0o640 }, Mode { bits: 0o666 });
-    let (all, others) = (Mode { bits: 0o077 }, Mode { bits: 0o022 });
-    let table: [(bool, Mode, Mode, bool, &[Row]); 4] = [
-        (true, inherited, all, false, &cut),
-        (true, inherited, all, true, &cut),
-        (false, plain, others, false, &three),
-        (false, plain, others, true, &three),
+    // Whether there is a default ACL, mode and umask, whether a directory is made, and the access ACL of what is made.
+    let table: [(bool, u16, u16, bool, &[Row]); 4] = [
+        (true, 0o640, 0o077, false, &CUT),
+        (true, 0o640, 0o077, true, &CUT),
+        (false, 0o666, 0o022, false, &PLAIN),
+        (false, 0o666, 0o022, true, &PLAIN),
     ];
     for (has_default, mode, umask, dir, access) in table {
+        let (mode, umask) = (Mode { bits: mode }, Mode { bits: umask });
         match memory.new_file(has_default, mode, umask, dir) {
-            Ok(file) => {
-                assert!(rt; has_rows(&file.access, access));
-                match &file.default {
-                    Some(default) => assert!(rt; has_default && dir && has_rows(default, &DEFAULT)),
-                    None => assert!(rt; !(has_default && dir)),
-                }
-            }
+            Ok(file) => assert!(rt; is_made(&file, access, has_default && dir)),
             Err(fault) => assert!(rt; memory.may_want(Some(fault))),
         }
     }
 }
 
+const MESSAGES: [(AclFault, &str); 5] = [
+    (AclFault::Multi(3), "Multi at entry 3"),
+    (AclFault::Duplicate(2), "Duplicate at entry 2"),
+    (AclFault::Miss(Tag::Mask), "Miss MASK"),
+    (AclFault::Miss(Tag::UserObj), "Miss USER_OBJ"),
+    (AclFault::Memory, "out of memory"),
+];
+
 fn messages<A: Abort>(rt: &A, memory: Memory) {
-    for (fault, message) in [
-        (AclFault::Multi(3), "Multi at entry 3"),
-        (AclFault::Duplicate(2), "Duplicate at entry 2"),
-        (AclFault::Miss(Tag::Mask), "Miss MASK"),
-        (AclFault::Miss(Tag::UserObj), "Miss USER_OBJ"),
-        (AclFault::Memory, "out of memory"),
-    ] {
-        match fault.to_string(memory.alloc) {
-            Ok(text) => assert_eq!(rt; text.as_str(), message),
-            Err(_) => assert!(rt; !memory.is_ample, "of {message}"),
-        }
+    for (fault, message) in MESSAGES {
+        assert!(rt; memory.is_told(fault, message), "of {message}");
     }
 }
 
@@ -368,13 +404,8 @@ fn tables_where_memory_may_be_wanting(rt: HostRuntime) {
     messages(&rt, memory);
 }
 
-// With memory a mask is added, and each copy of a list of any length is made.
-#[test]
-fn ample_copies_and_masks(rt: HostRuntime) -> Result<(), Fail> {
-    let memory = Memory {
-        alloc: rt.alloc(),
-        is_ample: true,
-    };
+// A list of a hundred entries.
+fn hundred(memory: Memory) -> Result<PosixAcl, AclFault> {
     let mut entries = memory.entries(&DEFAULT)?;
     for value in 0..95 {
         entries.push(Entry {
@@ -382,22 +413,34 @@ fn ample_copies_and_masks(rt: HostRuntime) -> Result<(), Fail> {
             perm: Perm::ALL,
         })?;
     }
-    let acl = PosixAcl::from_entries(memory.alloc, entries)?;
-    let copy = acl.copy(memory.alloc)?;
-    assert_eq!(rt; copy.entries().len(), 100);
-    let mut added = memory.acl(&NO_OWNER)?.copy(memory.alloc)?;
+    PosixAcl::from_entries(memory.alloc, entries)
+}
+
+// A copy, which gets a mask.
+fn masked(memory: Memory) -> Result<PosixAcl, Fail> {
+    let acl = memory.acl(&NO_OWNER)?;
+    let mut added = acl.copy(memory.alloc)?;
     added.calc_mask()?;
-    assert!(rt;
-        has_rows(
-            &added,
-            &[
-                (Tag::UserObj, 0),
-                (Tag::GroupObj, 7),
-                (Tag::Mask, 7),
-                (Tag::Other, 7)
-            ]
-        )
-    );
+    Ok(added)
+}
+
+// With memory a mask is added, and each copy of a list of any length is made.
+#[test]
+fn ample_copies_and_masks(rt: HostRuntime) -> Result<(), Fail> {
+    let memory = Memory {
+        alloc: rt.alloc(),
+        is_ample: true,
+    };
+    let copy = hundred(memory)?.copy(memory.alloc)?;
+    assert!(rt; copy.entries().len() == 100);
+    let added = masked(memory)?;
+    let wanted = [
+        (Tag::UserObj, 0),
+        (Tag::GroupObj, 7),
+        (Tag::Mask, 7),
+        (Tag::Other, 7),
+    ];
+    assert!(rt; has_rows(&added, &wanted));
     Ok(())
 }
 
@@ -412,11 +455,11 @@ fn a_mask_is_added_or_nothing_is(rt: HostRuntime) {
         return;
     };
     let is_added = acl.calc_mask().is_ok();
-    assert_eq!(rt; acl.entries().len(), if is_added { 4 } else { 3 });
+    assert!(rt; acl.entries().len() == (if is_added { 4 } else { 3 }));
 }
 
 #[test]
 fn ids_end_below_4294967295(rt: HostRuntime) {
-    assert_eq!(rt; Id::new(4294967295), None);
-    assert_eq!(rt; Id::new(4294967294), Some(Id { value: 4294967294 }));
+    assert!(rt; Id::new(4294967295).is_none());
+    assert!(rt; Id::new(4294967294) == Some(Id { value: 4294967294 }));
 }

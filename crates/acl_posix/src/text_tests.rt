@@ -69,182 +69,166 @@ fn holds(room: &[u8], text: &[u8]) -> bool {
     room.starts_with(text) && room.iter().skip(text.len()).all(|byte| *byte == 0)
 }
 
+fn is_written(file: &PosixFile, form: Form, wanted: &[u8]) -> bool {
+    let mut room = [0u8; 512];
+    let (size, fault) = write(file, form, &mut room);
+    fault.is_none() && size == wanted.len() && holds(&room, wanted)
+}
+
+fn is_read(alloc: Global, names: &Names, text: &[u8], form: Form, wanted: &[u8]) -> bool {
+    match parse(alloc, text, names) {
+        Ok(file) => is_written(&file, form, wanted),
+        Err(_) => false,
+    }
+}
+
+// Texts, with the form in which each is written again.
+const TEXTS: [(&[u8], Form, &[u8]); 13] = [
+    (SHORT, Form::Canonical, CANONICAL),
+    (SHORT, Form::Shown, SHOWN),
+    (SHORT, Form::Short, SHORT),
+    (CANONICAL, Form::Short, SHORT),
+    (SHOWN, Form::Canonical, CANONICAL),
+    (LISTED, Form::Canonical, LISTED_CANONICAL),
+    (LISTED, Form::Short, LISTED_SHORT),
+    (LISTED_SHORT, Form::Canonical, LISTED_CANONICAL),
+    (TWO_MASKS, Form::Shown, TWO_MASKS_SHOWN),
+    (TWO_MASKS_SHOWN, Form::Shown, TWO_MASKS_SHOWN),
+    (
+        b"o::r--,m:\t:r , g : staff ops :wr,g::r,user: 01001:rw#,\nuser::wr",
+        Form::Short,
+        SHORT,
+    ),
+    (
+        b"u::,g::-----,o::-x-r-w",
+        Form::Short,
+        b"u::---,g::---,o::rwx",
+    ),
+    (
+        b"u:4294967294:,u::,g::,m::,o::",
+        Form::Short,
+        b"u::---,u:4294967294:---,g::---,m::---,o::---",
+    ),
+];
+
 // Each text with its three forms.
 #[test]
 fn ample_memory_for_texts(rt: HostRuntime) -> Result<(), Fail> {
     let names = names_of(rt.alloc()).ok_or("names are added")?;
-    let rows = [
-        (SHORT, Form::Canonical, CANONICAL),
-        (SHORT, Form::Shown, SHOWN),
-        (SHORT, Form::Short, SHORT),
-        (CANONICAL, Form::Short, SHORT),
-        (SHOWN, Form::Canonical, CANONICAL),
-        (LISTED, Form::Canonical, LISTED_CANONICAL),
-        (LISTED, Form::Short, LISTED_SHORT),
-        (LISTED_SHORT, Form::Canonical, LISTED_CANONICAL),
-        (TWO_MASKS, Form::Shown, TWO_MASKS_SHOWN),
-        (TWO_MASKS_SHOWN, Form::Shown, TWO_MASKS_SHOWN),
-        (
-            b"o::r--,m:\t:r , g : staff ops :wr,g::r,user: 01001:rw#,\nuser::wr".as_slice(),
-            Form::Short,
-            SHORT,
-        ),
-        (
-            b"u::,g::-----,o::-x-r-w".as_slice(),
-            Form::Short,
-            b"u::---,g::---,o::rwx".as_slice(),
-        ),
-        (
-            b"u:4294967294:,u::,g::,m::,o::".as_slice(),
-            Form::Short,
-            b"u::---,u:4294967294:---,g::---,m::---,o::---".as_slice(),
-        ),
-    ];
-    for (text, form, wanted) in rows {
-        let file = parse(rt.alloc(), text, &names)?;
-        let mut room = [0u8; 512];
-        let (size, fault) = write(&file, form, &mut room);
-        assert_eq!(rt; fault, None);
-        assert!(rt; size == wanted.len() && holds(&room, wanted));
+    for (text, form, wanted) in TEXTS {
+        assert!(rt; is_read(rt.alloc(), &names, text, form, wanted));
     }
     Ok(())
 }
+
+fn is_refused(alloc: Global, names: &Names, text: &[u8], wanted: TextFault) -> bool {
+    parse(alloc, text, names).err() == Some(wanted)
+}
+
+const FAULTS: [(&[u8], TextFault); 29] = [
+    (
+        b"u::rw-,u:7:r--,g::r--,o::---",
+        TextFault::Invalid(Part::Access, Cause::Miss(Tag::Mask)),
+    ),
+    (
+        b"u::rw-,g::r--,m::r--,m::r--,o::---",
+        TextFault::Invalid(Part::Access, Cause::Multi(3)),
+    ),
+    (
+        b"u::rw-,u:7:r--,u:007:r--,g::r--,m::r--,o::---",
+        TextFault::Invalid(Part::Access, Cause::Duplicate(2)),
+    ),
+    (
+        b"u::rw-,u:1002:r--,u:bob:r--,g::r--,m::r--,o::---",
+        TextFault::Invalid(Part::Access, Cause::Duplicate(2)),
+    ),
+    (
+        b"",
+        TextFault::Invalid(Part::Access, Cause::Miss(Tag::UserObj)),
+    ),
+    (
+        b"d:u::rwx",
+        TextFault::Invalid(Part::Access, Cause::Miss(Tag::UserObj)),
+    ),
+    (
+        b"d:g::,u::,d:g::,g::,o::",
+        TextFault::Invalid(Part::Default, Cause::Multi(1)),
+    ),
+    (
+        b"d:g::,u::,d:g::,g::",
+        TextFault::Invalid(Part::Access, Cause::Miss(Tag::Other)),
+    ),
+    (b"u:4294967295:r--", TextFault::Id { line: 1, column: 3 }),
+    (
+        b"u: 99999999999999999999999 :rr",
+        TextFault::Id { line: 1, column: 4 },
+    ),
+    (
+        b"u::rw-,,o::r--",
+        TextFault::EmptyEntry { line: 1, column: 8 },
+    ),
+    (
+        b"user::rw-\n\n  g::-- , ",
+        TextFault::EmptyEntry {
+            line: 3,
+            column: 11,
+        },
+    ),
+    (b"u::r, # x", TextFault::EmptyEntry { line: 1, column: 7 }),
+    (b"m:r--", TextFault::Fields { line: 1, column: 1 }),
+    (b"d", TextFault::Fields { line: 1, column: 1 }),
+    (b" d::", TextFault::Fields { line: 1, column: 2 }),
+    (b"u:::r", TextFault::Fields { line: 1, column: 1 }),
+    (b"other:5:r--", TextFault::Qualifier { line: 1, column: 7 }),
+    (b"u::rr", TextFault::Permission { line: 1, column: 4 }),
+    (b"u::r w", TextFault::Permission { line: 1, column: 4 }),
+    (b"u::rw-\r\n", TextFault::Permission { line: 1, column: 4 }),
+    (b"x::rr", TextFault::Tag { line: 1, column: 1 }),
+    (b"User::r", TextFault::Tag { line: 1, column: 1 }),
+    (b"d:::r", TextFault::Tag { line: 1, column: 3 }),
+    (b"d:d::r", TextFault::Tag { line: 1, column: 3 }),
+    (b"u::r\nd: x ::r", TextFault::Tag { line: 2, column: 4 }),
+    (
+        b"#\n\ng:bob:r",
+        TextFault::UnknownName { line: 3, column: 3 },
+    ),
+    (
+        b"u:staff ops:r",
+        TextFault::UnknownName { line: 1, column: 3 },
+    ),
+    (b"u:\xff:r", TextFault::UnknownName { line: 1, column: 3 }),
+];
 
 // The first fault of each text, with its place.
 #[test]
 fn ample_memory_for_faults(rt: HostRuntime) -> Result<(), Fail> {
     let names = names_of(rt.alloc()).ok_or("names are added")?;
-    let rows = [
-        (
-            b"u::rw-,u:7:r--,g::r--,o::---".as_slice(),
-            TextFault::Invalid(Part::Access, Cause::Miss(Tag::Mask)),
-        ),
-        (
-            b"u::rw-,g::r--,m::r--,m::r--,o::---".as_slice(),
-            TextFault::Invalid(Part::Access, Cause::Multi(3)),
-        ),
-        (
-            b"u::rw-,u:7:r--,u:007:r--,g::r--,m::r--,o::---".as_slice(),
-            TextFault::Invalid(Part::Access, Cause::Duplicate(2)),
-        ),
-        (
-            b"u::rw-,u:1002:r--,u:bob:r--,g::r--,m::r--,o::---".as_slice(),
-            TextFault::Invalid(Part::Access, Cause::Duplicate(2)),
-        ),
-        (
-            b"".as_slice(),
-            TextFault::Invalid(Part::Access, Cause::Miss(Tag::UserObj)),
-        ),
-        (
-            b"d:u::rwx".as_slice(),
-            TextFault::Invalid(Part::Access, Cause::Miss(Tag::UserObj)),
-        ),
-        (
-            b"d:g::,u::,d:g::,g::,o::".as_slice(),
-            TextFault::Invalid(Part::Default, Cause::Multi(1)),
-        ),
-        (
-            b"d:g::,u::,d:g::,g::".as_slice(),
-            TextFault::Invalid(Part::Access, Cause::Miss(Tag::Other)),
-        ),
-        (
-            b"u:4294967295:r--".as_slice(),
-            TextFault::Id { line: 1, column: 3 },
-        ),
-        (
-            b"u: 99999999999999999999999 :rr".as_slice(),
-            TextFault::Id { line: 1, column: 4 },
-        ),
-        (
-            b"u::rw-,,o::r--".as_slice(),
-            TextFault::EmptyEntry { line: 1, column: 8 },
-        ),
-        (
-            b"user::rw-\n\n  g::-- , ".as_slice(),
-            TextFault::EmptyEntry {
-                line: 3,
-                column: 11,
-            },
-        ),
-        (
-            b"u::r, # x".as_slice(),
-            TextFault::EmptyEntry { line: 1, column: 7 },
-        ),
-        (
-            b"m:r--".as_slice(),
-            TextFault::Fields { line: 1, column: 1 },
-        ),
-        (b"d".as_slice(), TextFault::Fields { line: 1, column: 1 }),
-        (b" d::".as_slice(), TextFault::Fields { line: 1, column: 2 }),
-        (
-            b"u:::r".as_slice(),
-            TextFault::Fields { line: 1, column: 1 },
-        ),
-        (
-            b"other:5:r--".as_slice(),
-            TextFault::Qualifier { line: 1, column: 7 },
-        ),
-        (
-            b"u::rr".as_slice(),
-            TextFault::Permission { line: 1, column: 4 },
-        ),
-        (
-            b"u::r w".as_slice(),
-            TextFault::Permission { line: 1, column: 4 },
-        ),
-        (
-            b"u::rw-\r\n".as_slice(),
-            TextFault::Permission { line: 1, column: 4 },
-        ),
-        (b"x::rr".as_slice(), TextFault::Tag { line: 1, column: 1 }),
-        (b"User::r".as_slice(), TextFault::Tag { line: 1, column: 1 }),
-        (b"d:::r".as_slice(), TextFault::Tag { line: 1, column: 3 }),
-        (b"d:d::r".as_slice(), TextFault::Tag { line: 1, column: 3 }),
-        (
-            b"u::r\nd: x ::r".as_slice(),
-            TextFault::Tag { line: 2, column: 4 },
-        ),
-        (
-            b"#\n\ng:bob:r".as_slice(),
-            TextFault::UnknownName { line: 3, column: 3 },
-        ),
-        (
-            b"u:staff ops:r".as_slice(),
-            TextFault::UnknownName { line: 1, column: 3 },
-        ),
-        (
-            b"u:\xff:r".as_slice(),
-            TextFault::UnknownName { line: 1, column: 3 },
-        ),
-    ];
-    for (text, wanted) in rows {
-        assert_eq!(rt; parse(rt.alloc(), text, &names).err(), Some(wanted));
+    for (text, wanted) in FAULTS {
+        assert!(rt; is_refused(rt.alloc(), &names, text, wanted), "{wanted}");
     }
     let nobody = Names::new(rt.alloc());
-    assert_eq!(rt;
-        parse(rt.alloc(), LISTED, &nobody).err(),
-        Some(TextFault::UnknownName { line: 5, column: 6 })
-    );
+    let unknown = TextFault::UnknownName { line: 5, column: 6 };
+    assert!(rt; is_refused(rt.alloc(), &nobody, LISTED, unknown));
     Ok(())
 }
 
 // Which names are added, and that a refused one changes nothing.
+fn add_each(rt: &impl Abort, names: &mut Names, one: Id, two: Id) {
+    assert!(rt; names.add_user(b"", one) == Err(NameFault::EmptyName));
+    assert!(rt; names.add_user(b"007", one) == Err(NameFault::DigitsOnly));
+    assert!(rt; names.add_user(b"7a", one) == Ok(()));
+    assert!(rt; names.add_user(b"7a", two) == Err(NameFault::Taken));
+    assert!(rt; names.add_group(b"7a", two) == Ok(()));
+    assert!(rt; names.add_group(b"7a", two) == Err(NameFault::Taken));
+}
+
 #[test]
 fn ample_memory_for_names(rt: HostRuntime) -> Result<(), Fail> {
     let mut names = Names::new(rt.alloc());
-    let one = Id::new(1).ok_or("an id")?;
-    let two = Id::new(2).ok_or("an id")?;
-    assert_eq!(rt; names.add_user(b"", one), Err(NameFault::EmptyName));
-    assert_eq!(rt; names.add_user(b"007", one), Err(NameFault::DigitsOnly));
-    assert_eq!(rt; names.add_user(b"7a", one), Ok(()));
-    assert_eq!(rt; names.add_user(b"7a", two), Err(NameFault::Taken));
-    assert_eq!(rt; names.add_group(b"7a", two), Ok(()));
-    assert_eq!(rt; names.add_group(b"7a", two), Err(NameFault::Taken));
-    let file = parse(rt.alloc(), b"u::,u:7a:,g::,g:7a:,m::,o::", &names)?;
-    let mut room = [0u8; 64];
-    let (size, _) = write(&file, Form::Short, &mut room);
-    let wanted = b"u::---,u:1:---,g::---,g:2:---,m::---,o::---".as_slice();
-    assert!(rt; size == wanted.len() && holds(&room, wanted));
+    add_each(&rt, &mut names, Id { value: 1 }, Id { value: 2 });
+    let text = b"u::,u:7a:,g::,g:7a:,m::,o::";
+    let wanted = b"u::---,u:1:---,g::---,g:2:---,m::---,o::---";
+    assert!(rt; is_read(rt.alloc(), &names, text, Form::Short, wanted));
     Ok(())
 }
 
@@ -262,11 +246,8 @@ fn each_write_fails_in_turn(rt: HostRuntime) {
     ] {
         for size in 0..text.len() {
             let mut room = [0u8; 128];
-            assert_eq!(rt;
-                write(&file, form, &mut room[..size]),
-                (size, Some(size as u64))
-            );
-            assert_eq!(rt; &room[..size], &text[..size]);
+            assert!(rt; write(&file, form, &mut room[..size]) == (size, Some(size as u64)));
+            assert!(rt; &room[..size] == &text[..size]);
         }
     }
 }
@@ -284,10 +265,7 @@ fn an_acl_is_written_as_a_file(rt: HostRuntime) {
     assert!(rt; file.access.write_shown(&mut sink).is_ok());
     assert!(rt; file.access.write_short(&mut sink).is_ok());
     let left = sink.into_inner().len();
-    assert_eq!(rt;
-        256usize.saturating_sub(left),
-        CANONICAL.len() + SHOWN.len() + SHORT.len()
-    );
+    assert!(rt; 256usize.saturating_sub(left) == CANONICAL.len() + SHOWN.len() + SHORT.len());
 }
 
 // Adds a name of each half of the table. A call that is refused memory leaves the table as it was, so that it can be
@@ -296,23 +274,48 @@ fn add_names(rt: &impl Abort, names: &mut Names) -> Option<()> {
     let id = Id::new(1002)?;
     let added = names.add_user(b"bob", id);
     match added {
-        Ok(()) => assert_eq!(rt; names.add_user(b"bob", id), Err(NameFault::Taken)),
+        Ok(()) => assert!(rt; names.add_user(b"bob", id) == Err(NameFault::Taken)),
         Err(fault) => {
-            assert_eq!(rt; fault, NameFault::Memory);
-            assert_eq!(rt; names.user(b"bob"), None);
-            assert_eq!(rt; names.group(b"bob"), None);
+            assert!(rt; fault == NameFault::Memory);
+            assert!(rt; names.user(b"bob") == None);
+            assert!(rt; names.group(b"bob") == None);
         }
     }
     let id = Id::new(50)?;
     match names.add_group(b"staff ops", id) {
-        Ok(()) => assert_eq!(rt; names.add_group(b"staff ops", id), Err(NameFault::Taken)),
+        Ok(()) => assert!(rt; names.add_group(b"staff ops", id) == Err(NameFault::Taken)),
         Err(fault) => {
-            assert_eq!(rt; fault, NameFault::Memory);
-            assert_eq!(rt; names.group(b"staff ops"), None);
+            assert!(rt; fault == NameFault::Memory);
+            assert!(rt; names.group(b"staff ops") == None);
         }
     }
-    assert_eq!(rt; names.user(b"bob").is_some(), added.is_ok());
+    assert!(rt; names.user(b"bob").is_some() == added.is_ok());
     Some(())
+}
+
+const ROWS: [(&[u8], Form, &[u8]); 4] = [
+    (SHORT, Form::Shown, SHOWN),
+    (LISTED_SHORT, Form::Canonical, LISTED_CANONICAL),
+    (TWO_MASKS, Form::Shown, TWO_MASKS_SHOWN),
+    (
+        b"u::,u:bob:r,g::,g:staff ops:w,m::,o::",
+        Form::Short,
+        b"u::---,u:1002:r--,g::---,g:50:-w-,m::---,o::---",
+    ),
+];
+
+// Whether a text is read and written, or memory wanted, or a name that is not there.
+fn may_be_read(
+    alloc: Global,
+    names: &Names,
+    has_both: bool,
+    (text, form, wanted): (&[u8], Form, &[u8]),
+) -> bool {
+    match parse(alloc, text, names) {
+        Ok(file) => is_written(&file, form, wanted),
+        Err(TextFault::UnknownName { line, .. }) => !has_both && line == 1,
+        Err(fault) => fault == TextFault::Memory,
+    }
 }
 
 // Names, a text with them, and its forms, where memory may be wanting: it is an answer then, and no other is.
@@ -321,35 +324,14 @@ fn texts_where_memory_may_be_wanting(rt: HostRuntime) {
     let mut names = Names::new(rt.alloc());
     assert!(rt; add_names(&rt, &mut names).is_some());
     let has_both = names.user(b"bob").is_some() && names.group(b"staff ops").is_some();
-    let rows = [
-        (SHORT, Form::Shown, SHOWN),
-        (LISTED_SHORT, Form::Canonical, LISTED_CANONICAL),
-        (TWO_MASKS, Form::Shown, TWO_MASKS_SHOWN),
-        (
-            b"u::,u:bob:r,g::,g:staff ops:w,m::,o::".as_slice(),
-            Form::Short,
-            b"u::---,u:1002:r--,g::---,g:50:-w-,m::---,o::---".as_slice(),
-        ),
-    ];
-    for (text, form, wanted) in rows {
-        let mut room = [0u8; 512];
-        match parse(rt.alloc(), text, &names) {
-            Ok(file) => {
-                let (size, fault) = write(&file, form, &mut room);
-                assert_eq!(rt; fault, None);
-                assert!(rt; size == wanted.len() && holds(&room, wanted));
-            }
-            Err(TextFault::UnknownName { line, .. }) => {
-                assert!(rt; !has_both && line == 1);
-            }
-            Err(fault) => assert_eq!(rt; fault, TextFault::Memory),
-        }
+    for row in ROWS {
+        assert!(rt; may_be_read(rt.alloc(), &names, has_both, row));
     }
     match parse(rt.alloc(), b"u::,u:7:r,u:007:w,g::,m::,o::", &names) {
         Ok(_) => assert!(rt; false, "an id that stands twice"),
         Err(TextFault::Invalid(part, cause)) => {
-            assert_eq!(rt; (part, cause), (Part::Access, Cause::Duplicate(2)));
+            assert!(rt; (part, cause) == (Part::Access, Cause::Duplicate(2)));
         }
-        Err(fault) => assert_eq!(rt; fault, TextFault::Memory),
+        Err(fault) => assert!(rt; fault == TextFault::Memory),
     }
 }
