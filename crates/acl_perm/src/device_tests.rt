@@ -166,14 +166,14 @@ fn a_fused_device_passes_its_first_calls(rt: HostRuntime) {
     two_writes(&rt);
 }
 
-// A whole write to a sink that passes so many calls.
-fn write_stopped(rt: &impl Abort, calls: u64) {
+// A whole write to a sink that passes so many calls: its answer, the failures, and how many bytes went out.
+fn stopped_write(calls: u64) -> (Result<(), WriteFault>, u64, usize) {
     let mut room = [0u8; 7];
     let mut sink = Counted::new(Fused::new(room.as_mut_slice(), calls, 2));
-    let written = calls.saturating_mul(2);
-    assert!(rt; put_all(&mut sink, b"granted") == Err(WriteFault { written }));
-    assert!(rt; sink.failures() == 1);
-    assert!(rt; room.iter().filter(|byte| **byte != 0).count() as u64 == written);
+    let answer = put_all(&mut sink, b"granted");
+    let failures = sink.failures();
+    let written = room.iter().filter(|byte| **byte != 0).count();
+    (answer, failures, written)
 }
 
 // A whole read of a source that passes so many calls.
@@ -191,7 +191,9 @@ fn read_stopped(rt: &impl Abort, alloc: Global, calls: u64) {
 #[test]
 fn whole_reads_and_writes_stop_at_the_first_failure(rt: HostRuntime) {
     for calls in 0..4u64 {
-        write_stopped(&rt, calls);
+        let written = calls.saturating_mul(2);
+        let stopped = (Err(WriteFault { written }), 1, written as usize);
+        assert!(rt; stopped_write(calls) == stopped, "{calls} calls");
         read_stopped(&rt, rt.alloc(), calls);
     }
     let mut source = Counted::new(Fused::new(b"granted".as_slice(), 9, 2));
@@ -228,8 +230,8 @@ fn pull_two<'a, S: Source>(
     let answer = answer_of(bytes, call, failing);
     let mut buf = [0u8; 4];
     let pulled = source.pull(&mut buf).ok();
-    assert!(rt; pulled == answer, "call {call}");
-    assert!(rt; source.failures() == u64::from(call >= failing));
+    let is_counted = source.failures() == u64::from(call >= failing);
+    assert!(rt; pulled == answer && is_counted, "call {call}");
     let Some(count) = answer else {
         return bytes;
     };
@@ -248,8 +250,8 @@ fn put_two<'a, S: Sink>(
 ) -> &'a [u8] {
     let answer = answer_of(bytes, call, failing);
     let put = sink.put(bytes).ok();
-    assert!(rt; put == answer, "call {call}");
-    assert!(rt; sink.failures() == u64::from(call >= failing));
+    let is_counted = sink.failures() == u64::from(call >= failing);
+    assert!(rt; put == answer && is_counted, "call {call}");
     bytes.split_at(answer.unwrap_or(0)).1
 }
 
@@ -347,13 +349,15 @@ fn a_spent_device_fails_whole_buffers(rt: HostRuntime) {
 
 // With ample memory a whole read succeeds.
 #[test]
-fn ample_memory_suffices(rt: HostRuntime) -> Result<(), Fail> {
+fn ample_memory_suffices(rt: HostRuntime) {
     let mut source = Counted::new(b"granted".as_slice());
-    assert!(rt; read_all(rt.alloc(), &mut source)?.as_slice() == b"granted".as_slice());
+    match read_all(rt.alloc(), &mut source) {
+        Ok(bytes) => assert!(rt; bytes.as_slice() == b"granted".as_slice()),
+        Err(_) => assert!(rt; false, "memory is wanting"),
+    }
     let mut sink = Counted::new(Vec::new(rt.alloc()));
-    put_all(&mut sink, b"granted")?;
+    assert!(rt; put_all(&mut sink, b"granted").is_ok());
     assert!(rt; sink.into_inner().as_slice() == b"granted".as_slice());
-    Ok(())
 }
 
 // With ample memory a whole read goes past a megabyte.

@@ -1,5 +1,4 @@
 use super::*;
-use std::process::Abort;
 
 const RISING: [Principal<'static>; 7] = [
     Principal::Owner,
@@ -11,27 +10,39 @@ const RISING: [Principal<'static>; 7] = [
     Principal::Everyone,
 ];
 
-fn keys_stand(rt: &impl Abort, principal: Principal<'_>, i: usize, other: Principal<'_>, j: usize) {
+fn do_keys_stand(
+    principal: Principal<'_>,
+    i: usize,
+    other: Principal<'_>,
+    j: usize,
+    kind: Kind,
+) -> bool {
+    let key = Key { principal, kind };
     let allow = Key {
         principal: other,
         kind: Kind::Allow,
     };
-    for kind in [Kind::Deny, Kind::Allow] {
-        let key = Key { principal, kind };
-        let is_before = i < j || i == j && kind == Kind::Deny;
-        assert!(rt; (key < allow) == is_before);
-        assert!(rt; (key == allow) == (i == j && kind == Kind::Allow));
-    }
+    let is_before = i < j || i == j && kind == Kind::Deny;
+    let is_same = i == j && kind == Kind::Allow;
+    (key < allow) == is_before && (key == allow) == is_same
+}
+
+fn do_principals_stand(principal: Principal<'_>, i: usize, other: Principal<'_>, j: usize) -> bool {
+    principal.cmp(&other) == i.cmp(&j)
+        && (principal < other) == (i < j)
+        && (principal == other) == (i == j)
 }
 
 #[test]
 fn principals_and_keys_stand_in_rising_order(rt: HostRuntime) {
     for (i, principal) in RISING.iter().enumerate() {
         for (j, other) in RISING.iter().enumerate() {
-            assert!(rt; principal.cmp(other) == i.cmp(&j));
-            assert!(rt; (principal < other) == (i < j));
-            assert!(rt; (principal == other) == (i == j));
-            keys_stand(&rt, *principal, i, *other, j);
+            assert!(rt;
+                do_principals_stand(*principal, i, *other, j),
+                "{i} and {j}"
+            );
+            assert!(rt; do_keys_stand(*principal, i, *other, j, Kind::Deny));
+            assert!(rt; do_keys_stand(*principal, i, *other, j, Kind::Allow));
         }
     }
 }
