@@ -67,66 +67,77 @@ fn encoded(alloc: Global, text: &[u8], times: usize) -> usize {
 
 #[test]
 fn input(rt: HostRuntime) {
-    let text = text(rt.alloc());
-    assert!(rt; text.is_err() || text.is_ok_and(|text| text.len() == 1_572_868));
+    if let Ok(text) = text(rt.alloc()) {
+        assert!(rt; text.len() == 1_572_868);
+    }
 }
 
 #[test]
 fn parse_once(rt: HostRuntime) {
-    let text = text(rt.alloc());
-    assert!(rt; text.is_err() || text.is_ok_and(|text| parsed(&text, 1) == 1));
+    if let Ok(text) = text(rt.alloc()) {
+        assert!(rt; parsed(&text, 1) == 1);
+    }
 }
 
 #[test]
 fn parse_often(rt: HostRuntime) {
-    let text = text(rt.alloc());
-    assert!(rt; text.is_err() || text.is_ok_and(|text| parsed(&text, 10) == 10));
+    if let Ok(text) = text(rt.alloc()) {
+        assert!(rt; parsed(&text, 10) == 10);
+    }
 }
 
 #[test]
 fn decode_once(rt: HostRuntime) {
-    let text = text(rt.alloc());
-    assert!(rt; text.is_err() || text.is_ok_and(|text| decoded(rt.alloc(), &text, 1) == 1));
+    if let Ok(text) = text(rt.alloc()) {
+        assert!(rt; decoded(rt.alloc(), &text, 1) == 1);
+    }
 }
 
 #[test]
 fn decode_often(rt: HostRuntime) {
-    let text = text(rt.alloc());
-    assert!(rt; text.is_err() || text.is_ok_and(|text| decoded(rt.alloc(), &text, 10) == 10));
+    if let Ok(text) = text(rt.alloc()) {
+        assert!(rt; decoded(rt.alloc(), &text, 10) == 10);
+    }
 }
 
 #[test]
 fn feed_once(rt: HostRuntime) {
-    let text = text(rt.alloc());
-    assert!(rt; text.is_err() || text.is_ok_and(|text| fed(rt.alloc(), &text, 4096, 1) == 1));
+    if let Ok(text) = text(rt.alloc()) {
+        assert!(rt; fed(rt.alloc(), &text, 4096, 1) == 1);
+    }
 }
 
 #[test]
 fn feed_often(rt: HostRuntime) {
-    let text = text(rt.alloc());
-    assert!(rt; text.is_err() || text.is_ok_and(|text| fed(rt.alloc(), &text, 4096, 10) == 10));
+    if let Ok(text) = text(rt.alloc()) {
+        assert!(rt; fed(rt.alloc(), &text, 4096, 10) == 10);
+    }
 }
 
 #[test]
 fn feed_bytes(rt: HostRuntime) {
-    let text = text(rt.alloc());
-    assert!(rt; text.is_err() || text.is_ok_and(|text| fed(rt.alloc(), &text, 1, 1) == 1));
+    if let Ok(text) = text(rt.alloc()) {
+        assert!(rt; fed(rt.alloc(), &text, 1, 1) == 1);
+    }
 }
 
 #[test]
 fn encode_none(rt: HostRuntime) {
-    let text = text(rt.alloc());
-    assert!(rt; text.is_err() || text.is_ok_and(|text| encoded(rt.alloc(), &text, 0) == 0));
+    if let Ok(text) = text(rt.alloc()) {
+        assert!(rt; encoded(rt.alloc(), &text, 0) == 0);
+    }
 }
 
 #[test]
 fn encode_once(rt: HostRuntime) {
-    let text = text(rt.alloc());
-    assert!(rt; text.is_err() || text.is_ok_and(|text| encoded(rt.alloc(), &text, 1) == 1));
+    if let Ok(text) = text(rt.alloc()) {
+        assert!(rt; encoded(rt.alloc(), &text, 1) == 1);
+    }
 }
 
 #[test]
 fn encode_often(rt: HostRuntime) {
-    let text = text(rt.alloc());
-    assert!(rt; text.is_err() || text.is_ok_and(|text| encoded(rt.alloc(), &text, 10) == 10));
+    if let Ok(text) = text(rt.alloc()) {
+        assert!(rt; encoded(rt.alloc(), &text, 10) == 10);
+    }
 }
