@@ -205,7 +205,7 @@ fn has_rows(acl: &PosixAcl, rows: &[Row]) -> bool {
 const THREE: [Row; 3] = [(Tag::UserObj, 7), (Tag::GroupObj, 5), (Tag::Other, 0)];
 
 fn lists<A: Abort>(rt: &A, memory: Memory) {
-    let table: [(&[Row], Option<AclFault>); 18] = [
+    let table: [(&[Row], Option<AclFault>); 12] = [
         (&SHARED, None),
         (&TWO_GROUPS, None),
         (&DEFAULT, None),
@@ -218,15 +218,27 @@ fn lists<A: Abort>(rt: &A, memory: Memory) {
         (&TWO_REPEATS, Some(AclFault::Duplicate(2))),
         (&LATE_REPEAT, Some(AclFault::Multi(4))),
         (&[], Some(AclFault::Miss(Tag::UserObj))),
-        (&SHARED[..3], Some(AclFault::Miss(Tag::UserObj))),
-        (&SHARED[..5], Some(AclFault::Miss(Tag::GroupObj))),
-        (&SHARED[1..], Some(AclFault::Miss(Tag::Other))),
-        (&THREE[..1], Some(AclFault::Miss(Tag::GroupObj))),
-        (&THREE[..2], Some(AclFault::Miss(Tag::Other))),
-        (&TWO_MASKS[..3], Some(AclFault::Miss(Tag::Other))),
     ];
     for (rows, fault) in table {
         assert!(rt; memory.is_judged(rows, fault), "of {rows:?}");
+    }
+}
+
+// Lists of which entries are left out.
+fn cut_lists<A: Abort>(rt: &A, memory: Memory) {
+    let table: [(&[Row], Tag); 6] = [
+        (&SHARED[..3], Tag::UserObj),
+        (&SHARED[..5], Tag::GroupObj),
+        (&SHARED[1..], Tag::Other),
+        (&THREE[..1], Tag::GroupObj),
+        (&THREE[..2], Tag::Other),
+        (&TWO_MASKS[..3], Tag::Other),
+    ];
+    for (rows, tag) in table {
+        assert!(rt;
+            memory.is_judged(rows, Some(AclFault::Miss(tag))),
+            "of {rows:?}"
+        );
     }
 }
 
@@ -381,6 +393,7 @@ fn ample_tables(rt: HostRuntime) {
         is_ample: true,
     };
     lists(&rt, memory);
+    cut_lists(&rt, memory);
     effective_permissions(&rt, memory);
     modes(&rt, memory);
     edits(&rt, memory);
@@ -396,6 +409,7 @@ fn tables_where_memory_may_be_wanting(rt: HostRuntime) {
         is_ample: false,
     };
     lists(&rt, memory);
+    cut_lists(&rt, memory);
     effective_permissions(&rt, memory);
     modes(&rt, memory);
     edits(&rt, memory);
