@@ -30,6 +30,8 @@ pub mod PlainForm
 pub mod Profiles
 pub mod Spelled
 pub mod Accepted
+pub mod Paths
+pub mod FiveFormLemmas
 mod Order
 mod CellsOf
 mod FromCells

@@ -3,6 +3,8 @@ pub mod Alike
 pub mod SmallSituations
 pub mod Normal
 pub mod NormalForm
+pub mod Paths
+pub mod FiveForms
 pub mod Plain
 pub mod Emissions
 pub mod Counts

@@ -10,10 +10,13 @@ ghost use Rattle.acl_nfs4.specs.Within.{IsProfile};
 ghost use Rattle.acl_eval.specs.Column.{column};
 ghost use Rattle.acl_eval.specs.Grant.{SameGrants, grants_bit};
 ghost use Rattle.acl_normal.specs.Entries.{Entry, conflicts};
+ghost use Rattle.acl_normal.specs.FiveForms.{AreFormsOf, AreSpelledAlike, five_spellings};
 ghost use Rattle.acl_normal.specs.Laws.{Has, Precedes};
 ghost use Rattle.acl_normal.specs.Normal.{IsIrreducibleList, IsNormal};
 ghost use Rattle.acl_normal.specs.NormalForm.{IsNormalFormOf};
+ghost use Rattle.acl_normal.specs.Paths.{SameAtEveryPath, SameAtFive};
 ghost use Rattle.acl_normal.specs.SmallSets.{SmallSituationsSuffice};
+ghost use Rattle.acl_normal.specs.declared.five_forms.FiveForms.{FiveForms};
 
 /// In irreducible lists that grant the same, each principal has the same bits, with the same types.
 pub fn same_bits()
@@ -60,4 +63,28 @@ pub fn equal_bytes()
 /// Two lists that grant alike in each of their small situations grant the same in every situation.
 pub fn small_situations_suffice()
     ensures { SmallSituationsSuffice }
+{}
+
+/// Lists grant the same at every path of creations exactly if they do at five: here, in a new file, in a new directory,
+/// and in a new file and a new directory in that.
+pub fn five_paths_suffice()
+    ensures { (rights : ℕ) (list other : List Ace) → SameAtFive rights list other
+        ↔ SameAtEveryPath rights list other }
+{}
+
+/// The five normal forms of two lists that are accepted under a profile tell whether the lists grant the same at every
+/// path of creations.
+pub fn five_forms_tell_apart()
+    // They are equal exactly if the lists do.
+    ensures forms { (p : Profile) (list other : List Ace) (five other_five : FiveForms) → IsProfile p
+        → IsAccepted p list → AreFormsOf list five → IsAccepted p other → AreFormsOf other other_five
+        → (five ≡ other_five) ↔ SameAtEveryPath p.masks list other }
+    // So are their spellings, pair by pair,
+    ensures spelled { (p : Profile) (list other : List Ace) (five other_five : FiveForms) → IsProfile p
+        → IsAccepted p list → AreFormsOf list five → IsAccepted p other → AreFormsOf other other_five
+        → AreSpelledAlike five other_five ↔ SameAtEveryPath p.masks list other }
+    // and all five, one behind the other.
+    ensures joined { (p : Profile) (list other : List Ace) (five other_five : FiveForms) → IsProfile p
+        → IsAccepted p list → AreFormsOf list five → IsAccepted p other → AreFormsOf other other_five
+        → (five_spellings five ≡ five_spellings other_five) ↔ SameAtEveryPath p.masks list other }
 {}

@@ -10,6 +10,7 @@ mod comparison;
 mod comparison_tests;
 mod draining;
 mod filling;
+mod five_forms;
 mod later;
 pub mod laws;
 mod listing;
@@ -29,5 +30,6 @@ mod words;
 
 pub use bit_table::{Row, table};
 pub use comparison::{Difference, compare};
+pub use five_forms::{FiveForms, normalize_inherit};
 pub use merged_rows::MergedRows;
 pub use normal_form::{is_normal, normal_bytes, normal_bytes_with, normalize};

@@ -1,0 +1,5 @@
+use Rattle.acl_normal.proofs.Paths.{five_suffice}
+use Rattle.acl_normal.proofs.laws.five_paths_suffice.Goals as goal
+
+pub returns : goal.returns
+returns c = five_suffice

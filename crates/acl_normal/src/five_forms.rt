@@ -1,0 +1,87 @@
+//! The normal forms of what a directory's list grants in it and in all that will ever stand below it.
+ghost use Rattle.std.specs.Prelude.{◌≡◌, ◌≤◌, ℕ, IfOk};
+ghost use Rattle.acl_perm.specs.Profile.{Profile};
+ghost use Rattle.acl_nfs4.specs.Spelling.{IsAccepted};
+ghost use Rattle.acl_nfs4.specs.Within.{IsProfile};
+ghost use Rattle.acl_eval.specs.declared.inherit.ChildKind.{ChildKind as Kind};
+ghost use Rattle.acl_eval.specs.declared.inherit.ChildKind.TheVariants.{Directory, File};
+ghost use Rattle.acl_normal.specs.FiveForms.{AreAccepted};
+ghost use Rattle.acl_normal.specs.NormalForm.{IsNormalFormOf};
+ghost use Rattle.acl_normal.specs.Paths.{at, below, here};
+
+use crate::normal_form::normalize;
+use acl_eval::{ChildKind, child};
+use acl_nfs4::Acl;
+use std::alloc::{AllocError, Global};
+
+/// The normal forms of the lists of an object, of a new file and a new directory in it, and of a new file and a new
+/// directory in that directory. Of what is created further below, each has the list of its kind in the new directory.
+#[derive(Drop)]
+pub struct FiveForms {
+    /// Of the list itself.
+    pub object: Acl,
+    /// Of a new file.
+    pub file: Acl,
+    /// Of a new directory.
+    pub directory: Acl,
+    /// Of a new file in a new directory.
+    pub file_in_directory: Acl,
+    /// Of a new directory in a new directory.
+    pub directory_in_directory: Acl,
+}
+
+impl FiveForms {
+    /// The same five again, with one allocation each.
+    pub fn copy(&self, alloc: Global) -> Result<FiveForms, AllocError>
+        ensures { IfOk result (λ forms. forms ≡ self.now) }
+    {
+        Ok(FiveForms {
+            object: self.object.copy(alloc)?,
+            file: self.file.copy(alloc)?,
+            directory: self.directory.copy(alloc)?,
+            file_in_directory: self.file_in_directory.copy(alloc)?,
+            directory_in_directory: self.directory_in_directory.copy(alloc)?,
+        })
+    }
+}
+
+/// The five normal forms of a list, by this library's table of inheritance. Two lists have the same five exactly if
+/// they grant the same now, and their children do for ever. It takes time that is nearly linear in the bytes of the
+/// list.
+#[tactic(auto, using(crate::proofs::Paths::further))]
+pub fn normalize_inherit(alloc: Global, list: &Acl) -> Result<FiveForms, AllocError>
+    ensures object { IfOk result (λ forms. IsNormalFormOf (at list.now here) forms.object) }
+    ensures file { IfOk result (λ forms. IsNormalFormOf (at list.now (below 0 File)) forms.file) }
+    ensures directory { IfOk result (λ forms. IsNormalFormOf (at list.now (below 0 Directory)) forms.directory) }
+    ensures file_in_directory { IfOk result (λ forms.
+        IsNormalFormOf (at list.now (below 1 File)) forms.file_in_directory) }
+    ensures directory_in_directory { IfOk result (λ forms.
+        IsNormalFormOf (at list.now (below 1 Directory)) forms.directory_in_directory) }
+    // Further below, the lists are those one directory below.
+    ensures further { (count : ℕ) (kind : Kind) → 1 ≤ count → at list.now (below count kind) ≡ at list.now (below 1 kind) }
+    // Under a profile under which the list is accepted, so is each of the five.
+    ensures accepted { IfOk result (λ forms. (p : Profile) → IsProfile p → IsAccepted p list.now
+        → AreAccepted p forms) }
+{
+    let subdirectory = child(alloc, list, ChildKind::Directory)?;
+    let object = normalize(alloc, list)?;
+    let file = child_form(alloc, list, ChildKind::File)?;
+    let directory = normalize(alloc, &subdirectory)?;
+    let file_in_directory = child_form(alloc, &subdirectory, ChildKind::File)?;
+    let directory_in_directory = child_form(alloc, &subdirectory, ChildKind::Directory)?;
+    Ok(FiveForms {
+        object,
+        file,
+        directory,
+        file_in_directory,
+        directory_in_directory,
+    })
+}
+
+// The normal form of the list of a new object.
+fn child_form(alloc: Global, parent: &Acl, kind: ChildKind) -> Result<Acl, AllocError>
+    ensures { IfOk result (λ form. IsNormalFormOf (at parent.now (below 0 kind)) form) }
+{
+    let list = child(alloc, parent, kind)?;
+    normalize(alloc, &list)
+}
