@@ -11,6 +11,7 @@ pub mod Whole
 pub mod Push
 pub mod Completion
 pub mod Weights
+pub mod Lengths
 pub mod OneFault
 pub mod Scanning
 pub mod Streaming

@@ -26,7 +26,7 @@ use std::marker::Model;
 
 /// A list of ACEs (RFC 8881, section 6.2.1) that is always accepted: at most 65,536 ACEs, of at most 65,536 mask bits
 /// together, each with a who of 1 to 1,024 bytes. It is kept as the bytes that spell it, in one allocation.
-#[derive(Drop)]
+#[derive(Debug, Drop)]
 pub struct Acl {
     pub(crate) count: u32,
     pub(crate) weight: u32,

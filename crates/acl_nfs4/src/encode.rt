@@ -1,5 +1,5 @@
 //! The owned list as bytes.
-ghost use Rattle.std.specs.Prelude.{◌≡◌, ◌<◌, ℕ, List, IfErr, OnErr, OnOk, length, take};
+ghost use Rattle.std.specs.Prelude.{◌≡◌, ◌<◌, ◌^◌, ℕ, List, IfErr, OnErr, OnOk, length, take};
 ghost use Rattle.std.specs.Io.KnownBytes.{Appends};
 ghost use Rattle.acl_perm.specs.Devices.{one_more};
 ghost use Rattle.acl_perm.specs.Profile.{Profile, full};
@@ -10,6 +10,16 @@ use acl_perm::{Sink, WriteFault, put_all};
 use byteorder::{BigEndian, ByteOrder};
 
 impl Acl {
+    /// The number of bytes that spell the list, which are those that `encode` writes, in constant time.
+    #[tactic(auto, using(crate::proofs::Lengths::owned_len, crate::proofs::Lengths::spelling_short))]
+    pub fn encoded_len(&self) -> u64
+        ensures value { result ≡ length (spelling self.now) }
+        ensures small { result < 2 ^ 31 }
+    {
+        let _accepted = self.aces();
+        4 + self.body.len() as u64
+    }
+
     /// Writes the bytes that spell the list (RFC 4506 over RFC 8881, section 6.2.1), without memory. The first write
     /// that fails ends it: `written` bytes went out, and nothing is tried again.
     pub fn encode<K: Sink>(&self, sink: &mut K) -> Result<(), WriteFault>

@@ -32,6 +32,7 @@ pub mod Spelled
 pub mod Accepted
 pub mod Paths
 pub mod FiveFormLemmas
+mod FormsOut
 mod Order
 mod CellsOf
 mod FromCells

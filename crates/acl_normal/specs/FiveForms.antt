@@ -1,8 +1,12 @@
 -- The five normal forms of the list of a directory (this library's own, over RFC 8881, section 6.2.1).
-use Rattle.std.specs.Prelude.{◌≡◌, ◌∷◌, [], ℕ, List}
+use Rattle.std.specs.Prelude.{◌≡◌, ◌∷◌, [], ℕ, Bool, List}
+use Rattle.std.specs.Cmp.{IsEquivalence, IsPartialEquivalence, on_equiv, on_per}
+use Rattle.std.specs.Cmp.Lexicographic.{lists_equiv, lists_per, pointwise}
 use Rattle.std.specs.List.{flat_map}
+use Rattle.std.specs.Ordering.{on}
 use Rattle.acl_perm.specs.Profile.{Profile}
 use Rattle.acl_nfs4.specs.Ace.{Ace}
+use Rattle.acl_nfs4.specs.Owned.{same_list, same_list_equiv, same_list_laws}
 use Rattle.acl_nfs4.specs.Spelling.{IsAccepted, spelling}
 use Rattle.acl_eval.specs.declared.inherit.ChildKind.TheVariants.{Directory, File}
 use Rattle.acl_normal.specs.NormalForm.{IsNormalFormOf}
@@ -41,3 +45,15 @@ five_lists forms = forms.object ∷ forms.file ∷ forms.directory ∷ forms.fil
 -- their spellings, one behind the other
 abbrev pub five_spellings : FiveForms → List ℕ
 five_spellings forms = flat_map spelling (five_lists forms)
+
+-- each of the five has the spelling of its fellow, as a test; of accepted lists that is that they are the same
+abbrev pub same_forms : FiveForms → FiveForms → Bool
+same_forms = on five_lists (pointwise same_list)
+
+-- the five are compared by a partial equivalence
+pub same_forms_laws : IsPartialEquivalence same_forms
+same_forms_laws = on_per five_lists (lists_per same_list_laws)
+
+-- and by an equivalence
+pub same_forms_equiv : IsEquivalence same_forms
+same_forms_equiv = on_equiv five_lists (lists_equiv same_list_equiv)

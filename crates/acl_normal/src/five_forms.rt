@@ -1,22 +1,26 @@
 //! The normal forms of what a directory's list grants in it and in all that will ever stand below it.
-ghost use Rattle.std.specs.Prelude.{◌≡◌, ◌≤◌, ℕ, IfOk};
+ghost use Rattle.std.specs.Prelude.{◌≡◌, ◌+◌, ◌^◌, ◌<◌, ◌≤◌, ℕ, IfErr, IfOk, OnErr, OnOk, length, take};
+ghost use Rattle.std.specs.Io.KnownBytes.{Appends};
+ghost use Rattle.acl_perm.specs.Devices.{one_more};
+ghost use Rattle.acl_perm.specs.Pieces.{WritesFrom};
 ghost use Rattle.acl_perm.specs.Profile.{Profile};
-ghost use Rattle.acl_nfs4.specs.Spelling.{IsAccepted};
+ghost use Rattle.acl_nfs4.specs.Spelling.{IsAccepted, spelling};
 ghost use Rattle.acl_nfs4.specs.Within.{IsProfile};
 ghost use Rattle.acl_eval.specs.declared.inherit.ChildKind.{ChildKind as Kind};
 ghost use Rattle.acl_eval.specs.declared.inherit.ChildKind.TheVariants.{Directory, File};
-ghost use Rattle.acl_normal.specs.FiveForms.{AreAccepted};
+ghost use Rattle.acl_normal.specs.FiveForms.{AreAccepted, five_spellings};
 ghost use Rattle.acl_normal.specs.NormalForm.{IsNormalFormOf};
 ghost use Rattle.acl_normal.specs.Paths.{at, below, here};
 
 use crate::normal_form::normalize;
 use acl_eval::{ChildKind, child};
 use acl_nfs4::Acl;
+use acl_perm::{Sink, WriteFault};
 use std::alloc::{AllocError, Global};
 
 /// The normal forms of the lists of an object, of a new file and a new directory in it, and of a new file and a new
 /// directory in that directory. Of what is created further below, each has the list of its kind in the new directory.
-#[derive(Drop)]
+#[derive(Debug, Drop)]
 pub struct FiveForms {
     /// Of the list itself.
     pub object: Acl,
@@ -42,6 +46,80 @@ impl FiveForms {
             file_in_directory: self.file_in_directory.copy(alloc)?,
             directory_in_directory: self.directory_in_directory.copy(alloc)?,
         })
+    }
+
+    /// Writes the bytes that spell the five, one behind the other in the order of the fields (RFC 4506 over RFC 8881,
+    /// section 6.2.1), without memory. The first write that fails ends it: `written` bytes went out, and nothing is
+    /// tried again.
+    pub fn encode<K: Sink>(&self, sink: &mut K) -> Result<(), WriteFault>
+        ensures ok { OnOk result (Appends (K.contents sink.old) (K.contents sink.new) (five_spellings self.now)) }
+        ensures none_failed { OnOk result (K.failure_count sink.new ≡ K.failure_count sink.old) }
+
+        ensures err { IfErr result (λ fault. Appends (K.contents sink.old) (K.contents sink.new)
+            (take fault.written (five_spellings self.now))) }
+        ensures short { IfErr result (λ fault. fault.written < length (five_spellings self.now)) }
+        ensures failed { OnErr result (K.failure_count sink.new ≡ one_more (K.failure_count sink.old)) }
+    {
+        match put_forms(sink, self) {
+            Ok(_) => Ok(()),
+            Err(fault) => Err(fault),
+        }
+    }
+}
+
+impl PartialEq for FiveForms {
+    ghost use Rattle.std.specs.Prelude.{◌≡◌, ◌↔◌, IsTrue};
+    ghost use Rattle.acl_normal.specs.FiveForms.{same_forms, same_forms_laws};
+
+    ghost eq = { same_forms };
+
+    ghost laws = { same_forms_laws };
+
+    fn eq(&self, other: &FiveForms) -> bool
+        ensures value { result ≡ same_forms self.now other.now }
+        ensures exact { IsTrue result ↔ (self.now ≡ other.now) }
+    {
+        self.object == other.object
+            && self.file == other.file
+            && self.directory == other.directory
+            && self.file_in_directory == other.file_in_directory
+            && self.directory_in_directory == other.directory_in_directory
+    }
+}
+
+impl Eq for FiveForms {
+    ghost use Rattle.acl_normal.specs.FiveForms.{same_forms_equiv};
+
+    ghost laws = { same_forms_equiv };
+}
+
+// Writes the bytes that spell the five, and answers how many they are.
+fn put_forms<K: Sink>(sink: &mut K, forms: &FiveForms) -> Result<u64, WriteFault>
+    ensures written { WritesFrom (K.contents sink.old) (K.contents sink.new) 0 (five_spellings forms.now) result }
+    ensures none_failed { OnOk result (K.failure_count sink.new ≡ K.failure_count sink.old) }
+    ensures failed { OnErr result (K.failure_count sink.new ≡ one_more (K.failure_count sink.old)) }
+{
+    let object = put_list(sink, 0, &forms.object)?;
+    let file = put_list(sink, object, &forms.file)?;
+    let directory = put_list(sink, file, &forms.directory)?;
+    let inner_file = put_list(sink, directory, &forms.file_in_directory)?;
+    put_list(sink, inner_file, &forms.directory_in_directory)
+}
+
+// Writes the bytes that spell a list, after `done` bytes, and answers how many are out then.
+fn put_list<K: Sink>(sink: &mut K, done: u64, list: &Acl) -> Result<u64, WriteFault>
+    requires { done < 2 ^ 62 }
+    ensures written { WritesFrom (K.contents sink.old) (K.contents sink.new) done (spelling list.now) result }
+    ensures small { IfOk result (λ count. count < done + 2 ^ 31) }
+    ensures none_failed { OnOk result (K.failure_count sink.new ≡ K.failure_count sink.old) }
+    ensures failed { OnErr result (K.failure_count sink.new ≡ one_more (K.failure_count sink.old)) }
+{
+    let len = list.encoded_len();
+    match list.encode(sink) {
+        Ok(()) => Ok(done + len),
+        Err(fault) => Err(WriteFault {
+            written: done + fault.written,
+        }),
     }
 }
 

@@ -1,0 +1,43 @@
+-- A list that is accepted has few bytes.
+use Rattle.std.proofs.Common.{◌≡◌, ℕ, ◌+◌, ◌*◌, ◌^◌, ◌<◌, ◌≤◌, List, [], ◌∷◌, length, replicate, ap, arith}
+use Rattle.std.specs.List.{flat_map, AllByRecursion}
+use Rattle.std.proofs.lemmas.List.{length-append, length-replicate}
+use Rattle.acl_perm.specs.Profile.{Profile}
+use Rattle.acl_nfs4.specs.Ace.{Ace}
+use Rattle.acl_nfs4.specs.Body.{aces_of}
+use Rattle.acl_nfs4.specs.Owned.{IsOwned}
+use Rattle.acl_nfs4.specs.Spelling.{IsAce, IsAccepted, pad_len, piece, spelling, word}
+use Rattle.acl_nfs4.proofs.Fields.{who_bounds}
+
+-- the piece of an ACE
+ace_short : (p : Profile) (a : Ace) → IsAce p a → length (piece a) ≤ 1044
+ace_short p a is = omega (
+  arith,
+  length-append a.who (replicate (pad_len (length a.who)) 0),
+  length-replicate {A = ℕ} (pad_len (length a.who)) 0,
+  (who_bounds a.who is.who).1,
+)
+
+-- the pieces of a list
+pieces_short : (p : Profile) (list : List Ace) → AllByRecursion (IsAce p) list
+    → length (flat_map piece list) ≤ 1044 * length list
+pieces_short p [] each = omega arith
+pieces_short p (a ∷ list) each = omega (
+  arith,
+  length-append (piece a) (flat_map piece list),
+  ace_short p a each.0,
+  pieces_short p list each.1,
+)
+
+-- a spelling has less than 2 ^ 31 bytes
+pub spelling_short : (p : Profile) (list : List Ace) → IsAccepted p list → length (spelling list) < 2 ^ 31
+spelling_short p list is = omega (arith, pieces_short p list is.each, is.count)
+
+-- the bytes of an owned list, with the word of its length before them
+pub owned_len : (count total : ℕ) (body : List ℕ) → IsOwned count total body
+    → 4 + length body ≡ length (spelling (aces_of count body))
+owned_len count total body is = omega (
+  arith,
+  ap length is.spells.spells.spelled,
+  length-append (word (length (aces_of count body))) (flat_map piece (aces_of count body)),
+)
