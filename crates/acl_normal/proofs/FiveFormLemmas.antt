@@ -117,11 +117,20 @@ pub five_tell : (p : Profile) (source other : List Ace) (forms other_forms : Fiv
 five_tell p source other forms other_forms is taken h taken_other k = (
   λ e. (five_suffice p.masks source other).0 (
     (object here h.object k.object).0 (ap (λ f. f.object) e),
-    ((object (below 0 File) h.file k.file).0 (ap (λ f. f.file) e),
-      ((object (below 0 Directory) h.directory k.directory).0 (ap (λ f. f.directory) e),
-        ((object (below 1 File) h.file_in_directory k.file_in_directory).0 (ap (λ f. f.file_in_directory) e),
-          ((object (below 1 Directory) h.directory_in_directory k.directory_in_directory).0
-              (ap (λ f. f.directory_in_directory) e), tt)))),
+    (
+      (object (below 0 File) h.file k.file).0 (ap (λ f. f.file) e),
+      (
+        (object (below 0 Directory) h.directory k.directory).0 (ap (λ f. f.directory) e),
+        (
+          (object (below 1 File) h.file_in_directory k.file_in_directory).0 (ap (λ f. f.file_in_directory) e),
+          (
+            (object (below 1 Directory) h.directory_in_directory k.directory_in_directory).0
+                (ap (λ f. f.directory_in_directory) e),
+            tt,
+          ),
+        ),
+      ),
+    ),
   ),
   λ same. five_equal forms other_forms
       ((object here h.object k.object).1 (same here))
@@ -146,9 +155,9 @@ five_spelled p forms other is h k = (
       (spelled_alike p forms.file other.file is h.file k.file same.file)
       (spelled_alike p forms.directory other.directory is h.directory k.directory same.directory)
       (spelled_alike p forms.file_in_directory other.file_in_directory is h.file_in_directory k.file_in_directory
-          same.file_in_directory)
+      same.file_in_directory)
       (spelled_alike p forms.directory_in_directory other.directory_in_directory is h.directory_in_directory
-          k.directory_in_directory same.directory_in_directory),
+      k.directory_in_directory same.directory_in_directory),
   λ e. record {
     object = ap (λ f. spelling f.object) e;
     file = ap (λ f. spelling f.file) e;

@@ -10,6 +10,8 @@ mod comparison;
 mod comparison_tests;
 mod draining;
 mod filling;
+#[cfg(test)]
+mod five_form_tests;
 mod five_forms;
 mod later;
 pub mod laws;
