@@ -3,12 +3,12 @@ use Rattle.std.proofs.Common.{◌≡◌, ℕ, List, [], ◌++◌, refl, ap, subs
 use Rattle.std.specs.Prelude.{◌↔◌}
 use Rattle.std.proofs.lemmas.List.{append_cancel_left}
 use Rattle.acl_perm.specs.Bits.{all_rights}
-use Rattle.acl_perm.specs.Profile.{Profile, full}
+use Rattle.acl_perm.specs.Profile.{Profile}
 use Rattle.acl_nfs4.specs.Ace.{Ace}
-use Rattle.acl_nfs4.specs.Spelling.{Fits, IsAccepted, Xdr, spelling}
+use Rattle.acl_nfs4.specs.Spelling.{Fits, IsAccepted, spelling}
 use Rattle.acl_nfs4.specs.Within.{IsProfile}
 use Rattle.acl_nfs4.proofs.Body.{one}
-use Rattle.acl_nfs4.proofs.Within.{accepted_where_it_fits, full_is}
+use Rattle.acl_nfs4.proofs.Within.{accepted_where_it_fits}
 use Rattle.acl_eval.specs.Inheritance.{children}
 use Rattle.acl_eval.specs.declared.inherit.ChildKind.TheVariants.{Directory, File}
 use Rattle.acl_eval.specs.Laws.{IsEquivalence}

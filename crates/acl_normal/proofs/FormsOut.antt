@@ -1,5 +1,5 @@
 -- Lists that go out one behind the other.
-use Rattle.std.proofs.Common.{◌≡◌, ℕ, List, [], ◌∷◌, Option, Result, Ok, Err, refl}
+use Rattle.std.proofs.Common.{ℕ, List, [], ◌∷◌, Option, Result, Ok, Err, refl}
 use Rattle.std.specs.List.{flat_map}
 use Rattle.acl_perm.specs.Pieces.{WritesFrom}
 use Rattle.acl_perm.specs.declared.whole.WriteFault.{WriteFault}

@@ -10,7 +10,6 @@ use Rattle.acl_nfs4.specs.Spelling.{Fits}
 use Rattle.acl_nfs4.specs.Who.{principal_of}
 use Rattle.acl_nfs4.specs.Within.{IsProfile, IsWithin}
 use Rattle.acl_nfs4.proofs.Within.{within_part}
-use Rattle.acl_eval.specs.Grant.{SameGrants}
 use Rattle.acl_eval.specs.Inheritance.{child_flags, children, directory_inherit, ends, file_inherit, goes_on, no_propagate_inherit, waits, with_flags}
 use Rattle.acl_eval.specs.declared.inherit.ChildKind.{ChildKind}
 use Rattle.acl_eval.specs.declared.inherit.ChildKind.TheVariants.{Directory, File}

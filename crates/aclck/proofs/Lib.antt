@@ -10,4 +10,5 @@ mod Vectors
 pub mod ListTextLemmas
 pub mod TwoListLemmas
 pub mod NormalFormLemmas
+pub mod PathLemmas
 pub mod CompareLemmas

@@ -1,16 +1,15 @@
 -- What a list that is read from pulls takes of its input.
-use Rattle.std.proofs.Common.{◌≡◌, ◌≢◌, ◌⊎◌, ℕ, ◌+◌, ◌-◌, ◌*◌, ◌^◌, ◌<◌, ◌≤◌, List, [], ◌∷◌, ◌++◌, length, take, drop, replicate, Option, None, Some, Result, Ok, Err, refl, sym, ap, subst, ◌∙◌, append_assoc, arith, inl, inr}
+use Rattle.std.proofs.Common.{◌≡◌, ◌≢◌, ◌⊎◌, ℕ, ◌+◌, ◌-◌, ◌^◌, ◌<◌, ◌≤◌, List, [], ◌++◌, length, take, drop, Option, None, Some, Result, Ok, Err, refl, sym, ap, subst, ◌∙◌, append_assoc, arith, inl, inr}
 use Rattle.std.specs.Prelude.{IfErr, IfOk}
-use Rattle.std.specs.List.{flat_map, AllByRecursion}
 use Rattle.std.specs.Io.KnownBytes.{Consumes, IsAtEnd}
 use Rattle.std.proofs.KnownBytes.{Consumes-kept, Consumes-nil, Consumes-trans, Consumes-whole}
 use Rattle.std.proofs.Math.Seq.{take-append-add, take-length}
 use Rattle.std.proofs.lemmas.Bool.{cases_lt}
-use Rattle.std.proofs.lemmas.List.{append-nil, length-append, length-replicate, length-take, take-append-drop, take-append-le, take-take}
+use Rattle.std.proofs.lemmas.List.{append-nil, length-append, length-take, take-append-drop, take-append-le, take-take}
 use Rattle.acl_perm.specs.Profile.{Profile}
 use Rattle.acl_nfs4.specs.Ace.{Ace}
 use Rattle.acl_nfs4.specs.Within.{IsProfile}
-use Rattle.acl_nfs4.specs.Spelling.{IsAce, Xdr, pad_len, piece}
+use Rattle.acl_nfs4.specs.Spelling.{Xdr}
 use Rattle.acl_nfs4.specs.Fault.{Border, Breaks, IsFault, IsFirstFault, IsWholeFault, Stage, refuses, size}
 use Rattle.acl_nfs4.specs.Fault.IsWholeFault.{behind, of_value}
 use Rattle.acl_nfs4.specs.Fault.Stage.{count as at_count, kind as at_kind, flags as at_flags, mask as at_mask, len as at_len, who as at_who, padding as at_padding}
@@ -21,8 +20,8 @@ use Rattle.acl_nfs4.specs.declared.fault.Reason.{Reason}
 use Rattle.acl_nfs4.specs.declared.fault.Reason.TheVariants.{Memory, TrailingBytes, Truncated}
 use Rattle.acl_nfs4.proofs.Completion.{begins, who_bounds as stage_bounds}
 use Rattle.acl_nfs4.proofs.Exactly.{one_reason}
-use Rattle.acl_nfs4.proofs.Fields.{who_bounds}
 use Rattle.acl_nfs4.proofs.Held.{short_rest}
+use Rattle.acl_nfs4.proofs.Lengths.{spelling_short}
 use Rattle.acl_nfs4.proofs.OneFault.{never_truncated}
 use Rattle.acl_nfs4.proofs.Pieces.{breaks_whole, fault_stays}
 use Rattle.aclck.specs.Answer.{IsXdrFault}
@@ -33,34 +32,9 @@ use Rattle.aclck.specs.declared.list_input.Value.{Value}
 
 -- ---- lists are short
 
--- the piece of an ACE
-ace_short : (p : Profile) (a : Ace) → IsAce p a → length (piece a) ≤ 1044
-ace_short p a is = omega (
-  arith,
-  length-append a.who (replicate (pad_len (length a.who)) 0),
-  length-replicate {A = ℕ} (pad_len (length a.who)) 0,
-  (who_bounds a.who is.who).1,
-)
-
--- the pieces of a list
-pieces_short : (p : Profile) (list : List Ace) → AllByRecursion (IsAce p) list
-    → length (flat_map piece list) ≤ 1044 * length list
-pieces_short p [] each = omega arith
-pieces_short p (a ∷ list) each = omega (
-  arith,
-  length-append (piece a) (flat_map piece list),
-  ace_short p a each.0,
-  pieces_short p list each.1,
-)
-
 -- a spelling has less than 2 ^ 31 bytes
 pub spelled_short : (p : Profile) (list : List Ace) (text : List ℕ) → Xdr p list text → length text < 2 ^ 31
-spelled_short p list text x = omega (
-  arith,
-  ap length x.spelled,
-  pieces_short p list x.accepted.each,
-  x.accepted.count,
-)
+spelled_short p list text x = omega (arith, ap length x.spelled, spelling_short p list x.accepted)
 
 -- a field
 size_small : (p : Profile) (s : Stage) (t : List ℕ) → Border p s t → size s ≤ 1024

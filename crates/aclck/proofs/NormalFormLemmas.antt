@@ -5,7 +5,7 @@ use Rattle.acl_perm.specs.Bits.{all_rights}
 use Rattle.acl_perm.specs.Profile.{Profile, full, profile_of}
 use Rattle.acl_perm.specs.declared.profile.Profile.{Profile as CodeProfile}
 use Rattle.acl_nfs4.specs.Ace.{Ace}
-use Rattle.acl_nfs4.specs.Spelling.{IsAccepted, Xdr, spelling, weight}
+use Rattle.acl_nfs4.specs.Spelling.{IsAccepted, Xdr, spelling}
 use Rattle.acl_nfs4.specs.Within.{IsProfile}
 use Rattle.acl_nfs4.proofs.Body.{one}
 use Rattle.acl_nfs4.proofs.Within.{code_profile}
@@ -20,7 +20,7 @@ use Rattle.acl_posix.proofs.Whole.{apart, back, canonical_reads}
 use Rattle.aclck.specs.Headline.{Headline}
 
 -- bytes spell one list
-one_of : (p : Profile) (list other : List Ace) (x : List ℕ) → IsProfile p → Xdr p list x → Xdr p other x → list ≡ other
+pub one_of : (p : Profile) (list other : List Ace) (x : List ℕ) → IsProfile p → Xdr p list x → Xdr p other x → list ≡ other
 one_of p list other x is h k = (one p list other x x [] [] is h k refl).0
 
 -- the list that was written is a form of the list that was read
@@ -46,7 +46,7 @@ form_grants p list form x a is read written h = subst (SameGrants p.masks list)
     (one_of p h.form form a is h.spelled written) (IsForm.grants (form_is p list x a is read h))
 
 -- a normal list is its own normal form
-own_form : (list : List Ace) → IsNormal list → IsAccepted full list → IsNormalFormOf list list
+pub own_form : (list : List Ace) → IsNormal list → IsAccepted full list → IsNormalFormOf list list
 own_form list normal accepted = record {
   normal = normal;
   grants = (equivalence all_rights).reflexive list;

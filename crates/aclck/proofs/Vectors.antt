@@ -1,5 +1,5 @@
 -- Command lines that are written out, as the definitions compute them.
-use Rattle.std.proofs.Common.{◌≡◌, ◌∷◌, [], ℕ, List, None, Some, false, true, refl, codes}
+use Rattle.std.proofs.Common.{◌≡◌, ◌∷◌, [], ℕ, Bool, List, None, Some, false, true, refl, codes}
 use Rattle.clap.proofs.OnLiterals.{clap_on_literals}
 use Rattle.clap.specs.Words.{Text, first_of}
 use Rattle.acl_perm.specs.Profile.{Profile, full, narrow}
@@ -7,6 +7,7 @@ use Rattle.acl_nfs4.specs.BitNames.{set_named}
 use Rattle.acl_posix.specs.Names.{no_names}
 use Rattle.aclck.specs.Line.{Term, app_from, default, flag, is_given, is_taken, optional, rows_at}
 use Rattle.aclck.specs.CheckNfs.{check_nfs_in}
+use Rattle.aclck.specs.Normalize.{normalize_in}
 use Rattle.aclck.specs.ProfileArgument.{profile_in}
 use Rattle.aclck.specs.ShowPosix.{form_value, show_posix_in}
 use Rattle.aclck.specs.CheckPosix.{check_posix_in}
@@ -18,7 +19,7 @@ use Rattle.aclck.specs.PosixValues.{id_value, ids_value, mode_value, want_value}
 use Rattle.aclck.specs.declared.posix.Form.TheVariants as form
 use Rattle.acl_eval.specs.declared.inherit.ChildKind.TheVariants as kind
 use Rattle.aclck.specs.Child.{child_in, kind_value}
-use Rattle.aclck.specs.Task.{Task, bridge, calc_mask, check_nfs, check_posix, child, chmod, create, encode, mode, show_nfs, show_posix, task_named, task_of}
+use Rattle.aclck.specs.Task.{Task, bridge, calc_mask, check_nfs, check_posix, child, chmod, create, encode, mode, normalize, show_nfs, show_posix, task_named, task_of}
 use Rattle.aclck.specs.Values.{mask_value, profile_value}
 
 -- ---- `check-nfs`
@@ -467,3 +468,35 @@ encoded_narrow = refl
 shown_with_a_word : task_of (codes "show-nfs" ∷ codes "bob" ∷ []) ≡ None
 unfolding clap_on_literals is_taken rows_at app_from task_named profile_in profile_value
 shown_with_a_word = refl
+
+-- ---- `normalize`
+
+-- what `normalize` is asked for
+abbrev normalized : Bool → Profile → Task
+normalized inherit profile = normalize (record { inherit = inherit; profile = profile })
+
+-- without the flag one form is meant
+one_form : task_of (codes "normalize" ∷ []) ≡ Some (normalized false full)
+unfolding clap_on_literals is_taken rows_at app_from task_named normalize_in profile_value
+one_form = refl
+
+-- and with it five, whatever the profile
+five_forms : task_of (codes "normalize" ∷ codes "--inherit" ∷ []) ≡ Some (normalized true full)
+unfolding clap_on_literals is_taken rows_at app_from task_named normalize_in profile_value
+five_forms = refl
+
+-- in whatever order
+five_narrow_forms : task_of (codes "normalize" ∷ codes "--profile=narrow" ∷ codes "--inherit" ∷ [])
+    ≡ Some (normalized true narrow)
+unfolding clap_on_literals is_taken rows_at app_from task_named normalize_in profile_value
+five_narrow_forms = refl
+
+-- the flag takes no value
+inherit_with_value : task_of (codes "normalize" ∷ codes "--inherit=yes" ∷ []) ≡ None
+unfolding clap_on_literals is_taken rows_at app_from task_named normalize_in profile_value
+inherit_with_value = refl
+
+-- and no other command takes it
+mode_with_inherit : task_of (codes "mode" ∷ codes "--inherit" ∷ []) ≡ None
+unfolding clap_on_literals is_taken rows_at app_from task_named profile_in profile_value
+mode_with_inherit = refl

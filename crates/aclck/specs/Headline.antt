@@ -6,9 +6,13 @@ use Rattle.acl_nfs4.specs.Ace.{Ace}
 use Rattle.acl_nfs4.specs.Spelling.{Xdr}
 use Rattle.acl_nfs4.specs.Within.{IsProfile}
 use Rattle.acl_eval.specs.Grant.{SameGrants}
+use Rattle.acl_eval.specs.declared.inherit.ChildKind.TheVariants.{Directory, File}
 use Rattle.acl_normal.specs.NormalForm.{Normalises}
+use Rattle.acl_normal.specs.Paths.{SameAtEveryPath, at, below, here}
+use Rattle.acl_normal.specs.declared.five_forms.FiveForms.{FiveForms}
 use Rattle.acl_posix.specs.TextLaws.{ReadsBack, TellsApart}
 use Rattle.acl_posix.specs.Texts.{canonical_text}
+use Rattle.aclck.specs.Normalize.{IsFiveForms, NormalisesAtPaths}
 
 -- the headline, part by part
 pub record Headline : Type 0 where
@@ -25,3 +29,24 @@ pub record Headline : Type 0 where
   pub one_text : TellsApart canonical_text
   -- and the canonical text reads back
   pub reads_back : ReadsBack canonical_text
+
+-- each of the five lists grants what stands at its path grants
+pub record GrantAtPaths (rights : ℕ) (list : List Ace) (forms : FiveForms) : Type 0 where
+  pub object : SameGrants rights (at list here) forms.object
+  pub file : SameGrants rights (at list (below 0 File)) forms.file
+  pub directory : SameGrants rights (at list (below 0 Directory)) forms.directory
+  pub file_in_directory : SameGrants rights (at list (below 1 File)) forms.file_in_directory
+  pub directory_in_directory : SameGrants rights (at list (below 1 Directory)) forms.directory_in_directory
+
+-- the headline over paths of creations, part by part
+pub record HeadlineOverPaths : Type 0 where
+  -- the five normal forms of two lists have equal bytes exactly if, at every path, in every situation and for every
+  -- mask, both grant or both deny
+  pub equal_bytes : (p : Profile) (list other : List Ace) (x y a b : List ℕ) → IsProfile p → Xdr p list x
+      → Xdr p other y → NormalisesAtPaths p x a → NormalisesAtPaths p y b
+      → (a ≡ b) ↔ SameAtEveryPath p.masks list other
+  -- each of the five grants what stands at its path grants
+  pub same_grants : (p : Profile) (list : List Ace) (x a : List ℕ) → IsProfile p → Xdr p list x
+      → (five : NormalisesAtPaths p x a) → GrantAtPaths p.masks list five.forms
+  -- normalising each of the five once more changes none
+  pub twice_is_once : (p : Profile) (x a : List ℕ) → IsProfile p → NormalisesAtPaths p x a → IsFiveForms p a

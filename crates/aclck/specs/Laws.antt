@@ -6,12 +6,13 @@ use Rattle.acl_nfs4.specs.AceText.{IsAceText, ace_text}
 use Rattle.acl_nfs4.specs.Spelling.{Xdr}
 use Rattle.acl_nfs4.specs.Within.{IsProfile}
 use Rattle.acl_eval.specs.Grant.{SameGrants}
+use Rattle.acl_normal.specs.Paths.{SameAtEveryPath}
 use Rattle.acl_posix.specs.Grammar.{Reads}
 use Rattle.acl_posix.specs.Names.{Table, IsTable}
 use Rattle.acl_posix.specs.declared.file.PosixFile.{PosixFile}
 use Rattle.aclck.specs.Answer.{done}
 use Rattle.aclck.specs.Encode.{EncodeAnswer}
-use Rattle.aclck.specs.Normalize.{NormalizeAnswer}
+use Rattle.aclck.specs.Normalize.{IsFiveForms, NormalizeAnswer, NormalizeInheritAnswer}
 use Rattle.aclck.specs.ShowNfs.{ShowNfsAnswer}
 use Rattle.aclck.specs.ShowPosix.{ShowPosixAnswer}
 use Rattle.aclck.specs.declared.answer.Outcome.TheVariants as outcome
@@ -53,3 +54,15 @@ NormalizeTellsApart = (p : Profile) (list other : List Ace) (x y a b : List ℕ)
 abbrev pub NormalizeTwice : Type 0
 NormalizeTwice = (p : Profile) (x a b : List ℕ) → IsProfile p → NormalizeAnswer p x (done outcome.Yes a)
     → NormalizeAnswer p a (done outcome.Yes b) ↔ (b ≡ a)
+
+-- two inputs, each of which spells a list of a profile, get equal bytes from `normalize --inherit` exactly if at every
+-- path of creations, in every situation, for every mask within the profile, both lists grant or both deny
+abbrev pub NormalizeInheritTellsApart : Type 0
+NormalizeInheritTellsApart = (p : Profile) (list other : List Ace) (x y a b : List ℕ) → IsProfile p → Xdr p list x
+    → Xdr p other y → NormalizeInheritAnswer p x (done outcome.Yes a) → NormalizeInheritAnswer p y (done outcome.Yes b)
+    → (a ≡ b) ↔ SameAtEveryPath p.masks list other
+
+-- what it makes of bytes is five lists, one behind the other, of each of which `normalize` makes the same bytes
+abbrev pub NormalizeInheritGivesForms : Type 0
+NormalizeInheritGivesForms = (p : Profile) (x a : List ℕ) → IsProfile p
+    → NormalizeInheritAnswer p x (done outcome.Yes a) → IsFiveForms p a

@@ -1,9 +1,39 @@
--- `normalize`: what it makes of an input (this library's own, over RFC 8881, section 6.2.1).
-use Rattle.std.specs.Prelude.{◌≡◌, List, ℕ}
-use Rattle.acl_perm.specs.Profile.{Profile}
+-- `normalize`: its words, and what it makes of an input (this library's own, over RFC 8881, section 6.2.1).
+use Rattle.std.specs.Prelude.{◌≡◌, ◌∷◌, [], Bool, false, true, List, ℕ, Option, codes}
+use Rattle.std.specs.List.{AllByRecursion}
+use Rattle.std.specs.Option.{option_and_then, option_map}
+use Rattle.clap.specs.Words.{Row, first_of}
+use Rattle.acl_perm.specs.Profile.{Profile, profile_of}
+use Rattle.acl_nfs4.specs.Ace.{Ace}
+use Rattle.acl_nfs4.specs.Spelling.{Xdr, spelling}
+use Rattle.acl_normal.specs.FiveForms.{AreAccepted, AreFormsOf, five_lists, five_spellings}
 use Rattle.acl_normal.specs.NormalForm.{Normalises}
+use Rattle.acl_normal.specs.declared.five_forms.FiveForms.{FiveForms}
+use Rattle.aclck.specs.Line.{Term, default, flag, is_given}
+use Rattle.aclck.specs.Values.{profile_value}
 use Rattle.aclck.specs.Answer.{Answer, IsXdrFault, done, refused}
 use Rattle.aclck.specs.declared.answer.Outcome.TheVariants as outcome
+use Rattle.aclck.specs.declared.task.normalize.Normalize.{Normalize}
+
+-- ---- words
+
+-- `normalize [--inherit] [--profile full|narrow]`
+abbrev pub normalize_terms : List Term
+normalize_terms = flag (codes "inherit") ∷ default (codes "profile") (codes "full") ∷ []
+
+-- whether inheritance counts, and what a list may have
+pub record NormalizeValues : Type 0 where
+  pub inherit : Bool
+  pub profile : Profile
+
+-- the values that the rows of a parse spell
+unfoldable pub normalize_in : List Row → Option NormalizeValues
+normalize_in rows = option_map (λ p. record { inherit = is_given (codes "inherit") rows; profile = p })
+    (option_and_then profile_value (first_of (codes "profile") rows))
+
+-- the values that the program holds
+abbrev pub normalize_held : Normalize → NormalizeValues
+normalize_held v = record { inherit = v.inherit; profile = profile_of v.profile }
 
 -- ---- the answer
 
@@ -11,3 +41,33 @@ use Rattle.aclck.specs.declared.answer.Outcome.TheVariants as outcome
 abbrev pub NormalizeAnswer : Profile → List ℕ → Answer → Type 0
 NormalizeAnswer p input (done o bytes) = (o ≡ outcome.Yes) × Normalises p input bytes
 NormalizeAnswer p input (refused f) = IsXdrFault p input f
+
+-- the bytes spell a list, and the text its five normal forms, one behind the other (RFC 4506)
+pub record NormalisesAtPaths (p : Profile) (bytes text : List ℕ) : Type 0 where
+  pub source : List Ace
+  pub forms : FiveForms
+  pub read : Xdr p source bytes
+  pub are_forms : AreFormsOf source forms
+  pub accepted : AreAccepted p forms
+  pub spelled : text ≡ five_spellings forms
+
+-- the bytes that spell the five normal forms of the list, which are never No, or a fault that the input has
+abbrev pub NormalizeInheritAnswer : Profile → List ℕ → Answer → Type 0
+NormalizeInheritAnswer p input (done o bytes) = (o ≡ outcome.Yes) × NormalisesAtPaths p input bytes
+NormalizeInheritAnswer p input (refused f) = IsXdrFault p input f
+
+-- the five forms where inheritance counts, and else the one
+abbrev pub NormalizedAnswer : NormalizeValues → List ℕ → Answer → Type 0
+NormalizedAnswer v = by v.inherit v.profile
+  where
+    by : Bool → Profile → List ℕ → Answer → Type 0
+    by true p = NormalizeInheritAnswer p
+    by false p = NormalizeAnswer p
+
+-- ---- what the laws say of the five
+
+-- the text is five lists, one behind the other, each of which is its own normal form
+pub record IsFiveForms (p : Profile) (text : List ℕ) : Type 0 where
+  pub forms : FiveForms
+  pub parts : text ≡ five_spellings forms
+  pub own : AllByRecursion (λ form. Normalises p (spelling form) (spelling form)) (five_lists forms)

@@ -14,7 +14,7 @@ use Rattle.aclck.specs.Bridge.{BridgeAnswer, bridge_in, bridge_terms}
 use Rattle.aclck.specs.Create.{CreateAnswer, CreateValues, create_held, create_in, create_terms}
 use Rattle.aclck.specs.Child.{ChildAnswer, ChildValues, child_held, child_in, child_terms}
 use Rattle.aclck.specs.BitTable.{TableAnswer, TableValues, table_held, table_in, table_terms}
-use Rattle.aclck.specs.Normalize.{NormalizeAnswer}
+use Rattle.aclck.specs.Normalize.{NormalizedAnswer, NormalizeValues, normalize_held, normalize_in, normalize_terms}
 use Rattle.aclck.specs.ListMode.{ModeAnswer}
 use Rattle.aclck.specs.Compare.{CompareAnswer}
 use Rattle.aclck.specs.ShowNfs.{ShowNfsAnswer}
@@ -65,7 +65,7 @@ terms_of name.Child = child_terms
 terms_of name.Mode = profile_terms
 terms_of name.Bridge = bridge_terms
 terms_of name.Table = table_terms
-terms_of name.Normalize = profile_terms
+terms_of name.Normalize = normalize_terms
 terms_of name.Compare = profile_terms
 
 -- a command with its values
@@ -82,7 +82,7 @@ pub data Task : Type 0 where
   mode : Profile → Task
   bridge : Table → Task
   table : TableValues → Task
-  normalize : Profile → Task
+  normalize : NormalizeValues → Task
   compare : Profile → Task
 
 -- the values that the rows of a parse and the words that are no option's spell
@@ -99,7 +99,7 @@ task_in name.Child rows words = option_map child (child_in rows)
 task_in name.Mode rows words = option_map mode (profile_in rows)
 task_in name.Bridge rows words = option_map bridge (bridge_in rows)
 task_in name.Table rows words = option_map table (table_in rows)
-task_in name.Normalize rows words = option_map normalize (profile_in rows)
+task_in name.Normalize rows words = option_map normalize (normalize_in rows)
 task_in name.Compare rows words = option_map compare (profile_in rows)
 
 -- what a task makes of an input
@@ -116,7 +116,7 @@ Answers (child v) = ChildAnswer v
 Answers (mode p) = ModeAnswer p
 Answers (bridge known) = BridgeAnswer known
 Answers (table v) = TableAnswer v
-Answers (normalize p) = NormalizeAnswer p
+Answers (normalize v) = NormalizedAnswer v
 Answers (compare p) = CompareAnswer p
 
 -- the task that the program holds
@@ -133,7 +133,7 @@ task_held (held.Child v) = child (child_held v)
 task_held (held.Mode p) = mode (profile_of p)
 task_held (held.Bridge known) = bridge known
 task_held (held.Table v) = table (table_held v)
-task_held (held.Normalize p) = normalize (profile_of p)
+task_held (held.Normalize v) = normalize (normalize_held v)
 task_held (held.Compare p) = compare (profile_of p)
 
 -- ---- words

@@ -1,6 +1,6 @@
 //! Laws of the commands.
-ghost use Rattle.aclck.specs.Headline.{Headline};
-ghost use Rattle.aclck.specs.Laws.{EncodeUndoesShow, NormalizeTellsApart, NormalizeTwice, ShowPosixTellsApart, ShowUndoesEncode};
+ghost use Rattle.aclck.specs.Headline.{Headline, HeadlineOverPaths};
+ghost use Rattle.aclck.specs.Laws.{EncodeUndoesShow, NormalizeInheritGivesForms, NormalizeInheritTellsApart, NormalizeTellsApart, NormalizeTwice, ShowPosixTellsApart, ShowUndoesEncode};
 
 /// Two texts of files get one canonical text from `show-posix` exactly if their sets of entries are equal.
 pub fn show_posix_tells_apart()
@@ -28,8 +28,25 @@ pub fn normalize_twice()
     ensures { NormalizeTwice }
 {}
 
+/// Two lists get equal bytes from `normalize --inherit` exactly if both grant or both deny, at every path of creations
+/// below them, in every situation and for every mask.
+pub fn normalize_inherit_tells_apart()
+    ensures { NormalizeInheritTellsApart }
+{}
+
+/// What `normalize --inherit` writes is five lists, one behind the other, each of which is its own normal form.
+pub fn normalize_inherit_gives_forms()
+    ensures { NormalizeInheritGivesForms }
+{}
+
 /// The headline: normal forms have equal bytes exactly if their lists grant the same, they grant what their lists
 /// grant, and normalising twice is once; canonical texts are equal exactly if the entries are, and they read back.
 pub fn headline()
     ensures { Headline }
+{}
+
+/// The headline over paths: the five normal forms have equal bytes exactly if their lists grant the same at every path of
+/// creations, each grants what stands at its path grants, and normalising each once more changes none.
+pub fn headline_over_paths()
+    ensures { HeadlineOverPaths }
 {}

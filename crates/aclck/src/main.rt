@@ -3,6 +3,8 @@
 
 mod answer;
 mod command;
+#[cfg(test)]
+mod inherit_tests;
 pub mod laws;
 mod line;
 mod list_input;

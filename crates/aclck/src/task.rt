@@ -39,7 +39,7 @@ use compare::run_compare;
 use create::{Create, run_create};
 use encode::run_encode;
 use mode::run_mode;
-use normalize::run_normalize;
+use normalize::Normalize;
 use show_nfs::run_show_nfs;
 use show_posix::{ShowPosix, run_show_posix};
 use std::alloc::{AllocError, Global};
@@ -128,12 +128,13 @@ impl Name {
             Name::CalcMask => calc_mask::arguments(),
             Name::Chmod => chmod::arguments(),
             Name::Create => create::arguments(),
-            Name::ShowNfs | Name::Encode | Name::Mode | Name::Normalize | Name::Compare =>
+            Name::ShowNfs | Name::Encode | Name::Mode | Name::Compare =>
                 profile_argument::arguments(),
             Name::CheckNfs => check_nfs::arguments(),
             Name::Child => child::arguments(),
             Name::Bridge => bridge::arguments(),
             Name::Table => table::arguments(),
+            Name::Normalize => normalize::arguments(),
         }
     }
 
@@ -190,7 +191,7 @@ pub enum Task<'a> {
     Mode(Profile),
     Bridge(Names),
     Table(BitTable),
-    Normalize(Profile),
+    Normalize(Normalize),
     Compare(Profile),
 }
 
@@ -218,7 +219,7 @@ impl<'a> Task<'a> {
             Name::Mode => Ok(Task::Mode(profile_argument::read(matches)?)),
             Name::Bridge => Ok(Task::Bridge(bridge::read(alloc, matches)?)),
             Name::Table => Ok(Task::Table(table::read(matches)?)),
-            Name::Normalize => Ok(Task::Normalize(profile_argument::read(matches)?)),
+            Name::Normalize => Ok(Task::Normalize(normalize::read(matches)?)),
             Name::Compare => Ok(Task::Compare(profile_argument::read(matches)?)),
         }
     }
@@ -265,7 +266,7 @@ impl<'a> Task<'a> {
             Task::Mode(profile) => run_mode(alloc, source, sink, *profile),
             Task::Bridge(names) => run_bridge(alloc, source, sink, names),
             Task::Table(v) => run_table(alloc, source, sink, v.bit, v.profile),
-            Task::Normalize(profile) => run_normalize(alloc, source, sink, *profile),
+            Task::Normalize(v) => normalize::run(alloc, source, sink, *v),
             Task::Compare(profile) => run_compare(alloc, source, sink, *profile),
         }
     }

@@ -1,18 +1,74 @@
-//! `normalize`: the normal form of a list.
-ghost use Rattle.std.specs.Prelude.{◌≡◌, ◌⊎◌, Err, IfErr, IfOk, OnOk, true};
+//! `normalize`: the normal form of a list, or its five.
+ghost use Rattle.std.specs.Prelude.{◌≡◌, ◌⊎◌, Err, IfErr, IfOk, OnOk, map, true};
 ghost use Rattle.std.specs.Io.KnownBytes.{IsAtEnd};
+ghost use Rattle.clap.specs.Words.{found_of, rows_of};
 ghost use Rattle.acl_perm.specs.Devices.{failures_after};
 ghost use Rattle.acl_perm.specs.Profile.{profile_of};
-ghost use Rattle.acl_normal.specs.NormalForm.{IsNormalFormOf};
 ghost use Rattle.aclck.specs.Answer.{Ran, has_read_failed, has_write_failed, is_write};
+ghost use Rattle.aclck.specs.Line.{Reads, term};
 ghost use Rattle.aclck.specs.ListInput.{TakesLittle};
-ghost use Rattle.aclck.specs.Normalize.{NormalizeAnswer};
+ghost use Rattle.aclck.specs.Normalize.{NormalizeAnswer, NormalizeInheritAnswer, NormalizedAnswer, normalize_held, normalize_in, normalize_terms};
 
 use crate::answer::{Outcome, RunFault};
+use crate::line::{Argument, LineFault, is_set, text_of};
 use crate::list_input::read_list;
-use acl_normal::normalize;
+use crate::values::profile_in;
+use acl_normal::{normalize, normalize_inherit};
 use acl_perm::{Profile, Sink, Source};
+use clap::ArgMatches;
 use std::alloc::Global;
+
+const ARGUMENTS: [Argument; 2] = [
+    Argument::Flag("inherit"),
+    Argument::Default("profile", "full"),
+];
+
+/// The arguments of `normalize`.
+pub(crate) fn arguments() -> &'static [Argument]
+    ensures { map term result.now ≡ normalize_terms }
+{
+    &ARGUMENTS
+}
+
+/// Whether inheritance counts, and what a list may have.
+#[derive(Clone, Copy, Debug)]
+pub struct Normalize {
+    pub inherit: bool,
+    pub profile: Profile,
+}
+
+/// The values that the words spell.
+#[tactic(auto, unfolding(crate::specs::Normalize::normalize_in))]
+pub(crate) fn read(matches: &ArgMatches<'_>) -> Result<Normalize, LineFault>
+    ensures { Reads normalize_held (normalize_in (rows_of (found_of matches.now))) result }
+{
+    let inherit = is_set(matches, "inherit");
+    let profile = profile_in(text_of(matches, "profile"))?;
+    Ok(Normalize { inherit, profile })
+}
+
+/// Writes the normal form of the list that the whole input spells, or its five where inheritance counts.
+pub(crate) fn run<S: Source, K: Sink>(
+    alloc: Global,
+    source: &mut S,
+    sink: &mut K,
+    values: Normalize,
+) -> Result<Outcome, RunFault>
+    ensures ran { Ran (NormalizedAnswer (normalize_held values))
+        (S.remaining source.old) (K.contents sink.old) (K.contents sink.new) result }
+    ensures whole { OnOk result (IsAtEnd (S.remaining source.new)) }
+    ensures unwritten { IfErr result (λ e. (is_write e ≡ true) ⊎ (sink.new ≡ sink.old)) }
+    ensures reads { S.failure_count source.new
+        ≡ failures_after (S.failure_count source.old) (has_read_failed result) }
+    ensures writes { K.failure_count sink.new
+        ≡ failures_after (K.failure_count sink.old) (has_write_failed result) }
+{
+    if values.inherit {
+        run_normalize_inherit(alloc, source, sink, values.profile)
+    } else {
+        run_normalize(alloc, source, sink, values.profile)
+    }
+}
 
 /// Writes the bytes that spell the normal form of the list that the whole input spells: the one list that grants the
 /// same in every situation and is normal. Nothing is written before the input is accepted, as a list that keeps to the
@@ -38,6 +94,36 @@ pub fn run_normalize<S: Source, K: Sink>(
     let form = normalize(alloc, &list)?;
     drop(list);
     match form.encode(sink) {
+        Ok(()) => Ok(Outcome::Yes),
+        Err(fault) => Err(RunFault::Write(fault)),
+    }
+}
+
+/// Writes the bytes that spell the five normal forms of the list that the whole input spells, one behind the other: of
+/// the list itself, of a new file, of a new directory, and of a new file and a new directory in that. Nothing is
+/// written before the input is accepted, as a list that keeps to the profile, and all five are made. Nothing is read
+/// after a refusal.
+pub fn run_normalize_inherit<S: Source, K: Sink>(
+    alloc: Global,
+    source: &mut S,
+    sink: &mut K,
+    profile: Profile,
+) -> Result<Outcome, RunFault>
+    ensures ran { Ran (NormalizeInheritAnswer (profile_of profile))
+        (S.remaining source.old) (K.contents sink.old) (K.contents sink.new) result }
+    ensures whole { OnOk result (IsAtEnd (S.remaining source.new)) }
+    ensures bound { (result ≡ Err RunFault.Memory)
+        ⊎ TakesLittle (profile_of profile) (S.remaining source.old) (S.remaining source.new) }
+    ensures unwritten { IfErr result (λ e. (is_write e ≡ true) ⊎ (sink.new ≡ sink.old)) }
+    ensures reads { S.failure_count source.new
+        ≡ failures_after (S.failure_count source.old) (has_read_failed result) }
+    ensures writes { K.failure_count sink.new
+        ≡ failures_after (K.failure_count sink.old) (has_write_failed result) }
+{
+    let parent = read_list(alloc, source, profile)?;
+    let forms = normalize_inherit(alloc, &parent)?;
+    drop(parent);
+    match forms.encode(sink) {
         Ok(()) => Ok(Outcome::Yes),
         Err(fault) => Err(RunFault::Write(fault)),
     }
