@@ -8,7 +8,7 @@ declare -gA _aclck_options=(
     [child]='--kind --profile'
     [mode]='--profile'
     [table]='--bit --profile'
-    [normalize]='--profile'
+    [normalize]='--inherit --profile'
     [compare]='--profile'
     [show-posix]='--form'
     [check-posix]='--owner --group --user --groups --want'
@@ -76,7 +76,7 @@ _aclck() {
             --bit) _aclck_offer "$(_aclck_known_rights)" "$current" ;;
             --mask) _aclck_complete_mask "$current" ;;
         esac
-        [[ $option == --dir ]] || return
+        [[ $option == --@(dir|inherit) ]] || return
     fi
     for word in ${_aclck_options[$command]}; do
         [[ " ${COMP_WORDS[*]:2:place - 2} " == *" $word "* ]] || unused+=("$word")
