@@ -49,24 +49,20 @@ all_accepted p source forms is taken h = record {
       accepted_at p source forms.directory_in_directory (below 1 Directory) is taken h.directory_in_directory;
 }
 
--- the five of a list whose new directory has another list, each as a form of one of the two or of a child of one
-pub forms_from : (source inner object file directory inner_file inner_directory : List Ace)
-    → inner ≡ children Directory source → FormAt source here object → FormAt source (below 0 File) file
-    → FormAt inner here directory → FormAt inner (below 0 File) inner_file
-    → FormAt inner (below 0 Directory) inner_directory
-    → AreFormsOf source (record {
-      object = object;
-      file = file;
-      directory = directory;
-      file_in_directory = inner_file;
-      directory_in_directory = inner_directory;
-    })
-forms_from source inner object file directory inner_file inner_directory e a b c d f = record {
+-- the normal forms of the list, of its children, and of those of the directory among them, are the five
+pub forms_from : (source directory file inner_directory inner_file : List Ace) (forms : FiveForms)
+    → directory ≡ children Directory source → file ≡ children File source
+    → inner_directory ≡ children Directory directory → inner_file ≡ children File directory
+    → IsNormalFormOf source forms.object → IsNormalFormOf file forms.file → IsNormalFormOf directory forms.directory
+    → IsNormalFormOf inner_file forms.file_in_directory
+    → IsNormalFormOf inner_directory forms.directory_in_directory → AreFormsOf source forms
+forms_from source directory file inner_directory inner_file forms d f g h a b c e i = record {
   object = a;
-  file = b;
-  directory = subst (λ list. IsNormalFormOf list directory) e c;
-  file_in_directory = subst (λ list. IsNormalFormOf (children File list) inner_file) e d;
-  directory_in_directory = subst (λ list. IsNormalFormOf (children Directory list) inner_directory) e f;
+  file = subst (λ list. IsNormalFormOf list forms.file) f b;
+  directory = subst (λ list. IsNormalFormOf list forms.directory) d c;
+  file_in_directory = subst (λ list. IsNormalFormOf list forms.file_in_directory) (h ∙ ap (children File) d) e;
+  directory_in_directory =
+      subst (λ list. IsNormalFormOf list forms.directory_in_directory) (g ∙ ap (children Directory) d) i;
 }
 
 -- ---- equal forms

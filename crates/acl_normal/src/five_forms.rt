@@ -141,12 +141,16 @@ pub fn normalize_inherit(alloc: Global, list: &Acl) -> Result<FiveForms, AllocEr
     ensures accepted { IfOk result (λ forms. (p : Profile) → IsProfile p → IsAccepted p list.now
         → AreAccepted p forms) }
 {
-    let subdirectory = child(alloc, list, ChildKind::Directory)?;
+    let directory_list = child(alloc, list, ChildKind::Directory)?;
     let object = normalize(alloc, list)?;
-    let file = child_form(alloc, list, ChildKind::File)?;
-    let directory = normalize(alloc, &subdirectory)?;
-    let file_in_directory = child_form(alloc, &subdirectory, ChildKind::File)?;
-    let directory_in_directory = child_form(alloc, &subdirectory, ChildKind::Directory)?;
+    let directory = form_beside(alloc, &directory_list, list, &object)?;
+    let inner_list = child(alloc, &directory_list, ChildKind::Directory)?;
+    let directory_in_directory = form_beside(alloc, &inner_list, &directory_list, &directory)?;
+    drop(inner_list);
+    let file_list = child(alloc, list, ChildKind::File)?;
+    let file = normalize(alloc, &file_list)?;
+    let inner_list = child(alloc, &directory_list, ChildKind::File)?;
+    let file_in_directory = form_beside(alloc, &inner_list, &file_list, &file)?;
     Ok(FiveForms {
         object,
         file,
@@ -156,10 +160,16 @@ pub fn normalize_inherit(alloc: Global, list: &Acl) -> Result<FiveForms, AllocEr
     })
 }
 
-// The normal form of the list of a new object.
-fn child_form(alloc: Global, parent: &Acl, kind: ChildKind) -> Result<Acl, AllocError>
-    ensures { IfOk result (λ form. IsNormalFormOf (at parent.now (below 0 kind)) form) }
+// The normal form of a list, beside a list and its form: a copy of that where the lists are equal, as they mostly are,
+// since few ACEs end on their way down.
+fn form_beside(alloc: Global, list: &Acl, other: &Acl, other_form: &Acl) -> Result<Acl, AllocError>
+    requires { IsNormalFormOf other.now other_form.now }
+    ensures { IfOk result (λ form. IsNormalFormOf list.now form) }
 {
-    let list = child(alloc, parent, kind)?;
-    normalize(alloc, &list)
+    if *list == *other {
+        let form = other_form.copy(alloc)?;
+        Ok(form)
+    } else {
+        normalize(alloc, list)
+    }
 }

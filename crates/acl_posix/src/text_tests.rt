@@ -3,7 +3,7 @@
 
 use super::*;
 use acl_perm::Counted;
-use std::alloc::Global;
+use std::alloc::{AllocError, Global};
 use std::process::Abort;
 use std::test::Fail;
 
@@ -125,7 +125,7 @@ fn is_refused(alloc: Global, names: &Names, text: &[u8], wanted: TextFault) -> b
     parse(alloc, text, names).err() == Some(wanted)
 }
 
-const FAULTS: [(&[u8], TextFault); 29] = [
+const FAULTS: [(&[u8], TextFault); 30] = [
     (
         b"u::rw-,u:7:r--,g::r--,o::---",
         TextFault::Invalid(Part::Access, Cause::Miss(Tag::Mask)),
@@ -184,6 +184,7 @@ const FAULTS: [(&[u8], TextFault); 29] = [
     (b"u::r w", TextFault::Permission { line: 1, column: 4 }),
     (b"u::rw-\r\n", TextFault::Permission { line: 1, column: 4 }),
     (b"x::rr", TextFault::Tag { line: 1, column: 1 }),
+    (b"\xff::r", TextFault::Tag { line: 1, column: 1 }),
     (b"User::r", TextFault::Tag { line: 1, column: 1 }),
     (b"d:::r", TextFault::Tag { line: 1, column: 3 }),
     (b"d:d::r", TextFault::Tag { line: 1, column: 3 }),
@@ -210,6 +211,99 @@ fn ample_memory_for_faults(rt: HostRuntime) -> Result<(), Fail> {
     let unknown = TextFault::UnknownName { line: 5, column: 6 };
     assert!(rt; is_refused(rt.alloc(), &nobody, LISTED, unknown));
     Ok(())
+}
+
+// Whether what a text of twelve lines is refused for, if it is, is an invalid list or stands in one of its lines.
+fn is_judged(fault: Option<TextFault>) -> bool {
+    match fault {
+        None | Some(TextFault::Invalid(..)) => true,
+        Some(
+            TextFault::Fields { line, .. }
+            | TextFault::Tag { line, .. }
+            | TextFault::Qualifier { line, .. }
+            | TextFault::Id { line, .. }
+            | TextFault::UnknownName { line, .. }
+            | TextFault::Permission { line, .. }
+            | TextFault::EmptyEntry { line, .. },
+        ) => line <= 12,
+        Some(TextFault::Memory) => false,
+    }
+}
+
+// Each beginning of what getfacl prints is judged.
+#[test]
+fn ample_beginnings(rt: HostRuntime) -> Result<(), Fail> {
+    let names = names_of(rt.alloc()).ok_or("names are added")?;
+    for len in 0..=LISTED.len() {
+        let (front, _) = LISTED.split_at(len.min(LISTED.len()));
+        let fault = parse(rt.alloc(), front, &names).err();
+        assert!(rt; is_judged(fault), "{len}");
+    }
+    Ok(())
+}
+
+// A text with one byte so many times over in it.
+fn repeated(
+    alloc: Global,
+    before: &[u8],
+    byte: u8,
+    count: usize,
+    after: &[u8],
+) -> Result<Vec<u8>, AllocError> {
+    let mut text = Vec::from_slice(alloc, before)?;
+    for _ in 0..count {
+        text.push(byte)?;
+    }
+    text.extend_from_slice(after)?;
+    Ok(text)
+}
+
+// Whether this text, which has a byte so many times over in it, is refused so.
+fn is_refused_repeated(
+    alloc: Global,
+    before: &[u8],
+    byte: u8,
+    count: usize,
+    after: &[u8],
+    wanted: TextFault,
+) -> bool {
+    let names = Names::new(alloc);
+    match repeated(alloc, before, byte, count, after) {
+        Ok(text) => is_refused(alloc, &names, &text, wanted),
+        Err(_) => false,
+    }
+}
+
+// Whether an id with a thousand zeros in front is read as what is left without them.
+fn zeros_are_read(alloc: Global) -> bool {
+    let names = Names::new(alloc);
+    let after = b"7:rw-,g::r--,g:50:rw-,m::r--,o::r--".as_slice();
+    match repeated(alloc, b"u::rw-,u:", b'0', 1000, after) {
+        Ok(text) => {
+            let mut room = [0u8; 64];
+            match parse(alloc, &text, &names) {
+                Ok(file) => {
+                    let (size, _) = write(&file, Form::Short, &mut room);
+                    size == ZEROS_READ.len() && holds(&room, ZEROS_READ)
+                }
+                Err(_) => false,
+            }
+        }
+        Err(_) => false,
+    }
+}
+
+const ZEROS_READ: &[u8] = b"u::rw-,u:7:rw-,g::r--,g:50:rw-,m::r--,o::r--";
+
+// An id may have a thousand zeros in front, and not a thousand digits; a million commas are refused at the first.
+#[test]
+fn ample_long_texts(rt: HostRuntime) {
+    let alloc = rt.alloc();
+    assert!(rt; zeros_are_read(alloc));
+    let id = TextFault::Id { line: 1, column: 3 };
+    assert!(rt; is_refused_repeated(alloc, b"u:", b'9', 1000, b":r--", id));
+    let empty = TextFault::EmptyEntry { line: 1, column: 1 };
+    assert!(rt; is_refused_repeated(alloc, b"", b',', 1_000_000, b"", empty));
 }
 
 // Which names are added, and that a refused one changes nothing.

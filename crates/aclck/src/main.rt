@@ -4,6 +4,8 @@
 mod answer;
 mod command;
 #[cfg(test)]
+mod hostile_tests;
+#[cfg(test)]
 mod inherit_tests;
 pub mod laws;
 mod line;
