@@ -82,7 +82,8 @@ equal_at p source other form other_form path is taken taken_other h k = (
     laws : IsEquivalence (SameGrants all_rights)
     laws = equivalence all_rights
 
-    within : SameGrants p.masks (at source path) (at other path) ↔ SameGrants all_rights (at source path) (at other path)
+    within : SameGrants p.masks (at source path) (at other path)
+        ↔ SameGrants all_rights (at source path) (at other path)
     within = same_within (with_inherit_only p) (at source path) (at other path) (wider_is p is)
         (fits_at p source path (fits_of p source is taken)) (fits_at p other path (fits_of p other is taken_other))
 
@@ -170,7 +171,8 @@ first_of_both : (p : Profile) (list other : List Ace) (rest other_rest : List �
 first_of_both p list other rest other_rest is taken taken_other e =
     let same = (one p list other (spelling list) (spelling other) rest other_rest is
     (record { accepted = taken; spelled = refl }) (record { accepted = taken_other; spelled = refl }) e).0 in
-    (same, append_cancel_left (spelling other) rest other_rest (subst (λ l. spelling l ++ rest ≡ spelling other ++ other_rest) same e))
+    let behind = subst (λ l. spelling l ++ rest ≡ spelling other ++ other_rest) same e in
+    (same, append_cancel_left (spelling other) rest other_rest behind)
 
 -- five accepted lists have the bytes of five others, one behind the other, exactly if they are these
 pub five_written : (p : Profile) (forms other : FiveForms) → IsProfile p → AreAccepted p forms → AreAccepted p other

@@ -1,3 +1,5 @@
+//! The five forms of lists of one ACE, by its flags.
+
 use super::*;
 use acl_nfs4::{AceRef, Acl, Flags, Kind, PushFault};
 use acl_perm::{Counted, Mask};

@@ -136,7 +136,8 @@ pub fn normalize_inherit(alloc: Global, list: &Acl) -> Result<FiveForms, AllocEr
     ensures directory_in_directory { IfOk result (λ forms.
         IsNormalFormOf (at list.now (below 1 Directory)) forms.directory_in_directory) }
     // Further below, the lists are those one directory below.
-    ensures further { (count : ℕ) (kind : Kind) → 1 ≤ count → at list.now (below count kind) ≡ at list.now (below 1 kind) }
+    ensures further { (count : ℕ) (kind : Kind) → 1 ≤ count
+        → at list.now (below count kind) ≡ at list.now (below 1 kind) }
     // Under a profile under which the list is accepted, so is each of the five.
     ensures accepted { IfOk result (λ forms. (p : Profile) → IsProfile p → IsAccepted p list.now
         → AreAccepted p forms) }

@@ -103,4 +103,8 @@ written_forms profile le source forms x read are_forms = record {
 
 -- the parts together
 pub headline_over_paths_holds : HeadlineOverPaths
-headline_over_paths_holds = record { equal_bytes = paths_tell; same_grants = grants_at_paths; twice_is_once = forms_own }
+headline_over_paths_holds = record {
+  equal_bytes = paths_tell;
+  same_grants = grants_at_paths;
+  twice_is_once = forms_own;
+}

@@ -1,3 +1,5 @@
+//! Inputs that are cut short, damaged or very long, through the program.
+
 use crate::command::command;
 use acl_perm::Counted;
 use std::alloc::{AllocError, Global};

@@ -1,3 +1,5 @@
+//! `normalize --inherit` over lists of one ACE, by its flags.
+
 use crate::answer::Outcome;
 use crate::command::command;
 use crate::task::normalize::run_normalize_inherit;

@@ -45,8 +45,8 @@ pub fn headline()
     ensures { Headline }
 {}
 
-/// The headline over paths: the five normal forms have equal bytes exactly if their lists grant the same at every path of
-/// creations, each grants what stands at its path grants, and normalising each once more changes none.
+/// The headline over paths: the five normal forms have equal bytes exactly if their lists grant the same at every path
+/// of creations, each grants what stands at its path grants, and normalising each once more changes none.
 pub fn headline_over_paths()
     ensures { HeadlineOverPaths }
 {}
