@@ -15,6 +15,8 @@ mod lines;
 mod mask;
 mod mode;
 #[cfg(test)]
+mod number_tests;
+#[cfg(test)]
 mod order_tests;
 mod perm;
 mod pieces;

@@ -47,18 +47,26 @@ fn principals_and_keys_stand_in_rising_order(rt: HostRuntime) {
     }
 }
 
+// The users stand at 1, 2 and 3.
+fn is_user(i: usize) -> bool {
+    1 <= i && i <= 3
+}
+
 #[test]
 fn only_two_different_users_do_not_overlap(rt: HostRuntime) {
-    let rows = [
-        (Principal::User(b"bob"), Principal::User(b"alice"), false),
-        (Principal::User(b"bob"), Principal::User(b"bob"), true),
-        (Principal::User(b"ops"), Principal::GroupNamed(b"ops"), true),
-        (Principal::Owner, Principal::User(b"bob"), true),
-    ];
-    for (p, q, is_overlap) in rows {
-        assert!(rt; overlaps(p, q) == is_overlap);
-        assert!(rt; overlaps(q, p) == is_overlap);
+    for (i, principal) in RISING.iter().enumerate() {
+        for (j, other) in RISING.iter().enumerate() {
+            let is_apart = is_user(i) && is_user(j) && i != j;
+            assert!(rt; overlaps(*principal, *other) != is_apart, "{i} and {j}");
+        }
     }
+    assert!(rt; overlaps(Principal::User(b"ops"), Principal::GroupNamed(b"ops")));
+    assert!(rt;
+        overlaps(
+            Principal::GroupNamed(b"ops"),
+            Principal::GroupNamed(b"staff")
+        )
+    );
 }
 
 #[test]

@@ -1,0 +1,97 @@
+use super::*;
+
+// The flags of RFC 8881, section 6.2.1.4.1, from FILE_INHERIT to INHERITED: whether each is INHERIT_ONLY, and whether
+// it is IDENTIFIER_GROUP.
+static FLAGS: [(u32, bool, bool); 8] = [
+    (0x01, false, false),
+    (0x02, false, false),
+    (0x04, false, false),
+    (0x08, true, false),
+    (0x10, false, false),
+    (0x20, false, false),
+    (0x40, false, true),
+    (0x80, false, false),
+];
+
+fn is_flag(number: u32, is_inherit_only: bool, is_group: bool) -> bool {
+    let Some(flag) = Flags::new(number) else {
+        return false;
+    };
+    flag.is_inherit_only() == is_inherit_only && flag.is_group() == is_group
+}
+
+// A flag is one of the narrow profile's, which lacks INHERITED alone.
+fn is_flag_of_profiles(number: u32) -> bool {
+    let Some(flag) = Flags::new(number) else {
+        return false;
+    };
+    Profile::FULL.flags.contains(flag) && Profile::NARROW.flags.contains(flag) == (number != 0x80)
+}
+
+#[test]
+fn the_eight_flags_are_those_of_the_standard(rt: HostRuntime) {
+    for (number, is_inherit_only, is_group) in FLAGS {
+        assert!(rt; is_flag(number, is_inherit_only, is_group), "{number}");
+        assert!(rt; is_flag_of_profiles(number), "{number}");
+    }
+}
+
+// The rights of RFC 8881, section 6.2.1.3.1, are READ_DATA, 0x1, to WRITE_RETENTION_HOLD, 0x400, and DELETE, 0x10000,
+// to SYNCHRONIZE, 0x100000. Of these the narrow profile lacks WRITE_RETENTION, 0x200, and WRITE_RETENTION_HOLD.
+fn is_right(bit: u32) -> bool {
+    bit <= 10 || 16 <= bit && bit <= 20
+}
+
+fn is_narrow_right(bit: u32) -> bool {
+    bit <= 8 || 16 <= bit && bit <= 20
+}
+
+fn is_judged(bit: u32) -> bool {
+    match Mask::new(1 << bit % 32) {
+        Some(right) => {
+            is_right(bit)
+                && Profile::FULL.masks.contains(right)
+                && Profile::NARROW.masks.contains(right) == is_narrow_right(bit)
+        }
+        None => !is_right(bit),
+    }
+}
+
+#[test]
+fn the_sixteen_rights_are_those_of_the_standard(rt: HostRuntime) {
+    for bit in 0..32u32 {
+        assert!(rt; is_judged(bit), "{bit}");
+    }
+}
+
+// A mode, and what the owner, the group and others have of read 4, write 2 and execute 1.
+static MODES: [(u16, u8, u8, u8); 5] = [
+    (0o400, 4, 0, 0),
+    (0o020, 0, 2, 0),
+    (0o001, 0, 0, 1),
+    (0o640, 6, 4, 0),
+    (0o751, 7, 5, 1),
+];
+
+fn has_parts(mode: Mode, owner: u8, group: u8, others: u8) -> bool {
+    mode.owner().bits() == owner && mode.group().bits() == group && mode.others().bits() == others
+}
+
+fn is_made_of(number: u16, owner: u8, group: u8, others: u8) -> bool {
+    let (Some(mode), Some(user), Some(class), Some(rest)) = (
+        Mode::new(number),
+        Perm::new(owner),
+        Perm::new(group),
+        Perm::new(others),
+    ) else {
+        return false;
+    };
+    has_parts(mode, owner, group, others) && Mode::from_parts(user, class, rest) == mode
+}
+
+#[test]
+fn a_mode_is_made_of_three_digits(rt: HostRuntime) {
+    for (number, owner, group, others) in MODES {
+        assert!(rt; is_made_of(number, owner, group, others), "{number}");
+    }
+}
