@@ -10,7 +10,7 @@ type Row = (Kind, u32, u32, &'static [u8]);
 // A parent, what is created, and the child.
 type Creation = (Row, ChildKind, Option<Row>);
 
-static CREATIONS: [Creation; 10] = [
+static CREATIONS: [Creation; 15] = [
     (
         (Kind::Allow, 0x01, 1, b"alice"),
         ChildKind::Directory,
@@ -45,6 +45,31 @@ static CREATIONS: [Creation; 10] = [
     ),
     ((Kind::Allow, 0x08, 1, b"alice"), ChildKind::Directory, None),
     ((Kind::Allow, 0x00, 1, b"alice"), ChildKind::File, None),
+    (
+        (Kind::Deny, 0x71, 1, b"staff"),
+        ChildKind::File,
+        Some((Kind::Deny, 0x70, 1, b"staff")),
+    ),
+    (
+        (Kind::Deny, 0x76, 1, b"staff"),
+        ChildKind::Directory,
+        Some((Kind::Deny, 0x70, 1, b"staff")),
+    ),
+    (
+        (Kind::Allow, 0x77, 1, b"staff"),
+        ChildKind::Directory,
+        Some((Kind::Allow, 0x70, 1, b"staff")),
+    ),
+    (
+        (Kind::Allow, 0x73, 1, b"staff"),
+        ChildKind::Directory,
+        Some((Kind::Allow, 0x73, 1, b"staff")),
+    ),
+    (
+        (Kind::Allow, 0x7b, 1, b"staff"),
+        ChildKind::Directory,
+        Some((Kind::Allow, 0x73, 1, b"staff")),
+    ),
 ];
 
 fn built(alloc: Global, rows: &[Row]) -> Result<Acl, PushFault> {
@@ -105,6 +130,89 @@ fn ample_children(rt: HostRuntime) {
     assert!(rt; created(&rt, rt.alloc()).is_ok());
 }
 
+// The flags of RFC 8881, section 6.2.1.4.1.
+#[derive(Clone, Copy)]
+struct FlagSet {
+    file: bool,
+    directory: bool,
+    no_propagate: bool,
+    inherit_only: bool,
+    success: bool,
+    failed: bool,
+    group: bool,
+    inherited: bool,
+}
+
+fn flag_set(flags: u32) -> FlagSet {
+    FlagSet {
+        file: flags & 0x01 == 0x01,
+        directory: flags & 0x02 == 0x02,
+        no_propagate: flags & 0x04 == 0x04,
+        inherit_only: flags & 0x08 == 0x08,
+        success: flags & 0x10 == 0x10,
+        failed: flags & 0x20 == 0x20,
+        group: flags & 0x40 == 0x40,
+        inherited: flags & 0x80 == 0x80,
+    }
+}
+
+// Whether an ACE of a directory is one of what is created in it.
+fn is_taken(kind: ChildKind, parent: &FlagSet) -> bool {
+    match kind {
+        ChildKind::File => parent.file,
+        ChildKind::Directory => parent.directory || parent.file && !parent.no_propagate,
+    }
+}
+
+// Whether it is handed on further below what is created.
+fn is_handed_on(kind: ChildKind, parent: &FlagSet) -> bool {
+    kind == ChildKind::Directory && !parent.no_propagate
+}
+
+// Whether these are its flags there: those of inheritance where it is handed on, with INHERIT_ONLY exactly where it is
+// for files alone; those that say nothing of inheritance as they were; and never INHERITED.
+fn are_flags(kind: ChildKind, parent: &FlagSet, new: &FlagSet) -> bool {
+    let on = is_handed_on(kind, parent);
+    new.file == (on && parent.file)
+        && new.directory == (on && parent.directory)
+        && !new.no_propagate
+        && new.inherit_only == (on && !parent.directory)
+        && new.success == parent.success
+        && new.failed == parent.failed
+        && new.group == parent.group
+        && !new.inherited
+}
+
+// Whether what is created has of an ACE with these flags what the rules give it.
+fn is_by_the_rules(list: &Acl, kind: ChildKind, flags: u32) -> bool {
+    let parent = flag_set(flags);
+    match list.aces().next() {
+        Some(ace) => {
+            is_taken(kind, &parent)
+                && are_flags(kind, &parent, &flag_set(u32::from(ace.flags.bits())))
+        }
+        None => !is_taken(kind, &parent),
+    }
+}
+
+fn creates_by_the_rules(alloc: Global, kind: ChildKind, flags: u32) -> Result<bool, PushFault> {
+    let parent = built(alloc, &[(Kind::Allow, flags, 1, b"alice")])?;
+    let list = child_of(alloc, &parent, kind)?;
+    Ok(list.len() < 2 && is_by_the_rules(&list, kind, flags))
+}
+
+#[test]
+fn ample_children_of_every_set_of_flags(rt: HostRuntime) {
+    for flags in 0..256u32 {
+        for kind in [ChildKind::File, ChildKind::Directory] {
+            assert!(rt;
+                creates_by_the_rules(rt.alloc(), kind, flags) == Ok(true),
+                "{flags}"
+            );
+        }
+    }
+}
+
 fn may_alice_read(list: &Acl) -> Option<bool> {
     let object = Object::new(b"bob", b"staff")?;
     let requester = Requester::new(b"alice", &[])?;
@@ -127,7 +235,7 @@ const NO_WRITE: &[u8; 56] = b"\0\0\0\x02\
     \0\0\0\x01\0\0\0\0\0\0\0\x02\0\0\0\x06OWNER@\0\0\
     \0\0\0\0\0\0\0\0\0\0\0\x07\0\0\0\x09EVERYONE@\0\0\0";
 
-static MODES: [(&[Row], u16); 3] = [
+static MODES: [(&[Row], u16); 14] = [
     (
         &[
             (Kind::Deny, 0, 2, b"OWNER@"),
@@ -145,6 +253,17 @@ static MODES: [(&[Row], u16); 3] = [
         0o511,
     ),
     (&[], 0),
+    (&[(Kind::Allow, 0, 0x27, b"OWNER@")], 0o700),
+    (&[(Kind::Allow, 0, 0x27, b"GROUP@")], 0o070),
+    (&[(Kind::Allow, 0, 0x27, b"EVERYONE@")], 0o777),
+    (&[(Kind::Allow, 0, 0x27, b"bob")], 0),
+    (&[(Kind::Allow, 0x40, 0x27, b"staff")], 0),
+    (&[(Kind::Allow, 0x40, 0x27, b"GROUP@")], 0o070),
+    (&[(Kind::Allow, 0, 0x01, b"EVERYONE@")], 0o444),
+    (&[(Kind::Allow, 0, 0x02, b"EVERYONE@")], 0),
+    (&[(Kind::Allow, 0, 0x04, b"EVERYONE@")], 0),
+    (&[(Kind::Allow, 0, 0x06, b"EVERYONE@")], 0o222),
+    (&[(Kind::Allow, 0, 0x20, b"EVERYONE@")], 0o111),
 ];
 
 #[test]
