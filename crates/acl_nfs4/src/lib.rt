@@ -18,6 +18,8 @@ mod limits;
 #[cfg(test)]
 mod list_tests;
 #[cfg(test)]
+mod name_tests;
+#[cfg(test)]
 mod parse_tests;
 mod pulling;
 mod push_fault;

@@ -186,6 +186,66 @@ fn ample_pieces_are_answered(rt: HostRuntime) {
     assert!(rt; feed.feed(&[0, 0, 0, 0]) == Fed::Done { taken: 4 });
 }
 
+// In two pieces under the narrow profile, of which the first is so long.
+fn fed_narrowly(alloc: Global, bytes: &[u8], first: usize) -> Result<Acl, Fault> {
+    let mut feed = Feed::with_profile(alloc, Profile::NARROW);
+    let (front, back) = bytes.split_at(first.min(bytes.len()));
+    let _ = feed.feed(front);
+    let _ = feed.feed(back);
+    feed.finish()
+}
+
+#[test]
+fn ample_lists_are_fed_narrowly_in_any_two_pieces(rt: HostRuntime) {
+    for first in 0..=72usize {
+        let fed = fed_narrowly(rt.alloc(), &THREE, first);
+        assert!(rt; same_list(fed, parsed(rt.alloc(), &THREE)), "{first}");
+    }
+}
+
+// So many times ALLOW READ_DATA for alice, as a list, and zeros behind it.
+fn many(alloc: Global, count: u32, zeros: u32) -> Result<Vec<u8>, AllocError> {
+    let mut bytes = Vec::new(alloc);
+    bytes.extend_from_slice(&count.to_be_bytes())?;
+    for _ in 0..count {
+        bytes.extend_from_slice(b"\0\0\0\0\0\0\0\0\0\0\0\x01\0\0\0\x05alice\0\0\0")?;
+    }
+    for _ in 0..zeros {
+        bytes.extend_from_slice(&[0; 4096])?;
+    }
+    Ok(bytes)
+}
+
+// In pieces of so many bytes.
+fn fed_in_pieces(alloc: Global, bytes: &[u8], size: usize) -> Result<Acl, Fault> {
+    let mut feed = Feed::new(alloc);
+    for piece in bytes.chunks(size.max(1)) {
+        let _ = feed.feed(piece);
+    }
+    feed.finish()
+}
+
+// Pieces about as long as what is taken at once.
+#[test]
+fn ample_lists_are_fed_in_large_pieces(rt: HostRuntime) -> Result<(), AllocError> {
+    let bytes = many(rt.alloc(), 600, 0)?;
+    for size in [4_095, 4_096, 4_097, 8_192, 16_000usize] {
+        let fed = fed_in_pieces(rt.alloc(), &bytes, size);
+        assert!(rt; same_list(fed, parsed(rt.alloc(), &bytes)), "{size}");
+    }
+    Ok(())
+}
+
+// Of a piece that goes on behind the list little more than the list is kept: what this asks for is counted.
+#[test]
+fn ample_large_pieces_are_not_kept(rt: HostRuntime) -> Result<(), AllocError> {
+    let bytes = many(rt.alloc(), 200, 1_000)?;
+    let mut feed = Feed::new(rt.alloc());
+    assert!(rt; feed.feed(&bytes) == Fed::Done { taken: 4_804 });
+    assert!(rt; feed.finish().is_ok_and(|list| list.len() == 200));
+    Ok(())
+}
+
 // Whether both ways give the same list.
 fn same_list(decoded: Result<Acl, Fault>, parsed: Result<Acl, Fault>) -> bool {
     match (decoded, parsed) {

@@ -208,6 +208,25 @@ fn ample_memory_for_texts_past_the_limits(rt: HostRuntime) {
     assert!(rt; too_heavy(&rt, rt.alloc()).is_ok());
 }
 
+fn long_lines(rt: &impl Abort, alloc: Global) -> Result<(), AllocError> {
+    let mut text = repeated(alloc, 500, b"# comment ")?;
+    text.extend_from_slice(b"\nALLOW - ")?;
+    for _ in 0..500u32 {
+        text.extend_from_slice(b"READ_DATA|")?;
+    }
+    text.extend_from_slice(b"EXECUTE a")?;
+    assert!(rt; size_of(alloc, &text) == Ok((1, 2)));
+    text.extend_from_slice(b"@")?;
+    let (line, column) = (2, 5_017);
+    assert!(rt; size_of(alloc, &text) == Err(AceTextFault::SpecialWho { line, column }));
+    Ok(())
+}
+
+#[test]
+fn ample_memory_for_lines_past_4096_bytes(rt: HostRuntime) {
+    assert!(rt; long_lines(&rt, rt.alloc()).is_ok());
+}
+
 #[test]
 fn the_name_of_a_bit_is_its_first(rt: HostRuntime) {
     let rows = [
