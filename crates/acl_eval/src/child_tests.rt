@@ -201,6 +201,33 @@ fn creates_by_the_rules(alloc: Global, kind: ChildKind, flags: u32) -> Result<bo
     Ok(list.len() < 2 && is_by_the_rules(&list, kind, flags))
 }
 
+// Whether what is created has each of so many ACEs.
+fn creates_many(alloc: Global, count: usize, kind: ChildKind) -> Result<bool, PushFault> {
+    let mut parent = Acl::new(alloc);
+    for _ in 0..count {
+        parent.push(AceRef {
+            kind: Kind::Deny,
+            flags: Flags { bits: 0x03 },
+            mask: Mask::NONE,
+            who: b"alice",
+        })?;
+    }
+    let list = child_of(alloc, &parent, kind)?;
+    Ok(list.len() == count)
+}
+
+#[test]
+fn ample_children_of_many_entries(rt: HostRuntime) {
+    for count in [65, 4_097, 65_536usize] {
+        for kind in [ChildKind::File, ChildKind::Directory] {
+            assert!(rt;
+                creates_many(rt.alloc(), count, kind) == Ok(true),
+                "{count}"
+            );
+        }
+    }
+}
+
 #[test]
 fn ample_children_of_every_set_of_flags(rt: HostRuntime) {
     for flags in 0..256u32 {
