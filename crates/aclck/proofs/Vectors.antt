@@ -6,6 +6,7 @@ use Rattle.acl_perm.specs.Profile.{Profile, full, narrow}
 use Rattle.acl_nfs4.specs.BitNames.{set_named}
 use Rattle.acl_posix.specs.Names.{no_names}
 use Rattle.aclck.specs.Line.{Term, app_from, default, flag, is_given, is_taken, optional, rows_at}
+use Rattle.aclck.specs.BitTable.{right_named, table_in}
 use Rattle.aclck.specs.CheckNfs.{check_nfs_in}
 use Rattle.aclck.specs.Normalize.{normalize_in}
 use Rattle.aclck.specs.ProfileArgument.{profile_in}
@@ -19,7 +20,7 @@ use Rattle.aclck.specs.PosixValues.{id_value, ids_value, mode_value, want_value}
 use Rattle.aclck.specs.declared.posix.Form.TheVariants as form
 use Rattle.acl_eval.specs.declared.inherit.ChildKind.TheVariants as kind
 use Rattle.aclck.specs.Child.{child_in, kind_value}
-use Rattle.aclck.specs.Task.{Task, bridge, calc_mask, check_nfs, check_posix, child, chmod, create, encode, mode, normalize, show_nfs, show_posix, task_named, task_of}
+use Rattle.aclck.specs.Task.{Task, bridge, calc_mask, check_nfs, check_posix, child, chmod, compare, create, encode, mode, normalize, show_nfs, show_posix, table, task_named, task_of}
 use Rattle.aclck.specs.Values.{mask_value, profile_value}
 
 -- ---- `check-nfs`
@@ -500,3 +501,50 @@ inherit_with_value = refl
 mode_with_inherit : task_of (codes "mode" ∷ codes "--inherit" ∷ []) ≡ None
 unfolding clap_on_literals is_taken rows_at app_from task_named profile_in profile_value
 mode_with_inherit = refl
+
+-- ---- `table` and `compare`
+
+-- a second name of a right, where no profile is given
+table_of_a_right :
+    task_of (codes "table" ∷ codes "--bit" ∷ codes "ADD_SUBDIRECTORY" ∷ [])
+    ≡ Some (table (record { bit = 4; profile = full }))
+unfolding clap_on_literals is_taken rows_at app_from task_named table_in right_named set_named profile_value
+table_of_a_right = refl
+
+-- and a first one within the narrow profile
+narrow_table :
+    task_of (codes "table" ∷ codes "--profile" ∷ codes "narrow" ∷ codes "--bit=EXECUTE" ∷ [])
+    ≡ Some (table (record { bit = 32; profile = narrow }))
+unfolding clap_on_literals is_taken rows_at app_from task_named table_in right_named set_named profile_value
+narrow_table = refl
+
+-- a right that the profile has not
+table_outside_the_profile :
+    task_of (codes "table" ∷ codes "--bit=WRITE_RETENTION" ∷ codes "--profile=narrow" ∷ []) ≡ None
+unfolding clap_on_literals is_taken rows_at app_from task_named table_in right_named set_named profile_value
+table_outside_the_profile = refl
+
+-- one right is asked for, and not two
+table_of_two_rights : task_of (codes "table" ∷ codes "--bit=READ_DATA|EXECUTE" ∷ []) ≡ None
+unfolding clap_on_literals is_taken rows_at app_from task_named table_in right_named set_named profile_value
+table_of_two_rights = refl
+
+-- the right has to be there
+table_of_no_right : task_of (codes "table" ∷ []) ≡ None
+unfolding clap_on_literals is_taken rows_at app_from task_named table_in right_named set_named profile_value
+table_of_no_right = refl
+
+-- no word but the command's own
+compared_in_full : task_of (codes "compare" ∷ []) ≡ Some (compare full)
+unfolding clap_on_literals is_taken rows_at app_from task_named profile_in profile_value
+compared_in_full = refl
+
+-- the narrow profile
+compared_narrowly : task_of (codes "compare" ∷ codes "--profile=narrow" ∷ []) ≡ Some (compare narrow)
+unfolding clap_on_literals is_taken rows_at app_from task_named profile_in profile_value
+compared_narrowly = refl
+
+-- both lists stand in the input, and no word names one
+compared_with_a_word : task_of (codes "compare" ∷ codes "other.xdr" ∷ []) ≡ None
+unfolding clap_on_literals is_taken rows_at app_from task_named profile_in profile_value
+compared_with_a_word = refl

@@ -135,6 +135,24 @@ const BOB_LAST: &[u8] = b"\0\0\0\x02\
     \0\0\0\x01\0\0\0\0\0\0\0\x01\0\0\0\x06OWNER@\0\0\
     \0\0\0\0\0\0\0\0\0\0\0\x01\0\0\0\x03bob\0";
 
+// DENY GROUP READ_DATA eng, ALLOW GROUP READ_DATA staff, and the other way round.
+const ENG_FIRST: &[u8] = b"\0\0\0\x02\
+    \0\0\0\x01\0\0\0@\0\0\0\x01\0\0\0\x03eng\0\
+    \0\0\0\0\0\0\0@\0\0\0\x01\0\0\0\x05staff\0\0\0";
+
+const ENG_LAST: &[u8] = b"\0\0\0\x02\
+    \0\0\0\0\0\0\0@\0\0\0\x01\0\0\0\x05staff\0\0\0\
+    \0\0\0\x01\0\0\0@\0\0\0\x01\0\0\0\x03eng\0";
+
+// DENY - EXECUTE OWNER@, ALLOW - EXECUTE GROUP@, and the other way round.
+const OWNER_FIRST: &[u8] = b"\0\0\0\x02\
+    \0\0\0\x01\0\0\0\0\0\0\0\x20\0\0\0\x06OWNER@\0\0\
+    \0\0\0\0\0\0\0\0\0\0\0\x20\0\0\0\x06GROUP@\0\0";
+
+const OWNER_LAST: &[u8] = b"\0\0\0\x02\
+    \0\0\0\0\0\0\0\0\0\0\0\x20\0\0\0\x06GROUP@\0\0\
+    \0\0\0\x01\0\0\0\0\0\0\0\x20\0\0\0\x06OWNER@\0\0";
+
 // The first ten bytes of a list, and a list with a byte behind it.
 const BEGUN: &[u8] = b"\0\0\0\x01\0\0\0\0\0\0";
 
@@ -145,7 +163,7 @@ const WITH_A_BYTE: &[u8] = b"\0\0\0\x01\0\0\0\0\0\0\0\0\0\0\0\x01\0\0\0\x09EVERY
 // Two lists, one behind the other, with the status and what `compare` writes of them.
 type Pair = (&'static [u8], &'static [u8], u8, &'static [u8]);
 
-const COMPARISONS: [Pair; 6] = [
+const COMPARISONS: [Pair; 11] = [
     (WITHOUT_BOB, BEHIND_ALICE, 0, b"same\n"),
     (
         OPS_FIRST,
@@ -177,6 +195,43 @@ const COMPARISONS: [Pair; 6] = [
         BOB_LAST,
         1,
         b"differ\nowner bob\ngroup gggg\nuser bob\nmask READ_DATA\nfirst granted\nsecond denied\n",
+    ),
+    // Strange names are by one byte longer than the longest mentioned one.
+    (
+        READ_OF_ALICE,
+        EMPTY,
+        1,
+        b"differ\nowner oooooo\ngroup gggggg\nuser alice\nmask READ_DATA\nfirst granted\n\
+        second denied\n",
+    ),
+    // Without a name they are of one byte; the strange group is that of the object and of the user.
+    (
+        READ_OF_THE_GROUP,
+        EMPTY,
+        1,
+        b"differ\nowner o\ngroup g\nuser u\nmember g\nmask READ_DATA\nfirst granted\nsecond denied\n",
+    ),
+    // An object's owner in its group.
+    (
+        OWNER_FIRST,
+        OWNER_LAST,
+        1,
+        b"differ\nowner u\ngroup g\nuser u\nmember g\nmask EXECUTE\nfirst denied\nsecond granted\n",
+    ),
+    // A user in two groups, and of these neither is the object's.
+    (
+        ENG_FIRST,
+        ENG_LAST,
+        1,
+        b"differ\nowner oooooo\ngroup gggggg\nuser uuuuuu\nmember eng\nmember staff\nmask READ_DATA\n\
+        first denied\nsecond granted\n",
+    ),
+    // For a user amy in the group staff they differ on READ_DATA, but nobody by name comes first.
+    (
+        AMY_INHERITED,
+        AMY_AND_ALL,
+        1,
+        b"differ\nowner oooooo\ngroup gggggg\nuser uuuuuu\nmask EXECUTE\nfirst denied\nsecond granted\n",
     ),
 ];
 
