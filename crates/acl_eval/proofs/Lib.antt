@@ -3,7 +3,9 @@ pub mod Columns
 pub mod Scans
 pub mod Same
 pub mod Children
+pub mod FlagByFlag
 pub mod Classes
+pub mod Unnamed
 pub mod ValidChecks
 pub mod Runs
 pub mod Images

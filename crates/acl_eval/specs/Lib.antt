@@ -5,7 +5,9 @@ pub mod Scan
 pub mod Laws
 pub mod Names
 pub mod Inheritance
+pub mod InheritanceLaws
 pub mod ListMode
+pub mod Unnamed
 pub mod Settled
 pub mod Bridge
 pub mod BridgeBody

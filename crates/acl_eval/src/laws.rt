@@ -1,5 +1,5 @@
 //! Laws of the evaluation, and of the list that stands for a POSIX ACL.
-ghost use Rattle.std.specs.Prelude.{◌≡◌, ◌↔◌, ℕ, List, IsTrue, None, Some, false, true};
+ghost use Rattle.std.specs.Prelude.{◌≡◌, ◌↔◌, ℕ, List, IsTrue, None, Some, false, not, true};
 ghost use Rattle.acl_perm.specs.Bits.{has_bit, IsMask, inherit_only};
 ghost use Rattle.acl_perm.specs.Situation.{IsSituation, Situation};
 ghost use Rattle.acl_perm.specs.Profile.{Profile};
@@ -11,10 +11,13 @@ ghost use Rattle.acl_eval.specs.BridgeNames.{NamesDiffer, NamesStand, OnlyLimits
 ghost use Rattle.acl_eval.specs.Column.{SameVerdicts, column};
 ghost use Rattle.acl_eval.specs.Grant.{Grant, SameGrants, grants_bit};
 ghost use Rattle.acl_eval.specs.Inheritance.{child_flags, children, directory_inherit, ends, file_inherit, goes_on, no_propagate_inherit, waits};
+ghost use Rattle.acl_eval.specs.InheritanceLaws.{IsByFlag};
 ghost use Rattle.acl_eval.specs.Laws.{IsEquivalence};
+ghost use Rattle.acl_eval.specs.ListMode.{mode_of_list};
 ghost use Rattle.acl_eval.specs.declared.inherit.ChildKind.{ChildKind};
 ghost use Rattle.acl_eval.specs.declared.inherit.ChildKind.TheVariants.{Directory, File};
 ghost use Rattle.acl_eval.specs.Scan.{scan};
+ghost use Rattle.acl_eval.specs.Unnamed.{unnamed};
 
 use acl_perm::Perm;
 use acl_posix::{Id, PosixAcl};
@@ -65,6 +68,19 @@ pub fn directories_inherit()
     ensures absent { (flags : ℕ) → has_bit flags no_propagate_inherit ≡ false
         → has_bit flags directory_inherit ≡ false → has_bit flags file_inherit ≡ false
         → child_flags Directory flags ≡ None }
+{}
+
+/// The flags of an ACE in a new object, flag by flag: it is handed on no further in a file, and in a directory where it
+/// has NO_PROPAGATE_INHERIT.
+pub fn flag_by_flag()
+    ensures files { (flags f : ℕ) → child_flags File flags ≡ Some f → IsByFlag false flags f }
+    ensures directories { (flags f : ℕ) → child_flags Directory flags ≡ Some f
+        → IsByFlag (not (has_bit flags no_propagate_inherit)) flags f }
+{}
+
+/// ACEs of user names and of group names have no part in a mode.
+pub fn names_have_no_mode()
+    ensures { (list : List Ace) → mode_of_list (unnamed list) ≡ mode_of_list list }
 {}
 
 /// The child of an accepted list is accepted, under each profile with INHERIT_ONLY.

@@ -1,0 +1,69 @@
+-- The mode of a list without the ACEs of users and groups that it names.
+use Rattle.std.proofs.Common.{◌≡◌, ℕ, Bool, true, false, List, [], ◌∷◌, refl, ap}
+use Rattle.std.specs.Prelude.{Option, unwrap_or}
+use Rattle.acl_perm.specs.Bits.{has_bit}
+use Rattle.acl_perm.specs.Principal.{Principal, owner, user, group, group_named, everyone}
+use Rattle.acl_perm.specs.declared.kind.Kind.{Kind}
+use Rattle.acl_perm.specs.declared.kind.Kind.TheVariants.{Deny}
+use Rattle.acl_nfs4.specs.Ace.{Ace}
+use Rattle.acl_nfs4.specs.Who.{principal_of}
+use Rattle.acl_eval.proofs.Classes.{same_perm, three}
+use Rattle.acl_eval.specs.Column.{column, first_kind, takes_part}
+use Rattle.acl_eval.specs.Grant.{is_allow}
+use Rattle.acl_eval.specs.ListMode.{is_for_group, is_for_others, is_for_owner, is_granted_by, mode_of_list, perm_of}
+use Rattle.acl_eval.specs.Unnamed.{is_unnamed, unnamed}
+
+-- the test passes no named principal
+abbrev PassesNoName : (Principal → Bool) → Type 0
+PassesNoName test = (p : Principal) → is_unnamed p ≡ false → test p ≡ false
+
+same_kind : (test : Principal → Bool) → PassesNoName test → (list : List Ace) (bit : ℕ)
+    → first_kind test (column (unnamed list) bit) ≡ first_kind test (column list bit)
+same_kind test skips [] bit = refl
+same_kind test skips (a ∷ list) bit =
+    by (same_kind test skips list bit) (is_unnamed (principal_of a)) (has_bit a.mask bit) (takes_part a)
+    (test (principal_of a)) refl refl refl refl
+  where
+    by : first_kind test (column (unnamed list) bit) ≡ first_kind test (column list bit) → (w h t m : Bool)
+        → is_unnamed (principal_of a) ≡ w → has_bit a.mask bit ≡ h → takes_part a ≡ t → test (principal_of a) ≡ m
+        → first_kind test (column (unnamed (a ∷ list)) bit) ≡ first_kind test (column (a ∷ list) bit)
+    by rest true false t m p q r s = rw (p, q) rest
+    by rest true true false m p q r s = rw (p, q, r) rest
+    by rest true true true true p q r s = rw (p, q, r, s) refl
+    by rest true true true false p q r s = rw (p, q, r, s) rest
+    by rest false false t m p q r s = rw (p, q) rest
+    by rest false true false m p q r s = rw (p, q, r) rest
+    by rest false true true m p q r s = let n = skips (principal_of a) p in rw (p, q, r, n) rest
+
+same_part : (test : Principal → Bool) → PassesNoName test → (list : List Ace)
+    → perm_of (is_granted_by test (unnamed list)) ≡ perm_of (is_granted_by test list)
+same_part test skips list =
+    let at = λ (bit : ℕ). ap (λ (kind : Option Kind). is_allow (unwrap_or kind Deny)) (same_kind test skips list bit) in
+    same_perm (is_granted_by test (unnamed list)) (is_granted_by test list) (at 0) (at 1) (at 2) (at 5)
+
+owner_no_name : PassesNoName is_for_owner
+owner_no_name owner e = absurd cc
+owner_no_name (user name) e = refl
+owner_no_name group e = refl
+owner_no_name (group_named name) e = refl
+owner_no_name everyone e = absurd cc
+
+group_no_name : PassesNoName is_for_group
+group_no_name owner e = refl
+group_no_name (user name) e = refl
+group_no_name group e = absurd cc
+group_no_name (group_named name) e = refl
+group_no_name everyone e = absurd cc
+
+others_no_name : PassesNoName is_for_others
+others_no_name owner e = refl
+others_no_name (user name) e = refl
+others_no_name group e = refl
+others_no_name (group_named name) e = refl
+others_no_name everyone e = absurd cc
+
+-- the mode is the same
+pub same_mode : (list : List Ace) → mode_of_list (unnamed list) ≡ mode_of_list list
+same_mode list =
+    three _ _ _ _ _ _ (same_part is_for_owner owner_no_name list) (same_part is_for_group group_no_name list)
+    (same_part is_for_others others_no_name list)
