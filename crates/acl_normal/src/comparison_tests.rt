@@ -433,3 +433,52 @@ fn ample_both_searches_find_the_same(rt: HostRuntime) -> Result<(), PushFault> {
     );
     Ok(())
 }
+
+fn push_group(list: &mut Acl, kind: Kind, number: u8) -> Result<(), PushFault> {
+    let (Some(flags), Some(mask)) = (Flags::new(GROUP), Mask::new(READ_DATA)) else {
+        return Ok(());
+    };
+    let who = [b'a' + number / 16, b'a' + number % 16];
+    list.push(AceRef {
+        kind,
+        flags,
+        mask,
+        who: &who,
+    })
+}
+
+// DENY for so many groups, and ALLOW for one more, before the last of them or behind it.
+fn many_groups(alloc: Global, count: u8, is_before: bool) -> Result<Acl, PushFault> {
+    let mut list = Acl::new(alloc);
+    for number in 1..count {
+        push_group(&mut list, DENY, number)?;
+    }
+    if is_before {
+        push_group(&mut list, ALLOW, 255)?;
+    }
+    push_group(&mut list, DENY, 0)?;
+    if !is_before {
+        push_group(&mut list, ALLOW, 255)?;
+    }
+    Ok(list)
+}
+
+fn found_of_groups(
+    rt: &impl Abort,
+    alloc: Global,
+    count: u8,
+    is_before: bool,
+) -> Result<Option<bool>, PushFault> {
+    let first = many_groups(alloc, count, true)?;
+    let second = many_groups(alloc, count, is_before)?;
+    kept(found_by_both(rt, alloc, &first, &second))
+}
+
+// They differ for a member of two groups alone, or not at all.
+#[test]
+fn ample_both_searches_find_the_same_of_many_groups(rt: HostRuntime) {
+    for count in [41, 64, 128u8] {
+        assert!(rt; found_of_groups(&rt, rt.alloc(), count, false) == Ok(Some(true)));
+        assert!(rt; found_of_groups(&rt, rt.alloc(), count, true) == Ok(None));
+    }
+}
