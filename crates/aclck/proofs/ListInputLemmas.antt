@@ -1,5 +1,5 @@
 -- What a list that is read from pulls takes of its input.
-use Rattle.std.proofs.Common.{◌≡◌, ◌≢◌, ◌⊎◌, ℕ, ◌+◌, ◌-◌, ◌^◌, ◌<◌, ◌≤◌, List, [], ◌++◌, length, take, drop, Option, None, Some, Result, Ok, Err, refl, sym, ap, subst, ◌∙◌, append_assoc, arith, inl, inr}
+use Rattle.std.proofs.Common.{◌≡◌, ◌≢◌, ◌⊎◌, ℕ, ◌+◌, ◌-◌, ◌^◌, ◌<◌, ◌≤◌, List, [], ◌++◌, length, take, drop, Option, None, Some, Result, Ok, Err, true, refl, sym, ap, subst, ◌∙◌, append_assoc, arith, inl, inr}
 use Rattle.std.specs.Prelude.{IfErr, IfOk}
 use Rattle.std.specs.Io.KnownBytes.{Consumes, IsAtEnd}
 use Rattle.std.proofs.KnownBytes.{Consumes-kept, Consumes-nil, Consumes-trans, Consumes-whole}
@@ -13,19 +13,23 @@ use Rattle.acl_nfs4.specs.Spelling.{Xdr}
 use Rattle.acl_nfs4.specs.Fault.{Border, Breaks, IsFault, IsFirstFault, IsWholeFault, Stage, refuses, size}
 use Rattle.acl_nfs4.specs.Fault.IsWholeFault.{behind, of_value}
 use Rattle.acl_nfs4.specs.Fault.Stage.{count as at_count, kind as at_kind, flags as at_flags, mask as at_mask, len as at_len, who as at_who, padding as at_padding}
+use Rattle.acl_nfs4.specs.Progress.{IsBytes}
+use Rattle.acl_nfs4.specs.Reading.{Gives, value_at}
 use Rattle.acl_nfs4.specs.Stream.{Finishes, IsCut, Refuses, Standing}
 use Rattle.acl_nfs4.specs.Stream.Standing.{done, more}
 use Rattle.acl_nfs4.specs.declared.fault.Fault.{Fault}
 use Rattle.acl_nfs4.specs.declared.fault.Reason.{Reason}
 use Rattle.acl_nfs4.specs.declared.fault.Reason.TheVariants.{Memory, TrailingBytes, Truncated}
 use Rattle.acl_nfs4.proofs.Completion.{begins, who_bounds as stage_bounds}
+use Rattle.acl_nfs4.proofs.Body.{is_found}
 use Rattle.acl_nfs4.proofs.Exactly.{one_reason}
+use Rattle.acl_nfs4.proofs.Faults.{is_fault}
 use Rattle.acl_nfs4.proofs.Held.{short_rest}
 use Rattle.acl_nfs4.proofs.Lengths.{spelling_short}
-use Rattle.acl_nfs4.proofs.OneFault.{never_truncated}
+use Rattle.acl_nfs4.proofs.OneFault.{never_truncated, value_or_fault}
 use Rattle.acl_nfs4.proofs.Pieces.{breaks_whole, fault_stays}
-use Rattle.aclck.specs.Answer.{IsXdrFault}
-use Rattle.aclck.specs.ListInput.{EndsNot, HasInput, IsNotRead, ReadsNone, ReadsValue, TakesLittle, piece_len}
+use Rattle.aclck.specs.Answer.{IsXdrFault, is_read}
+use Rattle.aclck.specs.ListInput.{EndsNot, HasInput, IsNotRead, ReadsLittle, ReadsNone, ReadsValue, RefusalEnds, TakesLittle, TakesOpen, ValueEnds, piece_len}
 use Rattle.aclck.specs.declared.answer.RunFault.{RunFault}
 use Rattle.aclck.specs.declared.answer.RunFault.TheVariants as fault
 use Rattle.aclck.specs.declared.list_input.Value.{Value}
@@ -61,6 +65,27 @@ cut_short p text c =
       size_small p f.stage f.front f.border,
     )
 
+-- ---- where a text ends
+
+gives_itself : (r : Result (List Ace × ℕ) Fault) → Gives (λ x. (x.0, x.1)) r r
+gives_itself (Ok x) = refl
+gives_itself (Err f) = refl
+
+-- the end of the value that a text begins with, or of its refused field
+abbrev pub Ends : Profile → List ℕ → Type 0
+Ends p text = (end : ℕ) × (ValueEnds p text end ⊎ RefusalEnds p text end)
+
+ends_as : (p : Profile) (text : List ℕ) (r : Result (List Ace × ℕ) Fault) → IsBytes text
+    → Gives (λ x. (x.0, x.1)) r (value_at p text) → Ends p text
+ends_as p text (Ok x) b g = (x.1, inl (record { list = x.0; spelled = (is_found p text (Ok x) b g).1 }))
+ends_as p text (Err f) b g =
+    let h = is_fault p text (Err f) b g in
+    (h.0, inr (record { offset = f.offset; reason = f.reason; has = h.1 }))
+
+-- each text begins with a value or has a fault
+pub ends_somewhere : (p : Profile) (text : List ℕ) → IsBytes text → Ends p text
+ends_somewhere p text b = ends_as p text (value_at p text) b (gives_itself (value_at p text))
+
 -- ---- a value
 
 -- the value that a feed held
@@ -83,6 +108,30 @@ done_reads p left given text pulled pull new_left old new fed t feed list (Ok v)
       spelled = subst (λ (l : List Ace). Xdr p l (text ++ take t pull)) (sym same_list) x;
       is_len = omega (arith, h.0, n, le, length-append text (take t pull), length-take t pull);
     }
+
+-- the value that a feed held, which want of memory took
+pub done_none : (p : Profile) (left given text pulled pull : List ℕ) (old new : Option (List ℕ)) (t : ℕ)
+    (feed : Standing) (list : List Ace) (r : Result Value RunFault) → left ++ given ≡ text ++ pulled
+    → Consumes old new given → pull ≡ pulled → length pulled ≤ piece_len → feed ≡ done list
+    → Xdr p list (text ++ take t pull) → IsBytes (text ++ pull)
+    → IfErr r (λ e. (e ≡ fault.Memory) ⊎ ((f : Fault) × (e ≡ fault.Nfs f) × Finishes feed (Err f)))
+    → IfErr r (λ e. ReadsNone p left old new e)
+done_none p left given text pulled pull old new t feed list (Ok v) parts c same short is x bytes h = tt
+done_none p left given text pulled pull old new t feed list (Err e) parts c same short is x bytes (inr (f, at, h)) =
+    let none : Err f ≡ Ok list = subst (λ (s : Standing). Finishes s (Err f)) is h in absurd cc
+done_none p left given text pulled pull old new t feed list (Err e) parts c same short is x bytes (inl m) =
+    rw m (record {
+      given = given;
+      end = length text + t;
+      taken = c;
+      bytes = subst IsBytes (ap (λ (y : List ℕ). text ++ y) same ∙ sym parts) bytes;
+      is_end = inl (record {
+        list = list;
+        spelled = subst (λ (y : List ℕ). Xdr p list y) (ap (λ (y : List ℕ). text ++ take t y) same
+            ∙ sym (ap (take (length text + t)) parts ∙ take-append-add text pulled t)) x;
+      });
+      near = omega (arith, short, ap length parts, length-append text pulled);
+    })
 
 -- a value is short
 pub reads_small : (p : Profile) (left new_left : List ℕ) (old new : Option (List ℕ)) (r : Result Value RunFault)
@@ -147,24 +196,42 @@ pub cut_end : (p : Profile) (text : List ℕ) (o end : ℕ) (f : IsFirstFault p 
 cut_end p text o end f (inl h) = omega (arith, f.ends, f.here, h.1, ap length f.parts, length-append f.front f.rest)
 cut_end p text o end f (inr h) = absurd (never_truncated p f.stage _ h.2)
 
+-- all that the feed has taken, where nothing more comes
+end_whole : (left given text pulled pull new_pulled : List ℕ) → left ++ given ≡ text ++ pulled → pull ≡ pulled
+    → new_pulled ≡ [] → text ++ pull ≡ left ++ (given ++ new_pulled)
+end_whole left given text pulled pull new_pulled parts same none =
+    sym (next_parts left given text pulled pull new_pulled parts same
+    ∙ ap (λ (x : List ℕ). (text ++ pull) ++ x) none ∙ append-nil (text ++ pull))
+
 -- the source ends where the stream is cut short
 pub end_reads : (p : Profile) (left given text pulled pull new_pulled : List ℕ) (old mid new : Option (List ℕ))
     (feed : Standing) (r : Result Value RunFault) → left ++ given ≡ text ++ pulled → pull ≡ pulled
     → Consumes old mid given → Consumes mid new new_pulled → new_pulled ≡ [] → IsAtEnd new
-    → feed ≡ more p (text ++ pull)
+    → feed ≡ more p (text ++ pull) → IsCut p (text ++ pull) → IsBytes (text ++ pull)
     → IfErr r (λ e. (e ≡ fault.Memory) ⊎ ((f : Fault) × (e ≡ fault.Nfs f) × Finishes feed (Err f)))
     → IfErr r (λ e. ReadsNone p left old new e)
-end_reads p left given text pulled pull new_pulled old mid new feed (Ok v) parts same c d none end is h = tt
-end_reads p left given text pulled pull new_pulled old mid new feed (Err e) parts same c d none end is (inl m) =
-    rw m tt
-end_reads p left given text pulled pull new_pulled old mid new feed (Err e) parts same c d none end is
+end_reads p left given text pulled pull new_pulled old mid new feed (Ok v) parts same c d none end is cut bytes h = tt
+end_reads p left given text pulled pull new_pulled old mid new feed (Err e) parts same c d none end is cut bytes
+    (inl m) =
+    let whole = end_whole left given text pulled pull new_pulled parts same none in
+    rw m (record {
+      given = given ++ new_pulled;
+      end = cut.1.0;
+      taken = Consumes-trans old mid new given new_pulled c d;
+      bytes = subst IsBytes whole bytes;
+      is_end = inr (record {
+        offset = cut.0;
+        reason = Truncated;
+        has = subst (λ (x : List ℕ). IsFirstFault p x cut.0 cut.1.0 Truncated) whole cut.1.1;
+      });
+      near = omega (arith, cut_end p (text ++ pull) cut.0 cut.1.0 cut.1.1 cut.1.1.breaks, ap length whole);
+    })
+end_reads p left given text pulled pull new_pulled old mid new feed (Err e) parts same c d none end is still bytes
     (inr (f, at, h)) =
     let cut : Finishes (more p (text ++ pull)) (Err f) = subst (λ (s : Standing). Finishes s (Err f)) is h in
     let all : IsFirstFault p (text ++ pull) f.offset cut.1.0 Truncated =
     subst (λ (r : Reason). IsFirstFault p (text ++ pull) f.offset cut.1.0 r) cut.0 cut.1.1 in
-    let whole : text ++ pull ≡ left ++ (given ++ new_pulled) =
-    sym (next_parts left given text pulled pull new_pulled parts same
-    ∙ ap (λ (x : List ℕ). (text ++ pull) ++ x) none ∙ append-nil (text ++ pull)) in
+    let whole = end_whole left given text pulled pull new_pulled parts same none in
     rw at (record {
       given = given ++ new_pulled;
       end = cut.1.0;
@@ -178,15 +245,57 @@ end_reads p left given text pulled pull new_pulled old mid new feed (Err e) part
 abbrev pub IsTold : RunFault → Fault → Type 0
 IsTold e f = (e ≡ fault.Memory) ⊎ ((e ≡ fault.Nfs f) × (f.reason ≢ Memory))
 
+-- a text goes on behind a beginning that is cut short, to the end of a value
+value_behind_cut : (p : Profile) (text pull : List ℕ) (list : List Ace) (end : ℕ) → IsProfile p → IsCut p text
+    → Xdr p list (take end (text ++ pull)) → length text ≤ end
+value_behind_cut p text pull list end ok cut x =
+    elim (cases_lt end (length text)) [
+      | inr le ↦ le
+      | inl lt ↦
+          absurd (value_or_fault p text list (take end text) (drop end text) cut.0 Truncated ok
+          (subst (λ (y : List ℕ). Xdr p list y) (take-append-le end text pull (omega (arith, lt))) x)
+          (sym (take-append-drop end text)) cut.1)
+    ]
+
+-- or of a refused field
+refusal_behind_cut : (p : Profile) (text pull : List ℕ) (o end : ℕ) (r : Reason) → IsProfile p → IsCut p text
+    → (f : IsFirstFault p (text ++ pull) o end r) → Breaks p f.stage f.rest f.more r → length text ≤ end
+refusal_behind_cut p text pull o end r ok cut f (inl b) =
+    omega (arith, f.ends, f.here, b.1, ap length f.parts, length-append f.front f.rest, length-append text pull)
+refusal_behind_cut p text pull o end r ok cut f (inr b) =
+    behind_cut p text pull o end r ok cut f
+    (λ e. never_truncated p f.stage _ (subst (λ (q : Reason). refuses p f.stage (take (size f.stage) f.rest) q) e b.2))
+
+-- a growth was refused: the text that came ends somewhere in what the last pull gave
+memory_reads : (p : Profile) (left given text pulled pull : List ℕ) (old new : Option (List ℕ)) → IsProfile p
+    → left ++ given ≡ text ++ pulled → Consumes old new given → pull ≡ pulled → length pulled ≤ piece_len
+    → IsCut p text → IsBytes (text ++ pull) → ReadsLittle p left old new
+memory_reads p left given text pulled pull old new ok parts c same short cut bytes =
+    let whole : text ++ pull ≡ left ++ given = ap (λ (x : List ℕ). text ++ x) same ∙ sym parts in
+    let ends = ends_somewhere p (text ++ pull) bytes in
+    let far : length text ≤ ends.0 = elim ends.1 [
+      | inl v ↦ value_behind_cut p text pull v.list ends.0 ok cut v.spelled
+      | inr r ↦ refusal_behind_cut p text pull r.offset ends.0 r.reason ok cut r.has r.has.breaks
+    ] in
+    record {
+      given = given;
+      end = ends.0;
+      taken = c;
+      bytes = subst IsBytes whole bytes;
+      is_end = subst (λ (x : List ℕ). ValueEnds p x ends.0 ⊎ RefusalEnds p x ends.0) whole ends.1;
+      near = omega (arith, far, short, ap length parts, length-append text pulled);
+    }
+
 -- a stream is refused
 pub refused_reads : (p : Profile) (left given text pulled pull : List ℕ) (old new : Option (List ℕ)) (f : Fault)
     (e : RunFault) → IsProfile p → left ++ given ≡ text ++ pulled → Consumes old new given → pull ≡ pulled
-    → length pulled ≤ piece_len → IsCut p text → Refuses p (text ++ pull) f → IsTold e f
+    → length pulled ≤ piece_len → IsCut p text → IsBytes (text ++ pull) → Refuses p (text ++ pull) f → IsTold e f
     → ReadsNone p left old new e
-refused_reads p left given text pulled pull old new f e ok parts c same short cut h (inl memory) = rw memory tt
-refused_reads p left given text pulled pull old new f e ok parts c same short cut (inl m) (inr is) =
+refused_reads p left given text pulled pull old new f e ok parts c same short cut bytes h (inl memory) =
+    rw memory (memory_reads p left given text pulled pull old new ok parts c same short cut bytes)
+refused_reads p left given text pulled pull old new f e ok parts c same short cut bytes (inl m) (inr is) =
     absurd (is.1 (ap (λ (g : Fault). g.reason) m))
-refused_reads p left given text pulled pull old new f e ok parts c same short cut (inr h) (inr is) =
+refused_reads p left given text pulled pull old new f e ok parts c same short cut bytes (inr h) (inr is) =
     let far = behind_cut p text pull f.offset h.0.0 f.reason ok cut h.0.1 h.1 in
     let whole : text ++ pull ≡ left ++ given = ap (λ (x : List ℕ). text ++ x) same ∙ sym parts in
     rw is.0 (record {
@@ -291,28 +400,40 @@ not_read p old mid fault.Read h = tt
 not_read p old mid (fault.Write w) h = h
 not_read p old mid fault.Memory h = tt
 
--- and then little was taken, want of memory aside
+-- and then little was taken
 pub none_near : (p : Profile) (old mid : Option (List ℕ)) (e : RunFault) → ReadsNone p [] old mid e
-    → (e ≡ fault.Memory) ⊎ TakesLittle p old mid
-none_near p old mid (fault.Nfs f) h = inr (record {
+    → TakesLittle p old mid
+none_near p old mid (fault.Nfs f) h = record {
   given = h.given;
   end = h.end;
   taken = h.taken;
   is_end = inr (record { offset = f.offset; reason = f.reason; has = h.has });
   near = h.near;
-})
+}
 none_near p old mid (fault.NfsText f) h = absurd h
 none_near p old mid (fault.Posix f) h = absurd h
 none_near p old mid fault.Limits h = absurd h
-none_near p old mid fault.Read h = inr (record {
+none_near p old mid fault.Read h = record {
   given = h.given;
   end = h.cut.1.0;
   taken = h.taken;
   is_end = inr (record { offset = h.cut.0; reason = Truncated; has = h.cut.1.1 });
   near = omega (arith, cut_end p h.given h.cut.0 h.cut.1.0 h.cut.1.1 h.cut.1.1.breaks);
-})
+}
 none_near p old mid (fault.Write w) h = absurd h
-none_near p old mid fault.Memory h = inl refl
+none_near p old mid fault.Memory h =
+    record { given = h.given; end = h.end; taken = h.taken; is_end = h.is_end; near = h.near }
+
+-- and where a read failed, a text that is cut short
+pub none_open : (p : Profile) (old mid : Option (List ℕ)) (e : RunFault) → ReadsNone p [] old mid e
+    → is_read e ≡ true → TakesOpen p old mid
+none_open p old mid (fault.Nfs f) h r = absurd cc
+none_open p old mid (fault.NfsText f) h r = absurd h
+none_open p old mid (fault.Posix f) h r = absurd h
+none_open p old mid fault.Limits h r = absurd h
+none_open p old mid fault.Read h r = record { given = h.given; taken = h.taken; is_open = inl h.cut }
+none_open p old mid (fault.Write w) h r = absurd h
+none_open p old mid fault.Memory h r = absurd cc
 
 -- an input that goes on behind its value
 trailing : (p : Profile) (list : List Ace) (text after given others : List ℕ) (len : ℕ) → Xdr p list text
@@ -377,3 +498,22 @@ ends_near p list text after given old mid new len fault.Read x e c h =
     (Consumes-kept mid mid new [] (Consumes-nil mid) h.1) (rw h.0 (omega arith))
 ends_near p list text after given old mid new len (fault.Write w) x e c h = absurd h
 ends_near p list text after given old mid new len fault.Memory x e c h = absurd h
+
+-- and where a read failed, one value and nothing behind it
+pub ends_open : (p : Profile) (list : List Ace) (text after given : List ℕ) (old mid new : Option (List ℕ)) (len : ℕ)
+    (e : RunFault) → Xdr p list text → given ≡ text ++ after → Consumes old mid given → EndsNot len after mid new e
+    → is_read e ≡ true → TakesOpen p old new
+ends_open p list text after given old mid new len (fault.Nfs f) x e c h r = absurd cc
+ends_open p list text after given old mid new len (fault.NfsText f) x e c h r = absurd h
+ends_open p list text after given old mid new len (fault.Posix f) x e c h r = absurd h
+ends_open p list text after given old mid new len fault.Limits x e c h r = absurd h
+ends_open p list text after given old mid new len fault.Read x e c h r = record {
+  given = given ++ [];
+  taken = Consumes-trans old mid new given [] c (Consumes-kept mid mid new [] (Consumes-nil mid) h.1);
+  is_open = inr (
+    list,
+    subst (λ (y : List ℕ). Xdr p list y) (sym (append-nil given)) (whole_text p text given after list x e h.0),
+  );
+}
+ends_open p list text after given old mid new len (fault.Write w) x e c h r = absurd h
+ends_open p list text after given old mid new len fault.Memory x e c h r = absurd h

@@ -1,25 +1,27 @@
 -- What two lists that are read from pulls, one after the other, take of their input.
-use Rattle.std.proofs.Common.{◌≡◌, ◌≢◌, ◌⊎◌, ℕ, ◌+◌, ◌^◌, ◌<◌, ◌≤◌, List, [], ◌∷◌, ◌++◌, length, Option, None, Some, refl, sym, ap, subst, ◌∙◌, append_assoc, arith, inl, inr}
-use Rattle.std.specs.Io.KnownBytes.{Consumes, IsAtEnd, Keeps}
+use Rattle.std.proofs.Common.{◌≡◌, ◌⊎◌, ℕ, ◌+◌, ◌^◌, ◌≤◌, List, [], ◌++◌, length, take, drop, true, Option, None, Some, refl, sym, ap, subst, ◌∙◌, append_assoc, arith, inl, inr}
+use Rattle.std.specs.Io.KnownBytes.{Consumes, IsAtEnd}
 use Rattle.std.proofs.KnownBytes.{Consumes-kept, Consumes-nil, Consumes-trans, Consumes-whole}
 use Rattle.std.proofs.Math.Seq.{take-length}
-use Rattle.std.proofs.lemmas.List.{append-nil, length-append, take-append-le}
+use Rattle.std.proofs.lemmas.List.{append-nil, length-append, length-take, take-append-drop, take-append-le}
 use Rattle.acl_perm.specs.Profile.{Profile}
 use Rattle.acl_nfs4.specs.Ace.{Ace}
 use Rattle.acl_nfs4.specs.Spelling.{Xdr}
-use Rattle.acl_nfs4.specs.Fault.{IsFirstFault, IsWholeFault}
+use Rattle.acl_nfs4.specs.Fault.{IsFirstFault}
 use Rattle.acl_nfs4.specs.Fault.IsWholeFault.{behind, of_value}
 use Rattle.acl_nfs4.specs.declared.fault.Fault.{Fault}
-use Rattle.acl_nfs4.specs.declared.fault.Reason.{Reason}
 use Rattle.acl_nfs4.specs.declared.fault.Reason.TheVariants.{TrailingBytes, Truncated}
+use Rattle.acl_nfs4.specs.Progress.{IsBytes}
 use Rattle.acl_nfs4.proofs.Completion.{begins}
+use Rattle.acl_nfs4.proofs.Fields.{IsBytes-drop}
+use Rattle.aclck.specs.Answer.{is_read}
 use Rattle.aclck.specs.Compare.{AreTwo, IsFaultOfTwo, IsRefusedTwo}
 use Rattle.aclck.specs.Compare.IsFaultOfTwo.{of_first, of_second}
-use Rattle.aclck.specs.ListInput.{EndsNot, HasInput, ReadsNone, ReadsValue, piece_len}
-use Rattle.aclck.specs.TwoLists.{AreNotRead, StandsBelow, TakesLittleOfTwo, later}
+use Rattle.aclck.specs.ListInput.{EndsNot, HasInput, ReadsNone, RefusalEnds, ValueEnds, piece_len}
+use Rattle.aclck.specs.TwoLists.{AreNotRead, StandsBelow, TakesLittleOfTwo, TakesOpenOfTwo, later}
 use Rattle.aclck.specs.declared.answer.RunFault.{RunFault}
 use Rattle.aclck.specs.declared.answer.RunFault.TheVariants as fault
-use Rattle.aclck.proofs.ListInputLemmas.{cut_end, spelled_short, still_has}
+use Rattle.aclck.proofs.ListInputLemmas.{cut_end, ends_somewhere, spelled_short, still_has}
 
 -- what holds of the bytes that were taken, with those that are left, holds of an input
 pub input_found : (Holds : List ℕ → Type 0) (given : List ℕ) (old new : Option (List ℕ)) → Consumes old new given
@@ -47,28 +49,65 @@ first_not_read p old mid fault.Read h = tt
 first_not_read p old mid (fault.Write w) h = h
 first_not_read p old mid fault.Memory h = tt
 
--- and then little was taken, want of memory aside
+-- the first list ended, and the text goes on to an end behind it
+ended_first : (p : Profile) (old mid : Option (List ℕ)) (list : List Ace) (given : List ℕ) (end : ℕ)
+    → Consumes old mid given → Xdr p list (take end given) → IsBytes given → length given ≤ end + piece_len
+    → TakesLittleOfTwo p old mid
+ended_first p old mid list given end c x bytes near =
+    let ends = ends_somewhere p (drop end given) (IsBytes-drop end given bytes) in
+    record {
+      given = given;
+      end = length (take end given) + ends.0;
+      taken = c;
+      is_end = inl (record {
+        list = list;
+        first = take end given;
+        rest = drop end given;
+        parts = sym (take-append-drop end given);
+        spelled = x;
+        behind = ends.0;
+        is_end = ends.1;
+        is = refl;
+      });
+      near = omega (arith, near, length-take end given);
+    }
+
+-- and then little was taken
 pub first_near : (p : Profile) (old mid : Option (List ℕ)) (e : RunFault) → ReadsNone p [] old mid e
-    → (e ≡ fault.Memory) ⊎ TakesLittleOfTwo p old mid
-first_near p old mid (fault.Nfs f) h = inr (record {
+    → TakesLittleOfTwo p old mid
+first_near p old mid (fault.Nfs f) h = record {
   given = h.given;
   end = h.end;
   taken = h.taken;
   is_end = inr (record { offset = f.offset; reason = f.reason; has = h.has });
   near = h.near;
-})
+}
 first_near p old mid (fault.NfsText f) h = absurd h
 first_near p old mid (fault.Posix f) h = absurd h
 first_near p old mid fault.Limits h = absurd h
-first_near p old mid fault.Read h = inr (record {
+first_near p old mid fault.Read h = record {
   given = h.given;
   end = h.cut.1.0;
   taken = h.taken;
   is_end = inr (record { offset = h.cut.0; reason = Truncated; has = h.cut.1.1 });
   near = omega (arith, cut_end p h.given h.cut.0 h.cut.1.0 h.cut.1.1 h.cut.1.1.breaks);
-})
+}
 first_near p old mid (fault.Write w) h = absurd h
-first_near p old mid fault.Memory h = inl refl
+first_near p old mid fault.Memory h = elim h.is_end [
+  | inr r ↦ record { given = h.given; end = h.end; taken = h.taken; is_end = inr r; near = h.near }
+  | inl v ↦ ended_first p old mid v.list h.given h.end h.taken v.spelled h.bytes h.near
+]
+
+-- and where a read failed, a text that is cut short
+pub first_open : (p : Profile) (old mid : Option (List ℕ)) (e : RunFault) → ReadsNone p [] old mid e
+    → is_read e ≡ true → TakesOpenOfTwo p old mid
+first_open p old mid (fault.Nfs f) h r = absurd cc
+first_open p old mid (fault.NfsText f) h r = absurd h
+first_open p old mid (fault.Posix f) h r = absurd h
+first_open p old mid fault.Limits h r = absurd h
+first_open p old mid fault.Read h r = record { given = h.given; taken = h.taken; is_open = inl h.cut }
+first_open p old mid (fault.Write w) h r = absurd h
+first_open p old mid fault.Memory h r = absurd cc
 
 -- ---- the second list is refused
 
@@ -119,10 +158,10 @@ second_not_read p list text after given old mid new len (fault.Write w) x e c is
 second_not_read p list text after given old mid new len fault.Memory x e c is h = tt
 
 second_taken : (p : Profile) (list : List Ace) (text after given others : List ℕ) (old mid new : Option (List ℕ))
-    (offset end : ℕ) (r : Reason) → Xdr p list text → given ≡ text ++ after → Consumes old mid given
-    → Consumes mid new others → IsFirstFault p (after ++ others) offset end r
+    (end : ℕ) → Xdr p list text → given ≡ text ++ after → Consumes old mid given → Consumes mid new others
+    → ValueEnds p (after ++ others) end ⊎ RefusalEnds p (after ++ others) end
     → length (after ++ others) ≤ end + piece_len → TakesLittleOfTwo p old new
-second_taken p list text after given others old mid new offset end r x e c d has near = record {
+second_taken p list text after given others old mid new end x e c d is_end near = record {
   given = given ++ others;
   end = length text + end;
   taken = Consumes-trans old mid new given others c d;
@@ -133,26 +172,52 @@ second_taken p list text after given others old mid new offset end r x e c d has
     parts = regroup given text after others e;
     spelled = x;
     behind = end;
-    is_end = inr (record { offset = offset; reason = r; has = has });
+    is_end = is_end;
     is = refl;
   });
   near = omega (arith, near, ap length (regroup given text after others e), length-append text (after ++ others));
 }
 
--- and then little was taken, want of memory aside
+-- and then little was taken
 pub second_near : (p : Profile) (list : List Ace) (text after given : List ℕ) (old mid new : Option (List ℕ))
+    (e : RunFault) → Xdr p list text → given ≡ text ++ after → Consumes old mid given → ReadsNone p after mid new e
+    → TakesLittleOfTwo p old new
+second_near p list text after given old mid new (fault.Nfs f) x e c h =
+    second_taken p list text after given h.given old mid new h.end x e c h.taken
+    (inr (record { offset = f.offset; reason = f.reason; has = h.has })) h.near
+second_near p list text after given old mid new (fault.NfsText f) x e c h = absurd h
+second_near p list text after given old mid new (fault.Posix f) x e c h = absurd h
+second_near p list text after given old mid new fault.Limits x e c h = absurd h
+second_near p list text after given old mid new fault.Read x e c h =
+    second_taken p list text after given h.given old mid new h.cut.1.0 x e c h.taken
+    (inr (record { offset = h.cut.0; reason = Truncated; has = h.cut.1.1 }))
+    (omega (arith, cut_end p (after ++ h.given) h.cut.0 h.cut.1.0 h.cut.1.1 h.cut.1.1.breaks))
+second_near p list text after given old mid new (fault.Write w) x e c h = absurd h
+second_near p list text after given old mid new fault.Memory x e c h =
+    second_taken p list text after given h.given old mid new h.end x e c h.taken h.is_end h.near
+
+-- and where a read failed, a text that is cut short behind the first list
+pub second_open : (p : Profile) (list : List Ace) (text after given : List ℕ) (old mid new : Option (List ℕ))
     (len : ℕ) (e : RunFault) → Xdr p list text → given ≡ text ++ after → Consumes old mid given
-    → ReadsNone p after mid new e → (later e len ≡ fault.Memory) ⊎ TakesLittleOfTwo p old new
-second_near p list text after given old mid new len (fault.Nfs f) x e c h =
-    inr (second_taken p list text after given h.given old mid new f.offset h.end f.reason x e c h.taken h.has h.near)
-second_near p list text after given old mid new len (fault.NfsText f) x e c h = absurd h
-second_near p list text after given old mid new len (fault.Posix f) x e c h = absurd h
-second_near p list text after given old mid new len fault.Limits x e c h = absurd h
-second_near p list text after given old mid new len fault.Read x e c h =
-    inr (second_taken p list text after given h.given old mid new h.cut.0 h.cut.1.0 Truncated x e c h.taken h.cut.1.1
-    (omega (arith, cut_end p (after ++ h.given) h.cut.0 h.cut.1.0 h.cut.1.1 h.cut.1.1.breaks)))
-second_near p list text after given old mid new len (fault.Write w) x e c h = absurd h
-second_near p list text after given old mid new len fault.Memory x e c h = inl refl
+    → ReadsNone p after mid new e → is_read (later e len) ≡ true → TakesOpenOfTwo p old new
+second_open p list text after given old mid new len (fault.Nfs f) x e c h r = absurd cc
+second_open p list text after given old mid new len (fault.NfsText f) x e c h r = absurd h
+second_open p list text after given old mid new len (fault.Posix f) x e c h r = absurd h
+second_open p list text after given old mid new len fault.Limits x e c h r = absurd h
+second_open p list text after given old mid new len fault.Read x e c h r = record {
+  given = given ++ h.given;
+  taken = Consumes-trans old mid new given h.given c h.taken;
+  is_open = inr (record {
+    list = list;
+    first = text;
+    rest = after ++ h.given;
+    parts = regroup given text after h.given e;
+    spelled = x;
+    is_open = inl h.cut;
+  });
+}
+second_open p list text after given old mid new len (fault.Write w) x e c h r = absurd h
+second_open p list text after given old mid new len fault.Memory x e c h r = absurd cc
 
 -- ---- both are read
 
@@ -234,6 +299,29 @@ more_near p list other text second given left old mid new len fault.Read x y e c
     (Consumes-kept mid mid new [] (Consumes-nil mid) h.1) (rw h.0 (omega arith))
 more_near p list other text second given left old mid new len (fault.Write w) x y e c h = absurd h
 more_near p list other text second given left old mid new len fault.Memory x y e c h = absurd h
+
+-- and where a read failed, two lists and nothing behind them
+pub more_open : (p : Profile) (list other : List Ace) (text second given left : List ℕ) (old mid new : Option (List ℕ))
+    (len : ℕ) (e : RunFault) → Xdr p list text → Xdr p other second → given ≡ text ++ (second ++ left)
+    → Consumes old mid given → EndsNot len left mid new e → is_read e ≡ true → TakesOpenOfTwo p old new
+more_open p list other text second given left old mid new len (fault.Nfs f) x y e c h r = absurd cc
+more_open p list other text second given left old mid new len (fault.NfsText f) x y e c h r = absurd h
+more_open p list other text second given left old mid new len (fault.Posix f) x y e c h r = absurd h
+more_open p list other text second given left old mid new len fault.Limits x y e c h r = absurd h
+more_open p list other text second given left old mid new len fault.Read x y e c h r = record {
+  given = given ++ [];
+  taken = Consumes-trans old mid new given [] c (Consumes-kept mid mid new [] (Consumes-nil mid) h.1);
+  is_open = inr (record {
+    list = list;
+    first = text;
+    rest = second;
+    parts = append-nil given ∙ e ∙ ap (λ v. text ++ v) (ap (λ v. second ++ v) h.0 ∙ append-nil second);
+    spelled = x;
+    is_open = inr (other, y);
+  });
+}
+more_open p list other text second given left old mid new len (fault.Write w) x y e c h r = absurd h
+more_open p list other text second given left old mid new len fault.Memory x y e c h r = absurd h
 
 -- an input that is two lists
 pub two_found : (p : Profile) (list other : List Ace) (text second given left : List ℕ) (old mid new : Option (List ℕ))

@@ -1,7 +1,7 @@
 -- What the exit status of the program tells (this library's own).
 use Rattle.std.specs.Prelude.{◌≡◌, ◌==◌, ◌⊎◌, List, ℕ, Option, None, Bool, false, if◌then◌else◌, IsSomeAnd, Result, Ok, Err}
 use Rattle.aclck.specs.Answer.{Begins, Fails, Finishes, Refuses, is_read, is_refusal, is_write}
-use Rattle.aclck.specs.Task.{Answers, Task}
+use Rattle.aclck.specs.Task.{Answers, Ends, Stops, Takes, Task, shape_of}
 use Rattle.aclck.specs.declared.answer.Outcome.{Outcome}
 use Rattle.aclck.specs.declared.answer.Outcome.TheVariants as outcome
 use Rattle.aclck.specs.declared.answer.RunFault.{RunFault}
@@ -36,6 +36,18 @@ IsBegun task known held holds = IsSomeAnd task (λ t. (n : ℕ) × Begins (Answe
 -- the task ran to its end
 abbrev pub IsDone : Option Task → Option (List ℕ) → Option (List ℕ) → Option (List ℕ) → Outcome → Type 0
 IsDone task known held holds o = IsSomeAnd task (λ t. Finishes (Answers t) known held holds o)
+
+-- little was taken for the task
+abbrev pub IsTaken : Option Task → Option (List ℕ) → Option (List ℕ) → Type 0
+IsTaken task known left = IsSomeAnd task (λ t. Takes (shape_of t) known left)
+
+-- what was taken for the task is not refused
+abbrev pub IsStopped : Option Task → Option (List ℕ) → Option (List ℕ) → Type 0
+IsStopped task known left = IsSomeAnd task (λ t. Stops (shape_of t) known left)
+
+-- the text was read whole, if the task reads one
+abbrev pub IsEnded : Option Task → Option (List ℕ) → Type 0
+IsEnded task left = IsSomeAnd task (λ t. Ends (shape_of t) left)
 
 -- the answer of a command whose words ask for this task
 abbrev pub Performs : Option Task → Option (List ℕ) → Option (List ℕ) → Option (List ℕ)

@@ -6,6 +6,7 @@ use Rattle.acl_perm.specs.Profile.{Profile}
 use Rattle.acl_nfs4.specs.Ace.{Ace}
 use Rattle.acl_nfs4.specs.Fault.{IsFirstFault}
 use Rattle.acl_nfs4.specs.Spelling.{Xdr}
+use Rattle.acl_nfs4.specs.Progress.{IsBytes}
 use Rattle.acl_nfs4.specs.Stream.{IsCut}
 use Rattle.acl_nfs4.specs.declared.fault.Fault.{Fault}
 use Rattle.acl_nfs4.specs.declared.fault.Reason.{Reason}
@@ -36,6 +37,16 @@ pub record TakesLittle (p : Profile) (known left : Option (List ℕ)) : Type 0 w
   pub taken : Consumes known left given
   pub is_end : ValueEnds p given end ⊎ RefusalEnds p given end
   pub near : length given ≤ end + piece_len
+
+-- a text that may go on: it is cut short, or a whole value with nothing behind it
+abbrev pub IsOpen : Profile → List ℕ → Type 0
+IsOpen p text = IsCut p text ⊎ ((list : List Ace) × Xdr p list text)
+
+-- what was taken of a source has no fault, but that it may go on
+pub record TakesOpen (p : Profile) (known left : Option (List ℕ)) : Type 0 where
+  pub given : List ℕ
+  pub taken : Consumes known left given
+  pub is_open : IsOpen p given
 
 -- ---- one value
 
@@ -75,6 +86,15 @@ pub record ReadsFault (p : Profile) (left : List ℕ) (known now_known : Option 
   pub near : length (left ++ given) ≤ end + piece_len
   pub all : f.reason ≡ Truncated → IsAtEnd now_known
 
+-- what was left of the last pull, and what the source gave, ends with its value or the refused field, or little further
+pub record ReadsLittle (p : Profile) (left : List ℕ) (known now_known : Option (List ℕ)) : Type 0 where
+  pub given : List ℕ
+  pub end : ℕ
+  pub taken : Consumes known now_known given
+  pub bytes : IsBytes (left ++ given)
+  pub is_end : ValueEnds p (left ++ given) end ⊎ RefusalEnds p (left ++ given) end
+  pub near : length (left ++ given) ≤ end + piece_len
+
 -- what was left of the last pull, and what the source gave, is cut short
 pub record ReadsPart (p : Profile) (left : List ℕ) (known now_known : Option (List ℕ)) : Type 0 where
   pub given : List ℕ
@@ -89,7 +109,7 @@ ReadsNone p left known now_known (fault.Posix f) = ⊥
 ReadsNone p left known now_known fault.Limits = ⊥
 ReadsNone p left known now_known fault.Read = ReadsPart p left known now_known
 ReadsNone p left known now_known (fault.Write w) = ⊥
-ReadsNone p left known now_known fault.Memory = Unit {0}
+ReadsNone p left known now_known fault.Memory = ReadsLittle p left known now_known
 
 -- ---- the end
 

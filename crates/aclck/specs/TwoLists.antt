@@ -5,8 +5,9 @@ use Rattle.std.specs.Io.KnownBytes.{Consumes}
 use Rattle.acl_perm.specs.Profile.{Profile}
 use Rattle.acl_nfs4.specs.Ace.{Ace}
 use Rattle.acl_nfs4.specs.Spelling.{Xdr}
+use Rattle.acl_nfs4.specs.Stream.{IsCut}
 use Rattle.aclck.specs.Compare.{IsRefusedTwo}
-use Rattle.aclck.specs.ListInput.{HasInput, RefusalEnds, ValueEnds, piece_len}
+use Rattle.aclck.specs.ListInput.{HasInput, IsOpen, RefusalEnds, ValueEnds, piece_len}
 use Rattle.aclck.specs.declared.answer.RunFault.{RunFault}
 use Rattle.aclck.specs.declared.answer.RunFault.TheVariants as fault
 
@@ -28,6 +29,21 @@ pub record TakesLittleOfTwo (p : Profile) (known left : Option (List ℕ)) : Typ
   pub taken : Consumes known left given
   pub is_end : SecondEnds p given end ⊎ RefusalEnds p given end
   pub near : length given ≤ end + piece_len
+
+-- a text begins with one value, and what stands behind it may go on
+pub record SecondIsOpen (p : Profile) (text : List ℕ) : Type 0 where
+  pub list : List Ace
+  pub first : List ℕ
+  pub rest : List ℕ
+  pub parts : text ≡ first ++ rest
+  pub spelled : Xdr p list first
+  pub is_open : IsOpen p rest
+
+-- what was taken of a source has no fault, but that it may go on
+pub record TakesOpenOfTwo (p : Profile) (known left : Option (List ℕ)) : Type 0 where
+  pub given : List ℕ
+  pub taken : Consumes known left given
+  pub is_open : IsCut p given ⊎ SecondIsOpen p given
 
 -- why two lists were not read: their input has a fault, or a read failed, or memory ran out
 abbrev pub AreNotRead : Profile → Option (List ℕ) → RunFault → Type 0

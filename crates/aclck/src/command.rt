@@ -5,7 +5,7 @@ ghost use Rattle.acl_perm.specs.Devices.{failures_after, one_more};
 ghost use Rattle.clap.specs.Words.{found_of, rows_of};
 ghost use Rattle.aclck.specs.Line.{words_of};
 ghost use Rattle.aclck.specs.Task.{is_command, task_in, task_of};
-ghost use Rattle.aclck.specs.Command.{IsBegun, IsDone, IsRefused, Performs, has_failed, is_read_fault, is_write_fault, outcome_at, status_of};
+ghost use Rattle.aclck.specs.Command.{IsBegun, IsDone, IsEnded, IsRefused, IsStopped, IsTaken, Performs, has_failed, is_read_fault, is_write_fault, outcome_at, status_of};
 
 use crate::answer::{Outcome, RunFault};
 use crate::line::{LineFault, words_in};
@@ -73,6 +73,14 @@ pub fn command<S: Source, K: Sink, E: Sink>(
     // Where the first word names no command, or is none, nothing takes memory.
     ensures unnamed { is_command (map (λ w. w.now) words.entry.now) ≡ false → result ≡ 3 }
 
+    // Little of the input is taken, if any; what was taken when a read failed does not refuse a list; and a text that is
+    // refused was read whole.
+    ensures bound { (source.new ≡ source.old) ⊎ IsTaken (task_of (map (λ w. w.now) words.entry.now))
+        (S.remaining source.old) (S.remaining source.new) }
+    ensures stopped { (S.failure_count source.new ≡ S.failure_count source.old)
+        ⊎ IsStopped (task_of (map (λ w. w.now) words.entry.now)) (S.remaining source.old) (S.remaining source.new) }
+    ensures ended { result ≡ 2 → IsEnded (task_of (map (λ w. w.now) words.entry.now)) (S.remaining source.new) }
+
     // At 2 and 3 nothing was written.
     ensures unwritten { 2 ≤ result → result ≤ 3 → out.new ≡ out.old }
     // At 4 nothing was written, or a proper beginning of the text of the task's answer, and then one write failed.
@@ -122,6 +130,12 @@ fn perform<'a, S: Source, K: Sink>(
     ensures unread { result ≡ Err CommandFault.Usage → source.new ≡ source.old }
     ensures unnamed { is_command (map (λ w. w.now) words.entry.now) ≡ false
         → result ≡ Err CommandFault.Usage }
+    ensures bound { (source.new ≡ source.old) ⊎ IsTaken (task_of (map (λ w. w.now) words.entry.now))
+        (S.remaining source.old) (S.remaining source.new) }
+    ensures stopped { IfErr result (λ e. is_read_fault e ≡ true
+        → IsStopped (task_of (map (λ w. w.now) words.entry.now)) (S.remaining source.old) (S.remaining source.new)) }
+    ensures ended { IfErr result (λ e. status_of e ≡ 2
+        → IsEnded (task_of (map (λ w. w.now) words.entry.now)) (S.remaining source.new)) }
     ensures unwritten { IfErr result (λ e. (is_write_fault e ≡ true) ⊎ (out.new ≡ out.old)) }
     ensures reads { S.failure_count source.new
         ≡ failures_after (S.failure_count source.old) (has_failed is_read_fault result) }
@@ -151,6 +165,15 @@ fn perform_named<S: Source, K: Sink>(
         (S.remaining source.old) (K.contents out.old) (K.contents out.new) result }
     ensures whole { OnOk result (IsAtEnd (S.remaining source.new)) }
     ensures unread { result ≡ Err CommandFault.Usage → source.new ≡ source.old }
+    ensures bound { (source.new ≡ source.old) ⊎ IsTaken
+        (task_in name (rows_of (found_of matches.now)) (words_of (rows_of (found_of matches.now))))
+        (S.remaining source.old) (S.remaining source.new) }
+    ensures stopped { IfErr result (λ e. is_read_fault e ≡ true → IsStopped
+        (task_in name (rows_of (found_of matches.now)) (words_of (rows_of (found_of matches.now))))
+        (S.remaining source.old) (S.remaining source.new)) }
+    ensures ended { IfErr result (λ e. status_of e ≡ 2 → IsEnded
+        (task_in name (rows_of (found_of matches.now)) (words_of (rows_of (found_of matches.now))))
+        (S.remaining source.new)) }
     ensures unwritten { IfErr result (λ e. (is_write_fault e ≡ true) ⊎ (out.new ≡ out.old)) }
     ensures reads { S.failure_count source.new
         ≡ failures_after (S.failure_count source.old) (has_failed is_read_fault result) }

@@ -1,13 +1,14 @@
 //! Lists that an input spells, read as it comes.
-ghost use Rattle.std.specs.Prelude.{◌≡◌, ◌≢◌, ◌⊎◌, ◌<◌, ◌≤◌, ◌^◌, [], Err, IfErr, IfOk, Ok, OnErr, OnOk, drop, false, length, true};
+ghost use Rattle.std.specs.Prelude.{◌≡◌, ◌≢◌, ◌⊎◌, ◌<◌, ◌≤◌, ◌^◌, [], IfErr, IfOk, Ok, OnErr, OnOk, drop, false, length, true};
 ghost use Rattle.std.specs.Io.KnownBytes.{Consumes, IsAtEnd, Keeps};
 ghost use Rattle.acl_perm.specs.Devices.{failures_after};
 ghost use Rattle.acl_perm.specs.Profile.{profile_of};
 ghost use Rattle.acl_nfs4.specs.Spelling.{Xdr};
 ghost use Rattle.acl_nfs4.specs.Stream.{Finishes};
 ghost use Rattle.acl_nfs4.specs.declared.fault.Reason.TheVariants.{Memory};
-ghost use Rattle.aclck.specs.Answer.{has_read_failed};
-ghost use Rattle.aclck.specs.ListInput.{EndsNot, HasInput, IsNotRead, ReadsNone, ReadsValue, TakesLittle, piece_len};
+ghost use Rattle.aclck.specs.Answer.{has_read_failed, is_read};
+ghost use Rattle.aclck.specs.ListInput.{EndsNot, HasInput, IsNotRead, ReadsNone, ReadsValue, TakesLittle, TakesOpen, piece_len};
+ghost use Rattle.acl_nfs4.specs.Progress.{IsBytes};
 
 use crate::answer::RunFault;
 use acl_nfs4::{Acl, Fault, Fed, Feed, Reason};
@@ -37,6 +38,14 @@ impl Model for Pulled {
     ghost invariant = { λ s. (s.start ≤ s.end) × (s.end ≤ piece_len) };
 }
 
+// The same, and a clause that says that they are bytes.
+fn seen(bytes: &[u8]) -> &[u8]
+    ensures is { result.now ≡ bytes.now }
+    ensures bytes { IsBytes result.now }
+{
+    bytes
+}
+
 impl Pulled {
     /// Nothing was pulled yet.
     pub(crate) fn new() -> Pulled
@@ -53,8 +62,9 @@ impl Pulled {
     fn left(&self) -> &[u8]
         ensures is { result.now ≡ self.now }
         ensures short { length self.now ≤ piece_len }
+        ensures bytes { IsBytes result.now }
     {
-        &self.room[self.start..self.end]
+        seen(&self.room[self.start..self.end])
     }
 
     // So many bytes belong to a value.
@@ -188,8 +198,9 @@ pub(crate) fn read_list<S: Source>(
         HasInput (λ input. Xdr (profile_of profile) list input) (S.remaining source.old)) }
     ensures whole { OnOk result (IsAtEnd (S.remaining source.new)) }
     ensures not_read { IfErr result (λ e. IsNotRead (profile_of profile) (S.remaining source.old) e) }
-    ensures bound { (result ≡ Err RunFault.Memory)
-        ⊎ TakesLittle (profile_of profile) (S.remaining source.old) (S.remaining source.new) }
+    ensures bound { TakesLittle (profile_of profile) (S.remaining source.old) (S.remaining source.new) }
+    ensures stopped { IfErr result (λ e. is_read e ≡ true
+        → TakesOpen (profile_of profile) (S.remaining source.old) (S.remaining source.new)) }
     ensures reads { S.failure_count source.new
         ≡ failures_after (S.failure_count source.old) (has_read_failed result) }
 {

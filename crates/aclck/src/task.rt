@@ -4,9 +4,9 @@ ghost use Rattle.std.specs.Str.{bytes_eq};
 ghost use Rattle.std.specs.Io.KnownBytes.{IsAtEnd};
 ghost use Rattle.clap.specs.Words.{app_of, found_of, rows_of};
 ghost use Rattle.acl_perm.specs.Devices.{failures_after};
-ghost use Rattle.aclck.specs.Answer.{Ran, has_read_failed, has_write_failed, is_write};
+ghost use Rattle.aclck.specs.Answer.{Ran, has_read_failed, has_write_failed, is_read, is_refusal, is_write};
 ghost use Rattle.aclck.specs.Line.{Reads, is_sound, is_taken, rows_at, term};
-ghost use Rattle.aclck.specs.Task.{Answers, app_named, command_named, task_held, task_in, terms_of, word_of};
+ghost use Rattle.aclck.specs.Task.{Answers, Ends, Stops, Takes, app_named, command_named, shape_of, task_held, task_in, terms_of, word_of};
 
 pub mod bridge;
 pub mod calc_mask;
@@ -235,6 +235,11 @@ impl<'a> Task<'a> {
         ensures ran { Ran (Answers (task_held self.now)) (S.remaining source.old)
             (K.contents sink.old) (K.contents sink.new) result }
         ensures whole { OnOk result (IsAtEnd (S.remaining source.new)) }
+        ensures bound { Takes (shape_of (task_held self.now)) (S.remaining source.old) (S.remaining source.new) }
+        ensures stopped { IfErr result (λ e. is_read e ≡ true
+            → Stops (shape_of (task_held self.now)) (S.remaining source.old) (S.remaining source.new)) }
+        ensures ended { IfErr result (λ e. is_refusal e ≡ true
+            → Ends (shape_of (task_held self.now)) (S.remaining source.new)) }
         ensures unwritten { IfErr result (λ e. (is_write e ≡ true) ⊎ (sink.new ≡ sink.old)) }
         ensures reads { S.failure_count source.new
             ≡ failures_after (S.failure_count source.old) (has_read_failed result) }

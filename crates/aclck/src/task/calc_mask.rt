@@ -44,6 +44,7 @@ pub fn run_calc_mask<S: Source, K: Sink>(
     ensures ran { Ran (CalcMaskAnswer names.now)
         (S.remaining source.old) (K.contents sink.old) (K.contents sink.new) result }
     ensures whole { OnOk result (IsAtEnd (S.remaining source.new)) }
+    ensures ended { IfErr result (λ e. is_refusal e ≡ true → IsAtEnd (S.remaining source.new)) }
     ensures unwritten { IfErr result (λ e. (is_write e ≡ true) ⊎ (sink.new ≡ sink.old)) }
     ensures reads { S.failure_count source.new
         ≡ failures_after (S.failure_count source.old) (has_read_failed result) }

@@ -1,5 +1,5 @@
 //! `check-nfs`: whether a list grants a request.
-ghost use Rattle.std.specs.Prelude.{◌≡◌, ◌⊎◌, ◌↔◌, Err, IfErr, OnOk, map, option_and_then, option_map, true};
+ghost use Rattle.std.specs.Prelude.{◌≡◌, ◌⊎◌, ◌↔◌, IfErr, OnOk, map, option_and_then, option_map, true};
 ghost use Rattle.std.specs.Io.KnownBytes.{IsAtEnd};
 ghost use Rattle.clap.specs.Words.{found_of, rows_of};
 ghost use Rattle.acl_perm.specs.Devices.{failures_after};
@@ -8,8 +8,8 @@ ghost use Rattle.aclck.specs.Line.{Reads, term};
 ghost use Rattle.aclck.specs.Values.{mask_within};
 ghost use Rattle.acl_eval.specs.Grant.{Grant};
 ghost use Rattle.acl_eval.specs.Situation.{situation};
-ghost use Rattle.aclck.specs.Answer.{Ran, has_read_failed, has_write_failed, is_write};
-ghost use Rattle.aclck.specs.ListInput.{TakesLittle};
+ghost use Rattle.aclck.specs.Answer.{Ran, has_read_failed, has_write_failed, is_read, is_write};
+ghost use Rattle.aclck.specs.ListInput.{TakesLittle, TakesOpen};
 ghost use Rattle.aclck.specs.CheckNfs.{CheckNfsAnswer, check_nfs_held, check_nfs_in, check_nfs_terms, object_named, object_names, requester_named, requester_names, values_of};
 
 use crate::answer::{Outcome, RunFault, decision_line};
@@ -117,8 +117,9 @@ pub fn run_check_nfs<S: Source, K: Sink>(
     ensures ran { Ran (CheckNfsAnswer (values_of object.now requester.now mask profile))
         (S.remaining source.old) (K.contents sink.old) (K.contents sink.new) result }
     ensures whole { OnOk result (IsAtEnd (S.remaining source.new)) }
-    ensures bound { (result ≡ Err RunFault.Memory)
-        ⊎ TakesLittle (profile_of profile) (S.remaining source.old) (S.remaining source.new) }
+    ensures bound { TakesLittle (profile_of profile) (S.remaining source.old) (S.remaining source.new) }
+    ensures stopped { IfErr result (λ e. is_read e ≡ true
+        → TakesOpen (profile_of profile) (S.remaining source.old) (S.remaining source.new)) }
     ensures unwritten { IfErr result (λ e. (is_write e ≡ true) ⊎ (sink.new ≡ sink.old)) }
     ensures reads { S.failure_count source.new
         ≡ failures_after (S.failure_count source.old) (has_read_failed result) }

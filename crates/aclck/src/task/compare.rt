@@ -1,15 +1,15 @@
 //! `compare`: whether two lists grant the same, and where not.
-ghost use Rattle.std.specs.Prelude.{◌≡◌, ◌⊎◌, ◌++◌, ◌<◌, ◌^◌, [], Err, codes, IfErr, IfOk, OnOk, flat_map, map, true, unwrap_or};
+ghost use Rattle.std.specs.Prelude.{◌≡◌, ◌⊎◌, ◌++◌, ◌<◌, ◌^◌, [], codes, IfErr, IfOk, OnOk, flat_map, map, true, unwrap_or};
 ghost use Rattle.std.specs.Io.KnownBytes.{IsAtEnd};
 ghost use Rattle.acl_perm.specs.Devices.{failures_after};
 ghost use Rattle.acl_perm.specs.Profile.{profile_of};
 ghost use Rattle.acl_nfs4.specs.BitNames.{first_name};
 ghost use Rattle.acl_nfs4.specs.Rights.{rights};
 ghost use Rattle.acl_normal.specs.Difference.{situation_of};
-ghost use Rattle.aclck.specs.Answer.{Ran, has_read_failed, has_write_failed, is_write};
+ghost use Rattle.aclck.specs.Answer.{Ran, has_read_failed, has_write_failed, is_read, is_write};
 ghost use Rattle.aclck.specs.Compare.{AreTwo, CompareAnswer, compared_outcome, compared_text, decision, difference_text, line};
 ghost use Rattle.aclck.specs.ListInput.{HasInput};
-ghost use Rattle.aclck.specs.TwoLists.{AreNotRead, StandsBelow, TakesLittleOfTwo, later};
+ghost use Rattle.aclck.specs.TwoLists.{AreNotRead, StandsBelow, TakesLittleOfTwo, TakesOpenOfTwo, later};
 
 use crate::answer::{Outcome, RunFault};
 use crate::list_input::{Pulled, Value, read_end, read_value};
@@ -31,8 +31,9 @@ pub fn run_compare<S: Source, K: Sink>(
     ensures ran { Ran (CompareAnswer (profile_of profile))
         (S.remaining source.old) (K.contents sink.old) (K.contents sink.new) result }
     ensures whole { OnOk result (IsAtEnd (S.remaining source.new)) }
-    ensures bound { (result ≡ Err RunFault.Memory)
-        ⊎ TakesLittleOfTwo (profile_of profile) (S.remaining source.old) (S.remaining source.new) }
+    ensures bound { TakesLittleOfTwo (profile_of profile) (S.remaining source.old) (S.remaining source.new) }
+    ensures stopped { IfErr result (λ e. is_read e ≡ true
+        → TakesOpenOfTwo (profile_of profile) (S.remaining source.old) (S.remaining source.new)) }
     ensures unwritten { IfErr result (λ e. (is_write e ≡ true) ⊎ (sink.new ≡ sink.old)) }
     ensures reads { S.failure_count source.new
         ≡ failures_after (S.failure_count source.old) (has_read_failed result) }
@@ -58,8 +59,9 @@ fn read_two<S: Source>(
         HasInput (λ input. AreTwo (profile_of profile) two.0 two.1 input) (S.remaining source.old)) }
     ensures whole { OnOk result (IsAtEnd (S.remaining source.new)) }
     ensures not_read { IfErr result (λ e. AreNotRead (profile_of profile) (S.remaining source.old) e) }
-    ensures bound { (result ≡ Err RunFault.Memory)
-        ⊎ TakesLittleOfTwo (profile_of profile) (S.remaining source.old) (S.remaining source.new) }
+    ensures bound { TakesLittleOfTwo (profile_of profile) (S.remaining source.old) (S.remaining source.new) }
+    ensures stopped { IfErr result (λ e. is_read e ≡ true
+        → TakesOpenOfTwo (profile_of profile) (S.remaining source.old) (S.remaining source.new)) }
     ensures reads { S.failure_count source.new
         ≡ failures_after (S.failure_count source.old) (has_read_failed result) }
 {

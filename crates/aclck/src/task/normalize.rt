@@ -1,12 +1,12 @@
 //! `normalize`: the normal form of a list, or its five.
-ghost use Rattle.std.specs.Prelude.{◌≡◌, ◌⊎◌, Err, IfErr, IfOk, OnOk, map, true};
+ghost use Rattle.std.specs.Prelude.{◌≡◌, ◌⊎◌, IfErr, IfOk, OnOk, map, true};
 ghost use Rattle.std.specs.Io.KnownBytes.{IsAtEnd};
 ghost use Rattle.clap.specs.Words.{found_of, rows_of};
 ghost use Rattle.acl_perm.specs.Devices.{failures_after};
 ghost use Rattle.acl_perm.specs.Profile.{profile_of};
-ghost use Rattle.aclck.specs.Answer.{Ran, has_read_failed, has_write_failed, is_write};
+ghost use Rattle.aclck.specs.Answer.{Ran, has_read_failed, has_write_failed, is_read, is_write};
 ghost use Rattle.aclck.specs.Line.{Reads, term};
-ghost use Rattle.aclck.specs.ListInput.{TakesLittle};
+ghost use Rattle.aclck.specs.ListInput.{TakesLittle, TakesOpen};
 ghost use Rattle.aclck.specs.Normalize.{NormalizeAnswer, NormalizeInheritAnswer, NormalizedAnswer, normalize_held, normalize_in, normalize_terms};
 
 use crate::answer::{Outcome, RunFault};
@@ -57,6 +57,9 @@ pub(crate) fn run<S: Source, K: Sink>(
     ensures ran { Ran (NormalizedAnswer (normalize_held values))
         (S.remaining source.old) (K.contents sink.old) (K.contents sink.new) result }
     ensures whole { OnOk result (IsAtEnd (S.remaining source.new)) }
+    ensures bound { TakesLittle (profile_of values.profile) (S.remaining source.old) (S.remaining source.new) }
+    ensures stopped { IfErr result (λ e. is_read e ≡ true
+        → TakesOpen (profile_of values.profile) (S.remaining source.old) (S.remaining source.new)) }
     ensures unwritten { IfErr result (λ e. (is_write e ≡ true) ⊎ (sink.new ≡ sink.old)) }
     ensures reads { S.failure_count source.new
         ≡ failures_after (S.failure_count source.old) (has_read_failed result) }
@@ -82,8 +85,9 @@ pub fn run_normalize<S: Source, K: Sink>(
     ensures ran { Ran (NormalizeAnswer (profile_of profile))
         (S.remaining source.old) (K.contents sink.old) (K.contents sink.new) result }
     ensures whole { OnOk result (IsAtEnd (S.remaining source.new)) }
-    ensures bound { (result ≡ Err RunFault.Memory)
-        ⊎ TakesLittle (profile_of profile) (S.remaining source.old) (S.remaining source.new) }
+    ensures bound { TakesLittle (profile_of profile) (S.remaining source.old) (S.remaining source.new) }
+    ensures stopped { IfErr result (λ e. is_read e ≡ true
+        → TakesOpen (profile_of profile) (S.remaining source.old) (S.remaining source.new)) }
     ensures unwritten { IfErr result (λ e. (is_write e ≡ true) ⊎ (sink.new ≡ sink.old)) }
     ensures reads { S.failure_count source.new
         ≡ failures_after (S.failure_count source.old) (has_read_failed result) }
@@ -112,8 +116,9 @@ pub fn run_normalize_inherit<S: Source, K: Sink>(
     ensures ran { Ran (NormalizeInheritAnswer (profile_of profile))
         (S.remaining source.old) (K.contents sink.old) (K.contents sink.new) result }
     ensures whole { OnOk result (IsAtEnd (S.remaining source.new)) }
-    ensures bound { (result ≡ Err RunFault.Memory)
-        ⊎ TakesLittle (profile_of profile) (S.remaining source.old) (S.remaining source.new) }
+    ensures bound { TakesLittle (profile_of profile) (S.remaining source.old) (S.remaining source.new) }
+    ensures stopped { IfErr result (λ e. is_read e ≡ true
+        → TakesOpen (profile_of profile) (S.remaining source.old) (S.remaining source.new)) }
     ensures unwritten { IfErr result (λ e. (is_write e ≡ true) ⊎ (sink.new ≡ sink.old)) }
     ensures reads { S.failure_count source.new
         ≡ failures_after (S.failure_count source.old) (has_read_failed result) }

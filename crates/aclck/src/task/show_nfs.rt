@@ -1,11 +1,11 @@
 //! `show-nfs`: the text of a list.
-ghost use Rattle.std.specs.Prelude.{◌≡◌, ◌⊎◌, Err, IfErr, IfOk, OnOk, true};
+ghost use Rattle.std.specs.Prelude.{◌≡◌, ◌⊎◌, IfErr, IfOk, OnOk, true};
 ghost use Rattle.std.specs.Io.KnownBytes.{IsAtEnd};
 ghost use Rattle.acl_perm.specs.Devices.{failures_after};
 ghost use Rattle.acl_perm.specs.Profile.{profile_of};
 ghost use Rattle.acl_nfs4.specs.AceText.{ace_text};
-ghost use Rattle.aclck.specs.Answer.{Ran, has_read_failed, has_write_failed, is_write};
-ghost use Rattle.aclck.specs.ListInput.{TakesLittle};
+ghost use Rattle.aclck.specs.Answer.{Ran, has_read_failed, has_write_failed, is_read, is_write};
+ghost use Rattle.aclck.specs.ListInput.{TakesLittle, TakesOpen};
 ghost use Rattle.aclck.specs.ShowNfs.{ShowNfsAnswer};
 
 use crate::answer::{Outcome, RunFault};
@@ -25,8 +25,9 @@ pub fn run_show_nfs<S: Source, K: Sink>(
     ensures ran { Ran (ShowNfsAnswer (profile_of profile))
         (S.remaining source.old) (K.contents sink.old) (K.contents sink.new) result }
     ensures whole { OnOk result (IsAtEnd (S.remaining source.new)) }
-    ensures bound { (result ≡ Err RunFault.Memory)
-        ⊎ TakesLittle (profile_of profile) (S.remaining source.old) (S.remaining source.new) }
+    ensures bound { TakesLittle (profile_of profile) (S.remaining source.old) (S.remaining source.new) }
+    ensures stopped { IfErr result (λ e. is_read e ≡ true
+        → TakesOpen (profile_of profile) (S.remaining source.old) (S.remaining source.new)) }
     ensures unwritten { IfErr result (λ e. (is_write e ≡ true) ⊎ (sink.new ≡ sink.old)) }
     ensures reads { S.failure_count source.new
         ≡ failures_after (S.failure_count source.old) (has_read_failed result) }

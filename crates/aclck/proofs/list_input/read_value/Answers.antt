@@ -2,8 +2,9 @@ use Rattle.std.proofs.Common.{◌++◌, ◌∙◌, length, ap, arith}
 use Rattle.std.proofs.KnownBytes.{Consumes-trans}
 use Rattle.std.proofs.lemmas.List.{length-append}
 use Rattle.acl_perm.specs.Profile.{profile_of}
+use Rattle.acl_nfs4.proofs.Fields.{bytes_append}
 use Rattle.acl_nfs4.proofs.Within.{code_profile}
-use Rattle.aclck.proofs.ListInputLemmas.{cut_short, done_reads, end_reads, next_parts, reads_small, refused_reads}
+use Rattle.aclck.proofs.ListInputLemmas.{cut_short, done_none, done_reads, end_reads, next_parts, reads_small, refused_reads}
 use Rattle.aclck.proofs.list_input.read_value.Goals as goal
 
 pub overflow_add-fed : goal.overflow_add-fed
@@ -30,13 +31,22 @@ returns-in-Done-clause-small g c =
     c.take.new.self _ _ c.loop-feed.fed c.in-Done.taken c.feed.new.self d.0 c.finish.result inv.parts inv.taken
     inv.is_fed c.left.ensures.is c.take.ensures d.2 d.1 d.3 c.finish.ensures.list)
 
+pub returns-in-Done-clause-none : goal.returns-in-Done-clause-none
+returns-in-Done-clause-none g c =
+    let inv = c.loop-feed.invariant in
+    let d = rw inv.stands at c.in-Done.ensures.feeds in
+    done_none (profile_of c.args.profile) c.args.pulled.now inv.given inv.text c.loop-feed.pulled c.left.result.now
+    _ _ c.in-Done.taken c.feed.new.self d.0 c.finish.result inv.parts inv.taken c.left.ensures.is c.left.ensures.short
+    d.1 d.3 (bytes_append inv.text c.left.result.now inv.bytes c.left.ensures.bytes) c.finish.ensures.fault
+
 pub returns-in-Refused-clause-none : goal.returns-in-Refused-clause-none
 returns-in-Refused-clause-none g c =
     let inv = c.loop-feed.invariant in
     let d = rw inv.stands at c.in-Refused.ensures.feeds in
     refused_reads (profile_of c.args.profile) c.args.pulled.now inv.given inv.text c.loop-feed.pulled
     c.left.result.now _ _ c.in-Refused.fault c.told.result (code_profile c.args.profile (omega arith)) inv.parts
-    inv.taken c.left.ensures.is c.left.ensures.short inv.cut d.1 c.told.ensures
+    inv.taken c.left.ensures.is c.left.ensures.short inv.cut
+    (bytes_append inv.text c.left.result.now inv.bytes c.left.ensures.bytes) d.1 c.told.ensures
 
 pub overflow_add-fed-in-loop-feed : goal.overflow_add-fed-in-loop-feed
 overflow_add-fed-in-loop-feed g c =
@@ -50,7 +60,8 @@ returns-then-not-branch-clause-none g c =
     let e = c.in_ok-pull.ensures.end c.if-not-branch.true in
     end_reads (profile_of c.args.profile) c.args.pulled.now inv.given inv.text c.loop-feed.pulled c.left.result.now
     c.pull.new.self _ _ _ c.feed.new.self _ inv.parts c.left.ensures.is inv.taken c.in_ok-pull.ensures.given e.0
-    e.1 d.0 c.finish-then-not-branch.ensures.fault
+    e.1 d.0 d.1 (bytes_append inv.text c.left.result.now inv.bytes c.left.ensures.bytes)
+    c.finish-then-not-branch.ensures.fault
 
 pub loop-feed-smaller : goal.loop-feed-smaller
 loop-feed-smaller g c =
@@ -87,4 +98,5 @@ loop-feed-preserved g c =
         ap length c.left.ensures.is,
       );
       cut = d.1;
+      bytes = bytes_append inv.text c.left.result.now inv.bytes c.left.ensures.bytes;
     }

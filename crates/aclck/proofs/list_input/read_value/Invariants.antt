@@ -1,6 +1,7 @@
 use Rattle.std.proofs.Common.{◌≡◌, ◌++◌, ◌+◌, ◌-◌, ◌^◌, ℕ, List, length}
 use Rattle.std.specs.Io.KnownBytes.{Consumes}
 use Rattle.acl_perm.specs.Profile.{profile_of}
+use Rattle.acl_nfs4.specs.Progress.{IsBytes}
 use Rattle.acl_nfs4.specs.Stream.{IsCut}
 use Rattle.acl_nfs4.specs.Stream.Standing.{more}
 use Rattle.aclck.proofs.list_input.read_value.Given as goal
@@ -16,6 +17,7 @@ invariant-loop-feed g l = record {
   same : g.S.Source.failure_count l.source ≡ g.S.Source.failure_count l.fn.source;
   is_fed : l.fed ≡ length text;
   cut : IsCut (profile_of l.fn.profile) text;
+  bytes : IsBytes text;
 }
 
 abbrev pub decreases-loop-feed : goal.decreases-loop-feed

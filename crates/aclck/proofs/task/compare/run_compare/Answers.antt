@@ -1,4 +1,4 @@
-use Rattle.std.proofs.Common.{ap, ◌∙◌, inl, inr, refl}
+use Rattle.std.proofs.Common.{◌∙◌, refl}
 use Rattle.aclck.specs.Compare.{compared_outcome}
 use Rattle.aclck.proofs.CompareLemmas.{compares_is}
 use Rattle.aclck.proofs.task.compare.run_compare.Goals as goal
@@ -18,12 +18,6 @@ returns-in-Ok-clause-ran g c = record {
   written = c.in-Ok.ensures.ok;
 }
 
-pub returns-in-Ok-clause-bound : goal.returns-in-Ok-clause-bound
-returns-in-Ok-clause-bound g c = elim c.in_ok-list.ensures.bound [
-  | inl e ↦ absurd cc
-  | inr t ↦ inr t
-]
-
 pub returns-clause-ran : goal.returns-clause-ran
 returns-clause-ran g c = record {
   input = c.in_ok-list.ensures.found.input;
@@ -40,9 +34,3 @@ returns-clause-ran g c = record {
   short = c.in-Err.ensures.short;
   written = c.in-Err.ensures.err;
 }
-
-pub returns-clause-bound : goal.returns-clause-bound
-returns-clause-bound g c = elim c.in_ok-list.ensures.bound [
-  | inl e ↦ absurd cc
-  | inr t ↦ inr t
-]
