@@ -2,6 +2,7 @@
 
 use crate::answer::Outcome;
 use crate::command::command;
+use crate::runs::line_refuses_at_once;
 use crate::task::normalize::run_normalize_inherit;
 use acl_perm::{Counted, Fused, Profile};
 use std::alloc::{AllocError, Global};
@@ -219,6 +220,10 @@ fn ample_refusals(rt: HostRuntime) -> Result<(), Fail> {
         let words = words_of(rt.alloc(), line)?;
         let ran = run(rt.alloc(), words.as_slice(), &inherited(0x80));
         assert!(rt; ran.is_refused(status, told), "{line}");
+        assert!(rt;
+            line_refuses_at_once(rt.alloc(), line, &inherited(0x80), status, told)?,
+            "{line}"
+        );
     }
     Ok(())
 }

@@ -1,4 +1,6 @@
-use crate::runs::{Memory, Row, fails_at_each_read, rows_fail_at_each_write, rows_hold};
+use crate::runs::{
+    Memory, Row, fails_at_each_read, rows_fail_at_each_write, rows_hold, rows_refuse_at_once,
+};
 use std::test::Fail;
 
 // ALLOW GROUP READ_DATA GROUP@.
@@ -188,6 +190,13 @@ fn rows_of_nfs_texts(rt: HostRuntime) {
 fn ample_each_read_of_encode_fails(rt: HostRuntime) {
     let input = b"ALLOW GROUP READ_DATA GROUP@\n";
     assert!(rt; fails_at_each_read(rt.alloc(), &["encode"], input, 8));
+}
+
+// The source is spent just after each refusal: the refusal is told, and nothing is read after it.
+#[test]
+fn ample_refusals_at_once(rt: HostRuntime) -> Result<(), Fail> {
+    rows_refuse_at_once(&rt, rt.alloc(), refusals())?;
+    Ok(())
 }
 
 // The sink fails at each write in turn, of one byte each: what went out begins the answer.

@@ -1,6 +1,7 @@
 use crate::runs::{
-    FINE, Memory, Refused, Written, fails_at_each_read, fails_at_each_write, refusals_hold,
-    repeated, run, texts_fail_at_each_read, texts_fail_at_each_write, texts_hold,
+    FINE, Memory, Refused, Written, fails_at_each_read, fails_at_each_write, line_refuses_at_once,
+    lines_refuse_at_once, refusals_hold, repeated, run, texts_fail_at_each_read,
+    texts_fail_at_each_write, texts_hold,
 };
 use std::alloc::{AllocError, Global};
 use std::process::Abort;
@@ -457,6 +458,24 @@ fn ample_devices_fail(rt: HostRuntime) -> Result<(), Fail> {
     texts_fail_everywhere(&rt, rt.alloc(), normal_forms())?;
     texts_fail_everywhere(&rt, rt.alloc(), tables())?;
     pairs_fail_everywhere(&rt, rt.alloc())?;
+    Ok(())
+}
+
+// The source of a line is spent just after it has refused two lists.
+fn pair_refuses_at_once(
+    alloc: Global,
+    (line, first, second, told): &(&str, &[u8], &[u8], &str),
+) -> Result<bool, AllocError> {
+    let input = behind_one_another(alloc, first, second)?;
+    line_refuses_at_once(alloc, line, &input, 2, told)
+}
+
+#[test]
+fn ample_refusals_at_once(rt: HostRuntime) -> Result<(), Fail> {
+    lines_refuse_at_once(&rt, rt.alloc(), &REFUSALS)?;
+    for refused in &REFUSED_COMPARISONS {
+        assert!(rt; pair_refuses_at_once(rt.alloc(), refused)?, "{refused:?}");
+    }
     Ok(())
 }
 

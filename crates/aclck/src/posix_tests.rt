@@ -1,5 +1,7 @@
 use crate::command::command;
-use crate::runs::{Memory, Row, rows_fail_at_each_read, rows_fail_at_each_write, rows_hold};
+use crate::runs::{
+    Memory, Row, rows_fail_at_each_read, rows_fail_at_each_write, rows_hold, rows_refuse_at_once,
+};
 use acl_perm::Counted;
 use std::alloc::{AllocError, Global};
 use std::test::Fail;
@@ -414,6 +416,14 @@ fn ample_each_read_fails(rt: HostRuntime) -> Result<(), Fail> {
 fn ample_each_write_fails(rt: HostRuntime) -> Result<(), Fail> {
     for part in &rows() {
         rows_fail_at_each_write(&rt, rt.alloc(), part)?;
+    }
+    Ok(())
+}
+
+#[test]
+fn ample_refusals_at_once(rt: HostRuntime) -> Result<(), Fail> {
+    for part in &rows() {
+        rows_refuse_at_once(&rt, rt.alloc(), part)?;
     }
     Ok(())
 }

@@ -408,6 +408,83 @@ pub fn rows_fail_at_each_write<A: Abort>(
     Ok(())
 }
 
+// Whether a refusal is told over a source of single bytes that fails behind so many reads, and nothing is read then.
+fn refuses_by(alloc: Global, words: &[&str], input: &[u8], reads: u64, err: &str) -> bool {
+    let source = Calls::since(reads.saturating_add(1), 1);
+    let ran = run(alloc, words, input, Devices { source, ..FINE });
+    ran.is(2, b"", err) && ran.reads == reads && ran.failed_reads == 0
+}
+
+// How many bytes an input begins with that are refused so by themselves.
+fn refused_part(alloc: Global, words: &[&str], input: &[u8], err: &str) -> usize {
+    for len in 0..input.len() {
+        if run(alloc, words, &input[..len], FINE).is(2, b"", err) {
+            return len;
+        }
+    }
+    input.len()
+}
+
+/// Whether the words refuse an input so over a source that is spent just after the refusal: behind the end of a text,
+/// or of a list that is cut short, or else behind the refused field.
+pub fn refuses_at_once(alloc: Global, words: &[&str], input: &[u8], err: &str) -> bool {
+    let is_text = !err.contains(" at byte ");
+    if is_text || err.contains("Truncated") {
+        refuses_by(
+            alloc,
+            words,
+            input,
+            (input.len() as u64).saturating_add(1),
+            err,
+        )
+    } else {
+        let part = refused_part(alloc, words, input, err);
+        refuses_by(alloc, words, input, part as u64, err)
+    }
+}
+
+/// Whether a line refuses an input so, if its status is 2, over a source that is spent just after the refusal.
+pub fn line_refuses_at_once(
+    alloc: Global,
+    line: &str,
+    input: &[u8],
+    status: u8,
+    err: &str,
+) -> Result<bool, AllocError> {
+    let words = words_of(alloc, line)?;
+    Ok(status != 2 || refuses_at_once(alloc, words.as_slice(), input, err))
+}
+
+/// Each row that is refused is refused over a source that is spent just after the refusal.
+pub fn rows_refuse_at_once<A: Abort>(
+    rt: &A,
+    alloc: Global,
+    rows: &[Row],
+) -> Result<(), AllocError> {
+    for (line, input, status, _, err) in rows {
+        assert!(rt;
+            line_refuses_at_once(alloc, line, input, *status, err)?,
+            "{line}: {input:?}"
+        );
+    }
+    Ok(())
+}
+
+/// The same of lines that are refused.
+pub fn lines_refuse_at_once<A: Abort>(
+    rt: &A,
+    alloc: Global,
+    rows: &[Refused],
+) -> Result<(), AllocError> {
+    for (line, input, status, err) in rows {
+        assert!(rt;
+            line_refuses_at_once(alloc, line, input, *status, err)?,
+            "{line}: {input:?}"
+        );
+    }
+    Ok(())
+}
+
 /// One ACE, some times over, as a list.
 pub fn repeated(alloc: Global, count: u32, ace: &[u8]) -> Result<Vec<u8>, AllocError> {
     let mut list = Vec::new(alloc);

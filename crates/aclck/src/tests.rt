@@ -1,5 +1,6 @@
 use crate::runs::{
-    Calls, Devices, FINE, Memory, Row, fails_at_read, fails_at_write, repeated, rows_hold, run,
+    Calls, Devices, FINE, Memory, Row, fails_at_read, fails_at_write, refuses_at_once, repeated,
+    rows_hold, rows_refuse_at_once, run,
 };
 use std::alloc::{AllocError, Global};
 use std::process::Abort;
@@ -293,6 +294,17 @@ fn ample_read_that_fails(rt: HostRuntime) {
             "from read {failing} on"
         );
     }
+}
+
+// The source is spent just after each refusal: the refusal is told, and nothing is read after it.
+#[test]
+fn ample_refusals_at_once(rt: HostRuntime) -> Result<(), Fail> {
+    rows_refuse_at_once(&rt, rt.alloc(), &REFUSALS)?;
+    for (place, byte, err) in &FAULTS {
+        let input = changed(*place, *byte);
+        assert!(rt; refuses_at_once(rt.alloc(), &OF_READ, &input, err), "{err}");
+    }
+    Ok(())
 }
 
 // The words of a check, the write that fails, and what has gone out.

@@ -1,7 +1,7 @@
 use crate::answer::{Outcome, RunFault};
 use crate::runs::{
-    Memory, Refused, Written, refusals_hold, texts_fail_at_each_read, texts_fail_at_each_write,
-    texts_hold,
+    Memory, Refused, Written, lines_refuse_at_once, refusals_hold, texts_fail_at_each_read,
+    texts_fail_at_each_write, texts_hold,
 };
 use crate::task::check_nfs::run_check_nfs;
 use acl_eval::{Object, Requester};
@@ -145,6 +145,12 @@ fn ample_each_read_fails(rt: HostRuntime) -> Result<(), Fail> {
 #[test]
 fn ample_each_write_fails(rt: HostRuntime) -> Result<(), Fail> {
     texts_fail_at_each_write(&rt, rt.alloc(), rows())?;
+    Ok(())
+}
+
+#[test]
+fn ample_refusals_at_once(rt: HostRuntime) -> Result<(), Fail> {
+    lines_refuse_at_once(&rt, rt.alloc(), refusals())?;
     Ok(())
 }
 
