@@ -73,8 +73,8 @@ pub fn command<S: Source, K: Sink, E: Sink>(
     // Where the first word names no command, or is none, nothing takes memory.
     ensures unnamed { is_command (map (λ w. w.now) words.entry.now) ≡ false → result ≡ 3 }
 
-    // Little of the input is taken, if any; what was taken when a read failed does not refuse a list; and a text that is
-    // refused was read whole.
+    // Little of the input is taken, if any; what was taken when a read failed does not refuse a list; and a text that
+    // is refused was read whole.
     ensures bound { (source.new ≡ source.old) ⊎ IsTaken (task_of (map (λ w. w.now) words.entry.now))
         (S.remaining source.old) (S.remaining source.new) }
     ensures stopped { (S.failure_count source.new ≡ S.failure_count source.old)
