@@ -14,15 +14,20 @@ EXAMPLE = check-nfs --owner alice --group staff --user bob --mask 'READ_DATA|EXE
 try:
 	cd crates/aclck && rt try -- $(EXAMPLE)
 
-# Proves and builds aclck, and runs the example. The two libraries that do not use each other are proved side by side.
+# Proves and builds aclck, and runs the example, with a job a processor. acl_posix and acl_nfs4, which do not use each
+# other, are proved side by side.
+JOBS ?= $(shell nproc)
 run:
-	cd crates/acl_perm && rt lib
-	cd crates/acl_posix && rt lib --jobs 2 & cd crates/acl_nfs4 && rt lib --jobs 3; nfs4=$$?; wait $$! && exit $$nfs4
-	cd crates/aclck && rt run -- $(EXAMPLE)
+	cd crates/acl_perm && rt lib --jobs $(JOBS)
+	(cd crates/acl_posix && rt lib --jobs 2) & (cd crates/acl_nfs4 && rt lib --jobs $(JOBS)); nfs4=$$?; wait $$! && exit $$nfs4
+	cd crates/acl_eval && rt lib --jobs $(JOBS)
+	cd crates/acl_normal && rt lib --jobs $(JOBS)
+	cd crates/aclck && rt run --jobs $(JOBS) -- $(EXAMPLE)
 
-# One crate while it is written, over what earlier checks kept: make quick CRATE=acl_nfs4
+# One crate while it is written, over what earlier checks kept: make quick CRATE=acl_nfs4 formats and proves it and its
+# tests, and tries its refused bodies.
 quick:
-	cd crates/$(CRATE) && rt test && rt fmt --check && ../../tests/edits $(CRATE)
+	cd crates/$(CRATE) && rt fmt && rt test && ../../tests/edits $(CRATE)
 
 # The gate.
 test:
