@@ -19,7 +19,7 @@ try:
 JOBS ?= $(shell nproc)
 run:
 	cd crates/acl_perm && rt lib --jobs $(JOBS)
-	(cd crates/acl_posix && rt lib --jobs 2) & (cd crates/acl_nfs4 && rt lib --jobs $(JOBS)); nfs4=$$?; wait $$! && exit $$nfs4
+	(cd crates/acl_posix && rt lib --jobs 2) & (cd crates/acl_nfs4 && rt lib --jobs 2); nfs4=$$?; wait $$! && exit $$nfs4
 	cd crates/acl_eval && rt lib --jobs $(JOBS)
 	cd crates/acl_normal && rt lib --jobs $(JOBS)
 	cd crates/aclck && rt run --jobs $(JOBS) -- $(EXAMPLE)
