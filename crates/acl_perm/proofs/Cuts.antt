@@ -6,6 +6,7 @@ use Rattle.std.proofs.lemmas.Bool.{cases_lt, lt-ltb, le-ltb}
 use Rattle.std.proofs.lemmas.List.{length-take-le, length-drop, take_all, take_more, take_rest}
 use Rattle.std.proofs.lemmas.List.Sums.{prefix_len-le-length}
 use Rattle.std.proofs.lemmas.List.Splits.{slice_split_first}
+use Rattle.acl_perm.proofs.Bools.{and_true_right, and_false_right}
 use Rattle.acl_perm.specs.Lines.{Span, spans, cut_at, IsCutRest, is_blank, blanks_before, end_trimmed, trimmed}
 
 -- where no element passes, and where one does
@@ -81,20 +82,12 @@ all_blank_push (x ∷ bs) b =
       | false ↦ refl
     ]
 
-and_true : (b : Bool) → (b && true) ≡ b
-and_true true = refl
-and_true false = refl
-
-and_false : (b : Bool) → (b && false) ≡ false
-and_false true = refl
-and_false false = refl
-
 -- a blank at the end changes nothing
 pub end_trimmed-push_blank : (bs : List ℕ) (b : ℕ) → is_blank b ≡ true → end_trimmed (bs ++ b ∷ []) ≡ end_trimmed bs
 end_trimmed-push_blank [] b h = rw h refl
 end_trimmed-push_blank (x ∷ bs) b h =
     let all : list_all is_blank (x ∷ bs ++ b ∷ []) ≡ list_all is_blank (x ∷ bs) = all_blank_push (x ∷ bs) b
-    ∙ ap (λ t. list_all is_blank (x ∷ bs) && t) h ∙ and_true _ in
+    ∙ ap (λ t. list_all is_blank (x ∷ bs) && t) h ∙ and_true_right _ in
     rw (all, end_trimmed-push_blank bs b h) refl
 
 -- bytes that end with no blank stay
@@ -102,7 +95,7 @@ pub end_trimmed-push_other : (bs : List ℕ) (b : ℕ) → is_blank b ≡ false 
 end_trimmed-push_other [] b h = rw h refl
 end_trimmed-push_other (x ∷ bs) b h =
     let all : list_all is_blank (x ∷ bs ++ b ∷ []) ≡ false = all_blank_push (x ∷ bs) b
-    ∙ ap (λ t. list_all is_blank (x ∷ bs) && t) h ∙ and_false _ in
+    ∙ ap (λ t. list_all is_blank (x ∷ bs) && t) h ∙ and_false_right _ in
     rw (all, end_trimmed-push_other bs b h) refl
 
 -- the last byte, apart

@@ -1,4 +1,5 @@
 pub mod Bits
+pub mod Kind
 pub mod Principal
 pub mod Situation
 pub mod Devices

@@ -1,3 +1,4 @@
+//! Tests of sources, sinks and whole reads and writes, also over devices that fail.
 ghost use Rattle.std.specs.Prelude.{◌≡◌, ◌≤◌, IfOk, IfSome, length};
 
 use super::*;

@@ -1,3 +1,4 @@
+//! The flags of an NFSv4 ACE.
 ghost use Rattle.std.specs.Prelude.{◌≡◌, IfSome, IsSome, IsTrue, ◌↔◌, ◌==◌, bit_and, bit_or};
 ghost use Rattle.std.specs.Int.{bit_not, w8};
 ghost use Rattle.acl_perm.specs.Bits.{IsDifference, IsFlags, IsIntersection, IsSubset, IsUnion, has_bit, identifier_group, inherit_only};

@@ -1,6 +1,34 @@
+//! The two types of an NFSv4 ACE.
+ghost use Rattle.std.specs.Prelude.{◌≡◌};
+ghost use Rattle.acl_perm.specs.Kind.{is_allow, other_kind};
+
 /// Whether an NFSv4 ACE denies or allows (RFC 8881, section 6.2.1.1).
 #[derive(Clone, Copy, Debug, PartialEq, Eq, PartialOrd, Ord)]
 pub enum Kind {
+    /// The rights of the ACE are refused to whom it speaks of.
     Deny,
+    /// The rights of the ACE are given to whom it speaks of.
     Allow,
+}
+
+impl Kind {
+    /// The other type.
+    pub fn other(self) -> Kind
+        ensures { result ≡ other_kind self }
+    {
+        match self {
+            Kind::Deny => Kind::Allow,
+            Kind::Allow => Kind::Deny,
+        }
+    }
+
+    /// Whether the type is ALLOW.
+    pub fn is_allow(self) -> bool
+        ensures { result ≡ is_allow self }
+    {
+        match self {
+            Kind::Deny => false,
+            Kind::Allow => true,
+        }
+    }
 }

@@ -22,6 +22,7 @@ mod perm;
 mod pieces;
 mod principal;
 mod profile;
+mod right;
 mod whole;
 
 pub use counted::Counted;
@@ -37,4 +38,5 @@ pub use perm::Perm;
 pub use pieces::put_next;
 pub use principal::{Principal, overlaps};
 pub use profile::Profile;
+pub use right::Right;
 pub use whole::{ReadFault, WriteFault, put_all, read_all};

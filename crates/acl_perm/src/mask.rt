@@ -1,6 +1,9 @@
+//! The access rights of an NFSv4 ACE.
 ghost use Rattle.std.specs.Prelude.{◌≡◌, IfSome, IsSome, IsTrue, ◌↔◌, ◌==◌, bit_and, bit_or};
 ghost use Rattle.std.specs.Int.{bit_not, w32};
-ghost use Rattle.acl_perm.specs.Bits.{IsDifference, IsIntersection, IsMask, IsSubset, IsUnion};
+ghost use Rattle.acl_perm.specs.Bits.{IsDifference, IsIntersection, IsMask, IsSubset, IsUnion, has_bit};
+
+use crate::right::Right;
 
 /// A set of the sixteen access rights of an NFSv4 ACE, one bit each (RFC 8881, section 6.2.1.3.1).
 #[derive(Clone, Copy, Debug, PartialEq, Eq)]
@@ -76,5 +79,12 @@ impl Mask {
         ensures value { result ≡ (bit_and self.bits other.bits == other.bits) }
     {
         (self.bits & other.bits) == other.bits
+    }
+
+    /// Whether the right is in this set.
+    pub fn has(self, right: Right) -> bool
+        ensures { result ≡ has_bit self.bits right.bit }
+    {
+        (self.bits >> right.bit) & 1 == 1
     }
 }

@@ -1,3 +1,4 @@
+//! Tests of the numbers of rights, flags and modes, by the tables of the standards.
 use super::*;
 
 // The flags of RFC 8881, section 6.2.1.4.1, from FILE_INHERIT to INHERITED: whether each is INHERIT_ONLY, and whether
@@ -62,6 +63,30 @@ fn the_sixteen_rights_are_those_of_the_standard(rt: HostRuntime) {
     for bit in 0..32u32 {
         assert!(rt; is_judged(bit), "{bit}");
     }
+}
+
+// The lowest and the highest of both runs of rights: READ_DATA, WRITE_RETENTION_HOLD, DELETE and SYNCHRONIZE.
+static RIGHTS: [(u32, usize); 4] = [(0x1, 0), (0x400, 10), (0x0001_0000, 16), (0x0010_0000, 20)];
+
+fn is_right_alone(number: u32, bit: usize) -> bool {
+    let Some(mask) = Mask::new(number) else {
+        return false;
+    };
+    for other in 0..Right::COUNT {
+        if mask.has(Right { bit: other }) != (other == bit) {
+            return false;
+        }
+    }
+    true
+}
+
+#[test]
+fn a_right_is_a_bit_below_21(rt: HostRuntime) {
+    for (number, bit) in RIGHTS {
+        assert!(rt; is_right_alone(number, bit), "{number}");
+    }
+    assert_eq!(rt; Right::new(20).map(Right::bit), Some(20));
+    assert!(rt; Right::new(21).is_none());
 }
 
 // A mode, and what the owner, the group and others have of read 4, write 2 and execute 1.

@@ -1,3 +1,4 @@
+//! Tests of principals and types: their order, their tests, and which overlap.
 use super::*;
 
 const RISING: [Principal<'static>; 7] = [
@@ -47,9 +48,28 @@ fn principals_and_keys_stand_in_rising_order(rt: HostRuntime) {
     }
 }
 
-// The users stand at 1, 2 and 3.
+// The users stand at 1, 2 and 3, and `EVERYONE@` at 6.
 fn is_user(i: usize) -> bool {
     1 <= i && i <= 3
+}
+
+#[test]
+fn users_and_everyone_are_told_apart(rt: HostRuntime) {
+    for (i, principal) in RISING.iter().enumerate() {
+        assert_eq!(rt; principal.is_user(), is_user(i), "{i}");
+        assert_eq!(rt; principal.is_everyone(), i == 6, "{i}");
+    }
+}
+
+#[test]
+fn a_type_has_one_other(rt: HostRuntime) {
+    for (kind, other, is_allow) in [
+        (Kind::Deny, Kind::Allow, false),
+        (Kind::Allow, Kind::Deny, true),
+    ] {
+        assert_eq!(rt; kind.other(), other);
+        assert_eq!(rt; kind.is_allow(), is_allow);
+    }
 }
 
 #[test]

@@ -1,7 +1,8 @@
+//! Whom an NFSv4 ACE names.
 ghost use Rattle.std.specs.Prelude.{◌≡◌, ◌↔◌, IsTrue, Some, refl};
 ghost use Rattle.std.specs.Ordering.{as_partial_cmp, eq_by_cmp, on};
 ghost use Rattle.std.specs.Cmp.{eq_by_cmp_equiv, on_equiv, on_per, on_total, partial_equiv_from_equiv, partial_order_from_total};
-ghost use Rattle.acl_perm.specs.Principal.{principal};
+ghost use Rattle.acl_perm.specs.Principal.{is_everyone, is_user, principal};
 ghost use Rattle.acl_perm.specs.Order.{principal_cmp, principal_name, principal_rank, principal_total};
 ghost use Rattle.acl_perm.specs.Overlap.{Overlap, may_overlap};
 
@@ -12,14 +13,39 @@ use std::cmp::Ordering;
 /// that of the variants, and then of the names.
 #[derive(Clone, Copy, Debug)]
 pub enum Principal<'a> {
+    /// `OWNER@`: the object's owner.
     Owner,
+    /// A who without IDENTIFIER_GROUP: the user of this name.
     User(&'a [u8]),
+    /// `GROUP@`: who is in the object's owning group.
     Group,
+    /// A who with IDENTIFIER_GROUP: who is in the group of this name.
     GroupNamed(&'a [u8]),
+    /// `EVERYONE@`: all, the owner and the owning group among them.
     Everyone,
 }
 
 impl Principal<'_> {
+    /// Whether the principal is a user name.
+    pub fn is_user(&self) -> bool
+        ensures { result ≡ is_user (principal self.now) }
+    {
+        match self {
+            Principal::User(_) => true,
+            _ => false,
+        }
+    }
+
+    /// Whether the principal is `EVERYONE@`.
+    pub fn is_everyone(&self) -> bool
+        ensures { result ≡ is_everyone (principal self.now) }
+    {
+        match self {
+            Principal::Everyone => true,
+            _ => false,
+        }
+    }
+
     fn rank(&self) -> u8
         ensures { result ≡ principal_rank (principal self.now) }
     {

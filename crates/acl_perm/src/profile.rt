@@ -1,3 +1,4 @@
+//! Which rights and flags a list may have.
 ghost use Rattle.std.specs.Prelude.{◌≡◌};
 ghost use Rattle.acl_perm.specs.Profile.{profile_of};
 
