@@ -1,46 +1,26 @@
 -- The orders of principals and of keys are strict and total, and tell all of them apart.
-use Rattle.std.proofs.Common.{◌≡◌, true, refl, sym, ap, ◌∙◌, arith}
+use Rattle.std.proofs.Common.{◌≡◌, refl, sym, ap, ◌∙◌, arith}
 use Rattle.std.specs.Prelude.{Bool, ◌&&◌, ◌==◌, ◌↔◌, IsTrue}
 use Rattle.std.specs.declared.cmp.Ordering.{Ordering}
 use Rattle.std.specs.declared.cmp.Ordering.TheVariants.{Less, Equal, Greater}
-use Rattle.std.specs.Ordering.{nat_cmp, ordering_then, ordering_reverse, eq_by_cmp, is_eq}
+use Rattle.std.specs.Ordering.{nat_cmp, ordering_reverse, eq_by_cmp, is_eq}
 use Rattle.std.specs.Cmp.{IsTotalOrder, unsigned_ties, tied_then}
 use Rattle.std.specs.Cmp.Lexicographic.{slice_cmp}
 use Rattle.std.specs.Str.{bytes_eq}
 use Rattle.std.proofs.lemmas.Bool.{eq-eqb}
-use Rattle.std.proofs.lemmas.Map.Lookups.{exact_unsigned, exact_bytes}
+use Rattle.std.proofs.lemmas.Map.Lookups.{exact_unsigned}
 use Rattle.std.proofs.lemmas.Map.Text.{is_eq-slice_cmp}
-use Rattle.acl_perm.specs.Principal.{Principal, owner, user, group, group_named, everyone}
+use Rattle.acl_perm.specs.Principal.{Principal}
 use Rattle.acl_perm.specs.Order.{principal_rank, principal_name, principal_cmp, kind_rank, Key, key_cmp, principal_total, key_total, IsStrictTotalOrder}
+use Rattle.acl_perm.specs.Hashing.{then_equal, is_equal}
+pub use Rattle.acl_perm.specs.Hashing.{principal_exact}
 use Rattle.acl_perm.specs.declared.kind.Kind.{Kind}
 use Rattle.acl_perm.specs.declared.kind.Kind.TheVariants.{Deny, Allow}
-
-then_equal : (a b : Ordering) → ordering_then a b ≡ Equal → (a ≡ Equal) × (b ≡ Equal)
-then_equal Less b h = absurd cc
-then_equal Equal b h = (refl, h)
-then_equal Greater b h = absurd cc
-
--- a rank and a name are of one principal
-same_principal : (p q : Principal) → principal_rank p ≡ principal_rank q → principal_name p ≡ principal_name q → p ≡ q
-same_principal owner owner r n = refl
-same_principal (user a) (user b) r n = ap user n
-same_principal group group r n = refl
-same_principal (group_named a) (group_named b) r n = ap group_named n
-same_principal everyone everyone r n = refl
-same_principal _ _ r n = absurd (omega (arith, r))
 
 same_kind : (j k : Kind) → kind_rank j ≡ kind_rank k → j ≡ k
 same_kind Deny Deny h = refl
 same_kind Allow Allow h = refl
 same_kind _ _ h = absurd (omega (arith, h))
-
--- principals that compare equal are the same
-pub principal_exact : (p q : Principal) → principal_cmp p q ≡ Equal → p ≡ q
-principal_exact p q h =
-    let ranks = nat_cmp (principal_rank p) (principal_rank q) in
-    let parts = then_equal ranks (slice_cmp nat_cmp (principal_name p) (principal_name q)) h in
-    same_principal p q (exact_unsigned (principal_rank p) (principal_rank q) parts.0)
-    (exact_bytes (principal_name p) (principal_name q) parts.1)
 
 key_exact : (k l : Key) → key_cmp k l ≡ Equal → k ≡ l
 key_exact k l h =
@@ -75,11 +55,6 @@ pub key_order : IsStrictTotalOrder key_cmp
 key_order = strict_from_total key_cmp key_total key_exact
 
 -- ---- what `==` tells
-
-is_equal : (o : Ordering) → is_eq o ≡ true → o ≡ Equal
-is_equal Less h = absurd cc
-is_equal Equal h = refl
-is_equal Greater h = absurd cc
 
 -- principals that compare equal are the same, and the other way round
 pub principals_same : (p q : Principal) → IsTrue (eq_by_cmp principal_cmp p q) ↔ (p ≡ q)

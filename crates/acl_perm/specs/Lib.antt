@@ -1,4 +1,5 @@
 pub mod Bits
+pub mod Numbers
 pub mod Kind
 pub mod Principal
 pub mod Situation
@@ -6,8 +7,10 @@ pub mod Devices
 pub mod Counted
 pub mod Fused
 pub mod Order
+pub mod Hashing
 pub mod Overlap
 pub mod Profile
 pub mod Lines
 pub mod Pieces
 pub mod Mode
+pub mod Shown

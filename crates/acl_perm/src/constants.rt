@@ -1,6 +1,7 @@
 //! What each constant is: a function that returns it, for its clause alone.
-ghost use Rattle.std.specs.Prelude.{◌≡◌};
+ghost use Rattle.std.specs.Prelude.{◌≡◌, map};
 ghost use Rattle.acl_perm.specs.Bits.{all_flags, all_rights};
+ghost use Rattle.acl_perm.specs.Numbers.{flags_in_order, mask_bits, flag_bits, rights_of_directories, rights_in_order};
 ghost use Rattle.acl_perm.specs.Mode.{mode_of_parts};
 ghost use Rattle.acl_perm.specs.Profile.{full, narrow, profile_of};
 
@@ -68,4 +69,48 @@ fn profile_narrow() -> Profile
     ensures { profile_of result ≡ narrow }
 {
     Profile::NARROW
+}
+
+fn rights() -> [Mask; 16]
+    ensures { map mask_bits result ≡ rights_in_order }
+{
+    [
+        Mask::READ_DATA,
+        Mask::WRITE_DATA,
+        Mask::APPEND_DATA,
+        Mask::READ_NAMED_ATTRS,
+        Mask::WRITE_NAMED_ATTRS,
+        Mask::EXECUTE,
+        Mask::DELETE_CHILD,
+        Mask::READ_ATTRIBUTES,
+        Mask::WRITE_ATTRIBUTES,
+        Mask::WRITE_RETENTION,
+        Mask::WRITE_RETENTION_HOLD,
+        Mask::DELETE,
+        Mask::READ_ACL,
+        Mask::WRITE_ACL,
+        Mask::WRITE_OWNER,
+        Mask::SYNCHRONIZE,
+    ]
+}
+
+fn rights_of_directories() -> [Mask; 3]
+    ensures { map mask_bits result ≡ rights_of_directories }
+{
+    [Mask::LIST_DIRECTORY, Mask::ADD_FILE, Mask::ADD_SUBDIRECTORY]
+}
+
+fn flags() -> [Flags; 8]
+    ensures { map flag_bits result ≡ flags_in_order }
+{
+    [
+        Flags::FILE_INHERIT,
+        Flags::DIRECTORY_INHERIT,
+        Flags::NO_PROPAGATE_INHERIT,
+        Flags::INHERIT_ONLY,
+        Flags::SUCCESSFUL_ACCESS,
+        Flags::FAILED_ACCESS,
+        Flags::IDENTIFIER_GROUP,
+        Flags::INHERITED,
+    ]
 }

@@ -3,8 +3,10 @@ ghost use Rattle.std.specs.Prelude.{◌≡◌, IfSome, IsSome, IsTrue, ◌↔◌
 ghost use Rattle.std.specs.Int.{bit_not, w8};
 ghost use Rattle.acl_perm.specs.Bits.{IsDifference, IsFlags, IsIntersection, IsSubset, IsUnion, has_bit, identifier_group, inherit_only};
 
+use std::ops::{BitAnd, BitOr, Sub};
+
 /// A set of the eight flags of an NFSv4 ACE, one bit each (RFC 8881, section 6.2.1.4).
-#[derive(Clone, Copy, Debug, PartialEq, Eq)]
+#[derive(Clone, Copy, Debug, PartialEq, Eq, PartialOrd, Ord, Hash)]
 pub struct Flags {
     pub bits: u8,
 }
@@ -13,12 +15,32 @@ impl Flags {
     /// The eight flags together.
     pub const ALL: Flags = Flags { bits: 0xff };
 
-    const INHERIT_ONLY: u8 = 0x08;
-
-    const IDENTIFIER_GROUP: u8 = 0x40;
-
     /// No flag.
     pub const NONE: Flags = Flags { bits: 0 };
+
+    /// New files in the directory get the ACE.
+    pub const FILE_INHERIT: Flags = Flags { bits: 0x01 };
+
+    /// New directories in the directory get the ACE.
+    pub const DIRECTORY_INHERIT: Flags = Flags { bits: 0x02 };
+
+    /// What a new directory gets is handed on no further.
+    pub const NO_PROPAGATE_INHERIT: Flags = Flags { bits: 0x04 };
+
+    /// The ACE takes no part on the object that carries it.
+    pub const INHERIT_ONLY: Flags = Flags { bits: 0x08 };
+
+    /// An audit or an alarm for accesses that succeed.
+    pub const SUCCESSFUL_ACCESS: Flags = Flags { bits: 0x10 };
+
+    /// An audit or an alarm for accesses that fail.
+    pub const FAILED_ACCESS: Flags = Flags { bits: 0x20 };
+
+    /// The who names a group.
+    pub const IDENTIFIER_GROUP: Flags = Flags { bits: 0x40 };
+
+    /// The ACE was inherited.
+    pub const INHERITED: Flags = Flags { bits: 0x80 };
 
     /// The set that a number stands for; none where it has a bit outside `0xff`.
     pub fn new(bits: u32) -> Option<Flags>
@@ -44,7 +66,7 @@ impl Flags {
     pub fn is_inherit_only(self) -> bool
         ensures { result ≡ has_bit self.bits inherit_only }
     {
-        (self.bits & Flags::INHERIT_ONLY) != 0
+        (self.bits & Flags::INHERIT_ONLY.bits) != 0
     }
 
     /// Whether the who names a group.
@@ -52,7 +74,7 @@ impl Flags {
     pub fn is_group(self) -> bool
         ensures { result ≡ has_bit self.bits identifier_group }
     {
-        (self.bits & Flags::IDENTIFIER_GROUP) != 0
+        (self.bits & Flags::IDENTIFIER_GROUP.bits) != 0
     }
 
     /// The flags of either set.
@@ -95,5 +117,44 @@ impl Flags {
         ensures value { result ≡ (bit_and self.bits other.bits == other.bits) }
     {
         (self.bits & other.bits) == other.bits
+    }
+}
+
+impl BitOr for Flags {
+    type Output = Flags;
+
+    ghost bitor_gives = { λ m n set. IsUnion m.bits n.bits set.bits };
+
+    fn bitor(self, other: Flags) -> Flags
+        ensures meaning { IsUnion self.bits other.bits result.bits }
+        ensures value { result.bits ≡ bit_or self.bits other.bits }
+    {
+        self.union(other)
+    }
+}
+
+impl BitAnd for Flags {
+    type Output = Flags;
+
+    ghost bitand_gives = { λ m n set. IsIntersection m.bits n.bits set.bits };
+
+    fn bitand(self, other: Flags) -> Flags
+        ensures meaning { IsIntersection self.bits other.bits result.bits }
+        ensures value { result.bits ≡ bit_and self.bits other.bits }
+    {
+        self.intersection(other)
+    }
+}
+
+impl Sub for Flags {
+    type Output = Flags;
+
+    ghost sub_gives = { λ m n set. IsDifference m.bits n.bits set.bits };
+
+    fn sub(self, other: Flags) -> Flags
+        ensures meaning { IsDifference self.bits other.bits result.bits }
+        ensures value { result.bits ≡ bit_and self.bits (bit_not w8 other.bits) }
+    {
+        self.difference(other)
     }
 }

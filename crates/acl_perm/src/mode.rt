@@ -1,14 +1,17 @@
 //! The nine file mode bits.
-ghost use Rattle.std.specs.Prelude.{◌≡◌, ◌<◌, IfSome, IsSome, IsTrue, ◌↔◌, ◌==◌, bit_and, bit_or};
+ghost use Rattle.std.specs.Prelude.{◌≡◌, ◌<◌, Some, IfSome, IsSome, IsTrue, ◌↔◌, ◌==◌, bit_and, bit_or};
 ghost use Rattle.std.specs.Int.{bit_not, w16};
 ghost use Rattle.acl_perm.specs.Bits.{IsDifference, IsIntersection, IsSubset, IsUnion};
+ghost use Rattle.acl_perm.specs.Shown.{mode_text};
 ghost use Rattle.acl_perm.specs.Mode.{group_part, mode_of_parts, others_part, owner_part};
 
 use crate::perm::Perm;
+use std::fmt;
+use std::ops::{BitAnd, BitOr, Sub};
 
 /// The nine file mode bits: of the owner, the group and others, each as read 4, write 2, execute 1 (POSIX.1e
 /// draft 17, section 23.1.3).
-#[derive(Clone, Copy, Debug, PartialEq, Eq)]
+#[derive(Clone, Copy, Debug, PartialEq, Eq, PartialOrd, Ord, Hash)]
 pub struct Mode {
     pub bits: u16,
     ghost within: { bits < 512 },
@@ -117,5 +120,56 @@ impl Mode {
         ensures value { result ≡ (bit_and self.bits other.bits == other.bits) }
     {
         (self.bits & other.bits) == other.bits
+    }
+}
+
+impl BitOr for Mode {
+    type Output = Mode;
+
+    ghost bitor_gives = { λ m n set. IsUnion m.bits n.bits set.bits };
+
+    fn bitor(self, other: Mode) -> Mode
+        ensures meaning { IsUnion self.bits other.bits result.bits }
+        ensures value { result.bits ≡ bit_or self.bits other.bits }
+    {
+        self.union(other)
+    }
+}
+
+impl BitAnd for Mode {
+    type Output = Mode;
+
+    ghost bitand_gives = { λ m n set. IsIntersection m.bits n.bits set.bits };
+
+    fn bitand(self, other: Mode) -> Mode
+        ensures meaning { IsIntersection self.bits other.bits result.bits }
+        ensures value { result.bits ≡ bit_and self.bits other.bits }
+    {
+        self.intersection(other)
+    }
+}
+
+impl Sub for Mode {
+    type Output = Mode;
+
+    ghost sub_gives = { λ m n set. IsDifference m.bits n.bits set.bits };
+
+    fn sub(self, other: Mode) -> Mode
+        ensures meaning { IsDifference self.bits other.bits result.bits }
+        ensures value { result.bits ≡ bit_and self.bits (bit_not w16 other.bits) }
+    {
+        self.difference(other)
+    }
+}
+
+/// Three octal digits: of the owner, the group and others.
+impl fmt::Display for Mode {
+    ghost output = { λ mode. Some (mode_text mode.bits) };
+
+    fn fmt<W: fmt::Write>(&self, f: &mut fmt::Formatter<W>) -> fmt::Result {
+        let owner = self.owner().bits;
+        let group = self.group().bits;
+        let others = self.others().bits;
+        write!(f, "{owner}{group}{others}")
     }
 }

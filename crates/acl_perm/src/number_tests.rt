@@ -89,6 +89,47 @@ fn a_right_is_a_bit_below_21(rt: HostRuntime) {
     assert!(rt; Right::new(21).is_none());
 }
 
+// The rights and flags by name, with some of the numbers of RFC 8881, sections 6.2.1.3.1 and 6.2.1.4.1.
+#[test]
+fn names_stand_for_the_numbers_of_the_standard(rt: HostRuntime) {
+    for (mask, number) in [
+        (Mask::LIST_DIRECTORY, 0x1),
+        (Mask::ADD_FILE, 0x2),
+        (Mask::ADD_SUBDIRECTORY, 0x4),
+        (Mask::EXECUTE, 0x20),
+        (Mask::DELETE, 0x0001_0000),
+        (Mask::READ_DATA | Mask::SYNCHRONIZE, 0x0010_0001),
+        (Mask::WRITE_ACL & Mask::ALL, 0x0004_0000),
+        (Mask::ALL - Mask::READ_DATA, 0x001f_07fe),
+    ] {
+        assert_eq!(rt; mask.bits(), number);
+    }
+    for (flags, number) in [
+        (Flags::FILE_INHERIT | Flags::DIRECTORY_INHERIT, 0x03),
+        (Flags::ALL & Flags::IDENTIFIER_GROUP, 0x40),
+        (Flags::ALL - Flags::INHERITED, 0x7f),
+    ] {
+        assert_eq!(rt; flags.bits(), number);
+    }
+}
+
+#[test]
+fn sets_of_permissions_are_added_and_taken_away(rt: HostRuntime) {
+    for (m, n, either, both, first) in [(6, 3, 7, 2, 4), (4, 4, 4, 4, 0), (0, 5, 5, 0, 0)] {
+        let (Some(m), Some(n)) = (Perm::new(m), Perm::new(n)) else {
+            assert!(rt; false, "permissions");
+            continue;
+        };
+        assert_eq!(rt; (m | n).bits(), either);
+        assert_eq!(rt; (m & n).bits(), both);
+        assert_eq!(rt; (m - n).bits(), first);
+        let (m, n) = (Mode::from_parts(m, m, n), Mode::from_parts(n, m, m));
+        assert_eq!(rt; (m | n).owner().bits(), either);
+        assert_eq!(rt; (m & n).owner().bits(), both);
+        assert_eq!(rt; (m - n).owner().bits(), first);
+    }
+}
+
 // A mode, and what the owner, the group and others have of read 4, write 2 and execute 1.
 static MODES: [(u16, u8, u8, u8); 5] = [
     (0o400, 4, 0, 0),
@@ -118,5 +159,28 @@ fn is_made_of(number: u16, owner: u8, group: u8, others: u8) -> bool {
 fn a_mode_is_made_of_three_digits(rt: HostRuntime) {
     for (number, owner, group, others) in MODES {
         assert!(rt; is_made_of(number, owner, group, others), "{number}");
+    }
+}
+
+// A number, what is shown of it as permissions, and as the mode in which the group alone has them.
+static SHOWN: [(u8, &str, &str); 4] = [
+    (0, "---", "000"),
+    (5, "r-x", "050"),
+    (2, "-w-", "020"),
+    (7, "rwx", "070"),
+];
+
+#[test]
+fn permissions_and_modes_are_shown(rt: HostRuntime) {
+    for (number, letters, digits) in SHOWN {
+        let Some(perm) = Perm::new(number) else {
+            assert!(rt; false, "permissions");
+            continue;
+        };
+        let mode = Mode::from_parts(Perm::NONE, perm, Perm::NONE);
+        if let (Ok(shown), Ok(mode)) = (perm.to_string(rt.alloc()), mode.to_string(rt.alloc())) {
+            assert!(rt; shown.as_str() == letters);
+            assert!(rt; mode.as_str() == digits);
+        }
     }
 }

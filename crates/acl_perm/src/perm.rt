@@ -1,11 +1,15 @@
 //! Read, write and execute of a POSIX ACL entry.
-ghost use Rattle.std.specs.Prelude.{◌≡◌, ◌<◌, IfSome, IsSome, IsTrue, ◌↔◌, ◌==◌, bit_and, bit_or};
+ghost use Rattle.std.specs.Prelude.{◌≡◌, ◌<◌, Some, IfSome, IsSome, IsTrue, ◌↔◌, ◌==◌, bit_and, bit_or};
 ghost use Rattle.std.specs.Int.{bit_not, w8};
+ghost use Rattle.acl_perm.specs.Shown.{letter, perm_text};
 ghost use Rattle.acl_perm.specs.Bits.{IsDifference, IsIntersection, IsSubset, IsUnion};
+
+use std::fmt;
+use std::ops::{BitAnd, BitOr, Sub};
 
 /// A set of the permissions of a POSIX ACL entry: read is 4, write is 2, execute is 1 (POSIX.1e draft 17,
 /// section 23.1.2).
-#[derive(Clone, Copy, Debug, PartialEq, Eq)]
+#[derive(Clone, Copy, Debug, PartialEq, Eq, PartialOrd, Ord, Hash)]
 pub struct Perm {
     pub bits: u8,
     ghost within: { bits < 8 },
@@ -74,5 +78,56 @@ impl Perm {
         ensures value { result ≡ (bit_and self.bits other.bits == other.bits) }
     {
         (self.bits & other.bits) == other.bits
+    }
+}
+
+impl BitOr for Perm {
+    type Output = Perm;
+
+    ghost bitor_gives = { λ m n set. IsUnion m.bits n.bits set.bits };
+
+    fn bitor(self, other: Perm) -> Perm
+        ensures meaning { IsUnion self.bits other.bits result.bits }
+        ensures value { result.bits ≡ bit_or self.bits other.bits }
+    {
+        self.union(other)
+    }
+}
+
+impl BitAnd for Perm {
+    type Output = Perm;
+
+    ghost bitand_gives = { λ m n set. IsIntersection m.bits n.bits set.bits };
+
+    fn bitand(self, other: Perm) -> Perm
+        ensures meaning { IsIntersection self.bits other.bits result.bits }
+        ensures value { result.bits ≡ bit_and self.bits other.bits }
+    {
+        self.intersection(other)
+    }
+}
+
+impl Sub for Perm {
+    type Output = Perm;
+
+    ghost sub_gives = { λ m n set. IsDifference m.bits n.bits set.bits };
+
+    fn sub(self, other: Perm) -> Perm
+        ensures meaning { IsDifference self.bits other.bits result.bits }
+        ensures value { result.bits ≡ bit_and self.bits (bit_not w8 other.bits) }
+    {
+        self.difference(other)
+    }
+}
+
+/// `r`, `w` and `x`, and `-` where one is absent.
+impl fmt::Display for Perm {
+    ghost output = { λ perm. Some (perm_text perm.bits) };
+
+    fn fmt<W: fmt::Write>(&self, f: &mut fmt::Formatter<W>) -> fmt::Result {
+        let read = if self.bits & 4 == 4 { 'r' } else { '-' };
+        let write = if self.bits & 2 == 2 { 'w' } else { '-' };
+        let execute = if self.bits & 1 == 1 { 'x' } else { '-' };
+        write!(f, "{read}{write}{execute}")
     }
 }

@@ -2,11 +2,13 @@
 ghost use Rattle.std.specs.Prelude.{◌≡◌, ◌↔◌, IsTrue, Some, refl};
 ghost use Rattle.std.specs.Ordering.{as_partial_cmp, eq_by_cmp, on};
 ghost use Rattle.std.specs.Cmp.{eq_by_cmp_equiv, on_equiv, on_per, on_total, partial_equiv_from_equiv, partial_order_from_total};
+ghost use Rattle.acl_perm.specs.Hashing.{principal_alike, principal_writes};
 ghost use Rattle.acl_perm.specs.Principal.{is_everyone, is_user, principal};
 ghost use Rattle.acl_perm.specs.Order.{principal_cmp, principal_name, principal_rank, principal_total};
 ghost use Rattle.acl_perm.specs.Overlap.{Overlap, may_overlap};
 
 use std::cmp::Ordering;
+use std::hash::{Hash, Hasher};
 
 /// Whom an NFSv4 ACE names (RFC 8881, section 6.2.1.5): the object's owner, a user, who is in the object's owning
 /// group, who is in a group, or all. Names are compared as bytes; user names and group names are apart. The order is
@@ -113,6 +115,17 @@ impl<'a> PartialOrd for Principal<'a> {
         ensures { result ≡ Some (principal_cmp (principal self.now) (principal other.now)) }
     {
         Some(self.cmp(other))
+    }
+}
+
+impl<'a> Hash for Principal<'a> {
+    ghost hash_input = { λ p. principal_writes (principal p) };
+
+    ghost respects_eq = { λ p q. principal_alike.fed (principal p) (principal q) };
+
+    fn hash<H: Hasher>(&self, state: &mut H) {
+        self.rank().hash(state);
+        self.name().hash(state);
     }
 }
 

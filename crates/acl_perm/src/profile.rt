@@ -6,7 +6,7 @@ use crate::flags::Flags;
 use crate::mask::Mask;
 
 /// Which rights and which flags the ACEs of a list may have.
-#[derive(Clone, Copy, Debug, PartialEq, Eq)]
+#[derive(Clone, Copy, Debug, PartialEq, Eq, PartialOrd, Ord, Hash)]
 pub struct Profile {
     pub masks: Mask,
     pub flags: Flags,

@@ -4,7 +4,7 @@ ghost use Rattle.std.specs.Prelude.{◌≡◌, ◌<◌, IfSome, IsSome, ◌↔�
 /// The number of a bit of masks, below 21. Of these the bits 0 to 10 and 16 to 20 are the sixteen rights, and the five
 /// between them are in no mask (RFC 8881, section 6.2.1.3.1). A loop over all goes from 0 to `Right::COUNT`, and makes
 /// `Right { bit }` of each number.
-#[derive(Clone, Copy, Debug, PartialEq, Eq, PartialOrd, Ord)]
+#[derive(Clone, Copy, Debug, PartialEq, Eq, PartialOrd, Ord, Hash)]
 pub struct Right {
     pub bit: usize,
     ghost within: { bit < 21 },

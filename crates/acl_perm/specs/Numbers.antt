@@ -1,0 +1,30 @@
+-- The numbers of the access rights and of the flags, in the order in which RFC 8881, sections 6.2.1.3.1 and 6.2.1.4.1,
+-- lists them.
+use Rattle.std.specs.Prelude.{ℕ, List, [], ◌∷◌}
+use Rattle.acl_perm.specs.declared.mask.Mask.{Mask}
+use Rattle.acl_perm.specs.declared.flags.Flags.{Flags}
+
+-- the number of a set of rights
+abbrev pub mask_bits : Mask → ℕ
+mask_bits mask = mask.bits
+
+-- the number of a set of flags
+abbrev pub flag_bits : Flags → ℕ
+flag_bits flags = flags.bits
+
+-- READ_DATA, WRITE_DATA, APPEND_DATA, READ_NAMED_ATTRS, WRITE_NAMED_ATTRS, EXECUTE, DELETE_CHILD, READ_ATTRIBUTES,
+-- WRITE_ATTRIBUTES, WRITE_RETENTION, WRITE_RETENTION_HOLD; and DELETE, READ_ACL, WRITE_ACL, WRITE_OWNER, SYNCHRONIZE
+abbrev pub rights_in_order : List ℕ
+rights_in_order =
+    0x01 ∷ 0x02 ∷ 0x04 ∷ 0x08 ∷ 0x10 ∷ 0x20 ∷ 0x40 ∷ 0x80 ∷
+    0x0100 ∷ 0x0200 ∷ 0x0400 ∷
+    0x010000 ∷ 0x020000 ∷ 0x040000 ∷ 0x080000 ∷ 0x100000 ∷ []
+
+-- LIST_DIRECTORY, ADD_FILE and ADD_SUBDIRECTORY: the names of the first three at directories
+abbrev pub rights_of_directories : List ℕ
+rights_of_directories = 0x01 ∷ 0x02 ∷ 0x04 ∷ []
+
+-- FILE_INHERIT, DIRECTORY_INHERIT, NO_PROPAGATE_INHERIT, INHERIT_ONLY, SUCCESSFUL_ACCESS, FAILED_ACCESS,
+-- IDENTIFIER_GROUP and INHERITED
+abbrev pub flags_in_order : List ℕ
+flags_in_order = 0x01 ∷ 0x02 ∷ 0x04 ∷ 0x08 ∷ 0x10 ∷ 0x20 ∷ 0x40 ∷ 0x80 ∷ []
