@@ -50,7 +50,7 @@ pub fn scan_is_bit_by_bit()
 #[tactic(auto, using(crate::proofs::Children::table))]
 pub fn files_inherit()
     ensures inherited { (flags : ℕ) → has_bit flags file_inherit ≡ true → child_flags File flags ≡ Some (ends flags) }
-    ensures absent { (flags : ℕ) → has_bit flags file_inherit ≡ false → child_flags File flags ≡ None }
+    ensures absent { (flags : ℕ) → (child_flags File flags ≡ None) ↔ (has_bit flags file_inherit ≡ false) }
 {}
 
 /// The flags of an ACE in a new directory, by whether it has NO_PROPAGATE_INHERIT, DIRECTORY_INHERIT and FILE_INHERIT.

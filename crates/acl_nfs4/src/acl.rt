@@ -1,11 +1,12 @@
 //! The owned list.
-ghost use Rattle.std.specs.Prelude.{◌≡◌, ◌+◌, ◌<◌, ◌≤◌, ◌↔◌, count_ones, IsTrue, IfOk, OnOk, OnErr, None, option_map};
+ghost use Rattle.std.specs.Prelude.{◌≡◌, ◌+◌, ◌<◌, ◌≤◌, ◌↔◌, count_ones, IsTrue, IfErr, IfOk, OnOk, OnErr, None, option_map};
 ghost use Rattle.std.specs.Prelude.{[], ◌∷◌, ◌++◌, length, replicate};
 ghost use Rattle.acl_nfs4.specs.Ace.{ace};
 ghost use Rattle.acl_nfs4.specs.Spelling.{piece, word, kind_number, IsAccepted, Fits};
 ghost use Rattle.acl_nfs4.specs.Spelling as spelled;
 ghost use Rattle.acl_nfs4.specs.Owned.{same_list};
 ghost use Rattle.acl_nfs4.specs.Push.{who_refusal, push_refusal, PushAnswers};
+ghost use Rattle.acl_nfs4.specs.declared.push_fault.PushFault.TheVariants.{Memory};
 ghost use Rattle.acl_nfs4.specs.Appending.{Extended};
 ghost use Rattle.acl_nfs4.specs.Limits.{most_aces, most_weight, longest_who};
 ghost use Rattle.acl_nfs4.specs.Reading.{Judges};
@@ -133,6 +134,8 @@ impl Acl {
         ensures err { OnErr result (self.new ≡ self.old) }
         // A fault is the first condition that refuses; memory is wanted only where none does.
         ensures fault { PushAnswers result (push_refusal self.old (ace item.entry)) }
+        // Memory is the answer only where nothing else refuses.
+        ensures wanted { IfErr result (λ f. f ≡ Memory → push_refusal self.old (ace item.entry) ≡ None) }
         // What is taken leaves the list accepted.
         ensures accepted { OnOk result (IsAccepted full (self.old ++ ace item.entry ∷ [])) }
         // What would leave the list accepted is not refused.

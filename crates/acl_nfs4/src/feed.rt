@@ -1,7 +1,9 @@
 //! A value that comes in pieces.
-ghost use Rattle.std.specs.Prelude.{◌≡◌, ℕ, ◌+◌, ◌≤◌, ◌<◌, ◌^◌, ◌++◌, List, [], length, take, drop};
+ghost use Rattle.std.specs.Prelude.{◌≡◌, ℕ, ◌+◌, ◌≤◌, ◌<◌, ◌^◌, ◌++◌, List, [], MatchResult, length, take, drop};
 ghost use Rattle.acl_perm.specs.Profile.{Profile as Allowed, full, profile_of};
 ghost use Rattle.acl_nfs4.specs.Stream.{FedExactly, Feeds, Finishes, IsCut, IsSmall, more};
+ghost use Rattle.acl_nfs4.specs.Fault.{IsFault};
+ghost use Rattle.acl_nfs4.specs.declared.fault.Reason.TheVariants.{Truncated};
 ghost use Rattle.acl_nfs4.specs.Progress.{IsFeed, IsProgress, Judged, standing};
 
 use crate::acl::Acl;
@@ -171,7 +173,7 @@ impl Feed {
         // The answer is told by what the stream is, however it is cut into pieces.
         ensures exactly { (p : Allowed) (s : List ℕ) → self.old ≡ more p s
             → FedExactly p (s ++ piece.now) (length s) result }
-        // Beyond whole ACEs little is held.
+        // Where more is wanted, the stream so far is little beyond whole ACEs.
         ensures held { IsSmall self.new }
     {
         match self.stage {
@@ -209,7 +211,10 @@ impl Feed {
 
     /// The list, where the stream ends here: else that it is cut short, or the fault that was told. It takes no memory.
     pub fn finish(self) -> Result<Acl, Fault>
-        ensures { Finishes self result }
+        ensures told { Finishes self result }
+        // A stream that is cut short has no list.
+        ensures cut { (p : Allowed) (s : List ℕ) → self ≡ more p s → MatchResult result
+            (λ _. ⊥) (λ f. (f.reason ≡ Truncated) × IsFault p s f.offset Truncated) }
     {
         match self.stage {
             Stage::Open(fault) => Err(fault),
