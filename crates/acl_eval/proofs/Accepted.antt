@@ -27,7 +27,7 @@ use Rattle.acl_nfs4.specs.Who.{IsWho, is_no_who_len, is_plain, is_special, is_un
 use Rattle.acl_nfs4.specs.Spelling.{IsAce, IsAccepted, weight}
 use Rattle.acl_nfs4.proofs.Lists.{weight-cons}
 use Rattle.acl_nfs4.specs.Owned.{IsOwned}
-use Rattle.acl_nfs4.specs.Body.{aces_of}
+use Rattle.acl_nfs4.specs.internal.Body.{aces_of}
 use Rattle.acl_eval.specs.Bridge.{image, who_of, flags_of, ace_of, each, is_user, is_group, is_other, allow_of, deny_of, decide_of, bridge_list}
 use Rattle.acl_eval.specs.BridgeNames.{NamesDiffer, NamesStand, OnlyLimitsRefuse}
 use Rattle.acl_eval.proofs.Images.{image_mask, image_some}

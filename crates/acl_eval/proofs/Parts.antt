@@ -15,8 +15,8 @@ use Rattle.acl_posix.specs.Entries.{Entries, pairs, pair_of}
 use Rattle.acl_nfs4.specs.Ace.{Ace}
 use Rattle.acl_nfs4.specs.Spelling.{IsAce, IsAccepted}
 use Rattle.acl_nfs4.specs.Push.{push_refusal, PushAnswers}
-use Rattle.acl_nfs4.specs.declared.push_fault.PushFault.{PushFault}
-use Rattle.acl_nfs4.specs.declared.push_fault.PushFault.TheVariants as refused
+use Rattle.acl_nfs4.specs.declared.list.push_fault.PushFault.{PushFault}
+use Rattle.acl_nfs4.specs.declared.list.push_fault.PushFault.TheVariants as refused
 use Rattle.acl_eval.specs.declared.from_posix.Part.{Part}
 use Rattle.acl_eval.specs.declared.from_posix.Part.TheVariants.{Users, GroupAllows, GroupDenies, Others}
 use Rattle.acl_eval.specs.declared.from_posix.BridgeFault.{BridgeFault}

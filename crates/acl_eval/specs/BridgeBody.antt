@@ -6,8 +6,8 @@ use Rattle.acl_posix.specs.Tag.{Tag, user_obj, user, group_obj, group, mask, oth
 use Rattle.acl_posix.specs.Entries.{Entries}
 use Rattle.acl_nfs4.specs.Ace.{Ace}
 use Rattle.acl_nfs4.specs.Spelling.{IsAccepted}
-use Rattle.acl_nfs4.specs.declared.push_fault.PushFault.{PushFault}
-use Rattle.acl_nfs4.specs.declared.push_fault.PushFault.TheVariants as refused
+use Rattle.acl_nfs4.specs.declared.list.push_fault.PushFault.{PushFault}
+use Rattle.acl_nfs4.specs.declared.list.push_fault.PushFault.TheVariants as refused
 use Rattle.acl_eval.specs.declared.from_posix.Part.{Part}
 use Rattle.acl_eval.specs.declared.from_posix.Part.TheVariants.{Users, GroupAllows, GroupDenies, Others}
 use Rattle.acl_eval.specs.declared.from_posix.BridgeFault.{BridgeFault}

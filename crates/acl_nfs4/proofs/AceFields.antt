@@ -9,7 +9,7 @@ use Rattle.std.proofs.lemmas.List.{take_rest, length-append}
 use Rattle.acl_perm.proofs.Bools.{and_true}
 use Rattle.acl_perm.proofs.Cuts.{Says, place}
 use Rattle.acl_nfs4.specs.AceText.{LineFields, HasFields, HasNoSpace, space}
-use Rattle.acl_nfs4.specs.AceReading.{cut_space, last_fields, fields_of}
+use Rattle.acl_nfs4.specs.internal.AceReading.{cut_space, last_fields, fields_of}
 
 -- a space
 abbrev pub is_space : ℕ → Bool

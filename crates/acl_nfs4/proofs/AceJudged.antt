@@ -10,21 +10,21 @@ use Rattle.acl_perm.specs.declared.kind.Kind.TheVariants.{Deny, Allow}
 use Rattle.acl_nfs4.specs.Ace.{Ace}
 use Rattle.acl_nfs4.specs.AceText.{TextLine, LineFields, SpellsAce, kind_name}
 use Rattle.acl_nfs4.specs.AceTextFault.{IsAt, IsCut, IsFlagged, IsMasked, IsLight, IsLineFault, flags_column, mask_column, who_column}
-use Rattle.acl_nfs4.specs.AceReading.{fields_of, kind_named, if_light, who_fault_at, who_judged, after_mask, after_flags, after_kind, read_fields, read_ace}
+use Rattle.acl_nfs4.specs.internal.AceReading.{fields_of, kind_named, if_light, who_fault_at, who_judged, after_mask, after_flags, after_kind, read_fields, read_ace}
 use Rattle.acl_nfs4.specs.FlagNames.{flag_names, SpellsFlags}
 use Rattle.acl_nfs4.specs.Limits.{most_aces, most_weight}
-use Rattle.acl_nfs4.specs.NameTable.{set_within}
-use Rattle.acl_nfs4.specs.Reading.{◌>>=◌}
+use Rattle.acl_nfs4.specs.internal.NameTable.{set_within}
+use Rattle.acl_nfs4.specs.internal.Reading.{◌>>=◌}
 use Rattle.acl_nfs4.specs.Rights.{rights, SpellsMask}
 use Rattle.acl_nfs4.specs.Spelling.{IsAce, weight}
 use Rattle.acl_nfs4.specs.Who.{who_fault}
 use Rattle.acl_nfs4.specs.Within.{IsWithin}
 use Rattle.acl_nfs4.specs.declared.who.WhoFault.{WhoFault}
 use Rattle.acl_nfs4.specs.declared.who.WhoFault.TheVariants as who
-use Rattle.acl_nfs4.specs.declared.text_fault.AceTextFault.{AceTextFault}
-use Rattle.acl_nfs4.specs.declared.text_fault.AceTextFault.TheVariants as faults
+use Rattle.acl_nfs4.specs.declared.text.fault.AceTextFault.{AceTextFault}
+use Rattle.acl_nfs4.specs.declared.text.fault.AceTextFault.TheVariants as faults
 use Rattle.acl_nfs4.proofs.AceFields.{FieldsSay, fields_say, fields_read, fields_few}
-use Rattle.acl_nfs4.proofs.Names.{rights_table, same_bytes}
+use Rattle.acl_nfs4.proofs.SetFields.{rights_table, same_bytes}
 use Rattle.acl_nfs4.proofs.Tables.{NamesPart, PartSays, flags_table, part_read, part_says}
 
 -- a line spells this ACE, and the list can take it

@@ -7,11 +7,11 @@ use Rattle.acl_perm.specs.Profile.{Profile}
 use Rattle.acl_nfs4.specs.Ace.{Ace}
 use Rattle.acl_nfs4.specs.AceText.{IsAceText, SpellEach, SpellsAce, TextLine, ace_lines, ace_lines_from, is_skipped}
 use Rattle.acl_nfs4.specs.AceTextFault.{IsAceTextFault, IsLineFault, IsTextRefusal}
-use Rattle.acl_nfs4.specs.AceReading.{Fails, read_ace, read_lines}
-use Rattle.acl_nfs4.specs.Reading.{◌>>=◌}
+use Rattle.acl_nfs4.specs.internal.AceReading.{Fails, read_ace, read_lines}
+use Rattle.acl_nfs4.specs.internal.Reading.{◌>>=◌}
 use Rattle.acl_nfs4.specs.Spelling.{IsAccepted, IsAce, weight}
-use Rattle.acl_nfs4.specs.declared.text_fault.AceTextFault.{AceTextFault}
-use Rattle.acl_nfs4.specs.declared.text_fault.AceTextFault.TheVariants as faults
+use Rattle.acl_nfs4.specs.declared.text.fault.AceTextFault.{AceTextFault}
+use Rattle.acl_nfs4.specs.declared.text.fault.AceTextFault.TheVariants as faults
 use Rattle.acl_nfs4.proofs.AceJudged.{LineSays, TakesAce, fault_line, line_says, spelled_line}
 use Rattle.acl_nfs4.proofs.Faults.{weight-push}
 use Rattle.acl_nfs4.proofs.Push.{each_last, each_push}

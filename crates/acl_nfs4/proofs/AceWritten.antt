@@ -23,7 +23,7 @@ use Rattle.acl_nfs4.specs.Who.{IsWho, is_no_who_len, is_plain, is_unknown_specia
 use Rattle.acl_nfs4.specs.Within.{IsProfile}
 use Rattle.acl_nfs4.specs.declared.who.WhoFault.TheVariants as who
 use Rattle.acl_nfs4.proofs.AceLines.{one_list}
-use Rattle.acl_nfs4.proofs.Names.{all_apart, named_again, rights_table}
+use Rattle.acl_nfs4.proofs.SetFields.{all_apart, named_again, rights_table}
 use Rattle.acl_nfs4.proofs.Tables.{first_spells, flags_bits, flags_name, rights_bits, rights_name, text_spells}
 use Rattle.acl_nfs4.proofs.Within.{within_part}
 

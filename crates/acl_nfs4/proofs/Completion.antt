@@ -13,7 +13,7 @@ use Rattle.std.proofs.lemmas.Nat.{ones_le_self}
 use Rattle.acl_perm.specs.Profile.{Profile}
 use Rattle.acl_perm.specs.declared.kind.Kind.{Kind}
 use Rattle.acl_perm.specs.declared.kind.Kind.TheVariants.{Allow}
-use Rattle.acl_nfs4.specs.declared.fault.Reason.{Reason}
+use Rattle.acl_nfs4.specs.declared.xdr.fault.Reason.{Reason}
 use Rattle.acl_nfs4.specs.Ace.{Ace}
 use Rattle.acl_nfs4.specs.Limits.{most_aces, most_weight, longest_who}
 use Rattle.acl_nfs4.specs.Who.{IsWho, is_no_who_len, is_plain, is_unknown_special, ends_in_at}

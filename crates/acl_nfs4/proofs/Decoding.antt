@@ -14,9 +14,9 @@ use Rattle.std.specs.Prelude.{option_map}
 use Rattle.acl_nfs4.specs.declared.who.WhoFault.{WhoFault}
 use Rattle.acl_nfs4.specs.declared.who.WhoFault.TheVariants as who
 use Rattle.acl_nfs4.specs.Stream.{Decodes, IsOrFails, FaultsOrFails}
-use Rattle.acl_nfs4.specs.declared.fault.Fault.{Fault}
-use Rattle.acl_nfs4.specs.declared.fault.Reason.{Reason}
-use Rattle.acl_nfs4.specs.declared.fault.Reason.TheVariants.{Truncated, Read}
+use Rattle.acl_nfs4.specs.declared.xdr.fault.Fault.{Fault}
+use Rattle.acl_nfs4.specs.declared.xdr.fault.Reason.{Reason}
+use Rattle.acl_nfs4.specs.declared.xdr.fault.Reason.TheVariants.{Truncated, Read}
 use Rattle.acl_nfs4.proofs.Body.{one}
 use Rattle.acl_nfs4.proofs.OneFault.{value_or_fault}
 use Rattle.acl_nfs4.proofs.Pieces.{fault_stays}

@@ -9,15 +9,15 @@ use Rattle.acl_nfs4.specs.Within.{IsProfile}
 use Rattle.acl_nfs4.specs.Fault.{IsFault}
 use Rattle.acl_nfs4.specs.Stream.{IsCut, Standing, Feeds, FeedsEach, FedExactly, Refuses, SameOrFails, further, together, no_memory}
 use Rattle.acl_nfs4.specs.Stream.Standing.{more, done, refused}
-use Rattle.acl_nfs4.specs.Progress.{IsFeed, standing}
+use Rattle.acl_nfs4.specs.internal.Progress.{IsFeed, standing}
 use Rattle.acl_nfs4.specs.declared.feed.Stage.{Stage}
 use Rattle.acl_nfs4.specs.declared.feed.Stage.TheVariants.{Open, Done, Refused}
-use Rattle.acl_nfs4.specs.declared.scan.Progress.{Progress}
-use Rattle.acl_nfs4.specs.declared.fed.Fed.{Fed}
-use Rattle.acl_nfs4.specs.declared.fed.Fed.TheVariants as fed
-use Rattle.acl_nfs4.specs.declared.fault.Fault.{Fault}
-use Rattle.acl_nfs4.specs.declared.fault.Reason.{Reason}
-use Rattle.acl_nfs4.specs.declared.fault.Reason.TheVariants.{Truncated}
+use Rattle.acl_nfs4.specs.declared.feed.scan.Progress.{Progress}
+use Rattle.acl_nfs4.specs.declared.feed.fed.Fed.{Fed}
+use Rattle.acl_nfs4.specs.declared.feed.fed.Fed.TheVariants as fed
+use Rattle.acl_nfs4.specs.declared.xdr.fault.Fault.{Fault}
+use Rattle.acl_nfs4.specs.declared.xdr.fault.Reason.{Reason}
+use Rattle.acl_nfs4.specs.declared.xdr.fault.Reason.TheVariants.{Truncated}
 use Rattle.acl_nfs4.proofs.Body.{one}
 use Rattle.acl_nfs4.proofs.OneFault.{one_place, value_or_fault}
 use Rattle.acl_nfs4.proofs.Pieces.{done_on, none_taken, refused_on}

@@ -7,16 +7,16 @@ use Rattle.std.proofs.lemmas.List.{take_at, drop_at, take-append-drop, length-ap
 use Rattle.std.proofs.lemmas.Nat.{be_bytes_4, from_be_bytes-to_be_bytes_4}
 use Rattle.acl_perm.specs.declared.kind.Kind.{Kind}
 use Rattle.acl_perm.specs.declared.kind.Kind.TheVariants.{Deny, Allow}
-use Rattle.acl_nfs4.specs.declared.fault.Reason.{Reason}
+use Rattle.acl_nfs4.specs.declared.xdr.fault.Reason.{Reason}
 use Rattle.acl_nfs4.specs.declared.who.WhoFault.{WhoFault}
-use Rattle.acl_nfs4.specs.declared.fault.Reason.TheVariants.{Truncated}
+use Rattle.acl_nfs4.specs.declared.xdr.fault.Reason.TheVariants.{Truncated}
 use Rattle.acl_perm.specs.Profile.{Profile}
 use Rattle.acl_nfs4.specs.Limits.{most_aces, most_weight, longest_who}
 use Rattle.acl_nfs4.specs.Who.{is_no_who_len, who_fault, IsWho}
 use Rattle.acl_nfs4.specs.Within.{IsWithin, is_within}
 use Rattle.acl_nfs4.specs.Spelling.{word, kind_number}
 use Rattle.acl_nfs4.specs.Fields.{number, count_of, kind_of, flags_of, mask_of, who_len_of, unless, who_reason, who_of, padding_of}
-use Rattle.acl_nfs4.specs.Reading.{◌>>=◌, Place, moved, fault_at, judged, field, word_field}
+use Rattle.acl_nfs4.specs.internal.Reading.{◌>>=◌, Place, moved, fault_at, judged, field, word_field}
 
 -- numbers that are bytes
 abbrev pub IsBytes : List ℕ → Type 0

@@ -5,7 +5,7 @@ use Rattle.std.proofs.lemmas.List.{append-nil, length-append, length-take, lengt
 use Rattle.std.proofs.lemmas.Slice.{take-put_mid}
 use Rattle.std.proofs.Math.Seq.{take-append-add}
 use borrow.Rule.Slice.PartMut.{put_mid, same_len_mid}
-use Rattle.acl_nfs4.specs.Progress.{IsBytes, IsText}
+use Rattle.acl_nfs4.specs.internal.Progress.{IsBytes, IsText}
 use Rattle.acl_nfs4.proofs.Fields.{IsBytes-take, bytes_append}
 
 -- what follows the first word

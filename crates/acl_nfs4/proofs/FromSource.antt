@@ -11,7 +11,7 @@ use Rattle.std.specs.Io.KnownBytes.{Consumes, IsAtEnd}
 use Rattle.acl_perm.specs.Devices.{one_more}
 use Rattle.acl_perm.specs.Profile.{Profile}
 use Rattle.acl_nfs4.specs.Ace.{Ace}
-use Rattle.acl_nfs4.specs.Body.{Spells, aces_of}
+use Rattle.acl_nfs4.specs.internal.Body.{Spells, aces_of}
 use Rattle.acl_nfs4.specs.Owned.{IsOwned}
 use Rattle.acl_nfs4.specs.Limits.{most_weight}
 use Rattle.acl_nfs4.specs.Spelling.{word, weight, piece, spelling, Xdr}
@@ -20,13 +20,13 @@ use Rattle.acl_nfs4.specs.Within.{IsProfile}
 use Rattle.acl_nfs4.specs.Fault.Stage.{kind as at_kind}
 use Rattle.acl_nfs4.specs.Fault.{Stage, Border, Breaks, IsFault, IsFirstFault, IsOwed, refuses, size}
 use Rattle.acl_nfs4.specs.Fields.{number, padding_of}
-use Rattle.acl_nfs4.specs.Progress.{IsBytes}
-use Rattle.acl_nfs4.specs.Pulling.{Draws, FromKind, Holds, IsFilled, IsLacking, IsTaken, IsWord, Pulls, Stops}
-use Rattle.acl_nfs4.specs.Reading.{Gives, Placed}
-use Rattle.acl_nfs4.specs.declared.fault.Fault.{Fault}
-use Rattle.acl_nfs4.specs.declared.fault.Reason.{Reason}
-use Rattle.acl_nfs4.specs.declared.fault.Reason.TheVariants.{Truncated, Read}
-use Rattle.acl_nfs4.specs.declared.pulling.Pulled.{Pulled}
+use Rattle.acl_nfs4.specs.internal.Progress.{IsBytes}
+use Rattle.acl_nfs4.specs.internal.Pulling.{Draws, FromKind, Holds, IsFilled, IsLacking, IsTaken, IsWord, Pulls, Stops}
+use Rattle.acl_nfs4.specs.internal.Reading.{Gives, Placed}
+use Rattle.acl_nfs4.specs.declared.xdr.fault.Fault.{Fault}
+use Rattle.acl_nfs4.specs.declared.xdr.fault.Reason.{Reason}
+use Rattle.acl_nfs4.specs.declared.xdr.fault.Reason.TheVariants.{Truncated, Read}
+use Rattle.acl_nfs4.specs.declared.xdr.pulling.Pulled.{Pulled}
 use Rattle.acl_nfs4.proofs.Fields.{IsBytes-drop, IsBytes-take}
 use Rattle.acl_nfs4.proofs.Body.{is_body, aces_of-flat_map}
 use Rattle.acl_nfs4.proofs.Completion.{shape}

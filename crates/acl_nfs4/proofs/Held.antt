@@ -9,9 +9,9 @@ use Rattle.acl_nfs4.specs.Fault.{Stage, Border, Breaks, size}
 use Rattle.acl_nfs4.specs.Fault.Stage.{count as at_count, kind as at_kind, flags as at_flags, mask as at_mask, len as at_len, who as at_who, padding as at_padding}
 use Rattle.acl_nfs4.specs.Stream.{Feeds, HoldsLittle, IsCut, IsSmall, Standing}
 use Rattle.acl_nfs4.specs.Stream.Standing.{more, done, refused}
-use Rattle.acl_nfs4.specs.declared.fed.Fed.{Fed}
-use Rattle.acl_nfs4.specs.declared.fed.Fed.TheVariants as fed
-use Rattle.acl_nfs4.specs.declared.fault.Reason.TheVariants.{Truncated}
+use Rattle.acl_nfs4.specs.declared.feed.fed.Fed.{Fed}
+use Rattle.acl_nfs4.specs.declared.feed.fed.Fed.TheVariants as fed
+use Rattle.acl_nfs4.specs.declared.xdr.fault.Reason.TheVariants.{Truncated}
 use Rattle.acl_nfs4.proofs.Completion.{Shape, head, shape, who_bounds}
 use Rattle.acl_nfs4.proofs.Fields.{who_bounds as bounds}
 use Rattle.acl_nfs4.proofs.OneFault.{never_truncated}

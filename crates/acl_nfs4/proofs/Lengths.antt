@@ -4,7 +4,7 @@ use Rattle.std.specs.List.{flat_map, AllByRecursion}
 use Rattle.std.proofs.lemmas.List.{length-append, length-replicate}
 use Rattle.acl_perm.specs.Profile.{Profile}
 use Rattle.acl_nfs4.specs.Ace.{Ace}
-use Rattle.acl_nfs4.specs.Body.{aces_of}
+use Rattle.acl_nfs4.specs.internal.Body.{aces_of}
 use Rattle.acl_nfs4.specs.Owned.{IsOwned}
 use Rattle.acl_nfs4.specs.Spelling.{IsAce, IsAccepted, pad_len, piece, spelling, word}
 use Rattle.acl_nfs4.proofs.Fields.{who_bounds}

@@ -1,4 +1,4 @@
-pub mod Text
+pub mod PlainText
 pub mod Within
 pub mod Loop
 pub mod Fields
@@ -6,7 +6,7 @@ pub mod Lists
 pub mod Body
 pub mod Faults
 pub mod Resume
-pub mod Names
+pub mod SetFields
 pub mod Whole
 pub mod Push
 pub mod Completion

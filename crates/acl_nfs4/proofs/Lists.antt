@@ -13,7 +13,7 @@ use Rattle.acl_nfs4.specs.Limits.{most_weight}
 use Rattle.acl_nfs4.specs.Within.{IsProfile}
 use Rattle.acl_nfs4.specs.Spelling.{word, kind_number, pad_len, piece, spelling, weight, IsAce, Xdr}
 use Rattle.acl_nfs4.specs.Fields.{count_of, kind_of, flags_of, mask_of, who_len_of, who_of, padding_of}
-use Rattle.acl_nfs4.specs.Reading.{Place, field, word_field, ace_at, aces_at, read}
+use Rattle.acl_nfs4.specs.internal.Reading.{Place, field, word_field, ace_at, aces_at, read}
 use Rattle.acl_nfs4.proofs.Fields.{IsBytes, bind_then, goes_to, ok_is, Takes, Takes-then, field_takes, field_again, word_takes, word_again, count_is, count_again, kind_is, kind_again, flags_are, flags_again, mask_is, mask_again, who_len_is, who_len_again, who_bounds, who_is, who_again, padding_is, padding_again}
 use Rattle.acl_nfs4.proofs.Within.{flags_lt, mask_lt}
 

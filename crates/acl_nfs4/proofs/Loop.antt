@@ -2,9 +2,9 @@
 use Rattle.std.proofs.Common.{◌≡◌, ℕ, suc, ◌-◌, ◌+◌, ◌≤◌, ◌<◌, List, ◌∷◌, Result, Ok, Err, refl, sym, ◌∙◌, arith}
 use Rattle.std.specs.Prelude.{count_ones}
 use Rattle.acl_perm.specs.Profile.{Profile}
-use Rattle.acl_nfs4.specs.declared.fault.Fault.{Fault}
+use Rattle.acl_nfs4.specs.declared.xdr.fault.Fault.{Fault}
 use Rattle.acl_nfs4.specs.Ace.{Ace}
-use Rattle.acl_nfs4.specs.Reading.{◌>>=◌, Place, ace_at, aces_at, ending}
+use Rattle.acl_nfs4.specs.internal.Reading.{◌>>=◌, Place, ace_at, aces_at, ending}
 
 forget : (a : Ace) (read : Result (List Ace × Place) Fault) → ending (read >>= λ x. Ok (a ∷ x.0, x.1)) ≡ ending read
 forget a (Ok x) = refl

@@ -8,17 +8,17 @@ use Rattle.acl_perm.specs.Profile.{Profile}
 use Rattle.acl_nfs4.specs.Ace.{Ace}
 use Rattle.acl_nfs4.specs.Within.{IsProfile}
 use Rattle.acl_nfs4.specs.Spelling.{Xdr}
-use Rattle.acl_nfs4.specs.Reading.{value_at}
+use Rattle.acl_nfs4.specs.internal.Reading.{value_at}
 use Rattle.acl_nfs4.specs.Fault.{Stage, Border, size, refuses, IsOwed, IsFirstFault, IsFault, IsWholeFault}
 use Rattle.acl_nfs4.specs.Fault.Stage.{count as at_count, kind as at_kind, flags as at_flags, mask as at_mask, len as at_len, who as at_who, padding as at_padding}
 use Rattle.acl_nfs4.specs.Fields.{unless, who_reason}
 use Rattle.acl_nfs4.specs.Who.{who_fault}
 use Rattle.acl_nfs4.specs.declared.who.WhoFault.{WhoFault}
 use Rattle.acl_nfs4.specs.declared.who.WhoFault.TheVariants as who
-use Rattle.acl_nfs4.specs.declared.fault.Reason.TheVariants.{Truncated}
+use Rattle.acl_nfs4.specs.declared.xdr.fault.Reason.TheVariants.{Truncated}
 use Rattle.acl_nfs4.specs.Fault.IsWholeFault.{of_value, behind}
-use Rattle.acl_nfs4.specs.declared.fault.Fault.{Fault}
-use Rattle.acl_nfs4.specs.declared.fault.Reason.{Reason}
+use Rattle.acl_nfs4.specs.declared.xdr.fault.Fault.{Fault}
+use Rattle.acl_nfs4.specs.declared.xdr.fault.Reason.{Reason}
 use Rattle.acl_nfs4.proofs.Lists.{read_again}
 use Rattle.acl_nfs4.proofs.Body.{apart, one, value_of}
 use Rattle.acl_nfs4.proofs.Faults.{err_is}

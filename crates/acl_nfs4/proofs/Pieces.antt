@@ -7,11 +7,11 @@ use Rattle.acl_nfs4.specs.Spelling.{Xdr}
 use Rattle.acl_nfs4.specs.Fault.{Stage, Breaks, IsFault, IsFirstFault, refuses, size}
 use Rattle.acl_nfs4.specs.Stream.{IsCut, Standing, Feeds, Refuses}
 use Rattle.acl_nfs4.specs.Stream.Standing.{more, done, refused}
-use Rattle.acl_nfs4.specs.Progress.{HasTaken}
-use Rattle.acl_nfs4.specs.declared.fed.Fed.TheVariants as fed
-use Rattle.acl_nfs4.specs.declared.fault.Fault.{Fault}
-use Rattle.acl_nfs4.specs.declared.fault.Reason.{Reason}
-use Rattle.acl_nfs4.specs.declared.fault.Reason.TheVariants.{Truncated}
+use Rattle.acl_nfs4.specs.internal.Progress.{HasTaken}
+use Rattle.acl_nfs4.specs.declared.feed.fed.Fed.TheVariants as fed
+use Rattle.acl_nfs4.specs.declared.xdr.fault.Fault.{Fault}
+use Rattle.acl_nfs4.specs.declared.xdr.fault.Reason.{Reason}
+use Rattle.acl_nfs4.specs.declared.xdr.fault.Reason.TheVariants.{Truncated}
 
 -- a field that breaks and isn't cut short is whole
 pub breaks_whole : (p : Profile) (s : Stage) (rest : List ℕ) (n : ℕ) (r : Reason) → Breaks p s rest n r → r ≢ Truncated

@@ -12,7 +12,7 @@ use Rattle.acl_nfs4.specs.Ace.{Ace}
 use Rattle.acl_nfs4.specs.Limits.{most_aces, most_weight}
 use Rattle.acl_nfs4.specs.Who.{who_fault, IsWho}
 use Rattle.acl_nfs4.specs.Spelling.{piece, weight, IsAce, IsAccepted}
-use Rattle.acl_nfs4.specs.Body.{aces_of, Spells}
+use Rattle.acl_nfs4.specs.internal.Body.{aces_of, Spells}
 use Rattle.acl_nfs4.specs.Owned.{IsOwned}
 use Rattle.acl_nfs4.specs.Push.{who_refusal, push_refusal}
 use Rattle.acl_nfs4.proofs.Body.{aces_of-flat_map, is_body}

@@ -6,9 +6,9 @@ use Rattle.acl_perm.specs.Profile.{Profile}
 use Rattle.acl_nfs4.specs.Ace.{Ace}
 use Rattle.acl_nfs4.specs.Spelling.{piece}
 use Rattle.acl_nfs4.specs.Within.{IsProfile}
-use Rattle.acl_nfs4.specs.Reading.{Place, ace_at}
-use Rattle.acl_nfs4.specs.Progress.{IsScanned, behind_scanned}
-use Rattle.acl_nfs4.specs.declared.scan.Progress.{Progress}
+use Rattle.acl_nfs4.specs.internal.Reading.{Place, ace_at}
+use Rattle.acl_nfs4.specs.internal.Progress.{IsScanned, behind_scanned}
+use Rattle.acl_nfs4.specs.declared.feed.scan.Progress.{Progress}
 use Rattle.acl_nfs4.proofs.Fields.{IsBytes, IsBytes-drop, front_is}
 use Rattle.acl_nfs4.proofs.Lists.{ace_takes}
 use Rattle.acl_nfs4.proofs.Faults.{weight-push}

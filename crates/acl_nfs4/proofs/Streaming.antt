@@ -13,14 +13,14 @@ use Rattle.acl_nfs4.specs.Spelling.{piece, weight, IsAce, Xdr}
 use Rattle.acl_nfs4.specs.Within.{IsProfile}
 use Rattle.acl_nfs4.specs.Fault.{IsFault}
 use Rattle.acl_nfs4.specs.Fields.{number, count_of}
-use Rattle.acl_nfs4.specs.Reading.{◌>>=◌, Place, word_field, ace_at, aces_at, read, value_at}
-use Rattle.acl_nfs4.specs.Body.{aces_of}
-use Rattle.acl_nfs4.specs.Progress.{IsScanned, behind_scanned, Ends, IsProgress, IsWhole, body_in, Judged}
+use Rattle.acl_nfs4.specs.internal.Reading.{◌>>=◌, Place, word_field, ace_at, aces_at, read, value_at}
+use Rattle.acl_nfs4.specs.internal.Body.{aces_of}
+use Rattle.acl_nfs4.specs.internal.Progress.{IsScanned, behind_scanned, Ends, IsProgress, IsWhole, body_in, Judged}
 use Rattle.acl_nfs4.specs.Stream.{IsCut}
-use Rattle.acl_nfs4.specs.declared.fault.Fault.{Fault}
-use Rattle.acl_nfs4.specs.declared.fault.Reason.{Reason}
-use Rattle.acl_nfs4.specs.declared.fault.Reason.TheVariants.{Truncated, TooManyAces}
-use Rattle.acl_nfs4.specs.declared.scan.Progress.{Progress}
+use Rattle.acl_nfs4.specs.declared.xdr.fault.Fault.{Fault}
+use Rattle.acl_nfs4.specs.declared.xdr.fault.Reason.{Reason}
+use Rattle.acl_nfs4.specs.declared.xdr.fault.Reason.TheVariants.{Truncated, TooManyAces}
+use Rattle.acl_nfs4.specs.declared.feed.scan.Progress.{Progress}
 use Rattle.acl_nfs4.proofs.Fields.{IsBytes, goes_to, count_again}
 use Rattle.acl_nfs4.proofs.Lists.{ace_again, weight-cons, read_again}
 use Rattle.acl_nfs4.proofs.Body.{value_of, is_body, aces_of-flat_map, is_found, apart}

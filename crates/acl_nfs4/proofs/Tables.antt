@@ -14,12 +14,12 @@ use Rattle.acl_perm.specs.declared.mask.Mask.{Mask}
 use Rattle.acl_perm.proofs.Bools.{and_true}
 use Rattle.acl_perm.proofs.Sets.{IsMask-union, has_bit-and, has_bit-or, same_set, no_bit}
 use Rattle.acl_nfs4.specs.BitNames.{BitName, is_name_of, bit_in, bits_in, names_of, no_names, set_named, set_text, first_name, bar, SpellsSet}
-use Rattle.acl_nfs4.specs.NameTable.{part_of, row_of, set_within, table_of}
+use Rattle.acl_nfs4.specs.internal.NameTable.{part_of, row_of, set_within, table_of}
 use Rattle.acl_nfs4.specs.FlagNames.{flag_names}
 use Rattle.acl_nfs4.specs.Rights.{rights, SpellsMask, mask_named}
 use Rattle.acl_nfs4.specs.Within.{IsWithin, is_within}
-use Rattle.acl_nfs4.specs.declared.bit_names.BitName.{BitName as Row}
-use Rattle.acl_nfs4.proofs.Names.{IsTable, map_some, named_again, or_zero, spelled}
+use Rattle.acl_nfs4.specs.declared.names.bit_names.BitName.{BitName as Row}
+use Rattle.acl_nfs4.proofs.SetFields.{IsTable, map_some, named_again, or_zero, spelled}
 
 -- ---- rows of the code
 

@@ -6,9 +6,9 @@ use Rattle.acl_nfs4.specs.Ace.{Ace}
 use Rattle.acl_nfs4.specs.Spelling.{Xdr}
 use Rattle.acl_nfs4.specs.Fault.{IsFault, IsWholeFault}
 use Rattle.acl_nfs4.specs.Fault.IsWholeFault.{of_value, behind}
-use Rattle.acl_nfs4.specs.declared.fault.Fault.{Fault}
-use Rattle.acl_nfs4.specs.declared.fault.Reason.{Reason}
-use Rattle.acl_nfs4.specs.declared.fault.Reason.TheVariants.{TrailingBytes}
+use Rattle.acl_nfs4.specs.declared.xdr.fault.Fault.{Fault}
+use Rattle.acl_nfs4.specs.declared.xdr.fault.Reason.{Reason}
+use Rattle.acl_nfs4.specs.declared.xdr.fault.Reason.TheVariants.{TrailingBytes}
 
 -- whatever stands at the front is this list, with so many bytes
 abbrev pub OneAtFront : Profile → List ℕ → List Ace → ℕ → Type 0

@@ -13,8 +13,8 @@ use Rattle.acl_nfs4.specs.Who.{who_fault}
 use Rattle.acl_nfs4.specs.Within.{IsWithin}
 use Rattle.acl_nfs4.specs.declared.who.WhoFault.{WhoFault}
 use Rattle.acl_nfs4.specs.declared.who.WhoFault.TheVariants as who
-use Rattle.acl_nfs4.specs.declared.text_fault.AceTextFault.{AceTextFault}
-use Rattle.acl_nfs4.specs.declared.text_fault.AceTextFault.TheVariants.{TooManyAces, Fields, AceType, Flag, Mask, TooHeavy, WhoLength, WhoUtf8, WhoControl, SpecialWho, Memory}
+use Rattle.acl_nfs4.specs.declared.text.fault.AceTextFault.{AceTextFault}
+use Rattle.acl_nfs4.specs.declared.text.fault.AceTextFault.TheVariants.{TooManyAces, Fields, AceType, Flag, Mask, TooHeavy, WhoLength, WhoUtf8, WhoControl, SpecialWho, Memory}
 
 -- ---- places
 

@@ -9,8 +9,8 @@ use Rattle.acl_nfs4.specs.Within.{IsWithin}
 use Rattle.acl_nfs4.specs.Spelling.{word, kind_number, pad_len, weight, Xdr}
 use Rattle.acl_nfs4.specs.Fields.{number, count_of, kind_of, flags_of, mask_of, who_len_of, who_of, padding_of}
 use Rattle.acl_perm.specs.declared.kind.Kind.{Kind}
-use Rattle.acl_nfs4.specs.declared.fault.Reason.{Reason}
-use Rattle.acl_nfs4.specs.declared.fault.Reason.TheVariants.{Truncated, TrailingBytes}
+use Rattle.acl_nfs4.specs.declared.xdr.fault.Reason.{Reason}
+use Rattle.acl_nfs4.specs.declared.xdr.fault.Reason.TheVariants.{Truncated, TrailingBytes}
 
 -- the field that stands next, with what the fields before it hold: the number of ACEs, those that are whole, and the
 -- fields of the one being read

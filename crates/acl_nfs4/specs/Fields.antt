@@ -10,8 +10,8 @@ use Rattle.acl_nfs4.specs.Who.{is_no_who_len, who_fault}
 use Rattle.acl_nfs4.specs.Within.{is_within}
 use Rattle.acl_perm.specs.declared.kind.Kind.{Kind}
 use Rattle.acl_perm.specs.declared.kind.Kind.TheVariants.{Deny, Allow}
-use Rattle.acl_nfs4.specs.declared.fault.Reason.{Reason}
-use Rattle.acl_nfs4.specs.declared.fault.Reason.TheVariants.{TooManyAces, AuditOrAlarm, AceType, FlagBits, MaskBits, TooHeavy, WhoLength, WhoUtf8, WhoControl, SpecialWho, Padding}
+use Rattle.acl_nfs4.specs.declared.xdr.fault.Reason.{Reason}
+use Rattle.acl_nfs4.specs.declared.xdr.fault.Reason.TheVariants.{TooManyAces, AuditOrAlarm, AceType, FlagBits, MaskBits, TooHeavy, WhoLength, WhoUtf8, WhoControl, SpecialWho, Padding}
 use Rattle.acl_nfs4.specs.declared.who.WhoFault.{WhoFault}
 use Rattle.acl_nfs4.specs.declared.who.WhoFault.TheVariants as who
 

@@ -6,7 +6,7 @@ use Rattle.std.specs.Cmp.Lexicographic.{pointwise, nat_list_eq_equiv}
 use Rattle.acl_nfs4.specs.Ace.{Ace}
 use Rattle.acl_nfs4.specs.Limits.{most_aces}
 use Rattle.acl_nfs4.specs.Spelling.{spelling, weight}
-use Rattle.acl_nfs4.specs.Body.{aces_of, IsBody}
+use Rattle.acl_nfs4.specs.internal.Body.{aces_of, IsBody}
 
 -- the fields of a list: the pieces of so many ACEs of that weight, within the limit
 pub record IsOwned (count total : ℕ) (body : List ℕ) : Type 0 where

@@ -5,8 +5,8 @@ use Rattle.acl_nfs4.specs.Ace.{Ace}
 use Rattle.acl_nfs4.specs.Limits.{most_aces, most_weight}
 use Rattle.acl_nfs4.specs.Spelling.{weight}
 use Rattle.acl_nfs4.specs.Who.{who_fault}
-use Rattle.acl_nfs4.specs.declared.push_fault.PushFault.{PushFault}
-use Rattle.acl_nfs4.specs.declared.push_fault.PushFault.TheVariants.{TooManyAces, TooHeavy, WhoLength, WhoUtf8, WhoControl, SpecialWho, Memory}
+use Rattle.acl_nfs4.specs.declared.list.push_fault.PushFault.{PushFault}
+use Rattle.acl_nfs4.specs.declared.list.push_fault.PushFault.TheVariants.{TooManyAces, TooHeavy, WhoLength, WhoUtf8, WhoControl, SpecialWho, Memory}
 use Rattle.acl_nfs4.specs.declared.who.WhoFault.{WhoFault}
 use Rattle.acl_nfs4.specs.declared.who.WhoFault.TheVariants as who
 

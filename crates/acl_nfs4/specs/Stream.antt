@@ -7,10 +7,10 @@ use Rattle.acl_nfs4.specs.Ace.{Ace}
 use Rattle.acl_nfs4.specs.Spelling.{Xdr, piece, word}
 use Rattle.acl_nfs4.specs.Limits.{longest_who}
 use Rattle.acl_nfs4.specs.Fault.{IsFault, IsFirstFault}
-use Rattle.acl_nfs4.specs.declared.fault.Fault.{Fault}
-use Rattle.acl_nfs4.specs.declared.fault.Reason.TheVariants.{Truncated, Read, Memory}
-use Rattle.acl_nfs4.specs.declared.fed.Fed.{Fed}
-use Rattle.acl_nfs4.specs.declared.fed.Fed.TheVariants.{More, Done, Refused}
+use Rattle.acl_nfs4.specs.declared.xdr.fault.Fault.{Fault}
+use Rattle.acl_nfs4.specs.declared.xdr.fault.Reason.TheVariants.{Truncated, Read, Memory}
+use Rattle.acl_nfs4.specs.declared.feed.fed.Fed.{Fed}
+use Rattle.acl_nfs4.specs.declared.feed.fed.Fed.TheVariants.{More, Done, Refused}
 
 -- a text that ends before its value does
 abbrev pub IsCut : Profile → List ℕ → Type 0

@@ -1,17 +1,22 @@
 //! A value that comes in pieces.
+
+pub(crate) mod fed;
+pub(crate) mod scan;
+pub(crate) mod stream;
+
 ghost use Rattle.std.specs.Prelude.{◌≡◌, ℕ, ◌+◌, ◌≤◌, ◌<◌, ◌^◌, ◌++◌, List, [], MatchResult, length, take, drop};
 ghost use Rattle.acl_perm.specs.Profile.{Profile as Allowed, full, profile_of};
 ghost use Rattle.acl_nfs4.specs.Stream.{FedExactly, Feeds, Finishes, IsCut, IsSmall, more};
 ghost use Rattle.acl_nfs4.specs.Fault.{IsFault};
-ghost use Rattle.acl_nfs4.specs.declared.fault.Reason.TheVariants.{Truncated};
-ghost use Rattle.acl_nfs4.specs.Progress.{IsFeed, IsProgress, Judged, standing};
+ghost use Rattle.acl_nfs4.specs.declared.xdr.fault.Reason.TheVariants.{Truncated};
+ghost use Rattle.acl_nfs4.specs.internal.Progress.{IsFeed, IsProgress, Judged, standing};
 
-use crate::acl::Acl;
-use crate::fault::{Fault, Reason};
-use crate::fed::Fed;
+use crate::feed::fed::Fed;
+use crate::feed::scan::{Progress, scan};
+use crate::feed::stream::Text;
 use crate::limits::MOST_ACES;
-use crate::scan::{Progress, scan};
-use crate::stream::Text;
+use crate::list::acl::Acl;
+use crate::xdr::fault::{Fault, Reason};
 use acl_perm::Profile;
 use std::alloc::Global;
 use std::marker::Model;
@@ -39,7 +44,7 @@ pub struct Feed {
 impl Model for Feed {
     ghost use Rattle.acl_perm.specs.Profile.{profile_of};
     ghost use Rattle.acl_nfs4.specs.Stream.{Standing};
-    ghost use Rattle.acl_nfs4.specs.Progress.{IsFeed, standing};
+    ghost use Rattle.acl_nfs4.specs.internal.Progress.{IsFeed, standing};
 
     ghost Value = { Standing };
 

@@ -11,12 +11,12 @@ ghost use Rattle.acl_nfs4.specs.AceText.{IsAceText, ace_text};
 ghost use Rattle.acl_nfs4.specs.AceTextFault.{IsAceTextFault};
 ghost use Rattle.acl_nfs4.specs.BitNames.{first_name};
 ghost use Rattle.acl_nfs4.specs.Rights.{SpellsMask, rights};
-ghost use Rattle.acl_nfs4.specs.declared.text_fault.AceTextFault.{AceTextFault};
+ghost use Rattle.acl_nfs4.specs.declared.text.fault.AceTextFault.{AceTextFault};
 ghost use Rattle.acl_nfs4.specs.Laws.{BeginsSpelling, pairs_of};
-ghost use Rattle.acl_nfs4.specs.declared.fault.Reason.{Reason};
+ghost use Rattle.acl_nfs4.specs.declared.xdr.fault.Reason.{Reason};
 ghost use Rattle.std.specs.Prelude.{[]};
 ghost use Rattle.acl_nfs4.specs.Stream.{Feeds, FeedsEach, SameOrFails, Standing, more, together};
-ghost use Rattle.acl_nfs4.specs.declared.fed.Fed.{Fed};
+ghost use Rattle.acl_nfs4.specs.declared.feed.fed.Fed.{Fed};
 
 /// No spelling begins another, and none spells two lists, whatever the profile.
 pub fn one_spelling()

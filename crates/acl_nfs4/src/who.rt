@@ -1,7 +1,7 @@
 ghost use Rattle.std.specs.Prelude.{◌≡◌, ◌≤◌, length, false};
 ghost use Rattle.std.specs.Str.{is_utf8};
 ghost use Rattle.std.specs.List.{list_all};
-ghost use Rattle.acl_nfs4.specs.Reading.{Judges, is_plain_ascii, text_fault};
+ghost use Rattle.acl_nfs4.specs.internal.Reading.{Judges, is_plain_ascii, text_fault};
 ghost use Rattle.acl_nfs4.specs.Who.{ends_in_at, is_plain, is_special, is_no_who_len, who_fault};
 
 use crate::limits::LONGEST_WHO;
@@ -15,7 +15,7 @@ pub(crate) enum WhoFault {
     Special,
 }
 
-#[tactic(auto, using(crate::proofs::Text::text_tests))]
+#[tactic(auto, using(crate::proofs::PlainText::text_tests))]
 fn is_text(bytes: &[u8]) -> bool
     ensures { result ≡ is_utf8 bytes.now }
 {
@@ -92,7 +92,7 @@ fn judge_bytes(who: &[u8]) -> Result<(), WhoFault>
 }
 
 /// Refuses what can't be a who of this length.
-#[tactic(auto, using(crate::proofs::Text::plain_ascii))]
+#[tactic(auto, using(crate::proofs::PlainText::plain_ascii))]
 #[inline(always)]
 pub(crate) fn judge_text(who: &[u8]) -> Result<(), WhoFault>
     requires { is_no_who_len (length who.now) ≡ false }

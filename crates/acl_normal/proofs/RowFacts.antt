@@ -8,7 +8,7 @@ use Rattle.std.proofs.Common.{eqb}
 use Rattle.std.proofs.lemmas.Nat.Bits.{bit_at_above}
 use Rattle.acl_perm.specs.declared.principal.Principal.{Principal as PrincipalRef}
 use Rattle.acl_nfs4.specs.Ace.{Ace}
-use Rattle.acl_nfs4.specs.Reading.{read}
+use Rattle.acl_nfs4.specs.internal.Reading.{read}
 use Rattle.acl_normal.proofs.FirstPlaceLemmas.{zip_length}
 use Rattle.acl_normal.proofs.Numbers.{principal_at, zip_push}
 use Rattle.acl_normal.proofs.PairGrants.{agrees_from_rows, inverted, not_agrees_from_rows, not_inverted}

@@ -13,13 +13,13 @@ use Rattle.acl_nfs4.specs.Spelling.{Xdr}
 use Rattle.acl_nfs4.specs.Fault.{Border, Breaks, IsFault, IsFirstFault, IsWholeFault, Stage, refuses, size}
 use Rattle.acl_nfs4.specs.Fault.IsWholeFault.{behind, of_value}
 use Rattle.acl_nfs4.specs.Fault.Stage.{count as at_count, kind as at_kind, flags as at_flags, mask as at_mask, len as at_len, who as at_who, padding as at_padding}
-use Rattle.acl_nfs4.specs.Progress.{IsBytes}
-use Rattle.acl_nfs4.specs.Reading.{Gives, value_at}
+use Rattle.acl_nfs4.specs.internal.Progress.{IsBytes}
+use Rattle.acl_nfs4.specs.internal.Reading.{Gives, value_at}
 use Rattle.acl_nfs4.specs.Stream.{Finishes, IsCut, Refuses, Standing}
 use Rattle.acl_nfs4.specs.Stream.Standing.{done, more}
-use Rattle.acl_nfs4.specs.declared.fault.Fault.{Fault}
-use Rattle.acl_nfs4.specs.declared.fault.Reason.{Reason}
-use Rattle.acl_nfs4.specs.declared.fault.Reason.TheVariants.{Memory, TrailingBytes, Truncated}
+use Rattle.acl_nfs4.specs.declared.xdr.fault.Fault.{Fault}
+use Rattle.acl_nfs4.specs.declared.xdr.fault.Reason.{Reason}
+use Rattle.acl_nfs4.specs.declared.xdr.fault.Reason.TheVariants.{Memory, TrailingBytes, Truncated}
 use Rattle.acl_nfs4.proofs.Completion.{begins, who_bounds as stage_bounds}
 use Rattle.acl_nfs4.proofs.Body.{is_found}
 use Rattle.acl_nfs4.proofs.Exactly.{one_reason}

@@ -9,9 +9,9 @@ use Rattle.acl_nfs4.specs.Ace.{Ace}
 use Rattle.acl_nfs4.specs.Spelling.{Xdr}
 use Rattle.acl_nfs4.specs.Fault.{IsFirstFault}
 use Rattle.acl_nfs4.specs.Fault.IsWholeFault.{behind, of_value}
-use Rattle.acl_nfs4.specs.declared.fault.Fault.{Fault}
-use Rattle.acl_nfs4.specs.declared.fault.Reason.TheVariants.{TrailingBytes, Truncated}
-use Rattle.acl_nfs4.specs.Progress.{IsBytes}
+use Rattle.acl_nfs4.specs.declared.xdr.fault.Fault.{Fault}
+use Rattle.acl_nfs4.specs.declared.xdr.fault.Reason.TheVariants.{TrailingBytes, Truncated}
+use Rattle.acl_nfs4.specs.internal.Progress.{IsBytes}
 use Rattle.acl_nfs4.proofs.Completion.{begins}
 use Rattle.acl_nfs4.proofs.Fields.{IsBytes-drop}
 use Rattle.aclck.specs.Answer.{is_read}

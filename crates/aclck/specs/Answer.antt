@@ -5,7 +5,7 @@ use Rattle.acl_perm.specs.Profile.{Profile}
 use Rattle.acl_perm.specs.declared.whole.ReadFault.{ReadFault}
 use Rattle.acl_perm.specs.declared.whole.ReadFault.TheVariants as read
 use Rattle.acl_nfs4.specs.Fault.{IsWholeFault}
-use Rattle.acl_nfs4.specs.declared.fault.Fault.{Fault}
+use Rattle.acl_nfs4.specs.declared.xdr.fault.Fault.{Fault}
 use Rattle.aclck.specs.declared.answer.Outcome.{Outcome}
 use Rattle.aclck.specs.declared.answer.Outcome.TheVariants as outcome
 use Rattle.aclck.specs.declared.answer.RunFault.{RunFault}

@@ -9,8 +9,8 @@ use Rattle.acl_nfs4.specs.BitNames.{first_name}
 use Rattle.acl_nfs4.specs.Fault.{IsFault, IsWholeFault}
 use Rattle.acl_nfs4.specs.Rights.{rights}
 use Rattle.acl_nfs4.specs.Spelling.{Xdr}
-use Rattle.acl_nfs4.specs.declared.fault.Fault.{Fault}
-use Rattle.acl_nfs4.specs.declared.fault.Reason.{Reason}
+use Rattle.acl_nfs4.specs.declared.xdr.fault.Fault.{Fault}
+use Rattle.acl_nfs4.specs.declared.xdr.fault.Reason.{Reason}
 use Rattle.acl_eval.specs.Grant.{SameGrants}
 use Rattle.acl_normal.specs.Difference.{situation_of}
 use Rattle.acl_normal.specs.SmallSets.{IsFirstDifference}

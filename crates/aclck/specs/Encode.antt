@@ -5,7 +5,7 @@ use Rattle.acl_nfs4.specs.Ace.{Ace}
 use Rattle.acl_nfs4.specs.AceText.{IsAceText}
 use Rattle.acl_nfs4.specs.AceTextFault.{IsAceTextFault}
 use Rattle.acl_nfs4.specs.Spelling.{spelling}
-use Rattle.acl_nfs4.specs.declared.text_fault.AceTextFault.{AceTextFault}
+use Rattle.acl_nfs4.specs.declared.text.fault.AceTextFault.{AceTextFault}
 use Rattle.aclck.specs.Answer.{Answer, done, refused}
 use Rattle.aclck.specs.declared.answer.Outcome.TheVariants as outcome
 use Rattle.aclck.specs.declared.answer.RunFault.{RunFault}

@@ -5,10 +5,10 @@ ghost use Rattle.acl_perm.specs.Devices.{failures_after};
 ghost use Rattle.acl_perm.specs.Profile.{profile_of};
 ghost use Rattle.acl_nfs4.specs.Spelling.{Xdr};
 ghost use Rattle.acl_nfs4.specs.Stream.{Finishes};
-ghost use Rattle.acl_nfs4.specs.declared.fault.Reason.TheVariants.{Memory};
+ghost use Rattle.acl_nfs4.specs.declared.xdr.fault.Reason.TheVariants.{Memory};
 ghost use Rattle.aclck.specs.Answer.{has_read_failed, is_read};
 ghost use Rattle.aclck.specs.ListInput.{EndsNot, HasInput, IsNotRead, ReadsNone, ReadsValue, TakesLittle, TakesOpen, piece_len};
-ghost use Rattle.acl_nfs4.specs.Progress.{IsBytes};
+ghost use Rattle.acl_nfs4.specs.internal.Progress.{IsBytes};
 
 use crate::answer::RunFault;
 use acl_nfs4::{Acl, Fault, Fed, Feed, Reason};

@@ -3,8 +3,8 @@ use Rattle.acl_perm.specs.Profile.{profile_of}
 use Rattle.acl_nfs4.specs.Ace.{Ace}
 use Rattle.acl_nfs4.specs.Spelling.{Xdr}
 use Rattle.acl_nfs4.specs.Stream.{done}
-use Rattle.acl_nfs4.specs.Progress.{body_in, IsWhole, Judged}
-use Rattle.acl_nfs4.specs.Body.{aces_of}
+use Rattle.acl_nfs4.specs.internal.Progress.{body_in, IsWhole, Judged}
+use Rattle.acl_nfs4.specs.internal.Body.{aces_of}
 use Rattle.acl_nfs4.proofs.Streaming.{progress_grows, ended}
 use Rattle.acl_nfs4.proofs.Within.{code_profile}
 use Rattle.acl_nfs4.proofs.feed.advance.Goals as goal

@@ -3,7 +3,7 @@ use Rattle.std.proofs.lemmas.Bool.{cases_lt}
 use Rattle.acl_perm.specs.Profile.{profile_of}
 use Rattle.acl_nfs4.specs.Fields.{number}
 use Rattle.acl_nfs4.specs.Limits.{most_aces}
-use Rattle.acl_nfs4.specs.Progress.{IsScanned, Ends}
+use Rattle.acl_nfs4.specs.internal.Progress.{IsScanned, Ends}
 use Rattle.acl_nfs4.proofs.Streaming.{text_short, text_many, judged_is}
 use Rattle.acl_nfs4.proofs.Within.{code_profile}
 use Rattle.acl_nfs4.proofs.feed.judge.Goals as goal

@@ -1,0 +1,51 @@
+-- The test that computes, from what `from_utf8` says.
+use Rattle.std.proofs.Common.{◌≡◌, ◌<◌, ℕ, true, false, leb, ltb, List, [], ◌∷◌, refl, sym, arith}
+use Rattle.std.specs.List.{AllByRecursion, list_all}
+use Rattle.std.specs.Str.{is_utf8, IsUtf8}
+use Rattle.std.proofs.lemmas.Str.{is_utf8-from_IsUtf8, IsUtf8-from_ascii, IsUtf8-from_is_utf8}
+use Rattle.std.proofs.lemmas.Str.Ascii.{IsAscii-from_all}
+use Rattle.std.proofs.lemmas.List.Elements.{All-from_recursion}
+use Rattle.std.proofs.lemmas.Bool.{false_from_ne_true}
+use Rattle.acl_perm.proofs.Bools.{and_true}
+use Rattle.acl_nfs4.specs.internal.Reading.{is_plain_ascii}
+use Rattle.acl_nfs4.specs.Who.{is_plain}
+
+-- a true answer
+pub yes : (bytes : List ℕ) → IsUtf8 bytes → true ≡ is_utf8 bytes
+yes bytes h = sym (is_utf8-from_IsUtf8 bytes h)
+
+-- a false answer
+pub no : (bytes : List ℕ) → ¬ (IsUtf8 bytes) → false ≡ is_utf8 bytes
+no bytes h = sym (false_from_ne_true (is_utf8 bytes) (λ e. h (IsUtf8-from_is_utf8 bytes e)))
+
+pub ruleset text_tests = (yes, no)
+
+-- ---- plain ASCII
+
+all_ascii : (bytes : List ℕ) → list_all is_plain_ascii bytes ≡ true → AllByRecursion (λ b. b < 128) bytes
+all_ascii [] e = tt
+all_ascii (b ∷ bytes) e =
+    let h = and_true (is_plain_ascii b) (list_all is_plain_ascii bytes) e in
+    let t = and_true (leb 0x20 b) (ltb b 0x7f) h.0 in
+    (let lt : b < 128 = grind (arith, t.1) in lt, all_ascii bytes h.1)
+
+-- it is UTF-8
+pub plain_ascii_is_utf8 : (bytes : List ℕ) → list_all is_plain_ascii bytes ≡ true → is_utf8 bytes ≡ true
+plain_ascii_is_utf8 bytes e =
+    is_utf8-from_IsUtf8 bytes (IsUtf8-from_ascii bytes
+    (IsAscii-from_all bytes (All-from_recursion (λ b. b < 128) bytes (all_ascii bytes e))))
+
+plain_byte : (b : ℕ) → is_plain_ascii b ≡ true → is_plain b ≡ true
+plain_byte b e =
+    let t = and_true (leb 0x20 b) (ltb b 0x7f) e in
+    grind (arith, t.0, t.1)
+
+-- it has no control byte
+pub plain_ascii_is_plain : (bytes : List ℕ) → list_all is_plain_ascii bytes ≡ true → list_all is_plain bytes ≡ true
+plain_ascii_is_plain [] e = refl
+plain_ascii_is_plain (b ∷ bytes) e =
+    let h = and_true (is_plain_ascii b) (list_all is_plain_ascii bytes) e in
+    rw (plain_byte b h.0, plain_ascii_is_plain bytes h.1) refl
+
+-- what the test of a who needs
+pub ruleset plain_ascii = (plain_ascii_is_utf8, plain_ascii_is_plain)

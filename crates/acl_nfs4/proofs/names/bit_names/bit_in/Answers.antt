@@ -1,0 +1,12 @@
+use Rattle.std.proofs.Common.{sym, ap, ◌∙◌}
+use Rattle.std.specs.Prelude.{option_copied, option_map}
+use Rattle.acl_nfs4.proofs.Tables.{row_found}
+use Rattle.acl_nfs4.proofs.names.bit_names.bit_in.Goals as goal
+
+pub returns-in-Some : goal.returns-in-Some
+returns-in-Some c = ap (option_map (λ r. r.bit)) (sym (ap option_copied c.in-Some.is) ∙ c.row_named.ensures)
+    ∙ row_found c.args.table.now c.args.word.now
+
+pub returns-in-None : goal.returns-in-None
+returns-in-None c = ap (option_map (λ r. r.bit)) (sym (ap option_copied c.in-None.is) ∙ c.row_named.ensures)
+    ∙ row_found c.args.table.now c.args.word.now

@@ -1,0 +1,40 @@
+use Rattle.std.proofs.Common.{◌≡◌, ℕ, Option, None, Some, cond, refl, sym, ap, ◌∙◌, Err, Ok}
+use Rattle.std.specs.Prelude.{ok_or}
+use Rattle.std.proofs.lemmas.Bool.{lt-ltb, le-ltb}
+use Rattle.acl_nfs4.specs.internal.AceReading.{if_light}
+use Rattle.acl_nfs4.specs.internal.NameTable.{set_within}
+use Rattle.acl_nfs4.specs.internal.Reading.{◌>>=◌}
+use Rattle.acl_nfs4.specs.Rights.{rights}
+use Rattle.acl_nfs4.specs.declared.text.fault.AceTextFault.TheVariants as faults
+use Rattle.acl_nfs4.proofs.text.line.mask_at.Goals as goal
+
+pub returns-in_default-clause-exact : goal.returns-in_default-clause-exact
+returns-in_default-clause-exact c =
+    let e : set_within rights c.args.profile.masks.bits c.args.field.now ≡ None =
+    missing c.set_within.result (ap (λ (n : ℕ). set_within rights n c.args.field.now) (sym c.bits.ensures.value)
+    ∙ sym c.set_within.ensures.exact) c.in_default.not-Some in
+    ap (λ (o : Option ℕ). ok_or o (faults.Mask c.args.line c.args.column)
+    >>= (λ n. if_light c.args.weight c.args.line c.args.column n)) e where
+      missing : {x : Option ℕ} (o : Option ℕ) → x ≡ o → ((n : ℕ) → o ≡ Some n → ⊥) → x ≡ None
+      missing None e apart = e
+      missing (Some n) e apart = absurd (apart n refl)
+
+pub returns-then-weight-bits-gt-MOST_WEIGHT-clause-exact : goal.returns-then-weight-bits-gt-MOST_WEIGHT-clause-exact
+returns-then-weight-bits-gt-MOST_WEIGHT-clause-exact c =
+    let e : set_within rights c.args.profile.masks.bits c.args.field.now ≡ Some c.in-Some.bits =
+    ap (λ (n : ℕ). set_within rights n c.args.field.now) (sym c.bits.ensures.value)
+    ∙ sym c.in-Some.ensures.exact in
+    ap (λ (o : Option ℕ). ok_or o (faults.Mask c.args.line c.args.column)
+    >>= (λ n. if_light c.args.weight c.args.line c.args.column n)) e
+    ∙ ap (λ b. cond b (Err (faults.TooHeavy c.args.line c.args.column)) (Ok c.in-Some.bits))
+    (lt-ltb _ _ c.if-weight-bits-gt-MOST_WEIGHT.true)
+
+pub returns-clause-exact : goal.returns-clause-exact
+returns-clause-exact c =
+    let e : set_within rights c.args.profile.masks.bits c.args.field.now ≡ Some c.in-Some.bits =
+    ap (λ (n : ℕ). set_within rights n c.args.field.now) (sym c.bits.ensures.value)
+    ∙ sym c.in-Some.ensures.exact in
+    ap (λ (o : Option ℕ). ok_or o (faults.Mask c.args.line c.args.column)
+    >>= (λ n. if_light c.args.weight c.args.line c.args.column n)) e
+    ∙ ap (λ b. cond b (Err (faults.TooHeavy c.args.line c.args.column)) (Ok c.in-Some.bits))
+    (le-ltb _ _ c.if-weight-bits-gt-MOST_WEIGHT.false)

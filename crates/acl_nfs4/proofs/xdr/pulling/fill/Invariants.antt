@@ -1,0 +1,18 @@
+use Rattle.std.proofs.Common.{◌≡◌, ◌+◌, ◌-◌, ◌≤◌, ◌++◌, ℕ, List, length, take}
+use Rattle.std.specs.Io.KnownBytes.{Consumes}
+use Rattle.acl_nfs4.specs.internal.Progress.{IsBytes}
+use Rattle.acl_nfs4.proofs.xdr.pulling.fill.Given as goal
+
+abbrev pub invariant-loop-filled : goal.invariant-loop-filled
+invariant-loop-filled g l = record {
+  piece : List ℕ;
+  taken : Consumes (g.S.Source.remaining l.fn.source) (g.S.Source.remaining l.source) piece;
+  long : l.held + length piece ≡ l.filled;
+  inside : l.filled ≤ l.end;
+  so_far : take l.filled l.room ≡ take l.held l.fn.room ++ piece;
+  bytes : IsBytes piece;
+  same : g.S.Source.failure_count l.source ≡ g.S.Source.failure_count l.fn.source;
+}
+
+abbrev pub decreases-loop-filled : goal.decreases-loop-filled
+decreases-loop-filled g l = l.end - l.filled

@@ -1,8 +1,0 @@
--- A cursor of this library's readers without where its bytes lie in memory. No public clause cites it.
-use Rattle.std.specs.Prelude.{◌-◌, length}
-use Rattle.acl_nfs4.specs.declared.cursor.Cursor.{Cursor}
-use Rattle.acl_nfs4.specs.Reading.{Place}
-
--- the place of a cursor
-abbrev pub place : Cursor → Place
-place c = record { at = c.len - length c.rest.now; rest = c.rest.now }

@@ -1,0 +1,127 @@
+-- How the code reads lines of ACEs one after the other, as functions: this library's own words, which only code needs.
+-- What public clauses say of texts stands in AceText and AceTextFault.
+use Rattle.std.specs.Prelude.{◌≡◌, ◌+◌, ◌≤◌, ◌==◌, ℕ, List, [], ◌∷◌, ◌++◌, length, Option, None, Some, option_map, ok_or, Result, Ok, Err, nat_le, nat_lt, count_ones, if◌then◌else◌}
+use Rattle.std.specs.Option.{option_and_then}
+use Rattle.std.specs.Str.{bytes_eq}
+use Rattle.acl_perm.specs.Profile.{Profile}
+use Rattle.acl_perm.specs.declared.kind.Kind.{Kind}
+use Rattle.acl_perm.specs.declared.kind.Kind.TheVariants.{Deny, Allow}
+use Rattle.acl_nfs4.specs.Ace.{Ace}
+use Rattle.acl_nfs4.specs.AceText.{TextLine, LineFields, kind_name}
+use Rattle.acl_nfs4.specs.AceTextFault.{flags_column, mask_column, who_column}
+use Rattle.acl_nfs4.specs.FlagNames.{flag_names}
+use Rattle.acl_nfs4.specs.Limits.{most_aces, most_weight}
+use Rattle.acl_nfs4.specs.internal.NameTable.{set_within}
+use Rattle.acl_nfs4.specs.internal.Reading.{◌>>=◌}
+use Rattle.acl_nfs4.specs.Rights.{rights}
+use Rattle.acl_nfs4.specs.Spelling.{weight}
+use Rattle.acl_nfs4.specs.Who.{who_fault}
+use Rattle.acl_nfs4.specs.declared.who.WhoFault.{WhoFault}
+use Rattle.acl_nfs4.specs.declared.who.WhoFault.TheVariants as who
+use Rattle.acl_nfs4.specs.declared.text.fault.AceTextFault.{AceTextFault}
+use Rattle.acl_nfs4.specs.declared.text.fault.AceTextFault.TheVariants as faults
+use Rattle.acl_nfs4.specs.declared.text.line.LineFields.{LineFields as HeldFields}
+
+-- ---- fields
+
+-- what stands before the first space, and what behind it
+abbrev pub cut_space : List ℕ → Option (List ℕ × List ℕ)
+cut_space [] = None
+cut_space (b ∷ bytes) =
+    if b == 0x20 then Some ([], bytes) else option_map (λ parts. (b ∷ parts.0, parts.1)) (cut_space bytes)
+
+-- the last two fields, behind these two
+abbrev pub last_fields : List ℕ → List ℕ → Option (List ℕ × List ℕ) → Option LineFields
+last_fields kind flags parts =
+    option_map (λ p. record { kind = kind; flags = flags; mask = p.0; who = p.1 }) parts
+
+-- the fields of a line, where it has four
+unfoldable pub fields_of : List ℕ → Option LineFields
+fields_of line = option_and_then (λ kind.
+    option_and_then (λ flags. last_fields kind.0 flags.0 (cut_space flags.1)) (cut_space kind.1)) (cut_space line)
+
+-- the fields of code
+abbrev pub view_fields : HeldFields → LineFields
+view_fields fields =
+    record { kind = fields.kind.now; flags = fields.flags.now; mask = fields.mask.now; who = fields.who.now }
+
+-- the fields of a line are no longer than it
+abbrev pub FieldsFit : LineFields → List ℕ → Type 0
+FieldsFit fields line =
+    length fields.kind + length fields.flags + length fields.mask + length fields.who + 3 ≤ length line
+
+-- ---- what a field holds
+
+-- the type of a word
+unfoldable pub kind_named : List ℕ → Option Kind
+kind_named word = if bytes_eq word (kind_name Allow) then Some Allow
+    else (if bytes_eq word (kind_name Deny) then Some Deny else None)
+
+-- the flags of a field
+abbrev pub read_flags : Profile → ℕ → ℕ → List ℕ → Result ℕ AceTextFault
+read_flags p line column field = ok_or (set_within flag_names p.flags field) (faults.Flag line column)
+
+-- a mask, where ACEs of this weight leave room for it
+abbrev pub if_light : ℕ → ℕ → ℕ → ℕ → Result ℕ AceTextFault
+if_light heavy line column mask =
+    if nat_lt most_weight (heavy + count_ones mask) then Err (faults.TooHeavy line column) else Ok mask
+
+-- the mask of a field, after ACEs of this weight
+abbrev pub read_mask_field : Profile → ℕ → ℕ → ℕ → List ℕ → Result ℕ AceTextFault
+read_mask_field p heavy line column field =
+    ok_or (set_within rights p.masks field) (faults.Mask line column) >>= λ n. if_light heavy line column n
+
+-- the fault of a who
+abbrev pub who_fault_at : ℕ → ℕ → WhoFault → AceTextFault
+who_fault_at line column who.Length = faults.WhoLength line column
+who_fault_at line column who.Utf8 = faults.WhoUtf8 line column
+who_fault_at line column who.Control = faults.WhoControl line column
+who_fault_at line column who.Special = faults.SpecialWho line column
+
+-- bytes, unless there is a fault
+abbrev pub who_judged : ℕ → ℕ → List ℕ → Option WhoFault → Result (List ℕ) AceTextFault
+who_judged line column bytes None = Ok bytes
+who_judged line column bytes (Some fault) = Err (who_fault_at line column fault)
+
+-- the who of a field
+abbrev pub read_who : ℕ → ℕ → List ℕ → Result (List ℕ) AceTextFault
+read_who line column field = who_judged line column field (who_fault field)
+
+-- ---- lines
+
+-- the ACE of fields of which three were read
+abbrev pub after_mask : ℕ → LineFields → Kind → ℕ → ℕ → Result Ace AceTextFault
+after_mask line fields kind flags mask = read_who line (who_column fields) fields.who
+    >>= λ name. Ok (record { kind = kind; flags = flags; mask = mask; who = name })
+
+-- the ACE of fields of which two were read, after ACEs of this weight
+abbrev pub after_flags : Profile → ℕ → ℕ → LineFields → Kind → ℕ → Result Ace AceTextFault
+after_flags p heavy line fields kind flags = read_mask_field p heavy line (mask_column fields) fields.mask
+    >>= λ mask. after_mask line fields kind flags mask
+
+-- the ACE of fields of which one was read
+abbrev pub after_kind : Profile → ℕ → ℕ → LineFields → Kind → Result Ace AceTextFault
+after_kind p heavy line fields kind = read_flags p line (flags_column fields) fields.flags
+    >>= λ flags. after_flags p heavy line fields kind flags
+
+-- the ACE of these fields
+abbrev pub read_fields : Profile → ℕ → ℕ → LineFields → Result Ace AceTextFault
+read_fields p heavy line fields =
+    ok_or (kind_named fields.kind) (faults.AceType line 1) >>= λ kind. after_kind p heavy line fields kind
+
+-- the ACE of a line, as the next of a list of so many of this weight
+unfoldable pub read_ace : Profile → ℕ → ℕ → ℕ → List ℕ → Result Ace AceTextFault
+read_ace p count heavy line bytes = if nat_le most_aces count then Err (faults.TooManyAces line 1)
+    else (ok_or (fields_of bytes) (faults.Fields line 1) >>= λ fields. read_fields p heavy line fields)
+
+-- the ACEs of lines behind a list, or the first fault
+unfoldable pub read_lines : Profile → List Ace → List TextLine → Result (List Ace) AceTextFault
+read_lines p list [] = Ok list
+read_lines p list (line ∷ lines) = do
+  a ← read_ace p (length list) (weight list) line.number line.bytes
+  read_lines p (list ++ a ∷ []) lines
+
+-- what code failed with is the fault that is told, unless memory ran out
+abbrev pub Fails : {Y : Type 0} → AceTextFault → Result Y AceTextFault → Type 0
+Fails faults.Memory read = Unit {0}
+Fails fault read = read ≡ Err fault

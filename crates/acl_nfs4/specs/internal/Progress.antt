@@ -1,0 +1,94 @@
+-- How far a text that comes in pieces is judged: words that this library's code needs.
+-- Public clauses cite none of them.
+use Rattle.std.specs.Prelude.{◌≡◌, ℕ, ◌+◌, ◌<◌, ◌≤◌, List, [], ◌++◌, length, take, drop, get_or, Err, Option, None, Some}
+use Rattle.std.specs.List.{AllByRecursion}
+use Rattle.acl_perm.specs.Profile.{Profile}
+use Rattle.acl_nfs4.specs.Ace.{Ace}
+use Rattle.acl_nfs4.specs.Spelling.{Xdr, IsAce, weight}
+use Rattle.acl_nfs4.specs.Within.{IsProfile}
+use Rattle.acl_nfs4.specs.Fault.{IsFault}
+use Rattle.acl_nfs4.specs.Fields.{number}
+use Rattle.acl_nfs4.specs.internal.Reading.{Place, ace_at}
+use Rattle.acl_nfs4.specs.internal.Body.{Spells, aces_of}
+use Rattle.acl_nfs4.specs.Owned.{IsOwned}
+use Rattle.acl_nfs4.specs.Stream.{Standing, more, done, refused}
+use Rattle.acl_nfs4.specs.declared.xdr.fault.Fault.{Fault}
+use Rattle.acl_nfs4.specs.declared.xdr.fault.Reason.TheVariants.{Truncated}
+use Rattle.acl_nfs4.specs.declared.feed.scan.Progress.{Progress}
+use Rattle.acl_nfs4.specs.declared.feed.Stage.{Stage}
+use Rattle.acl_nfs4.specs.declared.feed.Stage.TheVariants.{Open, Done, Refused}
+
+-- each is a byte
+abbrev pub IsBytes : List ℕ → Type 0
+IsBytes bytes = (i : ℕ) → get_or bytes i 0 < 256
+
+-- the first word and what follows it
+pub record IsText (head : List ℕ) (filled : ℕ) (body : List ℕ) : Type 0 where
+  pub word : length head ≡ 4
+  pub inside : filled ≤ 4
+  pub begun : filled < 4 → body ≡ []
+  pub bytes : IsBytes (take filled head ++ body)
+
+-- the first bytes of a body are the pieces of so many ACEs of that weight
+pub record IsScanned (p : Profile) (body : List ℕ) (at : Progress) : Type 0 where
+  pub list : List Ace
+  pub spells : Spells list (take at.used body)
+  pub each : AllByRecursion (IsAce p) list
+  pub long : length list ≡ at.seen
+  pub total : weight list ≡ at.weight
+  pub inside : at.used ≤ length body
+
+-- the place behind them; the word of the count stands before the body
+abbrev pub behind_scanned : List ℕ → Progress → Place
+behind_scanned body at = record { at = 4 + at.used; rest = drop at.used body }
+
+-- all ACEs are whole, or the next one has this fault
+abbrev pub Ends : Profile → ℕ → List ℕ → Progress → Option Fault → Type 0
+Ends p count body at None = at.seen ≡ count
+Ends p count body at (Some f) = (at.seen < count) × (ace_at p at.weight (behind_scanned body at) ≡ Err f)
+
+-- the same of a whole text
+pub record IsProgress (p : Profile) (text : List ℕ) (at : Progress) : Type 0 where
+  pub scanned : IsScanned p (drop 4 text) at
+  pub seen : at.seen ≤ number (take 4 text)
+  pub begun : length text < 4 → at.seen ≡ 0
+
+-- the bytes of the pieces of the list that a text begins with
+abbrev pub body_in : List ℕ → Progress → List ℕ
+body_in text at = take at.used (drop 4 text)
+
+-- the text begins with the list that was seen
+pub record IsWhole (p : Profile) (text : List ℕ) (at : Progress) : Type 0 where
+  pub xdr : Xdr p (aces_of at.seen (body_in text at)) (take (4 + at.used) text)
+  pub owned : IsOwned at.seen at.weight (body_in text at)
+  pub inside : 4 + at.used ≤ length text
+
+-- a text begins with a value, or has this fault
+abbrev pub Judged : Profile → List ℕ → Progress → Option Fault → Type 0
+Judged p text at None = IsWhole p text at
+Judged p text at (Some f) = IsFault p text f.offset f.reason
+
+-- the fields of a feed that asks for more
+pub record IsOpen (p : Profile) (f : Fault) (at : Progress) (text : List ℕ) : Type 0 where
+  pub profile : IsProfile p
+  pub cut : IsFault p text f.offset f.reason
+  pub why : f.reason ≡ Truncated
+  pub progress : IsProgress p text at
+
+-- what the fields of a feed stand for
+abbrev pub standing : Profile → Stage → Progress → List ℕ → Standing
+standing p (Open f) at text = more p text
+standing p Done at text = done (aces_of at.seen (drop 4 text))
+standing p (Refused f) at text = refused f
+
+-- the fields of a feed
+abbrev pub IsFeed : Profile → Stage → Progress → List ℕ → Type 0
+IsFeed p (Open f) at text = IsOpen p f at text
+IsFeed p Done at text = IsOwned at.seen at.weight (drop 4 text)
+IsFeed p (Refused f) at text = Unit {0}
+
+-- a feed that has taken just this front of a piece so far, and asks for more
+abbrev pub HasTaken : Standing → List ℕ → Standing → Type 0
+HasTaken (more p s) front new = new ≡ more p (s ++ front)
+HasTaken (done list) front new = (new ≡ done list) × (front ≡ [])
+HasTaken (refused f) front new = (new ≡ refused f) × (front ≡ [])

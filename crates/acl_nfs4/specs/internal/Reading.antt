@@ -1,0 +1,112 @@
+-- Reading from left to right, with the first fault that is met: what this library's readers compute. No public
+-- clause cites it.
+use Rattle.std.specs.Prelude.{◌≡◌, ℕ, zero, suc, ◌+◌, List, [], ◌∷◌, length, take, drop, Result, Ok, Err, Option, None, Some, nat_le, nat_lt, ◌&&◌, not, ◌==◌, Bool, if◌then◌else◌, count_ones}
+use Rattle.acl_perm.specs.Profile.{Profile}
+use Rattle.acl_perm.specs.declared.kind.Kind.{Kind}
+use Rattle.acl_perm.specs.declared.kind.Kind.TheVariants.{Deny, Allow}
+use Rattle.acl_nfs4.specs.Ace.{Ace}
+use Rattle.acl_nfs4.specs.Fields.{number, count_of, kind_of, flags_of, mask_of, who_len_of, who_of, padding_of}
+use Rattle.std.specs.List.{list_all}
+use Rattle.std.specs.Str.{is_utf8}
+use Rattle.acl_nfs4.specs.Spelling.{pad_len}
+use Rattle.acl_nfs4.specs.Who.{is_plain}
+use Rattle.acl_nfs4.specs.declared.who.WhoFault.{WhoFault}
+use Rattle.acl_nfs4.specs.declared.who.WhoFault.TheVariants.{Utf8, Control}
+use Rattle.acl_nfs4.specs.declared.xdr.fault.Fault.{Fault}
+use Rattle.acl_nfs4.specs.declared.xdr.fault.Reason.{Reason}
+use Rattle.acl_nfs4.specs.declared.xdr.fault.Reason.TheVariants.{Truncated}
+
+-- one step, and another with its value
+infixl 10 ◌>>=◌
+abbrev pub ◌>>=◌ : {A B E : Type 0} → Result A E → (A → Result B E) → Result B E
+(Ok x) >>= f = f x
+(Err e) >>= f = Err e
+
+-- what a function returned, seen by view, is what reading gives
+abbrev pub Gives : {X Y E : Type 0} → (X → Y) → Result X E → Result Y E → Type 0
+Gives view (Ok x) read = read ≡ Ok (view x)
+Gives view (Err e) read = read ≡ Err e
+
+-- what a test answered is the fault that it looks for
+abbrev pub Judges : {E : Type 0} → Result (Unit {0}) E → Option E → Type 0
+Judges (Ok _) fault = fault ≡ None
+Judges (Err e) fault = fault ≡ Some e
+
+-- an ASCII byte that is no control byte
+abbrev pub is_plain_ascii : ℕ → Bool
+is_plain_ascii b = nat_le 0x20 b && nat_lt b 0x7f
+
+-- the first that bytes break of the conditions on their encoding
+abbrev pub text_fault : List ℕ → Option WhoFault
+text_fault bytes = if not (is_utf8 bytes) then Some Utf8
+    else (if not (list_all is_plain bytes) then Some Control else None)
+
+-- the type of a number that is one
+abbrev pub kind_from : ℕ → Kind
+kind_from n = if n == 0 then Allow else Deny
+
+-- how many bytes were read, and those that are left
+pub record Place : Type 0 where
+  pub at : ℕ
+  pub rest : List ℕ
+
+-- a fault of the field that stands at a place
+abbrev pub fault_at : Place → Reason → Fault
+fault_at p r = record { offset = p.at; reason = r }
+
+-- what a field gives, with its fault at the field's first byte
+abbrev pub Placed : {A : Type 0} → ℕ → Result A Reason → Result A Fault → Type 0
+Placed offset (Ok x) result = result ≡ Ok x
+Placed offset (Err r) result = result ≡ Err (record { offset = offset; reason = r })
+
+-- a place so many bytes further on
+abbrev pub moved : ℕ → Place → Place
+moved n p = record { at = p.at + n; rest = drop n p.rest }
+
+-- what a whole field of n bytes gives: it is refused by what it holds, or its value and the place behind it
+abbrev pub judged : {A : Type 0} → ℕ → Place → Result A Reason → Result (A × Place) Fault
+judged n p (Ok x) = Ok (x, moved n p)
+judged n p (Err r) = Err (fault_at p r)
+
+-- a field of n bytes: cut short, or what it gives where it is whole
+abbrev pub field : {A : Type 0} → ℕ → (List ℕ → Result A Reason) → Place → Result (A × Place) Fault
+field n value p = if nat_lt (length p.rest) n then Err (fault_at p Truncated) else judged n p (value (take n p.rest))
+
+-- ---- the fields in order
+
+-- a field that is a word
+abbrev pub word_field : {A : Type 0} → (ℕ → Result A Reason) → Place → Result (A × Place) Fault
+word_field value p = field 4 (λ bytes. value (number bytes)) p
+
+-- an ACE, after ACEs of this weight
+unfoldable pub ace_at : Profile → ℕ → Place → Result (Ace × Place) Fault
+ace_at p weight at = do
+  kind ← word_field kind_of at
+  flags ← word_field (flags_of p) kind.1
+  mask ← word_field (mask_of p weight) flags.1
+  len ← word_field who_len_of mask.1
+  who ← field len.0 who_of len.1
+  padding ← field (pad_len len.0) padding_of who.1
+  Ok (record { kind = kind.0; flags = flags.0; mask = mask.0; who = who.0 }, padding.1)
+
+-- so many ACEs, after ACEs of this weight
+unfoldable pub aces_at : Profile → ℕ → ℕ → Place → Result (List Ace × Place) Fault
+aces_at p zero weight at = Ok ([], at)
+aces_at p (suc n) weight at = do
+  first ← ace_at p weight at
+  others ← aces_at p n (weight + count_ones first.0.mask) first.1
+  Ok (first.0 ∷ others.0, others.1)
+
+-- the value at the front, and the place behind it
+unfoldable pub read : Profile → List ℕ → Result (List Ace × Place) Fault
+read p bytes = do
+  count ← word_field count_of (record { at = 0; rest = bytes })
+  aces_at p count.0 0 count.1
+
+-- where reading ended, without what was read
+abbrev pub ending : {A : Type 0} → Result (A × Place) Fault → Result Place Fault
+ending read = read >>= λ x. Ok x.1
+
+-- the value at the front, and the number of its bytes
+abbrev pub value_at : Profile → List ℕ → Result (List Ace × ℕ) Fault
+value_at p bytes = read p bytes >>= λ x. Ok (x.0, x.1.at)

@@ -1,0 +1,51 @@
+//! Judging a body that comes bit by bit.
+ghost use Rattle.std.specs.Prelude.{◌≡◌, ◌+◌, ◌<◌, ◌≤◌, ◌^◌, length};
+ghost use Rattle.acl_perm.specs.Profile.{profile_of};
+ghost use Rattle.acl_nfs4.specs.internal.Progress.{Ends, IsScanned};
+
+use crate::xdr::cursor::Cursor;
+use crate::xdr::fault::Fault;
+use crate::xdr::reading::next_ace;
+use acl_perm::Profile;
+
+/// How many ACEs of a body are whole, in how many bytes, and their weight.
+#[derive(Clone, Copy)]
+pub(crate) struct Progress {
+    pub seen: u32,
+    pub used: usize,
+    pub weight: u32,
+}
+
+/// Judges the ACEs from there on, up to the first that isn't whole or is refused.
+pub(crate) fn scan(
+    body: &[u8],
+    count: u32,
+    from: Progress,
+    profile: Profile,
+) -> (Progress, Option<Fault>)
+    requires scanned { IsScanned (profile_of profile) body.now from }
+    requires seen { from.seen ≤ count }
+    requires fits { 4 + length body.now < 2 ^ 64 }
+    ensures scanned { IsScanned (profile_of profile) body.now result.0 }
+    ensures ends { Ends (profile_of profile) count body.now result.0 result.1 }
+{
+    let (_, rest) = body.split_at(from.used);
+    let mut cursor = Cursor {
+        len: 4 + body.len(),
+        rest,
+    };
+    let mut progress = from;
+    while progress.seen < count {
+        match next_ace(&mut cursor, progress.weight, profile) {
+            Ok(ace) => {
+                progress = Progress {
+                    seen: progress.seen + 1,
+                    used: body.len() - cursor.rest.len(),
+                    weight: progress.weight + ace.mask.bits().count_ones(),
+                };
+            }
+            Err(fault) => return (progress, Some(fault)),
+        }
+    }
+    (progress, None)
+}

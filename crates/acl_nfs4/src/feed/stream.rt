@@ -1,0 +1,93 @@
+//! The bytes of a stream so far.
+ghost use Rattle.std.specs.Prelude.{◌≡◌, ◌+◌, ◌≤◌, ◌<◌, ◌^◌, ◌↔◌, [], IsSome, IfSome, length, take, drop};
+ghost use Rattle.acl_nfs4.specs.internal.Appending.{Extended};
+ghost use Rattle.acl_nfs4.specs.Fields.{number};
+ghost use Rattle.acl_nfs4.specs.internal.Progress.{IsBytes};
+
+use byteorder::{BigEndian, ByteOrder};
+use std::alloc::{AllocError, Global};
+use std::marker::Model;
+
+/// The first word lies here, so that it takes no memory, and what follows it in a vector.
+#[derive(Drop)]
+pub(crate) struct Text {
+    head: [u8; 4],
+    filled: usize,
+    body: Vec<u8>,
+}
+
+impl Model for Text {
+    ghost use Rattle.std.specs.Prelude.{List, ℕ, take, ◌++◌};
+    ghost use Rattle.acl_nfs4.specs.internal.Progress.{IsText};
+
+    ghost Value = { List ℕ };
+
+    ghost view = { λ s. take s.filled s.head ++ s.body.items };
+
+    ghost invariant = { λ s. IsText s.head s.filled s.body.items };
+}
+
+impl Text {
+    pub(crate) fn new(alloc: Global) -> Text
+        ensures { result ≡ [] }
+    {
+        Text {
+            head: [0; 4],
+            filled: 0,
+            body: Vec::new(alloc),
+        }
+    }
+
+    pub(crate) fn len(&self) -> usize
+        ensures { result ≡ length self.now }
+    {
+        self.filled + self.body.len()
+    }
+
+    /// The number that the first word is, once it is there.
+    pub(crate) fn count(&self) -> Option<u32>
+        ensures whole { IsSome result ↔ (4 ≤ length self.now) }
+        ensures value { IfSome result (λ n. n ≡ number (take 4 self.now)) }
+        ensures bytes { IsBytes self.now }
+        ensures fits { length self.now < 2 ^ 64 }
+    {
+        if self.filled < 4 {
+            return None;
+        }
+        Some(BigEndian::read_u32(&self.head))
+    }
+
+    /// What follows the first word.
+    pub(crate) fn body(&self) -> &[u8]
+        ensures { result.now ≡ drop 4 self.now }
+    {
+        &self.body
+    }
+
+    /// One more piece.
+    pub(crate) fn extend(&mut self, piece: &[u8]) -> Result<(), AllocError>
+        ensures { Extended self.old self.new piece.now result }
+    {
+        let (front, rest) = piece.split_at(piece.len().min(4 - self.filled));
+        self.body.extend_from_slice(rest)?;
+        let end = self.filled + front.len();
+        self.head[self.filled..end].copy_from_slice(front);
+        self.filled = end;
+        Ok(())
+    }
+
+    /// Keeps so many bytes behind the first word.
+    pub(crate) fn cut(&mut self, used: usize)
+        requires { 4 + used ≤ length self.old }
+        ensures { drop 4 self.new ≡ take used (drop 4 self.old) }
+    {
+        self.body.truncate(used);
+    }
+
+    /// What follows the first word, alone.
+    pub(crate) fn into_body(self) -> Vec<u8>
+        ensures { result.items ≡ drop 4 self }
+    {
+        self.body
+    }
+}

@@ -1,0 +1,94 @@
+ghost use Rattle.std.specs.Prelude.{◌≡◌, ◌+◌, ◌≤◌, ℕ, List, ◌++◌, length, take, drop};
+ghost use Rattle.acl_perm.specs.Profile.{full};
+ghost use Rattle.acl_nfs4.specs.Ace.{Ace, ace};
+ghost use Rattle.acl_nfs4.specs.internal.Reading.{kind_from};
+ghost use Rattle.acl_nfs4.specs.Spelling.{piece, IsAce};
+ghost use Rattle.acl_nfs4.specs.Fields.{number};
+ghost use Rattle.acl_nfs4.specs.internal.Body.{BeginsWithAce};
+
+use crate::ace::AceRef;
+use acl_perm::{Flags, Kind, Mask};
+use byteorder::{BigEndian, ByteOrder};
+use std::marker::Model;
+
+pub(crate) fn word_in(bytes: &[u8], at: usize) -> u32
+    requires { at + 4 ≤ length bytes.now }
+    ensures { result ≡ number (take 4 (drop at bytes.now)) }
+{
+    BigEndian::read_u32(&bytes[at..])
+}
+
+fn kind_named(number: u32) -> Kind
+    ensures { result ≡ kind_from number }
+{
+    if number == 0 { Kind::Allow } else { Kind::Deny }
+}
+
+fn first_ace(bytes: &[u8]) -> (AceRef<'_>, &[u8])
+    requires { BeginsWithAce bytes.now }
+    ensures { (a : Ace) (more : List ℕ) → IsAce full a → bytes.now ≡ piece a ++ more
+        → (ace result.0 ≡ a) × (result.1.now ≡ more) }
+{
+    let kind = kind_named(word_in(bytes, 0));
+    let flags = Flags {
+        bits: word_in(bytes, 4) as u8,
+    };
+    let mask = Mask {
+        bits: word_in(bytes, 8),
+    };
+    let len = word_in(bytes, 12) as usize;
+    let (_, after) = bytes.split_at(16);
+    let (who, _) = after.split_at(len);
+    let (_, rest) = bytes.split_at((len + 19) / 4 * 4);
+    let ace = AceRef {
+        kind,
+        flags,
+        mask,
+        who,
+    };
+    (ace, rest)
+}
+
+/// The ACEs of a list in order.
+#[derive(Drop)]
+pub struct Aces<'a> {
+    pub(crate) left: u32,
+    pub(crate) rest: &'a [u8],
+}
+
+impl<'a> Model for Aces<'a> {
+    ghost use Rattle.std.specs.Prelude.{List};
+    ghost use Rattle.acl_nfs4.specs.Ace.{Ace};
+    ghost use Rattle.acl_nfs4.specs.internal.Body.{aces_of, IsBody};
+
+    ghost Value = { List Ace };
+
+    ghost view = { λ s. aces_of s.left s.rest.now };
+
+    ghost invariant = { λ s. IsBody s.left s.rest.now };
+}
+
+impl<'a> Iterator for Aces<'a> {
+    ghost use Rattle.std.specs.Prelude.{IfSome};
+    ghost use Rattle.std.specs.Iterator.{YieldsFirstBy, item_count};
+    ghost use Rattle.acl_perm.specs.Profile.{full};
+    ghost use Rattle.acl_nfs4.specs.Ace.{ace};
+    ghost use Rattle.acl_nfs4.specs.Spelling.{IsAce};
+
+    type Item = AceRef<'a>;
+
+    ghost next_gives = { λ old item new. YieldsFirstBy ace (λ rest. rest) old item new
+        × IfSome item (λ a. IsAce full (ace a)) };
+
+    ghost remaining = { item_count (λ rest. rest) };
+
+    fn next(&mut self) -> Option<AceRef<'a>> {
+        if self.left == 0 {
+            return None;
+        }
+        let (ace, after) = first_ace(self.rest);
+        self.left -= 1;
+        self.rest = after;
+        Some(ace)
+    }
+}

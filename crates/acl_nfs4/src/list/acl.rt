@@ -1,0 +1,285 @@
+//! The owned list.
+ghost use Rattle.std.specs.Prelude.{◌≡◌, ◌+◌, ◌<◌, ◌≤◌, ◌↔◌, count_ones, IsTrue, IfErr, IfOk, OnOk, OnErr, None, option_map};
+ghost use Rattle.std.specs.Prelude.{[], ◌∷◌, ◌++◌, length, replicate};
+ghost use Rattle.acl_nfs4.specs.Ace.{ace};
+ghost use Rattle.acl_nfs4.specs.Spelling.{piece, word, kind_number, IsAccepted, Fits};
+ghost use Rattle.acl_nfs4.specs.Spelling as spelled;
+ghost use Rattle.acl_nfs4.specs.Owned.{same_list};
+ghost use Rattle.acl_nfs4.specs.Push.{who_refusal, push_refusal, PushAnswers};
+ghost use Rattle.acl_nfs4.specs.declared.list.push_fault.PushFault.TheVariants.{Memory};
+ghost use Rattle.acl_nfs4.specs.internal.Appending.{Extended};
+ghost use Rattle.acl_nfs4.specs.Limits.{most_aces, most_weight, longest_who};
+ghost use Rattle.acl_nfs4.specs.internal.Reading.{Judges};
+ghost use Rattle.acl_nfs4.specs.Who.{IsWho, who_fault};
+ghost use Rattle.acl_nfs4.specs.Within.{IsWithin};
+ghost use Rattle.acl_perm.specs.Profile.{full, profile_of};
+
+use crate::ace::AceRef;
+use crate::limits::{MOST_ACES, MOST_WEIGHT};
+use crate::list::aces::Aces;
+use crate::list::push_fault::PushFault;
+use crate::who::{WhoFault, judge};
+use crate::xdr::view::AclView;
+use acl_perm::{Kind, Profile};
+use byteorder::{BigEndian, ByteOrder};
+use std::alloc::{AllocError, Global};
+use std::marker::Model;
+
+/// A list of ACEs (RFC 8881, section 6.2.1) that is always accepted: at most 65,536 ACEs, of at most 65,536 mask bits
+/// together, each with a who of 1 to 1,024 bytes. It is kept as the bytes that spell it, in one allocation.
+#[derive(Debug, Drop)]
+pub struct Acl {
+    pub(crate) count: u32,
+    pub(crate) weight: u32,
+    pub(crate) body: Vec<u8>,
+}
+
+impl Model for Acl {
+    ghost use Rattle.std.specs.Prelude.{List};
+    ghost use Rattle.acl_nfs4.specs.Ace.{Ace};
+    ghost use Rattle.acl_nfs4.specs.internal.Body.{aces_of};
+    ghost use Rattle.acl_nfs4.specs.Owned.{IsOwned};
+
+    ghost Value = { List Ace };
+
+    ghost view = { λ s. aces_of s.count s.body.items };
+
+    ghost invariant = { λ s. IsOwned s.count s.weight s.body.items };
+}
+
+impl Acl {
+    /// The empty list. It takes no memory.
+    pub fn new(alloc: Global) -> Acl
+        ensures { result ≡ [] }
+    {
+        Acl {
+            count: 0,
+            weight: 0,
+            body: Vec::new(alloc),
+        }
+    }
+
+    /// The number of ACEs, in constant time.
+    pub fn len(&self) -> usize
+        ensures { result ≡ length self.now }
+    {
+        self.count as usize
+    }
+
+    /// Whether there is no ACE, in constant time.
+    pub fn is_empty(&self) -> bool
+        ensures { IsTrue result ↔ (self.now ≡ []) }
+    {
+        self.count == 0
+    }
+
+    /// The number of mask bits set, over all ACEs, in constant time.
+    pub fn weight(&self) -> u32
+        ensures value { result ≡ spelled.weight self.now }
+        ensures within { result ≤ most_weight }
+    {
+        self.weight
+    }
+
+    /// The ACEs in order. To go through all takes time linear in their bytes, and no memory.
+    pub fn aces(&self) -> Aces<'_>
+        ensures same { result ≡ self.now }
+        // Every list of this type is accepted.
+        ensures accepted { IsAccepted full self.now }
+    {
+        Aces {
+            left: self.count,
+            rest: &self.body,
+        }
+    }
+
+    /// Whether the profile has every flag and every right of every ACE, in time linear in the bytes, without memory.
+    pub fn fits(&self, profile: Profile) -> bool
+        ensures exact { IsTrue result ↔ Fits (profile_of profile) self.now }
+        // A list that fits a profile is one that is accepted under it.
+        ensures accepted { IsTrue result ↔ IsAccepted (profile_of profile) self.now }
+    {
+        fit(self.aces(), profile)
+    }
+
+    /// The same list again, in time linear in its bytes and with one allocation.
+    pub fn copy(&self, alloc: Global) -> Result<Acl, AllocError>
+        ensures { IfOk result (λ a. a ≡ self.now) }
+    {
+        Ok(Acl {
+            count: self.count,
+            weight: self.weight,
+            body: Vec::from_slice(alloc, &self.body)?,
+        })
+    }
+
+    /// The list that a view shows, in time linear in its bytes and with one allocation.
+    pub fn from_view(alloc: Global, view: &AclView<'_>) -> Result<Acl, AllocError>
+        ensures { IfOk result (λ a. a ≡ view.now) }
+    {
+        let body = Vec::from_slice(alloc, view.body)?;
+        Ok(Acl {
+            count: view.count,
+            weight: weight_of(view.aces()),
+            body,
+        })
+    }
+
+    /// Adds an ACE at the end, where the list stays accepted. Else the answer is the first condition, in the order of
+    /// `PushFault`, that refuses it. To push many ACEs takes time linear in their bytes.
+    pub fn push(&mut self, item: AceRef<'_>) -> Result<(), PushFault>
+        // What is taken stands at the end.
+        ensures ok { OnOk result (self.new ≡ self.old ++ ace item.entry ∷ []) }
+        // A refusal leaves the list as it was.
+        ensures err { OnErr result (self.new ≡ self.old) }
+        // A fault is the first condition that refuses; memory is wanted only where none does.
+        ensures fault { PushAnswers result (push_refusal self.old (ace item.entry)) }
+        // Memory is the answer only where nothing else refuses.
+        ensures wanted { IfErr result (λ f. f ≡ Memory → push_refusal self.old (ace item.entry) ≡ None) }
+        // What is taken leaves the list accepted.
+        ensures accepted { OnOk result (IsAccepted full (self.old ++ ace item.entry ∷ [])) }
+        // What would leave the list accepted is not refused.
+        ensures only { IsAccepted full (self.old ++ ace item.entry ∷ [])
+            → push_refusal self.old (ace item.entry) ≡ None }
+    {
+        if self.count >= MOST_ACES {
+            return Err(PushFault::TooManyAces);
+        }
+        let bits = item.mask.bits().count_ones();
+        if self.weight + bits > MOST_WEIGHT {
+            return Err(PushFault::TooHeavy);
+        }
+        judge_who(item.who)?;
+        match self.append(item) {
+            Ok(()) => Ok(()),
+            Err(_) => Err(PushFault::Memory),
+        }
+    }
+
+    /// Adds an ACE at the end of a list that can take it.
+    pub(crate) fn append(&mut self, item: AceRef<'_>) -> Result<(), AllocError>
+        requires room { length self.old < most_aces }
+        requires light { spelled.weight self.old + count_ones item.mask.bits ≤ most_weight }
+        requires who { IsWho item.who.now }
+        ensures ok { OnOk result (self.new ≡ self.old ++ ace item.entry ∷ []) }
+        ensures err { OnErr result (self.new ≡ self.old) }
+        ensures accepted { OnOk result (IsAccepted full (self.old ++ ace item.entry ∷ [])) }
+    {
+        append_piece(&mut self.body, &item)?;
+        self.count += 1;
+        self.weight += item.mask.bits().count_ones();
+        Ok(())
+    }
+}
+
+fn judge_who(who: &[u8]) -> Result<(), PushFault>
+    ensures { Judges result (option_map who_refusal (who_fault who.now)) }
+{
+    match judge(who) {
+        Ok(()) => Ok(()),
+        Err(fault) => Err(who_refusal(fault)),
+    }
+}
+
+fn who_refusal(fault: WhoFault) -> PushFault
+    ensures { result ≡ who_refusal fault }
+{
+    match fault {
+        WhoFault::Length => PushFault::WhoLength,
+        WhoFault::Utf8 => PushFault::WhoUtf8,
+        WhoFault::Control => PushFault::WhoControl,
+        WhoFault::Special => PushFault::SpecialWho,
+    }
+}
+
+// The four words that an ACE begins with.
+fn head(item: &AceRef<'_>) -> [u8; 16]
+    requires { length item.now.who.now ≤ longest_who }
+    ensures { result ≡ word (kind_number item.now.kind) ++ word item.now.flags.bits ++ word item.now.mask.bits
+        ++ word (length item.now.who.now) }
+{
+    let mut bytes = [0u8; 16];
+    BigEndian::write_u32(&mut bytes, kind_word(item.kind));
+    BigEndian::write_u32(&mut bytes[4..], item.flags.bits() as u32);
+    BigEndian::write_u32(&mut bytes[8..], item.mask.bits());
+    BigEndian::write_u32(&mut bytes[12..], item.who.len() as u32);
+    bytes
+}
+
+fn kind_word(kind: Kind) -> u32
+    ensures { result ≡ kind_number kind }
+{
+    match kind {
+        Kind::Allow => 0,
+        Kind::Deny => 1,
+    }
+}
+
+// The piece of an ACE at the end, or nothing.
+fn append_piece(body: &mut Vec<u8>, item: &AceRef<'_>) -> Result<(), AllocError>
+    requires { length item.now.who.now ≤ longest_who }
+    ensures { Extended body.old.items body.new.items (piece (ace item.now)) result }
+{
+    let len = item.who.len();
+    // Behind this, nothing wants memory.
+    body.reserve(16 + len + 3)?;
+    body.extend_from_slice(&head(item))?;
+    body.extend_from_slice(item.who)?;
+    // Three bytes and a cut cost less than a copy of as many as are wanted.
+    let end = body.len() + (4 - len % 4) % 4;
+    body.extend_from_slice(&[0; 3])?;
+    body.truncate(end);
+    Ok(())
+}
+
+#[tactic(auto, using(crate::proofs::Within::tests))]
+fn fits_ace(ace: &AceRef<'_>, profile: Profile) -> bool
+    ensures { IsTrue result
+        ↔ (IsWithin profile.flags.bits ace.now.flags.bits × IsWithin profile.masks.bits ace.now.mask.bits) }
+{
+    profile.flags.contains(ace.flags) && profile.masks.contains(ace.mask)
+}
+
+fn fit(aces: Aces<'_>, profile: Profile) -> bool
+    ensures { IsTrue result ↔ Fits (profile_of profile) aces.entry }
+{
+    for ace in aces {
+        if !fits_ace(&ace, profile) {
+            return false;
+        }
+    }
+    true
+}
+
+fn weight_of(aces: Aces<'_>) -> u32
+    requires { spelled.weight aces ≤ most_weight }
+    ensures { result ≡ spelled.weight aces.entry }
+{
+    let mut weight = 0;
+    for ace in aces {
+        weight += ace.mask.bits().count_ones();
+    }
+    weight
+}
+
+impl PartialEq for Acl {
+    ghost use Rattle.std.specs.Prelude.{◌≡◌, IsTrue, ◌↔◌};
+    ghost use Rattle.acl_nfs4.specs.Owned.{same_list, same_list_laws};
+
+    ghost eq = { same_list };
+
+    ghost laws = { same_list_laws };
+
+    fn eq(&self, other: &Acl) -> bool
+        ensures value { result ≡ same_list self.now other.now }
+        ensures exact { IsTrue result ↔ (self.now ≡ other.now) }
+    {
+        self.count == other.count && self.body == other.body
+    }
+}
+
+impl Eq for Acl {
+    ghost use Rattle.acl_nfs4.specs.Owned.{same_list_equiv};
+
+    ghost laws = { same_list_equiv };
+}

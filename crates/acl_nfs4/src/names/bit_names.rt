@@ -1,0 +1,110 @@
+//! Tables of names, and the sets that fields name by them.
+ghost use Rattle.std.specs.Prelude.{◌≡◌, ◌==◌, IfSome, find, option_copied, option_map, position};
+ghost use Rattle.std.specs.List.{slice_split};
+ghost use Rattle.acl_nfs4.specs.BitNames.{bit_in, bits_in, first_name, is_name_of, set_named};
+ghost use Rattle.acl_nfs4.specs.internal.NameTable.{IsCut, row_of, set_within, table_of};
+ghost use Rattle.acl_nfs4.specs.Within.{IsWithin};
+
+/// A row of a table: a bit, its name, and its second name, where it has two.
+pub(crate) struct BitName {
+    pub bit: u32,
+    pub name: &'static str,
+    pub second: Option<&'static str>,
+}
+
+impl BitName {
+    // Whether the word is one of its names.
+    fn is_named(&self, word: &[u8]) -> bool
+        ensures { result ≡ is_name_of word.now (row_of self.now) }
+    {
+        word == self.name.as_bytes()
+            || match self.second {
+                Some(second) => word == second.as_bytes(),
+                None => false,
+            }
+    }
+}
+
+// The row that a word names.
+fn row_named<'a>(table: &'a [BitName], word: &[u8]) -> Option<&'a BitName>
+    ensures { option_copied result ≡ find (λ r. is_name_of word.now (row_of r)) table.now }
+{
+    table.iter().find(|row| row.is_named(word))
+}
+
+// The bit that a word names.
+fn bit_in(table: &[BitName], word: &[u8]) -> Option<u32>
+    ensures { result ≡ bit_in (table_of table.now) word.now }
+{
+    match row_named(table, word) {
+        Some(row) => Some(row.bit),
+        None => None,
+    }
+}
+
+// The part before the first `|`, and what stands after it.
+fn cut(field: &[u8]) -> (&[u8], Option<&[u8]>)
+    ensures { IsCut field.now result.0.now (option_copied result.1) }
+{
+    match bar_in(field) {
+        Some(place) => (&field[..place], Some(&field[place + 1..])),
+        None => (field, None),
+    }
+}
+
+fn bar_in(field: &[u8]) -> Option<usize>
+    ensures { result ≡ position (λ b. b == 0x7c) field.now }
+{
+    field.iter().position(|byte| *byte == b'|')
+}
+
+fn bits_in(table: &[BitName], field: &[u8]) -> Option<u32>
+    ensures { result ≡ bits_in (table_of table.now) (slice_split (λ b. b == 0x7c) field.now) }
+{
+    let mut bits = 0;
+    let mut rest = Some(field);
+    while let Some(text) = rest {
+        let (word, after) = cut(text);
+        bits |= bit_in(table, word)?;
+        rest = after;
+    }
+    Some(bits)
+}
+
+/// The set that a field names: the empty one by `-`, or the union of the bits that the names with `|` between them
+/// stand for.
+#[tactic(auto, unfolding(crate::specs::BitNames::set_named))]
+pub(crate) fn set_in(table: &[BitName], field: &[u8]) -> Option<u32>
+    ensures { result ≡ set_named (table_of table.now) field.now }
+{
+    if field == b"-".as_slice() {
+        return Some(0);
+    }
+    bits_in(table, field)
+}
+
+/// The set that a field names, where this one has all of it.
+#[tactic(auto, unfolding(crate::specs::internal::NameTable::set_within))]
+pub(crate) fn set_within(table: &[BitName], field: &[u8], whole: u32) -> Option<u32>
+    ensures exact { result ≡ set_within (table_of table.now) whole field.now }
+    ensures within { IfSome result (λ set. IsWithin whole set) }
+{
+    let set = set_in(table, field)?;
+    if set & whole == set { Some(set) } else { None }
+}
+
+fn row_of_bit(table: &[BitName], bit: u32) -> Option<&BitName>
+    ensures { option_copied result ≡ find (λ r. r.bit == bit) table.now }
+{
+    table.iter().find(|row| row.bit == bit)
+}
+
+/// The first name of a bit.
+pub(crate) fn first_name(table: &[BitName], bit: u32) -> Option<&'static str>
+    ensures { option_map (λ name. name.now) result ≡ first_name (table_of table.now) bit }
+{
+    match row_of_bit(table, bit) {
+        Some(row) => Some(row.name),
+        None => None,
+    }
+}

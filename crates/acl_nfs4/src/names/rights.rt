@@ -1,0 +1,121 @@
+//! The names of the access rights.
+ghost use Rattle.std.specs.Prelude.{◌≡◌, ℕ, IfSome, IsSomeAnd, option_map};
+ghost use Rattle.acl_nfs4.specs.BitNames.{first_name};
+ghost use Rattle.acl_nfs4.specs.Rights.{SpellsMask, mask_named, rights};
+
+use crate::names::bit_names::{BitName, first_name, set_in};
+use acl_perm::Mask;
+
+// A right has a second name where it is called otherwise at directories.
+pub(crate) static RIGHTS: [BitName; 16] = [
+    BitName {
+        bit: 0x0000_0001,
+        name: "READ_DATA",
+        second: Some("LIST_DIRECTORY"),
+    },
+    BitName {
+        bit: 0x0000_0002,
+        name: "WRITE_DATA",
+        second: Some("ADD_FILE"),
+    },
+    BitName {
+        bit: 0x0000_0004,
+        name: "APPEND_DATA",
+        second: Some("ADD_SUBDIRECTORY"),
+    },
+    BitName {
+        bit: 0x0000_0008,
+        name: "READ_NAMED_ATTRS",
+        second: None,
+    },
+    BitName {
+        bit: 0x0000_0010,
+        name: "WRITE_NAMED_ATTRS",
+        second: None,
+    },
+    BitName {
+        bit: 0x0000_0020,
+        name: "EXECUTE",
+        second: None,
+    },
+    BitName {
+        bit: 0x0000_0040,
+        name: "DELETE_CHILD",
+        second: None,
+    },
+    BitName {
+        bit: 0x0000_0080,
+        name: "READ_ATTRIBUTES",
+        second: None,
+    },
+    BitName {
+        bit: 0x0000_0100,
+        name: "WRITE_ATTRIBUTES",
+        second: None,
+    },
+    BitName {
+        bit: 0x0000_0200,
+        name: "WRITE_RETENTION",
+        second: None,
+    },
+    BitName {
+        bit: 0x0000_0400,
+        name: "WRITE_RETENTION_HOLD",
+        second: None,
+    },
+    BitName {
+        bit: 0x0001_0000,
+        name: "DELETE",
+        second: None,
+    },
+    BitName {
+        bit: 0x0002_0000,
+        name: "READ_ACL",
+        second: None,
+    },
+    BitName {
+        bit: 0x0004_0000,
+        name: "WRITE_ACL",
+        second: None,
+    },
+    BitName {
+        bit: 0x0008_0000,
+        name: "WRITE_OWNER",
+        second: None,
+    },
+    BitName {
+        bit: 0x0010_0000,
+        name: "SYNCHRONIZE",
+        second: None,
+    },
+];
+
+/// The mask that a field of the text form names: the empty one by `-`, or the union of the rights that the names with
+/// `|` between them stand for, each the first or the second name of a right (RFC 8881, section 6.2.1.3.1). None where
+/// the bytes name no mask. It takes no memory.
+pub fn read_mask(field: &[u8]) -> Option<Mask>
+    // What is answered is spelled.
+    ensures named { IfSome result (λ mask. SpellsMask field.now mask.bits) }
+    // What is spelled is answered.
+    ensures only { (mask : ℕ) → SpellsMask field.now mask → IsSomeAnd result (λ m. m.bits ≡ mask) }
+    // The definition that computes says the same.
+    ensures value { option_map (λ mask. mask.bits) result ≡ mask_named field.now }
+{
+    mask_in(field)
+}
+
+fn mask_in(field: &[u8]) -> Option<Mask>
+    ensures { option_map (λ mask. mask.bits) result ≡ mask_named field.now }
+{
+    Mask::new(set_in(&RIGHTS, field)?)
+}
+
+/// The first name of the right of a mask of one bit (RFC 8881, section 6.2.1.3.1), and None for every other mask. It
+/// takes no memory.
+pub fn bit_name(bit: Mask) -> Option<&'static str>
+    ensures value { option_map (λ name. name.now) result ≡ first_name rights bit.bits }
+    // The name is that of the mask.
+    ensures named { IfSome result (λ name. SpellsMask name.now bit.bits) }
+{
+    first_name(&RIGHTS, bit.bits())
+}

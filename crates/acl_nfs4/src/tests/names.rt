@@ -1,0 +1,183 @@
+use crate::*;
+use std::alloc::Global;
+use std::process::Abort;
+
+// The access rights of RFC 8881, section 6.2.1.3.1, without `ACE4_`, and their numbers.
+static RIGHTS: [(u32, &str); 16] = [
+    (0x0000_0001, "READ_DATA"),
+    (0x0000_0002, "WRITE_DATA"),
+    (0x0000_0004, "APPEND_DATA"),
+    (0x0000_0008, "READ_NAMED_ATTRS"),
+    (0x0000_0010, "WRITE_NAMED_ATTRS"),
+    (0x0000_0020, "EXECUTE"),
+    (0x0000_0040, "DELETE_CHILD"),
+    (0x0000_0080, "READ_ATTRIBUTES"),
+    (0x0000_0100, "WRITE_ATTRIBUTES"),
+    (0x0000_0200, "WRITE_RETENTION"),
+    (0x0000_0400, "WRITE_RETENTION_HOLD"),
+    (0x0001_0000, "DELETE"),
+    (0x0002_0000, "READ_ACL"),
+    (0x0004_0000, "WRITE_ACL"),
+    (0x0008_0000, "WRITE_OWNER"),
+    (0x0010_0000, "SYNCHRONIZE"),
+];
+
+// The three that are called otherwise at directories.
+static AT_DIRECTORIES: [(u32, &str); 3] = [
+    (0x0000_0001, "LIST_DIRECTORY"),
+    (0x0000_0002, "ADD_FILE"),
+    (0x0000_0004, "ADD_SUBDIRECTORY"),
+];
+
+fn names(number: u32, name: &str) -> bool {
+    match read_mask(name.as_bytes()) {
+        Some(mask) => mask.bits() == number,
+        None => false,
+    }
+}
+
+fn is_first_name(number: u32, name: &str) -> bool {
+    match Mask::new(number) {
+        Some(mask) => bit_name(mask) == Some(name),
+        None => false,
+    }
+}
+
+#[test]
+fn each_right_has_its_name_and_number(rt: HostRuntime) {
+    for (number, name) in RIGHTS {
+        assert!(rt; names(number, name), "{name}");
+        assert!(rt; is_first_name(number, name), "{name}");
+    }
+    for (number, name) in AT_DIRECTORIES {
+        assert!(rt; names(number, name), "{name}");
+    }
+}
+
+// The flags of RFC 8881, section 6.2.1.4.1, and a line that names each as texts do.
+static FLAGS: [(u8, &str); 9] = [
+    (0x01, "ALLOW FILE - a"),
+    (0x02, "ALLOW DIR - a"),
+    (0x04, "ALLOW NOPROP - a"),
+    (0x08, "ALLOW INHERITONLY - a"),
+    (0x10, "ALLOW SUCCESS - a"),
+    (0x20, "ALLOW FAILED - a"),
+    (0x40, "ALLOW GROUP - a"),
+    (0x80, "ALLOW INHERITED - a"),
+    (0, "ALLOW - - a"),
+];
+
+fn has_flags(list: &Acl, flags: u8) -> bool {
+    match list.aces().next() {
+        Some(ace) => ace.flags.bits() == flags,
+        None => false,
+    }
+}
+
+fn is_line_of_flags(alloc: Global, line: &str, flags: u8) -> Result<bool, AceTextFault> {
+    match parse_text(alloc, line.as_bytes()) {
+        Ok(list) => Ok(has_flags(&list, flags)),
+        Err(fault) => Err(fault),
+    }
+}
+
+#[test]
+fn ample_memory_for_the_name_of_each_flag(rt: HostRuntime) {
+    for (flags, line) in FLAGS {
+        assert!(rt;
+            is_line_of_flags(rt.alloc(), line, flags) == Ok(true),
+            "{line}"
+        );
+    }
+}
+
+// A who with no flag and with IDENTIFIER_GROUP, and whom it names (RFC 8881, section 6.2.1.5).
+static WHOS: [(&[u8], Principal<'static>, Principal<'static>); 6] = [
+    (b"OWNER@", Principal::Owner, Principal::Owner),
+    (b"GROUP@", Principal::Group, Principal::Group),
+    (b"EVERYONE@", Principal::Everyone, Principal::Everyone),
+    (
+        b"bob",
+        Principal::User(b"bob"),
+        Principal::GroupNamed(b"bob"),
+    ),
+    (
+        b"OWNER",
+        Principal::User(b"OWNER"),
+        Principal::GroupNamed(b"OWNER"),
+    ),
+    (
+        b"EVERYONE@x",
+        Principal::User(b"EVERYONE@x"),
+        Principal::GroupNamed(b"EVERYONE@x"),
+    ),
+];
+
+// Whether a who with these flags names this principal.
+fn is_principal(who: &[u8], flags: u32, principal: Principal<'_>) -> bool {
+    let Some(flags) = Flags::new(flags) else {
+        return false;
+    };
+    let ace = AceRef {
+        kind: Kind::Allow,
+        flags,
+        mask: Mask::NONE,
+        who,
+    };
+    ace.principal() == principal
+}
+
+#[test]
+fn special_whos_name_the_same_with_each_flag(rt: HostRuntime) {
+    for (who, plain, grouped) in WHOS {
+        assert!(rt; is_principal(who, 0, plain), "{who:?}");
+        assert!(rt; is_principal(who, 0xbf, plain), "{who:?}");
+        assert!(rt; is_principal(who, 0x40, grouped), "{who:?}");
+    }
+}
+
+// A who, and what a list with it is refused for. The special identifiers are those of RFC 8881, section 6.2.1.5.
+static JUDGED: [(&[u8], Option<Reason>); 14] = [
+    (b"\x1f", Some(Reason::WhoControl)),
+    (b"\x7f", Some(Reason::WhoControl)),
+    (b"\0", Some(Reason::WhoControl)),
+    (b"a\x1f", Some(Reason::WhoControl)),
+    (b" ", None),
+    (b"~", None),
+    (b"\xc2\x80", None),
+    (b"ANONYMOUS@", Some(Reason::SpecialWho)),
+    (b"AUTHENTICATED@", Some(Reason::SpecialWho)),
+    (b"SERVICE@", Some(Reason::SpecialWho)),
+    (b"INTERACTIVE@", Some(Reason::SpecialWho)),
+    (b"NETWORK@", Some(Reason::SpecialWho)),
+    (b"DIALUP@", Some(Reason::SpecialWho)),
+    (b"BATCH@", Some(Reason::SpecialWho)),
+];
+
+// The list of ALLOW READ_DATA for a who of up to 16 bytes, and behind it zeros.
+fn list_with(who: &[u8]) -> [u8; 36] {
+    let mut bytes = [0u8; 36];
+    bytes[3] = 1;
+    bytes[15] = 1;
+    bytes[19] = u8::try_from(who.len()).unwrap_or(u8::MAX);
+    for (to, from) in bytes.iter_mut().skip(20).zip(who) {
+        *to = *from;
+    }
+    bytes
+}
+
+// What a list with this who is refused for, at the who's first byte, or none; and where it is a list, that it ends
+// behind the padding.
+fn is_judged(who: &[u8], reason: Option<Reason>) -> bool {
+    match AclView::parse(&list_with(who)) {
+        Ok((_, len)) => reason.is_none() && len == 24,
+        Err(fault) => fault.offset == 20 && reason == Some(fault.reason),
+    }
+}
+
+#[test]
+fn whos_are_plain_text_and_no_other_special_identifier(rt: HostRuntime) {
+    for (who, reason) in JUDGED {
+        assert!(rt; is_judged(who, reason), "{who:?}");
+    }
+}

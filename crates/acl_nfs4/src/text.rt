@@ -1,0 +1,6 @@
+//! Lists as text: a line an ACE.
+
+pub(crate) mod fault;
+pub(crate) mod line;
+pub(crate) mod reader;
+mod writer;

@@ -1,0 +1,85 @@
+//! Lists from their text.
+ghost use Rattle.std.specs.Prelude.{◌≡◌, ◌⊎◌, ◌∷◌, [], IfErr, IfOk, List, MatchResult, Ok};
+ghost use Rattle.acl_perm.specs.Profile.{full, profile_of};
+ghost use Rattle.acl_nfs4.specs.Ace.{Ace};
+ghost use Rattle.acl_nfs4.specs.internal.AceReading.{read_lines, Fails};
+ghost use Rattle.acl_nfs4.specs.AceText.{IsAceText, ace_lines, ace_lines_from};
+ghost use Rattle.acl_nfs4.specs.AceTextFault.{IsAceTextFault, IsTextRefusal};
+ghost use Rattle.acl_nfs4.specs.declared.text.fault.AceTextFault.{AceTextFault as FaultValue};
+ghost use Rattle.acl_nfs4.specs.declared.text.fault.AceTextFault.TheVariants.{Memory};
+
+use crate::list::acl::Acl;
+use crate::text::fault::AceTextFault;
+use crate::text::line::{is_skipped, read_ace};
+use acl_perm::{Profile, cut_line};
+use std::alloc::Global;
+
+/// The list that a text spells: a line an ACE, `TYPE FLAGS MASK WHO`, with one space between the fields. A line without
+/// a byte but blanks, and one that begins with `#`, is skipped. A text that spells no list is refused by the first line
+/// that is wrong. Time linear in the text, and one growing list.
+pub fn parse_text(alloc: Global, text: &[u8]) -> Result<Acl, AceTextFault>
+    // What is read is spelled by the text.
+    ensures found { IfOk result (λ list. IsAceText full list text.now) }
+    // What the text spells is read.
+    ensures only { (list : List Ace) → IsAceText full list text.now
+        → MatchResult result (λ read. read ≡ list) (λ fault. fault ≡ Memory) }
+    // A refusal is that of the text.
+    ensures fault { IfErr result (IsTextRefusal full text.now) }
+    // A text with a fault is refused by it.
+    ensures refused { (wrong : FaultValue) → IsAceTextFault full text.now wrong
+        → MatchResult result (λ _. ⊥) (λ fault. (fault ≡ wrong) ⊎ (fault ≡ Memory)) }
+{
+    parse_text_with(alloc, text, Profile::FULL)
+}
+
+/// The list that a text spells whose flags and masks the profile has, as `parse_text` reads it; a name of another flag
+/// or right is Flag or Mask.
+pub fn parse_text_with(alloc: Global, text: &[u8], profile: Profile) -> Result<Acl, AceTextFault>
+    // What is read is spelled by the text.
+    ensures found { IfOk result (λ list. IsAceText (profile_of profile) list text.now) }
+    // What the text spells is read.
+    ensures only { (list : List Ace) → IsAceText (profile_of profile) list text.now
+        → MatchResult result (λ read. read ≡ list) (λ fault. fault ≡ Memory) }
+    // A refusal is that of the text.
+    ensures fault { IfErr result (IsTextRefusal (profile_of profile) text.now) }
+    // A text with a fault is refused by it.
+    ensures refused { (wrong : FaultValue) → IsAceTextFault (profile_of profile) text.now wrong
+        → MatchResult result (λ _. ⊥) (λ fault. (fault ≡ wrong) ⊎ (fault ≡ Memory)) }
+{
+    read_text(alloc, text, profile)
+}
+
+// Adds the ACE of a line, where it is to spell one.
+fn add_line(acl: &mut Acl, line: &[u8], number: usize, profile: Profile) -> Result<(), AceTextFault>
+    ensures { MatchResult result
+        (λ _. read_lines (profile_of profile) acl.old (ace_lines_from number (line.now ∷ [])) ≡ Ok acl.new)
+        (λ fault. Fails fault
+        (read_lines (profile_of profile) acl.old (ace_lines_from number (line.now ∷ [])))) }
+{
+    if is_skipped(line) {
+        return Ok(());
+    }
+    let item = read_ace(line, number, acl.len(), acl.weight(), profile)?;
+    match acl.append(item) {
+        Ok(()) => Ok(()),
+        Err(_) => Err(AceTextFault::Memory),
+    }
+}
+
+// The list of the lines.
+fn read_text(alloc: Global, text: &[u8], profile: Profile) -> Result<Acl, AceTextFault>
+    ensures { MatchResult result
+        (λ acl. read_lines (profile_of profile) [] (ace_lines text.now) ≡ Ok acl)
+        (λ fault. Fails fault (read_lines (profile_of profile) [] (ace_lines text.now))) }
+{
+    let mut acl = Acl::new(alloc);
+    let mut number = 1;
+    let mut rest = Some(text);
+    while let Some(left) = rest {
+        let (line, after) = cut_line(left);
+        add_line(&mut acl, line, number, profile)?;
+        number += 1;
+        rest = after;
+    }
+    Ok(acl)
+}

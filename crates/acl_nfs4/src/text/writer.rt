@@ -1,0 +1,144 @@
+//! The text of a list, to a sink.
+ghost use Rattle.std.specs.Prelude.{◌≡◌, ◌+◌, ◌*◌, ◌^◌, ◌<◌, ◌≤◌, ◌++◌, ◌↔◌, IfErr, OnErr, OnOk, List, length, take, true};
+ghost use Rattle.std.specs.List.{join_with_byte, list_all};
+ghost use Rattle.std.specs.Io.KnownBytes.{Appends};
+ghost use Rattle.arrayvec.specs.ArrayVec.{array_vec_len};
+ghost use Rattle.acl_perm.specs.Devices.{one_more};
+ghost use Rattle.acl_perm.specs.Pieces.{WritesFrom};
+ghost use Rattle.acl_perm.specs.Profile.{full};
+ghost use Rattle.acl_nfs4.specs.Ace.{Ace, ace};
+ghost use Rattle.acl_nfs4.specs.AceText.{IsAceText, ace_line, ace_text, kind_name};
+ghost use Rattle.acl_nfs4.specs.BitNames.{bar, names_of, set_text};
+ghost use Rattle.acl_nfs4.specs.Limits.{longest_who, most_aces};
+ghost use Rattle.acl_nfs4.specs.internal.NameTable.{is_short, lead, table_of};
+
+use crate::ace::AceRef;
+use crate::list::aces::Aces;
+use crate::list::acl::Acl;
+use crate::names::bit_names::BitName;
+use crate::names::flag_names::FLAGS;
+use crate::names::rights::RIGHTS;
+use acl_perm::{Kind, Sink, WriteFault, put_next};
+use arrayvec::ArrayVec;
+
+// Room for a line: a type, all flags, all rights, the longest who, and what stands between them.
+type Line = ArrayVec<u8, 1600>;
+
+fn add(line: &mut Line, bytes: &[u8])
+    requires { array_vec_len line.old + length bytes.now ≤ 1600 }
+    ensures { line.new.items ≡ line.old.items ++ bytes.now }
+{
+    let _ = line.try_extend_from_slice(bytes);
+}
+
+fn kind_name(kind: Kind) -> &'static [u8]
+    ensures name { result.now ≡ kind_name kind }
+    ensures short { length result.now ≤ 5 }
+{
+    match kind {
+        Kind::Allow => b"ALLOW",
+        Kind::Deny => b"DENY",
+    }
+}
+
+// Adds the names of a set that is not empty, with `|` between them.
+fn add_names(line: &mut Line, table: &[BitName], set: u32)
+    requires short { list_all is_short table.now ≡ true }
+    requires room { array_vec_len line.old + 21 * length table.now ≤ 1600 }
+    ensures text { line.new.items ≡ line.old.items ++ join_with_byte bar (names_of (table_of table.now) set) }
+    ensures len { array_vec_len line.new ≤ array_vec_len line.old + 21 * length table.now }
+{
+    let mut is_first = true;
+    for row in table {
+        if set & row.bit == row.bit {
+            add_name(line, row.name.as_bytes(), is_first);
+            is_first = false;
+        }
+    }
+}
+
+// Adds a name, and a `|` before it where it is not the first.
+fn add_name(line: &mut Line, name: &[u8], is_first: bool)
+    requires { array_vec_len line.old + length name.now + 1 ≤ 1600 }
+    ensures text { line.new.items ≡ line.old.items ++ lead is_first ++ name.now }
+    ensures len { array_vec_len line.new ≤ array_vec_len line.old + length name.now + 1 }
+{
+    if !is_first {
+        line.push(b'|');
+    }
+    add(line, name);
+}
+
+// Adds the field of a set.
+#[tactic(auto, unfolding(crate::specs::BitNames::set_text))]
+fn add_set(line: &mut Line, table: &[BitName], set: u32)
+    requires short { list_all is_short table.now ≡ true }
+    requires room { array_vec_len line.old + 21 * length table.now + 1 ≤ 1600 }
+    ensures text { line.new.items ≡ line.old.items ++ set_text (table_of table.now) set }
+    ensures len { array_vec_len line.new ≤ array_vec_len line.old + 21 * length table.now + 1 }
+{
+    if set == 0 {
+        line.push(b'-');
+    } else {
+        add_names(line, table, set);
+    }
+}
+
+// The line of an ACE.
+#[tactic(auto, unfolding(crate::specs::AceText::ace_line))]
+fn fill(line: &mut Line, item: AceRef<'_>)
+    requires { length item.who.now ≤ longest_who }
+    ensures text { line.new.items ≡ ace_line (ace item.entry) }
+    ensures short { array_vec_len line.new ≤ 1600 }
+{
+    line.clear();
+    add(line, kind_name(item.kind));
+    line.push(b' ');
+    add_set(line, &FLAGS, item.flags.bits() as u32);
+    line.push(b' ');
+    add_set(line, &RIGHTS, item.mask.bits());
+    line.push(b' ');
+    add(line, item.who);
+    line.push(b'\n');
+}
+
+// Writes the lines of the ACEs, and answers how many bytes are out then.
+fn put_lines<S: Sink>(sink: &mut S, aces: Aces<'_>) -> Result<u64, WriteFault>
+    requires { length aces ≤ most_aces }
+    ensures written { WritesFrom (S.contents sink.old) (S.contents sink.new) 0 (ace_text aces.entry) result }
+    ensures none_failed { OnOk result (S.failure_count sink.new ≡ S.failure_count sink.old) }
+    ensures failed { OnErr result (S.failure_count sink.new ≡ one_more (S.failure_count sink.old)) }
+{
+    let mut line = ArrayVec::new();
+    let mut done = 0;
+    for ace in aces {
+        fill(&mut line, ace);
+        match put_next(sink, done, &line) {
+            Ok(count) => done = count,
+            Err(fault) => return Err(fault),
+        }
+    }
+    Ok(done)
+}
+
+impl Acl {
+    /// Writes the text of the list: a line an ACE, with the names of its flags and rights in rising order of their
+    /// bits. The first put that fails ends it: `written` bytes went out, and nothing is tried again. No memory; time
+    /// linear in the text.
+    pub fn write_text<S: Sink>(&self, sink: &mut S) -> Result<(), WriteFault>
+        ensures ok { OnOk result (Appends (S.contents sink.old) (S.contents sink.new) (ace_text self.now)) }
+        // What is written spells this list and no other.
+        ensures again { (other : List Ace) → IsAceText full other (ace_text self.now) ↔ (other ≡ self.now) }
+        ensures none_failed { OnOk result (S.failure_count sink.new ≡ S.failure_count sink.old) }
+
+        ensures err { IfErr result (λ fault. Appends (S.contents sink.old) (S.contents sink.new)
+            (take fault.written (ace_text self.now))) }
+        ensures short { IfErr result (λ fault. fault.written < length (ace_text self.now)) }
+        ensures failed { OnErr result (S.failure_count sink.new ≡ one_more (S.failure_count sink.old)) }
+    {
+        match put_lines(sink, self.aces()) {
+            Ok(_) => Ok(()),
+            Err(fault) => Err(fault),
+        }
+    }
+}

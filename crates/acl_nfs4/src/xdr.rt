@@ -1,0 +1,10 @@
+//! Lists as XDR: read in memory, read from a source, and written.
+
+pub(crate) mod cursor;
+pub(crate) mod decoder;
+mod encode;
+pub(crate) mod fault;
+pub(crate) mod judges;
+mod pulling;
+pub(crate) mod reading;
+pub(crate) mod view;

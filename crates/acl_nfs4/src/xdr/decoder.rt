@@ -1,0 +1,104 @@
+//! A value from a source.
+ghost use Rattle.std.specs.Prelude.{◌≡◌, ◌⊎◌, ◌++◌, ℕ, List, Some, IfErr, OnOk};
+ghost use Rattle.std.specs.Io.KnownBytes.{Consumes, IsAtEnd};
+ghost use Rattle.acl_perm.specs.Devices.{one_more};
+ghost use Rattle.acl_perm.specs.Profile.{full, profile_of};
+ghost use Rattle.acl_nfs4.specs.Ace.{Ace};
+ghost use Rattle.acl_nfs4.specs.Spelling.{IsAccepted, Xdr, spelling};
+ghost use Rattle.acl_nfs4.specs.Fault.{IsFault};
+ghost use Rattle.acl_nfs4.specs.declared.xdr.fault.Reason.{Reason};
+ghost use Rattle.acl_nfs4.specs.declared.xdr.fault.Reason.TheVariants.{Read};
+ghost use Rattle.acl_nfs4.specs.Stream.{Decodes, FaultsOrFails, IsOrFails};
+
+use crate::list::acl::Acl;
+use crate::xdr::fault::{Fault, Reason};
+use crate::xdr::judges;
+use crate::xdr::pulling::{ROOM, pull_ace, word};
+use crate::xdr::reading::placed;
+use acl_perm::{Profile, Source};
+use std::alloc::Global;
+
+/// Reads the list at the front of a source (RFC 8881, section 6.2.1, in the layout of RFC 4506), and no byte after it.
+/// A pull asks for no more than the field that is being read lacks, and no count and no length makes it ask for memory
+/// before the bytes are there. The first pull that fails ends it, with the place of the field that was being read;
+/// nothing is tried again. After a refusal, the bytes to the end of the refused field were taken.
+pub fn decode<S: Source>(alloc: Global, source: &mut S) -> Result<Acl, Fault>
+    // What was taken is the value, or what the fault says.
+    ensures given { (given : List ℕ) × Consumes (S.remaining source.old) (S.remaining source.new) given
+        × Decodes full given (IsAtEnd (S.remaining source.new)) result }
+    // What stands at the front is found.
+    ensures only { (list : List Ace) (text rest : List ℕ) → Xdr full list text
+        → S.remaining source.old ≡ Some (text ++ rest) → IsOrFails result list }
+    // What was encoded is read again, whatever follows it.
+    ensures again { (list : List Ace) (rest : List ℕ) → IsAccepted full list
+        → S.remaining source.old ≡ Some (spelling list ++ rest) → IsOrFails result list }
+    // An input with a fault is refused by it.
+    ensures refused { (input : List ℕ) (o : ℕ) (r : Reason) → S.remaining source.old ≡ Some input
+        → IsFault full input o r → FaultsOrFails result (record { offset = o; reason = r }) }
+    ensures none_failed { OnOk result (S.failure_count source.new ≡ S.failure_count source.old) }
+    // Read is told exactly where a pull failed.
+    ensures read { IfErr result (λ f. f.reason ≡ Read
+        → S.failure_count source.new ≡ one_more (S.failure_count source.old)) }
+    ensures unread { IfErr result (λ f. (f.reason ≡ Read)
+        ⊎ (S.failure_count source.new ≡ S.failure_count source.old)) }
+{
+    decode_with(alloc, source, Profile::FULL)
+}
+
+/// Reads the list at the front of a source whose flags and masks the profile has, as `decode` does; a bit of another
+/// flag or right is FlagBits or MaskBits.
+pub fn decode_with<S: Source>(alloc: Global, source: &mut S, profile: Profile) -> Result<Acl, Fault>
+    // What was taken is the value, or what the fault says.
+    ensures given { (given : List ℕ) × Consumes (S.remaining source.old) (S.remaining source.new) given
+        × Decodes (profile_of profile) given (IsAtEnd (S.remaining source.new)) result }
+    // What stands at the front is found.
+    ensures only { (list : List Ace) (text rest : List ℕ) → Xdr (profile_of profile) list text
+        → S.remaining source.old ≡ Some (text ++ rest) → IsOrFails result list }
+    // What was encoded is read again, whatever follows it.
+    ensures again { (list : List Ace) (rest : List ℕ) → IsAccepted (profile_of profile) list
+        → S.remaining source.old ≡ Some (spelling list ++ rest) → IsOrFails result list }
+    // An input with a fault is refused by it.
+    ensures refused { (input : List ℕ) (o : ℕ) (r : Reason) → S.remaining source.old ≡ Some input
+        → IsFault (profile_of profile) input o r → FaultsOrFails result (record { offset = o; reason = r }) }
+    ensures none_failed { OnOk result (S.failure_count source.new ≡ S.failure_count source.old) }
+    // Read is told exactly where a pull failed.
+    ensures read { IfErr result (λ f. f.reason ≡ Read
+        → S.failure_count source.new ≡ one_more (S.failure_count source.old)) }
+    ensures unread { IfErr result (λ f. (f.reason ≡ Read)
+        ⊎ (S.failure_count source.new ≡ S.failure_count source.old)) }
+{
+    read_value(alloc, source, profile)
+}
+
+fn read_value<S: Source>(alloc: Global, source: &mut S, profile: Profile) -> Result<Acl, Fault>
+    ensures given { (given : List ℕ) × Consumes (S.remaining source.old) (S.remaining source.new) given
+        × Decodes (profile_of profile) given (IsAtEnd (S.remaining source.new)) result }
+    ensures none_failed { OnOk result (S.failure_count source.new ≡ S.failure_count source.old) }
+    ensures read { IfErr result (λ f. f.reason ≡ Read
+        → S.failure_count source.new ≡ one_more (S.failure_count source.old)) }
+    ensures unread { IfErr result (λ f. (f.reason ≡ Read)
+        ⊎ (S.failure_count source.new ≡ S.failure_count source.old)) }
+{
+    let mut room = [0u8; ROOM];
+    let number = word(source, &mut room, 0, 0)?;
+    let count = placed(0, judges::count_of(number))?;
+    let mut body = Vec::new(alloc);
+    let mut weight = 0;
+    for _ in 0..count {
+        let ace = pull_ace(source, &mut room, 4 + body.len(), weight, profile)?;
+        match body.extend_from_slice(&room[..ace.len]) {
+            Ok(()) => weight += ace.bits,
+            Err(_) => {
+                return Err(Fault {
+                    offset: 0,
+                    reason: Reason::Memory,
+                });
+            }
+        }
+    }
+    Ok(Acl {
+        count,
+        weight,
+        body,
+    })
+}

@@ -1,0 +1,123 @@
+//! What each field of the layout may hold.
+ghost use Rattle.std.specs.Prelude.{◌≡◌, ◌==◌, ◌+◌, ◌≤◌, IfOk, count_ones, false, length};
+ghost use Rattle.std.specs.List.{list_all};
+ghost use Rattle.acl_perm.specs.Profile.{profile_of};
+ghost use Rattle.acl_nfs4.specs.Fields.{count_of, kind_of, flags_of, mask_of, who_len_of, who_of, who_reason, padding_of};
+ghost use Rattle.acl_nfs4.specs.Limits.{most_aces, most_weight};
+ghost use Rattle.acl_nfs4.specs.internal.Reading.{Gives};
+ghost use Rattle.acl_nfs4.specs.Who.{is_no_who_len};
+
+use crate::limits::{MOST_ACES, MOST_WEIGHT};
+use crate::who::{WhoFault, is_no_who_len, judge_text};
+use crate::xdr::fault::Reason;
+use acl_perm::{Flags, Kind, Mask, Profile};
+
+/// The number of ACEs.
+#[inline(always)]
+pub(crate) fn count_of(number: u32) -> Result<u32, Reason>
+    ensures exact { Gives (λ x. x) result (count_of number) }
+    ensures small { IfOk result (λ x. x ≤ most_aces) }
+{
+    if number > MOST_ACES {
+        return Err(Reason::TooManyAces);
+    }
+    Ok(number)
+}
+
+/// The type.
+#[inline(always)]
+pub(crate) fn kind_of(number: u32) -> Result<Kind, Reason>
+    ensures { Gives (λ x. x) result (kind_of number) }
+{
+    match number {
+        0 => Ok(Kind::Allow),
+        1 => Ok(Kind::Deny),
+        2 | 3 => Err(Reason::AuditOrAlarm),
+        _ => Err(Reason::AceType),
+    }
+}
+
+/// The flags.
+#[tactic(auto, using(crate::proofs::Within::within))]
+#[inline(always)]
+pub(crate) fn flags_of(number: u32, profile: Profile) -> Result<Flags, Reason>
+    ensures { Gives (λ x. x.bits) result (flags_of (profile_of profile) number) }
+{
+    if number & profile.flags.bits() as u32 != number {
+        return Err(Reason::FlagBits);
+    }
+    Ok(Flags { bits: number as u8 })
+}
+
+/// The mask, after ACEs of this weight.
+#[tactic(auto, using(crate::proofs::Within::within))]
+#[inline(always)]
+pub(crate) fn mask_of(number: u32, weight: u32, profile: Profile) -> Result<Mask, Reason>
+    requires { weight ≤ most_weight }
+    ensures exact { Gives (λ x. x.bits) result (mask_of (profile_of profile) weight number) }
+    ensures light { IfOk result (λ x. weight + count_ones x.bits ≤ most_weight) }
+{
+    if number & profile.masks.bits() != number {
+        return Err(Reason::MaskBits);
+    }
+    if weight + number.count_ones() > MOST_WEIGHT {
+        return Err(Reason::TooHeavy);
+    }
+    Ok(Mask { bits: number })
+}
+
+/// The length of the who.
+#[inline(always)]
+pub(crate) fn who_len_of(number: u32) -> Result<usize, Reason>
+    ensures exact { Gives (λ x. x) result (who_len_of number) }
+    ensures some { IfOk result (λ x. is_no_who_len x ≡ false) }
+{
+    let len = number as usize;
+    if is_no_who_len(len) {
+        return Err(Reason::WhoLength);
+    }
+    Ok(len)
+}
+
+/// The who, of a length that one may have.
+#[inline(always)]
+pub(crate) fn who_of(bytes: &[u8]) -> Result<&[u8], Reason>
+    requires { is_no_who_len (length bytes.now) ≡ false }
+    ensures { Gives (λ x. x.now) result (who_of bytes.now) }
+{
+    match judge_text(bytes) {
+        Ok(()) => Ok(bytes),
+        Err(fault) => Err(who_reason(fault)),
+    }
+}
+
+#[inline(always)]
+fn who_reason(fault: WhoFault) -> Reason
+    ensures { result ≡ who_reason fault }
+{
+    match fault {
+        WhoFault::Length => Reason::WhoLength,
+        WhoFault::Utf8 => Reason::WhoUtf8,
+        WhoFault::Control => Reason::WhoControl,
+        WhoFault::Special => Reason::SpecialWho,
+    }
+}
+
+/// The padding.
+#[inline(always)]
+pub(crate) fn padding_of(bytes: &[u8]) -> Result<(), Reason>
+    ensures { Gives (λ x. x) result (padding_of bytes.now) }
+{
+    if is_zero(bytes) {
+        Ok(())
+    } else {
+        Err(Reason::Padding)
+    }
+}
+
+#[inline(always)]
+fn is_zero(bytes: &[u8]) -> bool
+    ensures { result ≡ list_all (λ b. b == 0) bytes.now }
+{
+    bytes.iter().all(|byte| *byte == 0)
+}

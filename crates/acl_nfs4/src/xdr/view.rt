@@ -1,0 +1,140 @@
+ghost use Rattle.std.specs.Prelude.{◌≡◌, ◌≤◌, ◌++◌, ℕ, List, length, take, IfOk, IfErr, IsOkAnd, Ok, Err};
+ghost use Rattle.acl_nfs4.specs.Ace.{Ace};
+ghost use Rattle.acl_nfs4.specs.Spelling.{IsAccepted, Xdr};
+ghost use Rattle.acl_perm.specs.Profile.{full, profile_of};
+ghost use Rattle.acl_nfs4.specs.Fault.{IsFault, IsWholeFault};
+ghost use Rattle.acl_nfs4.specs.declared.xdr.fault.Reason.{Reason};
+ghost use Rattle.acl_nfs4.specs.internal.Reading.{Gives, value_at};
+
+use crate::list::aces::Aces;
+use crate::xdr::cursor::Cursor;
+use crate::xdr::fault::{Fault, Reason};
+use crate::xdr::reading::{count, skip_aces};
+use acl_perm::Profile;
+use std::marker::Model;
+
+/// A list of ACEs that lies in the bytes that spell it.
+#[derive(Drop)]
+pub struct AclView<'a> {
+    pub(crate) count: u32,
+    pub(crate) body: &'a [u8],
+}
+
+impl<'a> Model for AclView<'a> {
+    ghost use Rattle.std.specs.Prelude.{List};
+    ghost use Rattle.acl_nfs4.specs.Ace.{Ace};
+    ghost use Rattle.acl_nfs4.specs.internal.Body.{aces_of, IsList};
+
+    ghost Value = { List Ace };
+
+    ghost view = { λ s. aces_of s.count s.body.now };
+
+    ghost invariant = { λ s. IsList s.count s.body.now };
+}
+
+impl<'a> AclView<'a> {
+    /// The list at the front, and the number of bytes that spell it. What follows is left unread. The names lie in
+    /// the input, and no memory is taken. A fault is that of the first field that is refused, at its first byte
+    /// (RFC 8881, section 6.2.1, in the layout of RFC 4506).
+    pub fn parse(bytes: &'a [u8]) -> Result<(AclView<'a>, usize), Fault>
+        // What is found stands at the front.
+        ensures found { IfOk result (λ x.
+            (x.1 ≤ length bytes.now) × Xdr full x.0 (take x.1 bytes.now)) }
+        // What stands at the front is found.
+        ensures only { (list : List Ace) (text rest : List ℕ) → Xdr full list text → bytes.now ≡ text ++ rest
+            → IsOkAnd result (λ x. (x.0 ≡ list) × (x.1 ≡ length text)) }
+        // A fault is that of the bytes.
+        ensures fault { IfErr result (λ f. IsFault full bytes.now f.offset f.reason) }
+        // Bytes with a fault are refused by it.
+        ensures refused { (offset : ℕ) (r : Reason) → IsFault full bytes.now offset r
+            → result ≡ Err (record { offset = offset; reason = r }) }
+    {
+        AclView::parse_with(bytes, Profile::FULL)
+    }
+
+    /// The list at the front whose flags and masks the profile has, as `parse` finds it; a bit of another flag or right
+    /// is FlagBits or MaskBits.
+    #[inline(always)]
+    pub fn parse_with(bytes: &'a [u8], profile: Profile) -> Result<(AclView<'a>, usize), Fault>
+        // What is found stands at the front.
+        ensures found { IfOk result (λ x.
+            (x.1 ≤ length bytes.now) × Xdr (profile_of profile) x.0 (take x.1 bytes.now)) }
+        // What stands at the front is found.
+        ensures only { (list : List Ace) (text rest : List ℕ) → Xdr (profile_of profile) list text
+            → bytes.now ≡ text ++ rest → IsOkAnd result (λ x. (x.0 ≡ list) × (x.1 ≡ length text)) }
+        // A fault is that of the bytes.
+        ensures fault { IfErr result (λ f. IsFault (profile_of profile) bytes.now f.offset f.reason) }
+        // Bytes with a fault are refused by it.
+        ensures refused { (offset : ℕ) (r : Reason) → IsFault (profile_of profile) bytes.now offset r
+            → result ≡ Err (record { offset = offset; reason = r }) }
+    {
+        view_of(bytes, profile)
+    }
+
+    /// The list that all of the bytes spell. Beside the faults of `parse`, a byte behind the list is TrailingBytes.
+    pub fn parse_whole(bytes: &'a [u8]) -> Result<AclView<'a>, Fault>
+        // What is found is spelled by the bytes.
+        ensures found { IfOk result (λ list. Xdr full list bytes.now) }
+        // What the bytes spell is found.
+        ensures only { (list : List Ace) → Xdr full list bytes.now → IsOkAnd result (λ x. x ≡ list) }
+        // A fault is that of the bytes.
+        ensures fault { IfErr result (λ f. IsWholeFault full bytes.now f.offset f.reason) }
+        // Bytes with a fault are refused by it.
+        ensures refused { (offset : ℕ) (r : Reason) → IsWholeFault full bytes.now offset r
+            → result ≡ Err (record { offset = offset; reason = r }) }
+    {
+        AclView::parse_whole_with(bytes, Profile::FULL)
+    }
+
+    /// The list that all of the bytes spell, whose flags and masks the profile has, as `parse_whole` finds it.
+    #[inline(always)]
+    pub fn parse_whole_with(bytes: &'a [u8], profile: Profile) -> Result<AclView<'a>, Fault>
+        // What is found is spelled by the bytes.
+        ensures found { IfOk result (λ list. Xdr (profile_of profile) list bytes.now) }
+        // What the bytes spell is found.
+        ensures only { (list : List Ace) → Xdr (profile_of profile) list bytes.now
+            → IsOkAnd result (λ x. x ≡ list) }
+        // A fault is that of the bytes.
+        ensures fault { IfErr result (λ f. IsWholeFault (profile_of profile) bytes.now f.offset f.reason) }
+        // Bytes with a fault are refused by it.
+        ensures refused { (offset : ℕ) (r : Reason) → IsWholeFault (profile_of profile) bytes.now offset r
+            → result ≡ Err (record { offset = offset; reason = r }) }
+    {
+        let (view, len) = AclView::parse_with(bytes, profile)?;
+        if len < bytes.len() {
+            return Err(Fault {
+                offset: len as u64,
+                reason: Reason::TrailingBytes,
+            });
+        }
+        Ok(view)
+    }
+
+    /// The ACEs in order.
+    pub fn aces(&self) -> Aces<'a>
+        ensures same { result ≡ self.now }
+        // Every list that a view shows is accepted.
+        ensures accepted { IsAccepted full self.now }
+    {
+        Aces {
+            left: self.count,
+            rest: self.body,
+        }
+    }
+}
+
+// The list at the front, as reading gives it.
+#[inline(always)]
+fn view_of(bytes: &[u8], profile: Profile) -> Result<(AclView<'_>, usize), Fault>
+    ensures { Gives (λ x. (x.0, x.1)) result (value_at (profile_of profile) bytes.now) }
+{
+    let mut cursor = Cursor {
+        len: bytes.len(),
+        rest: bytes,
+    };
+    let count = count(&mut cursor)?;
+    let body = cursor.rest;
+    skip_aces(&mut cursor, count, profile)?;
+    let (body, _) = body.split_at(body.len() - cursor.rest.len());
+    Ok((AclView { count, body }, bytes.len() - cursor.rest.len()))
+}
