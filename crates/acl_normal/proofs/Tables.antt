@@ -8,22 +8,22 @@ use Rattle.acl_perm.specs.declared.kind.Kind.{Kind}
 use Rattle.acl_nfs4.specs.Ace.{Ace}
 use Rattle.acl_nfs4.specs.Who.{principal_of}
 use Rattle.acl_eval.specs.Column.{column}
-use Rattle.acl_normal.specs.Alike.{IsAlike}
-use Rattle.acl_normal.specs.Emissions.{IsOnce}
-use Rattle.acl_normal.specs.Emitted.{emitted_ace, emitted_aces}
+use Rattle.acl_normal.specs.internal.Alike.{IsAlike}
+use Rattle.acl_normal.specs.internal.Emissions.{IsOnce}
+use Rattle.acl_normal.specs.internal.Emitted.{emitted_ace, emitted_aces}
 use Rattle.acl_normal.specs.Left.{KeepsFirsts}
-use Rattle.acl_normal.specs.Keys.{key_entry}
+use Rattle.acl_normal.specs.Keys.{plain_key}
 use Rattle.acl_normal.specs.Places.{counts, first_at}
 use Rattle.acl_normal.specs.Tables.{AddsRow, AreRows, HasKey, IsRow, with_bit}
 use Rattle.acl_normal.specs.declared.bit_table.Row.{Row}
-use Rattle.acl_normal.specs.declared.draining.Emitted.{Emitted}
-use Rattle.acl_normal.proofs.Columns.{column_has}
-use Rattle.acl_normal.proofs.LaterBits.{kind_in, kind_first}
-use Rattle.acl_normal.proofs.ListColumns.{column-append}
-use Rattle.acl_normal.proofs.Names.{overlaps_itself}
-use Rattle.acl_normal.proofs.SameOrder.{once_has}
-use Rattle.acl_normal.proofs.Unique.{no_inherit_only}
-use Rattle.acl_normal.proofs.Writing.{split_at}
+use Rattle.acl_normal.specs.declared.emit.emission.Emitted.{Emitted}
+use Rattle.acl_normal.proofs.Unique.Columns.{column_has}
+use Rattle.acl_normal.proofs.Reduction.LaterBits.{kind_in, kind_first}
+use Rattle.acl_normal.proofs.Unique.ListColumns.{column-append}
+use Rattle.acl_normal.proofs.Unique.Names.{overlaps_itself}
+use Rattle.acl_normal.proofs.Unique.SameOrder.{once_has}
+use Rattle.acl_normal.proofs.Unique.Unique.{no_inherit_only}
+use Rattle.acl_normal.proofs.Inheritance.Writing.{split_at}
 
 -- an ACE without the bit has no row
 pub no_row : (b : ℕ) (xs : List Ace) (a : Ace) (rows : List Row) → has_bit a.mask b ≡ false → AddsRow b xs a rows rows
@@ -41,7 +41,7 @@ some_kind j k h = cc
 
 -- the ACE of a normal form takes part
 emitted_counts : (b : ℕ) (e : Emitted) → has_bit e.bits b ≡ true → counts b (emitted_ace e) ≡ true
-emitted_counts b e h = rw (h, no_inherit_only (key_entry e.key).0) refl
+emitted_counts b e h = rw (h, no_inherit_only (plain_key e.key).0) refl
 
 -- what the row of an ACE says, where its key is in the list
 pub one_row : (b : ℕ) (xs : List Ace) (e : Emitted) (a : Ace) (p : Principal) (kind : Kind) (old new : List Row)

@@ -5,9 +5,9 @@ use Rattle.acl_perm.specs.declared.kind.Kind.TheVariants.{Deny, Allow}
 use Rattle.acl_nfs4.specs.Ace.{Ace}
 use Rattle.acl_nfs4.specs.Who.{principal_of}
 use Rattle.acl_eval.specs.Column.{column}
-use Rattle.acl_normal.specs.Entries.{conflicts, entry_of}
+use Rattle.acl_normal.specs.Keys.{conflicts, ace_key}
 use Rattle.acl_normal.specs.Normal.{flags_for, is_free}
-use Rattle.acl_normal.specs.Plain.{reduced}
+use Rattle.acl_normal.specs.internal.Plain.{reduced}
 
 -- DENY bob, ALLOW alice: the denial isn't needed
 two_users : reduced ((user (codes "bob"), Deny) ∷ (user (codes "alice"), Allow) ∷ [])
@@ -24,7 +24,7 @@ all_but_one : reduced ((user (codes "bob"), Deny) ∷ (everyone, Allow) ∷ [])
     ≡ (user (codes "bob"), Deny) ∷ (everyone, Allow) ∷ []
 all_but_one = refl
 
--- what an earlier entry of the principal decides, a later one doesn't
+-- what an earlier key of the principal decides, a later one doesn't
 owner_twice : reduced ((owner, Allow) ∷ (owner, Deny) ∷ []) ≡ (owner, Allow) ∷ []
 owner_twice = refl
 
@@ -64,7 +64,7 @@ write_column : column (bob ∷ mine ∷ []) 1 ≡ (user (codes "bob"), Deny) ∷
 unfolding bob mine
 write_column = refl
 
-owner_conflicts : conflicts (entry_of bob) (entry_of mine) ≡ true
+owner_conflicts : conflicts (ace_key bob) (ace_key mine) ≡ true
 unfolding bob mine
 owner_conflicts = refl
 
@@ -83,7 +83,7 @@ reads = record { kind = Allow; flags = 0; mask = 1; who = codes "alice" }
 writes : Ace
 writes = record { kind = Allow; flags = 0; mask = 2; who = codes "alice" }
 
-both_free : is_free (column (reads ∷ writes ∷ []) 1) (entry_of reads) ≡ true
+both_free : is_free (column (reads ∷ writes ∷ []) 1) (ace_key reads) ≡ true
 unfolding reads writes
 both_free = refl
 

@@ -1,16 +1,16 @@
 -- What the laws of normal forms say of columns (this library's own).
 use Rattle.std.specs.Prelude.{◌≡◌, ◌∷◌, ◌++◌}
 use Rattle.acl_eval.specs.Column.{Column}
-use Rattle.acl_normal.specs.Entries.{Entry}
+use Rattle.acl_normal.specs.Keys.{Key}
 
--- the entry stands in the column
-pub record Has (c : Column) (e : Entry) : Type 0 where
+-- the key stands in the column
+pub record Has (c : Column) (e : Key) : Type 0 where
   pub before : Column
   pub after : Column
   pub is : c ≡ before ++ e ∷ after
 
--- the first entry stands before the second
-pub record Precedes (c : Column) (e f : Entry) : Type 0 where
+-- the first key stands before the second
+pub record Precedes (c : Column) (e f : Key) : Type 0 where
   pub before : Column
   pub between : Column
   pub after : Column

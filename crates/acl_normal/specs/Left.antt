@@ -6,7 +6,7 @@ use Rattle.acl_perm.specs.Principal.{Principal}
 use Rattle.acl_perm.specs.declared.kind.Kind.{Kind}
 use Rattle.acl_nfs4.specs.Ace.{Ace}
 use Rattle.acl_eval.specs.Column.{column}
-use Rattle.acl_normal.specs.Emissions.{HasOnceColumns}
+use Rattle.acl_normal.specs.internal.Emissions.{HasOnceColumns}
 use Rattle.acl_normal.specs.Normal.{IsQuiet, is_free}
 use Rattle.acl_normal.specs.Places.{first_at}
 
@@ -20,7 +20,7 @@ abbrev pub KeepsFirsts : List Ace → List Ace → Type 0
 KeepsFirsts source list = (bit : ℕ) (p : Principal) (kind : Kind) (place : ℕ) → first_at bit p list ≡ Some (kind, place)
     → first_at bit p source ≡ Some (kind, place)
 
--- at one of the bits, an entry of the principal stands in the column and none before it conflicts with it
+-- at one of the bits, a key of the principal stands in the column and none before it conflicts with it
 abbrev pub HasFree : List Ace → Principal → ℕ → Type 0
 HasFree list p bits =
     (bit : ℕ) × (kind : Kind) × IsTrue (has_bit bits bit) × IsTrue (is_free (column list bit) (p, kind))

@@ -10,7 +10,7 @@ use Rattle.acl_nfs4.specs.Who.{principal_of}
 use Rattle.acl_eval.specs.Column.{Column, column}
 use Rattle.acl_eval.specs.Grant.{SameGrants}
 use Rattle.acl_eval.specs.Scan.{without}
-use Rattle.acl_normal.specs.Entries.{Entry, entry_of, principal_eq, kind_eq, conflicts, entry_cmp}
+use Rattle.acl_normal.specs.Keys.{Key, ace_key, principal_eq, kind_eq, conflicts, compare_keys}
 use Rattle.acl_normal.specs.SmallSituations.{HasName}
 
 -- the ACE without one bit of its mask
@@ -32,17 +32,17 @@ pub record IsIrreducibleList (list : List Ace) : Type 0 where
   pub needed : (before : List Ace) (a : Ace) (after : List Ace) (bit : ℕ) → list ≡ before ++ a ∷ after
       → IsTrue (has_bit a.mask bit) → IsNeeded before a after bit
 
--- the entry is free in a column: it stands there, and none before it conflicts with it
-abbrev pub is_free : Column → Entry → Bool
+-- the key is free in a column: it stands there, and none before it conflicts with it
+abbrev pub is_free : Column → Key → Bool
 is_free [] e = false
 is_free (first ∷ c) e = (principal_eq first.0 e.0 && kind_eq first.1 e.1) || (not (conflicts first e) && is_free c e)
 
--- at each place stands the least entry that is free at some bit from there on, with all bits at which it is free
+-- at each place stands the least key that is free at some bit from there on, with all bits at which it is free
 abbrev pub IsOrdered : List Ace → Type 0
 IsOrdered [] = ⊤
 IsOrdered (a ∷ list) =
-    ((e : Entry) (bit : ℕ) → IsTrue (is_free (column (a ∷ list) bit) e) → IsTrue (is_le (entry_cmp (entry_of a) e)))
-    × ((bit : ℕ) → has_bit a.mask bit ≡ is_free (column (a ∷ list) bit) (entry_of a))
+    ((e : Key) (bit : ℕ) → IsTrue (is_free (column (a ∷ list) bit) e) → IsTrue (is_le (compare_keys (ace_key a) e)))
+    × ((bit : ℕ) → has_bit a.mask bit ≡ is_free (column (a ∷ list) bit) (ace_key a))
     × IsOrdered list
 
 -- IDENTIFIER_GROUP on a group name, and no other flag (RFC 8881, section 6.2.1.4)
@@ -69,7 +69,7 @@ pub record IsNormal (list : List Ace) : Type 0 where
 abbrev pub is_inherit_only : Ace → Bool
 is_inherit_only a = has_bit a.flags inherit_only
 
--- the ACE has the bit and takes part, so that it is an entry of the bit's column
+-- the ACE has the bit and takes part, so that it is a key of the bit's column
 abbrev pub counts : ℕ → Ace → Bool
 counts bit a = has_bit a.mask bit && not (is_inherit_only a)
 

@@ -10,7 +10,7 @@ use Rattle.acl_perm.specs.Bits.{has_bit}
 use Rattle.acl_nfs4.specs.Ace.{Ace}
 use Rattle.acl_nfs4.specs.Who.{principal_of, owner_name, group_name, everyone_name}
 use Rattle.acl_eval.specs.Scan.{without}
-use Rattle.acl_normal.specs.Entries.{principal_eq, Entry, entry_of, kind_eq}
+use Rattle.acl_normal.specs.Keys.{principal_eq, Key, ace_key, kind_eq}
 use Rattle.acl_normal.specs.Normal.{is_inherit_only}
 
 -- a user name
@@ -33,7 +33,7 @@ abbrev pub other_kind : Kind → Kind
 other_kind Deny = Allow
 other_kind Allow = Deny
 
--- the entry has the bit, and takes part
+-- the key has the bit, and takes part
 abbrev pub counts : ℕ → Ace → Bool
 counts b a = has_bit a.mask b && not (is_inherit_only a)
 
@@ -44,35 +44,35 @@ same_class false false = true
 same_class true false = false
 same_class false true = false
 
--- the entry waits with the bit, in its kind and class
+-- the key waits with the bit, in its kind and class
 abbrev pub is_waiting : Kind → Bool → ℕ → Ace → Bool
 is_waiting k users b a = counts b a && (kind_eq a.kind k && same_class (is_user (principal_of a)) users)
 
--- the entry at a place waits
+-- the key at a place waits
 abbrev pub waits : Kind → Bool → ℕ → List Ace → ℕ → Bool
 waits k users b [] i = false
 waits k users b (a ∷ xs) zero = is_waiting k users b a
 waits k users b (a ∷ xs) (suc i) = waits k users b xs i
 
--- some entry before a place waits
+-- some key before a place waits
 abbrev pub waits_before : Kind → Bool → ℕ → List Ace → ℕ → Bool
 waits_before k users b [] i = false
 waits_before k users b (a ∷ xs) zero = false
 waits_before k users b (a ∷ xs) (suc i) = is_waiting k users b a || waits_before k users b xs i
 
--- an entry of the other kind waits before a place, in a class that overlaps
+-- a key of the other kind waits before a place, in a class that overlaps
 abbrev pub is_blocked : Kind → Bool → ℕ → List Ace → ℕ → Bool
 is_blocked k of_user b xs i =
     waits_before (other_kind k) false b xs i || (not of_user && waits_before (other_kind k) true b xs i)
 
--- the kind and the place of the first entry of a principal with the bit
+-- the kind and the place of the first key of a principal with the bit
 abbrev pub first_at : ℕ → Principal → List Ace → Option (Kind × ℕ)
 first_at b p [] = None
 first_at b p (a ∷ xs) =
     cond (counts b a && principal_eq (principal_of a) p) (Some (a.kind, 0))
     (option_map (λ e. (e.0, suc e.1)) (first_at b p xs))
 
--- the entry without bits, where it is the principal's
+-- the key without bits, where it is the principal's
 abbrev pub without_bits : Principal → ℕ → Ace → Ace
 without_bits p m a =
     cond (principal_eq (principal_of a) p && not (is_inherit_only a)) (record a { mask = without a.mask m }) a
@@ -81,11 +81,11 @@ without_bits p m a =
 abbrev pub take_out : Principal → ℕ → List Ace → List Ace
 take_out p m = map (without_bits p m)
 
--- the key of the entry at a place
-abbrev pub entry_here : List Ace → ℕ → Entry
-entry_here [] i = (everyone, Deny)
-entry_here (a ∷ xs) zero = entry_of a
-entry_here (a ∷ xs) (suc i) = entry_here xs i
+-- the key of the key at a place
+abbrev pub key_here : List Ace → ℕ → Key
+key_here [] i = (everyone, Deny)
+key_here (a ∷ xs) zero = ace_key a
+key_here (a ∷ xs) (suc i) = key_here xs i
 
 -- the set of a type, a class and a bit
 abbrev pub slot_of : Kind → Bool → ℕ → ℕ
@@ -94,13 +94,13 @@ slot_of Deny true b = 4 * b + 0 + 1
 slot_of Allow false b = 4 * b + 2 + 0
 slot_of Allow true b = 4 * b + 2 + 1
 
--- the mask of the entry at a place
+-- the mask of the key at a place
 abbrev pub mask_here : List Ace → ℕ → ℕ
 mask_here [] i = 0
 mask_here (a ∷ xs) zero = a.mask
 mask_here (a ∷ xs) (suc i) = mask_here xs i
 
--- the entries with no bits
+-- the keys with no bits
 abbrev pub nothing_left : List Ace → List Ace
 nothing_left [] = []
 nothing_left (a ∷ xs) = record a { mask = 0 } ∷ nothing_left xs

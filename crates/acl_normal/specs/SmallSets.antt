@@ -7,7 +7,7 @@ use Rattle.acl_eval.specs.Column.{takes_part}
 use Rattle.acl_eval.specs.Grant.{Grant, SameGrants, grants_bit}
 use Rattle.acl_nfs4.specs.Ace.{Ace}
 use Rattle.acl_nfs4.specs.Who.{principal_of}
-use Rattle.acl_normal.specs.Entries.{principal_eq}
+use Rattle.acl_normal.specs.Keys.{principal_eq}
 use Rattle.acl_normal.specs.SmallSituations.{is_among, small_situation}
 use Rattle.acl_perm.specs.Bits.{all_rights, has_bit}
 use Rattle.acl_perm.specs.Order.{principal_cmp, principal_name}

@@ -6,7 +6,7 @@ use Rattle.acl_perm.specs.Principal.{Principal, owner, user, group, group_named,
 use Rattle.acl_perm.specs.Situation.{Situation, IsName}
 use Rattle.acl_perm.specs.Order.{principal_name}
 use Rattle.acl_eval.specs.Column.{Column}
-use Rattle.acl_normal.specs.Entries.{principal_eq}
+use Rattle.acl_normal.specs.Keys.{principal_eq}
 
 -- the first user name among some principals
 abbrev pub first_user : List Principal → Option (List ℕ)

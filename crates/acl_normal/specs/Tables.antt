@@ -5,7 +5,7 @@ use Rattle.acl_perm.specs.Bits.{has_bit, identifier_group}
 use Rattle.acl_nfs4.specs.Ace.{Ace}
 use Rattle.acl_nfs4.specs.Who.{principal_of}
 use Rattle.acl_eval.specs.Column.{column, first_kind}
-use Rattle.acl_normal.specs.Alike.{is_either}
+use Rattle.acl_normal.specs.internal.Alike.{is_either}
 use Rattle.acl_normal.specs.NormalForm.{IsNormalFormOf}
 use Rattle.acl_normal.specs.Places.{counts, first_at}
 use Rattle.acl_normal.specs.declared.bit_table.Row.{Row}

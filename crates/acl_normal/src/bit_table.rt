@@ -2,17 +2,17 @@
 ghost use Rattle.std.specs.Prelude.{◌≡◌, ◌<◌, ℕ, List, [], IfOk, OnOk, length, slice_index_or};
 ghost use Rattle.acl_perm.specs.Bits.{IsMask};
 ghost use Rattle.acl_nfs4.specs.Ace.{Ace};
-ghost use Rattle.acl_normal.specs.Emitted.{emitted_ace, emitted_aces};
+ghost use Rattle.acl_normal.specs.internal.Emitted.{emitted_ace, emitted_aces};
 ghost use Rattle.acl_normal.specs.Left.{IsLowest};
 ghost use Rattle.acl_normal.specs.NormalForm.{IsNormalFormOf};
-ghost use Rattle.acl_normal.specs.declared.draining.Emitted.{Emitted as Emission};
+ghost use Rattle.acl_normal.specs.declared.emit.emission.Emitted.{Emitted as Emission};
 ghost use Rattle.acl_normal.specs.Tables.{AddsRow, AreRows, HasKey, IsTable, with_bit};
 
-use crate::bit_tests::has;
-use crate::draining::Emitted;
-use crate::merged_rows::{MergedRows, lowest};
+use crate::bits::has;
+use crate::emit::emission::Emitted;
 use crate::normal_form::{ace_of, form_of};
-use crate::reduction::reduced_rows;
+use crate::reduce::reduced_rows;
+use crate::rows::merged::{MergedRows, lowest};
 use acl_nfs4::Acl;
 use acl_perm::{Kind, Mask};
 use std::alloc::{AllocError, Global};

@@ -6,18 +6,18 @@ ghost use Rattle.acl_normal.specs.Difference.{situation_of};
 ghost use Rattle.acl_normal.specs.SmallSets.{IsFirstDifference, TellsApart};
 
 pub(crate) mod evaluation;
+mod inversions;
 pub(crate) mod mentioned;
 pub(crate) mod outcome;
 mod rows;
 mod search;
 mod situation;
 pub(crate) mod small_set;
-mod tables;
 
 use crate::comparison::mentioned::mentioned;
 use crate::comparison::outcome::answer;
 use crate::comparison::search::find_set;
-use crate::listing::collect;
+use crate::reduce::collected::collect;
 use acl_nfs4::Acl;
 use acl_perm::Mask;
 use std::alloc::{AllocError, Global};

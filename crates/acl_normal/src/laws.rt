@@ -9,7 +9,7 @@ ghost use Rattle.acl_nfs4.specs.Spelling.{Fits, IsAccepted, spelling};
 ghost use Rattle.acl_nfs4.specs.Within.{IsProfile};
 ghost use Rattle.acl_eval.specs.Column.{column};
 ghost use Rattle.acl_eval.specs.Grant.{SameGrants, grants_bit};
-ghost use Rattle.acl_normal.specs.Entries.{Entry, conflicts};
+ghost use Rattle.acl_normal.specs.Keys.{Key, conflicts};
 ghost use Rattle.acl_normal.specs.FiveForms.{AreFormsOf, AreSpelledAlike, five_spellings};
 ghost use Rattle.acl_normal.specs.Laws.{Has, Precedes};
 ghost use Rattle.acl_normal.specs.Normal.{IsIrreducibleList, IsNormal};
@@ -21,14 +21,14 @@ ghost use Rattle.acl_normal.specs.declared.five_forms.FiveForms.{FiveForms};
 /// In irreducible lists that grant the same, each principal has the same bits, with the same types.
 pub fn same_bits()
     ensures { (list other : List Ace) → IsIrreducibleList list → IsIrreducibleList other
-        → SameGrants all_rights list other → (bit : ℕ) (e : Entry)
+        → SameGrants all_rights list other → (bit : ℕ) (e : Key)
         → Has (column list bit) e ↔ Has (column other bit) e }
 {}
 
 /// In irreducible lists that grant the same, each two conflicting entries of a bit stand in the same order.
 pub fn same_order()
     ensures { (list other : List Ace) → IsIrreducibleList list → IsIrreducibleList other
-        → SameGrants all_rights list other → (bit : ℕ) (e f : Entry) → conflicts e f ≡ true
+        → SameGrants all_rights list other → (bit : ℕ) (e f : Key) → conflicts e f ≡ true
         → Precedes (column list bit) e f ↔ Precedes (column other bit) e f }
 {}
 

@@ -7,13 +7,13 @@ ghost use Rattle.acl_nfs4.specs.Ace.{Ace, ace};
 ghost use Rattle.acl_nfs4.specs.Fault.{IsWholeFault};
 ghost use Rattle.acl_nfs4.specs.Spelling.{IsAccepted, spelling};
 ghost use Rattle.acl_nfs4.specs.Stream.{no_memory};
-ghost use Rattle.acl_normal.specs.Emitted.{emitted_ace, emitted_aces};
+ghost use Rattle.acl_normal.specs.internal.Emitted.{emitted_ace, emitted_aces};
 ghost use Rattle.acl_normal.specs.Normal.{IsNormal, flags_for};
 ghost use Rattle.acl_normal.specs.NormalForm.{IsNormalFormOf, Normalises};
-ghost use Rattle.acl_normal.specs.Ready.{who_for};
+ghost use Rattle.acl_normal.specs.internal.Ready.{who_for};
 
-use crate::draining::{Emitted, normalize_left};
-use crate::reduction::reduced_rows;
+use crate::emit::emission::{Emitted, normalize_left};
+use crate::reduce::reduced_rows;
 use acl_nfs4::{AceRef, Acl, AclView, Fault, PushFault, Reason};
 use acl_perm::{Counted, Flags, Mask, Principal, Profile};
 use std::alloc::{AllocError, Global};

@@ -5,13 +5,13 @@ ghost use Rattle.std.specs.Prelude.{◌≡◌, IfOk};
 ghost use Rattle.acl_perm.specs.Profile.{full};
 ghost use Rattle.acl_nfs4.specs.Spelling.{IsAccepted};
 ghost use Rattle.acl_normal.specs.NormalForm.{IsNormalFormOf};
-ghost use Rattle.acl_normal.specs.Passes.{IsReduced, list_of};
+ghost use Rattle.acl_normal.specs.internal.Passes.{IsReduced, list_of};
 
 mod emission;
 mod reduction;
 mod small_sets;
 
-use crate::listing::collect;
+use crate::reduce::collected::collect;
 use acl_nfs4::{AceRef, Acl};
 use emission::emit;
 use reduction::{drop_needless, drop_shadowed};

@@ -3,7 +3,7 @@ ghost use Rattle.std.specs.Prelude.{◌≡◌, ◌<◌};
 ghost use Rattle.acl_perm.specs.Order.{kind_rank};
 ghost use Rattle.acl_perm.specs.Principal.{principal, everyone};
 ghost use Rattle.acl_perm.specs.declared.kind.Kind.TheVariants.{Allow};
-ghost use Rattle.acl_normal.specs.Entries.{kind_eq, principal_eq};
+ghost use Rattle.acl_normal.specs.Keys.{kind_eq, principal_eq};
 ghost use Rattle.acl_normal.specs.Places.{is_user, other_kind, slot_of};
 
 use acl_perm::{Kind, Principal};

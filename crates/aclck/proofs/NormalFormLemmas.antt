@@ -13,8 +13,8 @@ use Rattle.acl_eval.specs.Grant.{SameGrants}
 use Rattle.acl_eval.proofs.Same.{equivalence}
 use Rattle.acl_normal.specs.Normal.{IsNormal}
 use Rattle.acl_normal.specs.NormalForm.{IsNormalFormOf, Normalises}
-use Rattle.acl_normal.proofs.Spelled.{IsForm, form_of, forms_tell}
-use Rattle.acl_normal.proofs.Unique.{unique}
+use Rattle.acl_normal.proofs.Unique.Spelled.{IsForm, form_of, forms_tell}
+use Rattle.acl_normal.proofs.Unique.Unique.{unique}
 use Rattle.acl_posix.specs.Texts.{canonical_text}
 use Rattle.acl_posix.proofs.Whole.{apart, back, canonical_reads}
 use Rattle.aclck.specs.Headline.{Headline}

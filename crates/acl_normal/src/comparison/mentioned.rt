@@ -4,8 +4,8 @@ ghost use Rattle.acl_perm.specs.Order.{principal_name};
 ghost use Rattle.acl_perm.specs.Principal.{principal};
 ghost use Rattle.acl_nfs4.specs.Ace.{ace};
 ghost use Rattle.acl_normal.specs.SmallSets.{AreMentioned, longest, mentioned as in_order};
-ghost use Rattle.acl_normal.specs.Passes.{list_of};
-ghost use Rattle.acl_normal.specs.SetSearch.{IsRising, principals};
+ghost use Rattle.acl_normal.specs.internal.Passes.{list_of};
+ghost use Rattle.acl_normal.specs.internal.SetSearch.{IsRising, principals};
 
 use super::small_set::is_same;
 use acl_nfs4::AceRef;

@@ -6,9 +6,9 @@ ghost use Rattle.acl_normal.specs.Difference.{situation_of};
 ghost use Rattle.acl_normal.specs.Normal.{HasNames};
 ghost use Rattle.acl_normal.specs.SmallSets.{IsFirstDifference, TellsApart, mentioned, small_sets};
 ghost use Rattle.acl_normal.specs.SmallSituations.{small_situation};
-ghost use Rattle.acl_normal.specs.CodeSets.{set_of, set_or_none};
-ghost use Rattle.acl_normal.specs.Passes.{list_of};
-ghost use Rattle.acl_normal.specs.SetSearch.{Finds, GrantAlikeTo, IsLowestDifference, principals};
+ghost use Rattle.acl_normal.specs.internal.CodeSets.{set_of, set_or_none};
+ghost use Rattle.acl_normal.specs.internal.Passes.{list_of};
+ghost use Rattle.acl_normal.specs.internal.SetSearch.{Finds, GrantAlikeTo, IsLowestDifference, principals};
 
 use super::Difference;
 use super::evaluation::{differing, granted, lowest};

@@ -4,10 +4,10 @@ ghost use Rattle.acl_perm.specs.Bits.{has_bit};
 ghost use Rattle.acl_perm.specs.Principal.{everyone, principal};
 ghost use Rattle.acl_nfs4.specs.Ace.{ace};
 ghost use Rattle.acl_eval.specs.Grant.{is_allow};
-ghost use Rattle.acl_normal.specs.FirstPlaces.{AreFirstFrom, AreRows, AreWhoms, IsCompared, IsWhom, IsWithin, is_user as is_user_name, no_ace, put, stops, stops_at};
+ghost use Rattle.acl_normal.specs.internal.FirstPlaces.{AreFirstFrom, AreRows, AreWhoms, IsCompared, IsWhom, IsWithin, is_user as is_user_name, no_ace, put, stops, stops_at};
 ghost use Rattle.acl_normal.specs.SmallSituations.{is_among};
-ghost use Rattle.acl_normal.specs.Passes.{list_of};
-ghost use Rattle.acl_normal.specs.SetSearch.{IsRising, principals};
+ghost use Rattle.acl_normal.specs.internal.Passes.{list_of};
+ghost use Rattle.acl_normal.specs.internal.SetSearch.{IsRising, principals};
 
 use super::small_set::is_same;
 use acl_nfs4::AceRef;

@@ -1,16 +1,16 @@
 //! The search for the first small set at which two lists grant otherwise, without going over all pairs.
 ghost use Rattle.std.specs.Prelude.{◌≡◌, ◌+◌, ◌<◌, ℕ, IfOk, drop, length, slice_index_or};
 ghost use Rattle.acl_perm.specs.Principal.{everyone};
-ghost use Rattle.acl_normal.specs.FirstPlaces.{AlikeAlone, AlikeWith, AlikeWithAll, IsCompared, IsLeast, OnAll};
+ghost use Rattle.acl_normal.specs.internal.FirstPlaces.{AlikeAlone, AlikeWith, AlikeWithAll, IsCompared, IsLeast, OnAll};
 ghost use Rattle.acl_normal.specs.SmallSets.{small_sets};
-ghost use Rattle.acl_normal.specs.CodeSets.{set_or_none};
-ghost use Rattle.acl_normal.specs.Passes.{list_of};
-ghost use Rattle.acl_normal.specs.SetSearch.{Finds, IsRising, principals};
+ghost use Rattle.acl_normal.specs.internal.CodeSets.{set_or_none};
+ghost use Rattle.acl_normal.specs.internal.Passes.{list_of};
+ghost use Rattle.acl_normal.specs.internal.SetSearch.{Finds, IsRising, principals};
 
 use super::evaluation::{grant_alike, rights_of};
+use super::inversions::{first_inverted, first_inverting, first_unlike};
 use super::rows::{Compared, has_right, whoms};
 use super::small_set::SmallSet;
-use super::tables::{first_inverted, first_inverting, first_unlike};
 use acl_nfs4::AceRef;
 use acl_perm::Principal;
 use std::alloc::{AllocError, Global};

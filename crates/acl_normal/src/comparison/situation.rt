@@ -2,7 +2,7 @@
 ghost use Rattle.std.specs.Prelude.{◌≡◌, ◌∷◌, [], ◌++◌, IfOk, OnOk, map, replicate, unwrap_or};
 ghost use Rattle.acl_perm.specs.Principal.{principal};
 ghost use Rattle.acl_normal.specs.SmallSituations.{first_user, group_names, small_situation};
-ghost use Rattle.acl_normal.specs.CodeSets.{set_of};
+ghost use Rattle.acl_normal.specs.internal.CodeSets.{set_of};
 
 use super::small_set::SmallSet;
 use acl_perm::Principal;

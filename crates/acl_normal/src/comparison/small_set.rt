@@ -1,9 +1,9 @@
 //! Sets of at most two principals.
 ghost use Rattle.std.specs.Prelude.{◌≡◌, ◌∷◌, option_map};
 ghost use Rattle.acl_perm.specs.Principal.{everyone, principal};
-ghost use Rattle.acl_normal.specs.Entries.{principal_eq};
+ghost use Rattle.acl_normal.specs.Keys.{principal_eq};
 ghost use Rattle.acl_normal.specs.SmallSituations.{first_user, is_among};
-ghost use Rattle.acl_normal.specs.CodeSets.{set_of};
+ghost use Rattle.acl_normal.specs.internal.CodeSets.{set_of};
 
 use acl_perm::Principal;
 
@@ -16,7 +16,7 @@ pub(crate) enum SmallSet<'a> {
 }
 
 // Whether both are one principal.
-#[tactic(auto, using(crate::proofs::SameTests::same_test))]
+#[tactic(auto, using(crate::proofs::Searching::SameTests::same_test))]
 pub(crate) fn is_same(p: Principal<'_>, q: Principal<'_>) -> bool
     ensures { result ≡ principal_eq (principal p.entry) (principal q.entry) }
 {

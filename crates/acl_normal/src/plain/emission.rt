@@ -12,12 +12,12 @@ ghost use Rattle.acl_nfs4.specs.Limits.{most_weight};
 ghost use Rattle.acl_nfs4.specs.Spelling.{IsAce};
 ghost use Rattle.acl_nfs4.specs.Who.{principal_of};
 ghost use Rattle.acl_eval.specs.Column.{column};
-ghost use Rattle.acl_normal.specs.Counts.{count_left};
-ghost use Rattle.acl_normal.specs.Emissions.{HasOnceColumns, IsEmission};
-ghost use Rattle.acl_normal.specs.Entries.{entry_cmp, entry_key, entry_of, kind_eq, principal_eq};
+ghost use Rattle.acl_normal.specs.internal.Counts.{count_left};
+ghost use Rattle.acl_normal.specs.internal.Emissions.{HasOnceColumns, IsEmission};
+ghost use Rattle.acl_normal.specs.Keys.{compare_keys, key_record, ace_key, kind_eq, principal_eq};
 ghost use Rattle.acl_normal.specs.Normal.{flags_for, is_free};
-ghost use Rattle.acl_normal.specs.Passes.{Best, is_blocked, IsCandidate, IsNowhereFree, IsWithinAs, KeepsProfiles, lesser, list_of};
-ghost use Rattle.acl_normal.specs.Plain.{without_principal};
+ghost use Rattle.acl_normal.specs.internal.Passes.{Best, is_blocked, IsCandidate, IsNowhereFree, IsWithinAs, KeepsProfiles, lesser, list_of};
+ghost use Rattle.acl_normal.specs.internal.Plain.{without_principal};
 
 use super::reduction::{active, is_same};
 use crate::appending::push;
@@ -53,10 +53,10 @@ fn has_key(other: &AceRef<'_>, item: &AceRef<'_>) -> bool
 }
 
 // The bits at which the other ACE has the key of the ACE, but for those that are blocked.
-#[tactic(auto, using(crate::proofs::Passes::free_alone))]
+#[tactic(auto, using(crate::proofs::PlainForm::Passes::free_alone))]
 fn own_free(other: &AceRef<'_>, item: &AceRef<'_>, blocked: Mask) -> Mask
     ensures { (bit : ℕ) → has_bit result.bits bit
-        ≡ (is_free (column (ace other.now ∷ []) bit) (entry_of (ace item.now)) && not (has_bit blocked.bits bit)) }
+        ≡ (is_free (column (ace other.now ∷ []) bit) (ace_key (ace item.now)) && not (has_bit blocked.bits bit)) }
 {
     if has_key(other, item) {
         active(other).difference(blocked)
@@ -68,7 +68,7 @@ fn own_free(other: &AceRef<'_>, item: &AceRef<'_>, blocked: Mask) -> Mask
 // The bits at which the other ACE conflicts with the ACE.
 fn own_conflict(other: &AceRef<'_>, item: &AceRef<'_>) -> Mask
     ensures { (bit : ℕ) → has_bit result.bits bit
-        ≡ is_blocked (column (ace other.now ∷ []) bit) (entry_of (ace item.now)) }
+        ≡ is_blocked (column (ace other.now ∷ []) bit) (ace_key (ace item.now)) }
 {
     if other.kind != item.kind && overlaps(other.principal(), item.principal()) {
         active(other)
@@ -79,7 +79,7 @@ fn own_conflict(other: &AceRef<'_>, item: &AceRef<'_>) -> Mask
 
 // The bits at which the key of the ACE is free.
 fn free_bits(left: &[AceRef<'_>], item: &AceRef<'_>) -> Mask
-    ensures { (bit : ℕ) → has_bit result.bits bit ≡ is_free (column (list_of left.now) bit) (entry_of (ace item.now)) }
+    ensures { (bit : ℕ) → has_bit result.bits bit ≡ is_free (column (list_of left.now) bit) (ace_key (ace item.now)) }
 {
     let mut free = Mask::NONE;
     let mut blocked = Mask::NONE;
@@ -108,7 +108,7 @@ fn naming_flags(whom: Principal<'_>) -> Flags
 // The ACE with all bits at which its key is free.
 fn candidate<'a>(left: &[AceRef<'a>], item: &AceRef<'a>) -> Option<AceRef<'a>>
     ensures some { IfSome result (λ a. IsCandidate (list_of left.now) (ace a)) }
-    ensures key { IfSome result (λ a. entry_of (ace a) ≡ entry_of (ace item.now)) }
+    ensures key { IfSome result (λ a. ace_key (ace a) ≡ ace_key (ace item.now)) }
     ensures within { IsWithinAs (list_of left.now) (ace item.now)
         → IfSome result (λ a. IsWithinAs (list_of left.now) (ace a)) }
     ensures none { IfNone result (IsNowhereFree (list_of left.now) (ace item.now)) }
@@ -126,7 +126,7 @@ fn candidate<'a>(left: &[AceRef<'a>], item: &AceRef<'a>) -> Option<AceRef<'a>>
 
 // The principal and the type of the ACE.
 fn key<'a>(item: &AceRef<'a>) -> Key<'a>
-    ensures { key_of result ≡ entry_key (entry_of (ace item.now)) }
+    ensures { key_of result ≡ key_record (ace_key (ace item.now)) }
 {
     Key {
         principal: item.principal(),
@@ -136,7 +136,7 @@ fn key<'a>(item: &AceRef<'a>) -> Key<'a>
 
 // Whether the key of the first ACE is not greater.
 fn is_first(first: &AceRef<'_>, second: &AceRef<'_>) -> bool
-    ensures { result ≡ is_le (entry_cmp (entry_of (ace first.now)) (entry_of (ace second.now))) }
+    ensures { result ≡ is_le (compare_keys (ace_key (ace first.now)) (ace_key (ace second.now))) }
 {
     key(first) <= key(second)
 }

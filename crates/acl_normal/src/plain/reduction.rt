@@ -7,10 +7,10 @@ ghost use Rattle.acl_perm.specs.declared.kind.Kind.TheVariants.{Allow};
 ghost use Rattle.acl_nfs4.specs.Ace.{ace};
 ghost use Rattle.acl_nfs4.specs.Who.{principal_of};
 ghost use Rattle.acl_eval.specs.Column.{column};
-ghost use Rattle.acl_normal.specs.Entries.{kind_eq, principal_eq};
+ghost use Rattle.acl_normal.specs.Keys.{kind_eq, principal_eq};
 ghost use Rattle.acl_normal.specs.Normal.{counts};
-ghost use Rattle.acl_normal.specs.Passes.{KeepsProfiles, default_in, is_shadowed, list_of};
-ghost use Rattle.acl_normal.specs.Plain.{default, has_opposite, is_needed, needed_entries, unshadowed};
+ghost use Rattle.acl_normal.specs.internal.Passes.{KeepsProfiles, default_in, is_shadowed, list_of};
+ghost use Rattle.acl_normal.specs.internal.Plain.{default, has_opposite, is_needed, needed_keys, unshadowed};
 
 use acl_nfs4::{AceRef, Kind, Mask, Principal};
 use acl_perm::overlaps;
@@ -145,7 +145,7 @@ pub(super) fn drop_needless<'a>(
     aces: &[AceRef<'a>],
 ) -> Result<Vec<AceRef<'a>>, AllocError>
     ensures columns { IfOk result (λ kept. (bit : ℕ) → column (list_of kept.items) bit
-        ≡ needed_entries (default (column (list_of aces.now) bit)) (column (list_of aces.now) bit)) }
+        ≡ needed_keys (default (column (list_of aces.now) bit)) (column (list_of aces.now) bit)) }
     ensures profiles { IfOk result (λ kept. KeepsProfiles (list_of aces.now) (list_of kept.items)) }
 {
     let allowed = allowed_to_everyone(aces);

@@ -1,5 +1,5 @@
 use Rattle.std.specs.Prelude.{take}
-use Rattle.acl_normal.specs.Emitted.{emitted_aces}
+use Rattle.acl_normal.specs.internal.Emitted.{emitted_aces}
 use Rattle.acl_normal.specs.Tables.{AreRows, with_bit}
 use Rattle.acl_normal.proofs.bit_table.rows_of.Given as goal
 

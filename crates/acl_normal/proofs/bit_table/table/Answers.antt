@@ -1,7 +1,7 @@
-use Rattle.acl_normal.specs.Emitted.{emitted_aces}
+use Rattle.acl_normal.specs.internal.Emitted.{emitted_aces}
 use Rattle.acl_normal.proofs.Tables.{key_there, rows_from}
-use Rattle.acl_normal.proofs.Taken.{normal_alike, normal_once}
-use Rattle.acl_normal.proofs.Writing.{mask_at}
+use Rattle.acl_normal.proofs.Unique.Taken.{normal_alike, normal_once}
+use Rattle.acl_normal.proofs.Inheritance.Writing.{mask_at}
 use Rattle.acl_normal.proofs.bit_table.table.Goals as goal
 
 pub rows_of-requires-clause-masks : goal.rows_of-requires-clause-masks

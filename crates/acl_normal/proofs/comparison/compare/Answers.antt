@@ -1,10 +1,10 @@
 use Rattle.std.proofs.Common.{ap, subst, sym, ◌∙◌}
 use Rattle.acl_normal.proofs.comparison.compare.Goals as goal
-use Rattle.acl_normal.proofs.Accepted.{accepted_names}
-use Rattle.acl_normal.proofs.FirstSet.{rising_names, same_list_same, same_of}
+use Rattle.acl_normal.proofs.Unique.Accepted.{accepted_names}
+use Rattle.acl_normal.proofs.Searching.FirstSet.{rising_names, same_list_same, same_of}
 use Rattle.acl_normal.specs.Normal.{HasNames}
-use Rattle.acl_normal.specs.Passes.{list_of}
-use Rattle.acl_normal.specs.SetSearch.{principals}
+use Rattle.acl_normal.specs.internal.Passes.{list_of}
+use Rattle.acl_normal.specs.internal.SetSearch.{principals}
 use Rattle.acl_perm.specs.Profile.{full}
 
 pub returns-then-eq-clause-same : goal.returns-then-eq-clause-same

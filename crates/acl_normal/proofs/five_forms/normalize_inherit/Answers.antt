@@ -1,4 +1,4 @@
-use Rattle.acl_normal.proofs.FiveFormLemmas.{all_accepted, forms_from}
+use Rattle.acl_normal.proofs.Inheritance.FiveFormLemmas.{all_accepted, forms_from}
 use Rattle.acl_normal.proofs.five_forms.normalize_inherit.Goals as goal
 
 pub returns-clause-accepted : goal.returns-clause-accepted

@@ -1,6 +1,6 @@
 use Rattle.std.proofs.Common.{[], ◌∷◌, rules}
 use Rattle.acl_normal.specs.FiveForms.{five_lists}
-use Rattle.acl_normal.proofs.FormsOut.{all_left, cut_out, last_out, one_out}
+use Rattle.acl_normal.proofs.Inheritance.FormsOut.{all_left, cut_out, last_out, one_out}
 use Rattle.acl_normal.proofs.five_forms.put_forms.Goals as goal
 
 pub returns-in_err-file-clause-written : goal.returns-in_err-file-clause-written

@@ -1,4 +1,4 @@
-use Rattle.acl_normal.proofs.Writing.{all_written, mask_at, next_accepted, next_written}
+use Rattle.acl_normal.proofs.Inheritance.Writing.{all_written, mask_at, next_accepted, next_written}
 use Rattle.acl_normal.proofs.normal_form.written.Goals as goal
 
 pub ace_of-requires : goal.ace_of-requires

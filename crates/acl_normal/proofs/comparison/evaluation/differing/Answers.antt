@@ -1,5 +1,5 @@
 use Rattle.acl_normal.proofs.comparison.evaluation.differing.Goals as goal
-use Rattle.acl_normal.proofs.SetEvaluation.{differing_are, none_differ}
+use Rattle.acl_normal.proofs.Searching.SetEvaluation.{differing_are, none_differ}
 
 pub returns-clause-rights : goal.returns-clause-rights
 returns-clause-rights c = differing_are _ _ _ _ _ _ _ _ c.granted-here.ensures c.granted-there.ensures

@@ -1,6 +1,6 @@
 use Rattle.acl_normal.proofs.comparison.evaluation.granted.Given as goal
-use Rattle.acl_normal.proofs.SetEvaluation.{DecidesAll}
-use Rattle.acl_normal.specs.CodeSets.{set_of}
+use Rattle.acl_normal.proofs.Searching.SetEvaluation.{DecidesAll}
+use Rattle.acl_normal.specs.internal.CodeSets.{set_of}
 use Rattle.acl_perm.specs.Bits.{IsMask}
 
 abbrev pub invariant-loop-item : goal.invariant-loop-item

@@ -1,5 +1,5 @@
 use Rattle.acl_normal.proofs.comparison.mentioned.mention.Goals as goal
-use Rattle.acl_normal.proofs.MentionedNames.{adds_more}
+use Rattle.acl_normal.proofs.Searching.MentionedNames.{adds_more}
 
 pub loop-item-preserved : goal.loop-item-preserved
 loop-item-preserved c = adds_more _ _ _ _ c.item-item.result _ c.loop-item-test.true c.item-item.is

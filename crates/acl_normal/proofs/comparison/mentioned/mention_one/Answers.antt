@@ -1,6 +1,6 @@
 use Rattle.acl_normal.proofs.comparison.mentioned.mention_one.Goals as goal
 use Rattle.acl_nfs4.specs.Ace.{ace}
-use Rattle.acl_normal.proofs.MentionedNames.{added_one}
+use Rattle.acl_normal.proofs.Searching.MentionedNames.{added_one}
 
 pub returns-in_ok-push : goal.returns-in_ok-push
 returns-in_ok-push c = added_one _ _ _ (ace c.args.item.now) _ _ c.in_ok-push.ensures.items

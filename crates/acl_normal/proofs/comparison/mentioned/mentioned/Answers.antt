@@ -1,6 +1,6 @@
 use Rattle.acl_normal.proofs.comparison.mentioned.mentioned.Goals as goal
-use Rattle.acl_normal.proofs.Ordered.{mentioned_all}
-use Rattle.acl_normal.specs.Passes.{list_of}
+use Rattle.acl_normal.proofs.Searching.Ordered.{mentioned_all}
+use Rattle.acl_normal.specs.internal.Passes.{list_of}
 
 pub returns : goal.returns
 returns c = mentioned_all (list_of c.args.list.now) (list_of c.args.other.now) _ _ _ _ c.new-names.ensures.items

@@ -1,7 +1,7 @@
 use Rattle.std.specs.Prelude.{refl}
 use Rattle.acl_normal.proofs.comparison.outcome.answer.Goals as goal
-use Rattle.acl_normal.proofs.FirstSet.{differs_there, first_is, found_is, none_same, requester_is, some_not_same}
-use Rattle.acl_normal.specs.Passes.{list_of}
+use Rattle.acl_normal.proofs.Searching.FirstSet.{differs_there, first_is, found_is, none_same, requester_is, some_not_same}
+use Rattle.acl_normal.specs.internal.Passes.{list_of}
 
 pub returns-in-None-clause-same : goal.returns-in-None-clause-same
 returns-in-None-clause-same c = none_same (list_of c.args.list.now) (list_of c.args.other.now) _ c.requires.whole

@@ -1,8 +1,8 @@
 use Rattle.std.specs.Prelude.{◌≤◌}
 use Rattle.acl_normal.proofs.comparison.rows.firsts.Given as goal
-use Rattle.acl_normal.specs.FirstPlaces.{AreFirstFrom}
-use Rattle.acl_normal.specs.Passes.{list_of}
-use Rattle.acl_normal.specs.SetSearch.{principals}
+use Rattle.acl_normal.specs.internal.FirstPlaces.{AreFirstFrom}
+use Rattle.acl_normal.specs.internal.Passes.{list_of}
+use Rattle.acl_normal.specs.internal.SetSearch.{principals}
 
 abbrev pub invariant-loop-place : goal.invariant-loop-place
 invariant-loop-place l = record

@@ -1,6 +1,6 @@
 use Rattle.acl_normal.proofs.comparison.rows.named_by.Goals as goal
 use Rattle.acl_nfs4.specs.Ace.{ace}
-use Rattle.acl_normal.proofs.Numbers.{whom_none, whom_one}
+use Rattle.acl_normal.proofs.Searching.Numbers.{whom_none, whom_one}
 
 pub returns-in-Some : goal.returns-in-Some
 returns-in-Some c = whom_one _ (ace c.args.item.now) _ _ _ _ c.requires c.principal-p.ensures

@@ -1,7 +1,7 @@
 use Rattle.std.proofs.Common.{arith}
 use Rattle.acl_normal.proofs.comparison.search.find_set.Goals as goal
-use Rattle.acl_normal.proofs.Assembly.{member_within, none_answer, pair_answer, partner_within, single_answer}
-use Rattle.acl_normal.specs.Passes.{list_of}
+use Rattle.acl_normal.proofs.Searching.Assembly.{member_within, none_answer, pair_answer, partner_within, single_answer}
+use Rattle.acl_normal.specs.internal.Passes.{list_of}
 
 pub returns-then-single-whole : goal.returns-then-single-whole
 returns-then-single-whole c = single_answer _ _ c.args.whole.now _ _ c.if-not-grant_alike.ensures.alike

@@ -1,6 +1,6 @@
 use Rattle.std.specs.Prelude.{option_map, take}
 use Rattle.acl_nfs4.specs.Ace.{ace}
-use Rattle.acl_normal.specs.Passes.{Best, list_of}
+use Rattle.acl_normal.specs.internal.Passes.{Best, list_of}
 use Rattle.acl_normal.proofs.plain.emission.least.Given as goal
 
 -- the best of the ACEs so far

@@ -3,10 +3,10 @@ use Rattle.acl_perm.specs.Bits.{IsMask}
 use Rattle.acl_perm.specs.Principal.{everyone}
 use Rattle.acl_perm.specs.declared.kind.Kind.TheVariants.{Allow}
 use Rattle.acl_eval.specs.Column.{column}
-use Rattle.acl_normal.specs.Entries.{kind_eq}
-use Rattle.acl_normal.specs.Passes.{is_shadowed, list_of}
-use Rattle.acl_normal.specs.Plain.{default}
-use Rattle.acl_normal.proofs.Passes.{Marks}
+use Rattle.acl_normal.specs.Keys.{kind_eq}
+use Rattle.acl_normal.specs.internal.Passes.{is_shadowed, list_of}
+use Rattle.acl_normal.specs.internal.Plain.{default}
+use Rattle.acl_normal.proofs.PlainForm.Passes.{Marks}
 use Rattle.acl_normal.proofs.plain.reduction.allowed_to_everyone.Given as goal
 
 -- the bits that the ACEs so far decide for everyone, and those that they allow

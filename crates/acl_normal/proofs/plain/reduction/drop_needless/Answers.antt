@@ -4,11 +4,11 @@ use Rattle.acl_perm.specs.Bits.{has_bit}
 use Rattle.acl_nfs4.specs.Ace.{ace}
 use Rattle.acl_nfs4.specs.Who.{principal_of}
 use Rattle.acl_eval.specs.Column.{column}
-use Rattle.acl_normal.specs.Passes.{KeepsProfiles, default_in, list_of}
-use Rattle.acl_normal.specs.Plain.{default, is_needed, needed_entries}
-use Rattle.acl_normal.proofs.Passes.{Marks}
-use Rattle.acl_normal.proofs.Kept.{ace_at, front_true, fewer_bits, keeps_more}
-use Rattle.acl_normal.proofs.NeededBits.{needed_more}
+use Rattle.acl_normal.specs.internal.Passes.{KeepsProfiles, default_in, list_of}
+use Rattle.acl_normal.specs.internal.Plain.{default, is_needed, needed_keys}
+use Rattle.acl_normal.proofs.PlainForm.Passes.{Marks}
+use Rattle.acl_normal.proofs.Unique.Kept.{ace_at, front_true, fewer_bits, keeps_more}
+use Rattle.acl_normal.proofs.PlainForm.NeededBits.{needed_more}
 use Rattle.acl_normal.proofs.plain.reduction.drop_needless.Goals as goal
 
 pub loop-place-preserved : goal.loop-place-preserved
@@ -24,7 +24,7 @@ loop-place-preserved c =
     (column (list_of v) bit)) c.split_at.ensures.back in
     record {
       columns = λ bit.
-          ap (λ v. column (list_of v) bit ++ needed_entries (default (column (list_of c.args.aces.now) bit))
+          ap (λ v. column (list_of v) bit ++ needed_keys (default (column (list_of c.args.aces.now) bit))
           (column (list_of later) bit)) c.in_ok-push.ensures.items
           ∙ needed_more c.args.aces.now y c.loop-place.kept.items _ c.loop-place.place
           c.allowed_to_everyone-allowed.result.bits (omega arith) c.index-aces-place.is refl refl

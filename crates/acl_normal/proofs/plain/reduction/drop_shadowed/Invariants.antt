@@ -1,7 +1,7 @@
 use Rattle.std.specs.Prelude.{◌≡◌, ℕ, [], take}
 use Rattle.acl_eval.specs.Column.{column}
-use Rattle.acl_normal.specs.Passes.{KeepsProfiles, list_of}
-use Rattle.acl_normal.specs.Plain.{unshadowed}
+use Rattle.acl_normal.specs.internal.Passes.{KeepsProfiles, list_of}
+use Rattle.acl_normal.specs.internal.Plain.{unshadowed}
 use Rattle.acl_normal.proofs.plain.reduction.drop_shadowed.Given as goal
 
 -- of the ACEs so far, what isn't shadowed is kept

@@ -1,9 +1,9 @@
 use Rattle.std.proofs.Common.{ap, subst, sym, ◌∙◌}
 use Rattle.acl_normal.proofs.plain.small_sets.compare.Goals as goal
-use Rattle.acl_normal.proofs.Accepted.{accepted_names}
-use Rattle.acl_normal.proofs.FirstSet.{same_of}
+use Rattle.acl_normal.proofs.Unique.Accepted.{accepted_names}
+use Rattle.acl_normal.proofs.Searching.FirstSet.{same_of}
 use Rattle.acl_normal.specs.Normal.{HasNames}
-use Rattle.acl_normal.specs.Passes.{list_of}
+use Rattle.acl_normal.specs.internal.Passes.{list_of}
 use Rattle.acl_perm.specs.Profile.{full}
 
 pub returns-clause-same : goal.returns-clause-same

@@ -1,8 +1,8 @@
 use Rattle.std.specs.Prelude.{drop}
 use Rattle.acl_normal.proofs.plain.small_sets.first_partner.Given as goal
-use Rattle.acl_normal.proofs.SetSearchLemmas.{GoesOn}
-use Rattle.acl_normal.specs.Passes.{list_of}
-use Rattle.acl_normal.specs.SetSearch.{principals}
+use Rattle.acl_normal.proofs.Searching.SetSearchLemmas.{GoesOn}
+use Rattle.acl_normal.specs.internal.Passes.{list_of}
+use Rattle.acl_normal.specs.internal.SetSearch.{principals}
 use Rattle.acl_normal.specs.SmallSets.{partners}
 use Rattle.acl_perm.specs.Principal.{principal}
 

@@ -1,11 +1,11 @@
 use Rattle.std.proofs.Common.{arith, sym, ap, subst, ◌∙◌, length, ◌+◌}
 use Rattle.acl_normal.proofs.comparison.rows.Compared.least_member.Goals as goal
 use Rattle.acl_normal.proofs.comparison.rows.Compared.least_member.Goals.{then-has_right+in_ok-rows+in_ok-least, else-has_right}
-use Rattle.acl_normal.proofs.RowFacts.{Least, least_done, least_skip, member_step, rows_length, unused_agree}
-use Rattle.acl_normal.proofs.TableFacts.{slice_within}
-use Rattle.acl_normal.specs.FirstPlaces.{AlikeWithAll, AreRows}
-use Rattle.acl_normal.specs.Passes.{list_of}
-use Rattle.acl_normal.specs.SetSearch.{principals}
+use Rattle.acl_normal.proofs.Searching.RowFacts.{Least, least_done, least_skip, member_step, rows_length, unused_agree}
+use Rattle.acl_normal.proofs.Searching.TableFacts.{slice_within}
+use Rattle.acl_normal.specs.internal.FirstPlaces.{AlikeWithAll, AreRows}
+use Rattle.acl_normal.specs.internal.Passes.{list_of}
+use Rattle.acl_normal.specs.internal.SetSearch.{principals}
 use Rattle.acl_perm.proofs.Sets.{bits_from_mask}
 
 pub first_inverting-requires-clause-limit : goal.first_inverting-requires-clause-limit

@@ -2,10 +2,10 @@ use Rattle.std.proofs.Common.{arith, sym, ap, subst, ◌∙◌, length, ◌+◌,
 use Rattle.std.proofs.lemmas.List.{length-map}
 use Rattle.acl_normal.proofs.comparison.rows.Compared.least_partner.Goals as goal
 use Rattle.acl_normal.proofs.comparison.rows.Compared.least_partner.Goals.{then-has_right+in_ok-rows, else-has_right}
-use Rattle.acl_normal.proofs.RowFacts.{Least, least_done, least_skip, others_length, partner_loop, rows_length, unused_with}
-use Rattle.acl_normal.specs.FirstPlaces.{AlikeWith}
-use Rattle.acl_normal.specs.Passes.{list_of}
-use Rattle.acl_normal.specs.SetSearch.{principals}
+use Rattle.acl_normal.proofs.Searching.RowFacts.{Least, least_done, least_skip, others_length, partner_loop, rows_length, unused_with}
+use Rattle.acl_normal.specs.internal.FirstPlaces.{AlikeWith}
+use Rattle.acl_normal.specs.internal.Passes.{list_of}
+use Rattle.acl_normal.specs.internal.SetSearch.{principals}
 use Rattle.acl_perm.proofs.Sets.{bits_from_mask}
 use Rattle.acl_perm.specs.Principal.{everyone, principal}
 

@@ -1,9 +1,9 @@
 use Rattle.std.specs.Prelude.{length, drop, slice_index_or, ◌+◌}
 use Rattle.acl_normal.proofs.comparison.rows.Compared.least_partner.Given as goal
-use Rattle.acl_normal.proofs.RowFacts.{Least}
-use Rattle.acl_normal.specs.FirstPlaces.{AlikeWith}
-use Rattle.acl_normal.specs.Passes.{list_of}
-use Rattle.acl_normal.specs.SetSearch.{principals}
+use Rattle.acl_normal.proofs.Searching.RowFacts.{Least}
+use Rattle.acl_normal.specs.internal.FirstPlaces.{AlikeWith}
+use Rattle.acl_normal.specs.internal.Passes.{list_of}
+use Rattle.acl_normal.specs.internal.SetSearch.{principals}
 use Rattle.acl_perm.specs.Principal.{everyone}
 
 abbrev pub invariant-loop-bit : goal.invariant-loop-bit

@@ -1,10 +1,10 @@
 use Rattle.std.proofs.Common.{arith, sym, ap, subst, ◌∙◌, length, ◌+◌}
 use Rattle.acl_normal.proofs.comparison.rows.Compared.least_single.Goals as goal
 use Rattle.acl_normal.proofs.comparison.rows.Compared.least_single.Goals.{then-has_right+in_ok-rows, else-has_right}
-use Rattle.acl_normal.proofs.RowFacts.{Least, least_done, least_skip, rows_length, single_step, unused_alone}
-use Rattle.acl_normal.specs.FirstPlaces.{AlikeAlone, AreRows}
-use Rattle.acl_normal.specs.Passes.{list_of}
-use Rattle.acl_normal.specs.SetSearch.{principals}
+use Rattle.acl_normal.proofs.Searching.RowFacts.{Least, least_done, least_skip, rows_length, single_step, unused_alone}
+use Rattle.acl_normal.specs.internal.FirstPlaces.{AlikeAlone, AreRows}
+use Rattle.acl_normal.specs.internal.Passes.{list_of}
+use Rattle.acl_normal.specs.internal.SetSearch.{principals}
 use Rattle.acl_perm.proofs.Sets.{bits_from_mask}
 
 pub first_unlike-least-requires : goal.first_unlike-least-requires

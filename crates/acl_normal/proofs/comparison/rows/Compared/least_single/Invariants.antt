@@ -1,9 +1,9 @@
 use Rattle.std.specs.Prelude.{length}
 use Rattle.acl_normal.proofs.comparison.rows.Compared.least_single.Given as goal
-use Rattle.acl_normal.proofs.RowFacts.{Least}
-use Rattle.acl_normal.specs.FirstPlaces.{AlikeAlone}
-use Rattle.acl_normal.specs.Passes.{list_of}
-use Rattle.acl_normal.specs.SetSearch.{principals}
+use Rattle.acl_normal.proofs.Searching.RowFacts.{Least}
+use Rattle.acl_normal.specs.internal.FirstPlaces.{AlikeAlone}
+use Rattle.acl_normal.specs.internal.Passes.{list_of}
+use Rattle.acl_normal.specs.internal.SetSearch.{principals}
 
 abbrev pub invariant-loop-bit : goal.invariant-loop-bit
 invariant-loop-bit l = Least (AlikeAlone (list_of l.self.list.now) (list_of l.self.other.now)

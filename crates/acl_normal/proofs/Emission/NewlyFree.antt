@@ -1,0 +1,108 @@
+-- What becomes free when bits of a key are taken out.
+use Rattle.std.specs.Prelude.{◌≡◌, ℕ, ◌+◌, ◌/◌, ◌^◌, ◌<◌, ◌≤◌, Bool, true, false, ◌&&◌, ◌⊎◌, List, refl}
+use Rattle.std.proofs.Common.{sym, ◌∙◌, ap, subst, arith, inl, inr, ⊎_elim}
+use Rattle.std.proofs.lemmas.Bool.{cases_eq, cases_lt}
+use Rattle.acl_perm.specs.Principal.{Principal}
+use Rattle.acl_perm.specs.Bits.{has_bit}
+use Rattle.acl_nfs4.specs.Ace.{Ace}
+use Rattle.acl_eval.specs.Column.{column}
+use Rattle.acl_normal.specs.Places.{is_user, other_kind}
+use Rattle.acl_normal.specs.Keys.{Key}
+use Rattle.acl_normal.specs.Normal.{is_free}
+use Rattle.acl_normal.proofs.Unique.Bits.{no_more_bits}
+use Rattle.acl_normal.specs.internal.Ready.{Marked, Grows, Enters, Frees}
+
+-- what `Frees` says, of the bits below a place
+pub record FreesBelow (k : Key) (bits : ℕ) (xs : List Ace) (old new : Marked) (n : ℕ) : Type 0 where
+  pub grows : Grows xs old new
+  pub all : (q : Principal) (b : ℕ) → b < n → has_bit bits b ≡ true → (is_user k.0 && is_user q) ≡ false
+      → is_free (column xs b) (q, other_kind k.1) ≡ true → has_bit (new (q, other_kind k.1)) b ≡ true
+
+-- what does not change only grows
+pub grows_nothing : (xs : List Ace) (old : Marked) → Grows xs old old
+grows_nothing xs old = record { kept = λ l i h. h; sound = λ l i h. inl h }
+
+-- what grows twice grows
+pub grows_on : (xs : List Ace) (x y z : Marked) → Grows xs x y → Grows xs y z → Grows xs x z
+grows_on xs x y z g h = record {
+  kept = λ l b e. h.kept l b (g.kept l b e);
+  sound = λ l b e. ⊎_elim (λ f. g.sound l b f) (λ f. inr f) (h.sound l b e);
+}
+
+-- at no bit all are there
+pub frees_nothing : (k : Key) (bits : ℕ) (xs : List Ace) (old : Marked) → FreesBelow k bits xs old old 0
+frees_nothing k bits xs old = record { grows = grows_nothing xs old; all = λ q b l. absurd (omega (arith, l)) }
+
+-- a bit that is not taken out frees none
+pub frees_on_absent : (k : Key) (bits : ℕ) (xs : List Ace) (old new : Marked) (n : ℕ)
+    → FreesBelow k bits xs old new n → has_bit bits n ≡ false → FreesBelow k bits xs old new (n + 1)
+frees_on_absent k bits xs old new n f none = record {
+  grows = f.grows;
+  all = λ q b l has class free. go q b l has class free (cases_eq b n);
+}
+  where
+    go : (q : Principal) (b : ℕ) → b < n + 1 → has_bit bits b ≡ true → (is_user k.0 && is_user q) ≡ false
+        → is_free (column xs b) (q, other_kind k.1) ≡ true → (b ≡ n) ⊎ (b ≡ n → ⊥)
+        → has_bit (new (q, other_kind k.1)) b ≡ true
+    go q b l has class free (inl e) = absurd (clash (sym has ∙ ap (has_bit bits) e ∙ none))
+      where
+        clash : true ≡ false → ⊥
+        clash h = cc
+    go q b l has class free (inr d) =
+        f.all q b (⊎_elim (λ g. g) (λ g. absurd (d (omega (arith, g, l)))) (cases_lt b n)) has class free
+
+-- both classes were walked, or the users need none
+pub frees_on : (k : Key) (bits : ℕ) (xs : List Ace) (old new next : Marked) (n : ℕ) → FreesBelow k bits xs old new n
+    → Grows xs new next
+    → ((q : Principal) → (is_user k.0 && is_user q) ≡ false → is_free (column xs n) (q, other_kind k.1) ≡ true
+    → has_bit (next (q, other_kind k.1)) n ≡ true)
+    → FreesBelow k bits xs old next (n + 1)
+frees_on k bits xs old new next n f g here = record {
+  grows = grows_on xs old new next f.grows g;
+  all = λ q b l has class free. go q b l has class free (cases_eq b n);
+}
+  where
+    go : (q : Principal) (b : ℕ) → b < n + 1 → has_bit bits b ≡ true → (is_user k.0 && is_user q) ≡ false
+        → is_free (column xs b) (q, other_kind k.1) ≡ true → (b ≡ n) ⊎ (b ≡ n → ⊥)
+        → has_bit (next (q, other_kind k.1)) b ≡ true
+    go q b l has class free (inl e) =
+        rw e (here q class (subst (λ v. is_free (column xs v) (q, other_kind k.1) ≡ true) e free))
+    go q b l has class free (inr d) =
+        g.kept (q, other_kind k.1) b (f.all q b
+        (⊎_elim (λ g. g) (λ g. absurd (d (omega (arith, g, l)))) (cases_lt b n)) has class free)
+
+-- of a user name: the others alone
+pub frees_on_user : (k : Key) (bits : ℕ) (xs : List Ace) (old new next : Marked) (n : ℕ)
+    → FreesBelow k bits xs old new n → is_user k.0 ≡ true → Enters (other_kind k.1) false n xs new next
+    → FreesBelow k bits xs old next (n + 1)
+frees_on_user k bits xs old new next n f user e =
+    frees_on k bits xs old new next n f e.grows (λ q class free. e.all q (rw user at class) free)
+
+-- at one bit more, where the key is no user: both classes were entered
+pub frees_on_other : (k : Key) (bits : ℕ) (xs : List Ace) (old new mid next : Marked) (n : ℕ)
+    → FreesBelow k bits xs old new n → Enters (other_kind k.1) false n xs new mid
+    → Enters (other_kind k.1) true n xs mid next → FreesBelow k bits xs old next (n + 1)
+frees_on_other k bits xs old new mid next n f e g =
+    frees_on k bits xs old new next n f (grows_on xs new mid next e.grows g.grows)
+    (λ q class free. go q free (is_user q) refl)
+  where
+    go : (q : Principal) → is_free (column xs n) (q, other_kind k.1) ≡ true → (t : Bool) → is_user q ≡ t
+        → has_bit (next (q, other_kind k.1)) n ≡ true
+    go q free true u = g.all q u free
+    go q free false u = g.grows.kept (q, other_kind k.1) n (e.all q u free)
+
+-- at all bits
+pub frees_all : (k : Key) (bits : ℕ) (xs : List Ace) (old new : Marked) (n : ℕ) → FreesBelow k bits xs old new n
+    → 21 ≤ n → Frees k bits xs old new
+frees_all k bits xs old new n f l = record { grows = f.grows; all = λ q b h. f.all q b (omega (arith, h, l)) }
+
+-- at all bits, where none is left from a place on
+pub frees_early : (k : Key) (bits : ℕ) (xs : List Ace) (old new : Marked) (n : ℕ) → FreesBelow k bits xs old new n
+    → bits / 2 ^ n ≡ 0 → Frees k bits xs old new
+frees_early k bits xs old new n f none = record {
+  grows = f.grows;
+  all = λ q b h has class free. ⊎_elim (λ l. f.all q b l has class free) (λ l. absurd (clash b has l)) (cases_lt b n);
+}
+  where
+    clash : (b : ℕ) → has_bit bits b ≡ true → n ≤ b → ⊥
+    clash b has l = cc (no_more_bits bits n b none l)

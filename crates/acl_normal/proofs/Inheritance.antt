@@ -1,0 +1,4 @@
+pub mod Paths
+pub mod FiveFormLemmas
+pub mod FormsOut
+pub mod Writing

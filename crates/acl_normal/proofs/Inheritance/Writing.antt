@@ -1,0 +1,50 @@
+-- That the ACEs of a normal form, one after the other, are a list.
+use Rattle.std.proofs.Common.{◌≡◌, ℕ, ◌+◌, ◌≤◌, ◌<◌, zero, suc, List, [], ◌∷◌, ◌++◌, length, take, drop, refl, sym, ◌∙◌, ap, subst, arith}
+use Rattle.std.specs.Prelude.{slice_index_or}
+use Rattle.std.proofs.lemmas.List.{map-append, take_more, take_all}
+use Rattle.acl_perm.specs.Bits.{IsMask}
+use Rattle.acl_perm.specs.Profile.{full}
+use Rattle.acl_nfs4.specs.Ace.{Ace}
+use Rattle.acl_nfs4.specs.Spelling.{IsAccepted, IsAce}
+use Rattle.acl_eval.proofs.Children.{front_accepted, moved}
+use Rattle.acl_normal.specs.internal.Emitted.{emitted_ace, emitted_aces}
+use Rattle.acl_normal.specs.declared.emit.emission.Emitted.{Emitted}
+use Rattle.acl_normal.proofs.Unique.Forming.{each_at}
+
+-- a list, split at a place
+pub split_at : (es : List Emitted) (i : ℕ) (d : Emitted) → i < length es
+    → emitted_aces es ≡ emitted_aces (take i es) ++ emitted_ace (slice_index_or es i d) ∷ emitted_aces (drop (suc i) es)
+split_at [] i d l = absurd (omega (arith, l))
+split_at (e ∷ es) zero d l = refl
+split_at (e ∷ es) (suc i) d l = ap (λ v. emitted_ace e ∷ v) (split_at es i d (omega (arith, l)))
+
+-- each mask is a set of rights
+pub mask_at : (es : List Emitted) (i : ℕ) (d : Emitted) → IsAccepted full (emitted_aces es) → i < length es
+    → IsMask (slice_index_or es i d).bits
+mask_at es i d ok l =
+    (each_at (IsAce full) (emitted_aces (take i es)) (emitted_ace (slice_index_or es i d))
+    (emitted_aces (drop (suc i) es))
+    (subst (λ v. IsAccepted full v) (split_at es i d l) ok).each).mask
+
+-- the list so far takes one more ACE
+pub next_accepted : (es : List Emitted) (i : ℕ) (d : Emitted) (list : List Ace) (a : Ace)
+    → IsAccepted full (emitted_aces es)
+    → i < length es → list ≡ emitted_aces (take i es) → a ≡ emitted_ace (slice_index_or es i d)
+    → IsAccepted full (list ++ a ∷ [])
+next_accepted es i d list a ok l so next =
+    front_accepted full (list ++ a ∷ []) (emitted_aces (drop (suc i) es))
+    (subst (IsAccepted full) (split_at es i d l
+    ∙ rw (← so, ← next) (sym (moved list (emitted_aces (drop (suc i) es)) a))) ok)
+
+-- and has it then
+pub next_written : (es : List Emitted) (i : ℕ) (d : Emitted) (list new : List Ace) (a : Ace) → i < length es
+    → list ≡ emitted_aces (take i es) → a ≡ emitted_ace (slice_index_or es i d) → new ≡ list ++ a ∷ []
+    → new ≡ emitted_aces (take (i + 1) es)
+next_written es i d list new a l so next is =
+    is ∙ rw (so, next) (sym (map-append emitted_ace (take i es) (slice_index_or es i d ∷ [])))
+    ∙ sym (ap emitted_aces (take_more es i d l))
+
+-- at the end it has all
+pub all_written : (es : List Emitted) (i : ℕ) (list : List Ace) → length es ≤ i → list ≡ emitted_aces (take i es)
+    → list ≡ emitted_aces es
+all_written es i list l so = so ∙ ap emitted_aces (take_all i es l)

@@ -1,0 +1,17 @@
+pub mod Order
+pub mod CellsOf
+pub mod FromCells
+pub mod PairParts
+pub mod Waits
+pub mod Quiet
+pub mod FreeByPlaces
+pub mod FreeBits
+pub mod TakeOut
+pub mod BitTaken
+pub mod BitsTaken
+pub mod Rows
+pub mod WaitingPlaces
+pub mod FilledCells
+pub mod RowNumbers
+pub mod Few
+pub mod Publics

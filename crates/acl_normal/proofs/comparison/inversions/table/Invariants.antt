@@ -1,0 +1,5 @@
+use Rattle.acl_normal.proofs.comparison.inversions.table.Given as goal
+use Rattle.acl_normal.proofs.Searching.TableFacts.{IsSummed}
+
+abbrev pub invariant-loop-k : goal.invariant-loop-k
+invariant-loop-k l = IsSummed l.allows l.user l.swapped l.size l.k l.rows l.table.items

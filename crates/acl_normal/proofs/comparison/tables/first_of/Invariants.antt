@@ -1,8 +1,0 @@
-use Rattle.std.specs.Prelude.{◌≡◌, ℕ, ◌<◌, true, false, slice_index_or}
-use Rattle.acl_normal.proofs.comparison.tables.first_of.Given as goal
-use Rattle.acl_normal.specs.FirstPlaces.{inverts_any, no_row}
-use Rattle.acl_normal.specs.PlaceTables.{is_kind}
-
-abbrev pub invariant-loop-k : goal.invariant-loop-k
-invariant-loop-k l = (k : ℕ) → k < l.k → is_kind l.allows l.user (slice_index_or l.rows k no_row) ≡ true
-    → inverts_any (slice_index_or l.rows k no_row) l.rows ≡ false

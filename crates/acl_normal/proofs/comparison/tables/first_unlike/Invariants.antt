@@ -1,6 +1,0 @@
-use Rattle.std.specs.Prelude.{ℕ, ◌<◌, slice_index_or}
-use Rattle.acl_normal.proofs.comparison.tables.first_unlike.Given as goal
-use Rattle.acl_normal.specs.FirstPlaces.{SameAlone, no_row}
-
-abbrev pub invariant-loop-k : goal.invariant-loop-k
-invariant-loop-k l = (k : ℕ) → k < l.k → SameAlone (slice_index_or l.rows k no_row)

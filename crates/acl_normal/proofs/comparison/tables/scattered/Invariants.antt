@@ -1,6 +1,0 @@
-use Rattle.std.specs.Prelude.{take}
-use Rattle.acl_normal.proofs.comparison.tables.scattered.Given as goal
-use Rattle.acl_normal.specs.PlaceTables.{IsScattered}
-
-abbrev pub invariant-loop-row : goal.invariant-loop-row
-invariant-loop-row l = IsScattered l.allows l.user l.swapped l.size (take l.row-index l.rows) l.table.items

@@ -1,5 +1,0 @@
-use Rattle.acl_normal.proofs.comparison.tables.table.Given as goal
-use Rattle.acl_normal.proofs.TableFacts.{IsSummed}
-
-abbrev pub invariant-loop-k : goal.invariant-loop-k
-invariant-loop-k l = IsSummed l.allows l.user l.swapped l.size l.k l.rows l.table.items

@@ -1,0 +1,33 @@
+use Rattle.std.proofs.Common.{◌≡◌, ℕ, ◌*◌, ◌∙◌, length, slice_index_or, sym, ap, arith, subst}
+use Rattle.acl_eval.specs.Column.{column}
+use Rattle.acl_normal.specs.Places.{nothing_left}
+use Rattle.acl_normal.specs.internal.Ready.{FitsKeys, marks}
+use Rattle.acl_normal.proofs.Emission.Filled.{fills_nothing, fills_on, fills_all}
+use Rattle.acl_normal.proofs.Emission.Marks.{fits_zeros, nothing_marked, zero_at}
+use Rattle.acl_normal.proofs.Unique.Outline.{outline_length}
+use Rattle.acl_normal.proofs.emit.emission.fill.Goals as goal
+
+pub loop-bit-init : goal.loop-bit-init
+loop-bit-init c = (
+  fills_nothing c.args.rows.now (marks (nothing_left c.args.rows.now) c.args.ready.now),
+  subst (FitsKeys (nothing_left c.args.rows.now)) (sym c.requires)
+      (fits_zeros (nothing_left c.args.rows.now) (2 * length c.args.rows.now)
+      (ap (λ n. 2 * n) (sym (outline_length c.args.rows.now)))),
+)
+
+pub loop-bit-preserved : goal.loop-bit-preserved
+loop-bit-preserved c = (
+  fills_on c.args.rows.now (marks (nothing_left c.args.rows.now) c.args.ready.now) _ _ _ _ _ c.loop-bit.bit
+      c.loop-bit.invariant.0 c.in_ok-enter.ensures.marks c.in_ok-enter-2.ensures.marks
+      c.in_ok-enter-3.ensures.marks c.in_ok-enter-4.ensures.marks,
+  c.in_ok-enter-4.ensures.keys,
+)
+
+pub returns-clause-marks : goal.returns-clause-marks
+returns-clause-marks c =
+    fills_all c.args.rows.now (marks (nothing_left c.args.rows.now) c.args.ready.now) _ c.loop-bit.bit
+    c.loop-bit.invariant.0
+    (nothing_marked (nothing_left c.args.rows.now) c.args.ready.now
+    (subst (λ v. (n : ℕ) → slice_index_or v n 0 ≡ 0) (sym c.requires) (zero_at (2 * length c.args.rows.now))))
+    (omega (arith, c.loop-bit-test.false, c.loop-bit.auto.bit-end))
+    (λ b l. ap (λ v. column v b) (sym c.rows.view_is) ∙ c.rows.invariant.low b l)

@@ -1,0 +1,9 @@
+use Rattle.acl_normal.specs.Places.{nothing_left}
+use Rattle.acl_normal.specs.internal.Ready.{FitsKeys, marks}
+use Rattle.acl_normal.proofs.Emission.Filled.{Fills}
+use Rattle.acl_normal.proofs.emit.emission.fill.Given as goal
+
+abbrev pub invariant-loop-bit : goal.invariant-loop-bit
+invariant-loop-bit l =
+    Fills l.rows (marks (nothing_left l.rows) l.fn.ready) (marks (nothing_left l.rows) l.ready) l.bit ×
+    FitsKeys (nothing_left l.rows) l.ready

@@ -1,5 +1,0 @@
-use Rattle.acl_normal.proofs.FilledCells.{ArePutBelow}
-use Rattle.acl_normal.proofs.filling.put_rights.Given as goal
-
-abbrev pub invariant-loop-bit : goal.invariant-loop-bit
-invariant-loop-bit l = ArePutBelow l.rights l.place l.fn.cells l.cells l.bit

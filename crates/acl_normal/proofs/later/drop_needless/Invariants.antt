@@ -1,7 +1,0 @@
-use Rattle.acl_normal.specs.Shown.{with_masks}
-use Rattle.acl_normal.proofs.Unneeded.{Dropping}
-use Rattle.acl_normal.proofs.later.drop_needless.Given as goal
-
-abbrev pub invariant-loop-done : goal.invariant-loop-done
-invariant-loop-done l =
-    Dropping (with_masks l.aces l.fn.masks) l.done (with_masks l.aces l.masks) l.later

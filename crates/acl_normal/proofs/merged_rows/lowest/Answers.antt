@@ -1,8 +1,0 @@
-use Rattle.std.proofs.Common.{◌≡◌, subst, arith}
-use Rattle.acl_normal.proofs.Publics.{LacksBelow, no_lowest}
-use Rattle.acl_normal.proofs.merged_rows.lowest.Goals as goal
-
-pub returns-clause-lowest : goal.returns-clause-lowest
-returns-clause-lowest c =
-    let end : c.loop-bit.bit ≡ 21 = omega (arith, c.loop-bit-test.false, c.loop-bit.auto) in
-    no_lowest c.args.bits.bits c.args.bits.within (subst (λ n. LacksBelow c.args.bits.bits n) end c.loop-bit.invariant)

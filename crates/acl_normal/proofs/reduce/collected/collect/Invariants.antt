@@ -1,0 +1,10 @@
+use Rattle.std.specs.Prelude.{◌≡◌, ◌++◌}
+use Rattle.acl_normal.specs.internal.Passes.{list_of}
+use Rattle.acl_normal.proofs.reduce.collected.collect.Given as goal
+
+-- the ACEs so far and those that are left are the list
+abbrev pub invariant-loop-ace : goal.invariant-loop-ace
+invariant-loop-ace l =
+    (goal.iterator-loop-ace).can_next l.ace-iterator ×
+    (goal.iterator-loop-ace).is_finite l.ace-iterator ×
+    (list_of l.aces.items ++ l.ace-iterator ≡ l.source)

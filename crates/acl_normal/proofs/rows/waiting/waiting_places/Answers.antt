@@ -1,0 +1,33 @@
+use Rattle.std.proofs.Common.{◌∙◌, ap, subst, arith}
+use Rattle.std.specs.Prelude.{slice_index_or}
+use Rattle.std.proofs.lemmas.List.{take_all}
+use Rattle.acl_normal.specs.Places.{is_user}
+use Rattle.acl_normal.specs.internal.Shown.{with_masks}
+use Rattle.acl_normal.specs.internal.Waiting.{HoldWaiting}
+use Rattle.acl_normal.proofs.Merging.BitTaken.{same_default}
+use Rattle.acl_normal.proofs.Merging.WaitingPlaces.{holds_more}
+use Rattle.acl_normal.proofs.Unique.Outline.{length_shown}
+use Rattle.acl_normal.proofs.rows.waiting.waiting_places.Goals as goal
+
+pub loop-place-init : goal.loop-place-init
+loop-place-init c = c.in_ok-lists.ensures
+
+pub note-requires : goal.note-requires
+note-requires c = omega (arith, c.loop-place.invariant.slots, c.loop-place.lists.ok)
+
+pub loop-place-preserved : goal.loop-place-preserved
+loop-place-preserved c =
+    let masks = c.args.masks.now in
+    let place = c.loop-place.place in
+    let mask = slice_index_or masks place 0 in
+    holds_more c.args.aces.now masks place c.index-aces-place.result mask c.is_user.result c.loop-place.lists.items
+    c.note.new.lists.items c.loop-place.invariant c.requires.places c.requires.quiet c.loop-place-test.true
+    c.index-aces-place.is (same_default masks place 0 mask (omega (arith, c.loop-place-test.true, c.requires.places)))
+    (c.is_user.ensures ∙ ap is_user c.principal.ensures) c.in_ok-note.ensures
+
+pub returns : goal.returns
+returns c =
+    let xs = with_masks c.args.aces.now c.args.masks.now in
+    let count = length_shown c.args.aces.now c.args.masks.now c.requires.places in
+    subst (λ v. HoldWaiting v c.loop-place.lists.items)
+    (take_all c.loop-place.place xs (omega (arith, count, c.loop-place-test.false))) c.loop-place.invariant

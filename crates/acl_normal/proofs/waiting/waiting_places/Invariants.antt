@@ -1,7 +1,0 @@
-use Rattle.std.proofs.Common.{take}
-use Rattle.acl_normal.specs.Shown.{with_masks}
-use Rattle.acl_normal.specs.Waiting.{HoldWaiting}
-use Rattle.acl_normal.proofs.waiting.waiting_places.Given as goal
-
-abbrev pub invariant-loop-place : goal.invariant-loop-place
-invariant-loop-place l = HoldWaiting (take l.place (with_masks l.aces l.masks)) l.lists.items

@@ -1,7 +1,0 @@
-use Rattle.std.proofs.Common.{◌≡◌, ◌++◌}
-use Rattle.acl_normal.proofs.WaitingPlaces.{AreSetsOf}
-use Rattle.acl_normal.proofs.waiting.waiting_sets.Given as goal
-
-abbrev pub invariant-loop-places : goal.invariant-loop-places
-invariant-loop-places l = AreSetsOf l.yielded l.sets.items
-    × (l.yielded ++ l.places-iterator.rest.items ≡ l.initial.places-iterator.rest.items)

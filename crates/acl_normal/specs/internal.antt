@@ -1,0 +1,20 @@
+-- What only the code and its proofs need; no public clause cites it.
+pub mod Alike
+pub mod Plain
+pub mod Emissions
+pub mod Counts
+pub mod Passes
+pub mod Shown
+pub mod Cells
+pub mod Rows
+pub mod Waiting
+pub mod RowNumbers
+pub mod Merged
+pub mod Ready
+pub mod Heaped
+pub mod Emitted
+pub mod Needed
+pub mod SetSearch
+pub mod FirstPlaces
+pub mod PlaceTables
+pub mod CodeSets

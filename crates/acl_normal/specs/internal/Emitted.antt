@@ -1,0 +1,14 @@
+-- What stands in a normal form as it is made (this library's own).
+use Rattle.std.specs.Prelude.{List, map}
+use Rattle.acl_nfs4.specs.Ace.{Ace}
+use Rattle.acl_normal.specs.Keys.{plain_key}
+use Rattle.acl_normal.specs.internal.Ready.{emitted}
+use Rattle.acl_normal.specs.declared.emit.emission.Emitted.{Emitted}
+
+-- the ACE of a key and its bits
+abbrev pub emitted_ace : Emitted → Ace
+emitted_ace e = emitted (plain_key e.key) e.bits
+
+-- the list of the ACEs of these
+abbrev pub emitted_aces : List Emitted → List Ace
+emitted_aces = map emitted_ace

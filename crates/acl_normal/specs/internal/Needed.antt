@@ -1,0 +1,36 @@
+-- Which bits are needed, told from masks (this library's own): words that only code needs.
+use Rattle.std.specs.Prelude.{ℕ, Bool, true, false, cond, not, ◌||◌, ◌&&◌, [], ◌∷◌}
+use Rattle.acl_perm.specs.Principal.{everyone}
+use Rattle.acl_perm.specs.declared.kind.Kind.{Kind}
+use Rattle.acl_perm.specs.declared.kind.Kind.TheVariants.{Deny, Allow}
+use Rattle.acl_perm.specs.Bits.{has_bit}
+use Rattle.acl_eval.specs.Column.{Column}
+use Rattle.acl_normal.specs.Keys.{principal_eq, Key, kind_eq}
+use Rattle.acl_normal.specs.Places.{is_user, other_kind, same_class}
+use Rattle.acl_normal.specs.declared.reduce.needless.Later.{Later}
+
+-- the kind that a bit has by default, where a mask holds the bits that everyone is allowed
+abbrev pub default_at : ℕ → ℕ → Kind
+default_at allowed b = cond (has_bit allowed b) Allow Deny
+
+-- a key of a kind and a class is in the column
+abbrev pub some_of : Kind → Bool → Column → Bool
+some_of k users [] = false
+some_of k users ((q, j) ∷ c) = (kind_eq j k && same_class (is_user q) users) || some_of k users c
+
+-- the bits that later keys of a kind and a class have
+abbrev pub later_mask : Later → Kind → Bool → ℕ
+later_mask l Deny true = l.deny_users
+later_mask l Deny false = l.deny_others
+later_mask l Allow true = l.allow_users
+later_mask l Allow false = l.allow_others
+
+-- a later key of the other kind and of a class that overlaps has the bit
+abbrev pub opposes : Later → Key → ℕ → Bool
+opposes l k b =
+    has_bit (later_mask l (other_kind k.1) false) b
+    || (not (is_user k.0) && has_bit (later_mask l (other_kind k.1) true) b)
+
+-- a key is needed, where d is the default; o says whether a later key opposes it
+abbrev pub is_kept : Kind → Key → Bool → Bool
+is_kept d k o = cond (principal_eq k.0 everyone) (kind_eq k.1 Allow) (not (kind_eq k.1 d) || o)

@@ -1,0 +1,83 @@
+-- The plain way to the normal form, pass by pass (this library's own): words that only code needs.
+use Rattle.std.specs.Prelude.{◌≡◌, ◌≢◌, ℕ, Bool, true, false, ◌||◌, if◌then◌else◌, List, [], ◌∷◌, map, is_some, Option, None, Some}
+use Rattle.std.specs.List.{AllByRecursion}
+use Rattle.std.specs.Ordering.{is_le}
+use Rattle.acl_perm.specs.Bits.{has_bit}
+use Rattle.acl_perm.specs.Principal.{Principal, everyone}
+use Rattle.acl_perm.specs.Profile.{Profile}
+use Rattle.acl_perm.specs.declared.kind.Kind.{Kind}
+use Rattle.acl_perm.specs.declared.kind.Kind.TheVariants.{Deny, Allow}
+use Rattle.acl_nfs4.specs.Ace.{Ace, ace}
+use Rattle.acl_nfs4.specs.Spelling.{IsAce}
+use Rattle.acl_nfs4.specs.declared.ace.AceRef.{AceRef}
+use Rattle.acl_nfs4.specs.Who.{principal_of}
+use Rattle.acl_eval.specs.Column.{Column, column, first_kind}
+use Rattle.acl_normal.specs.internal.Alike.{is_either}
+use Rattle.acl_normal.specs.Keys.{Key, ace_key, compare_keys, conflicts}
+use Rattle.acl_normal.specs.internal.Plain.{reduced}
+use Rattle.acl_normal.specs.Normal.{is_free, flags_for}
+
+-- the list that ACEs in memory show
+abbrev pub list_of : List AceRef → List Ace
+list_of aces = map ace aces
+
+-- an ACE of the list that has the bit and takes part names the principal, or everyone
+abbrev pub is_shadowed : Principal → List Ace → ℕ → Bool
+is_shadowed p list bit = is_some (first_kind (is_either p everyone) (column list bit))
+
+-- what a column decides where nobody matches by name, by the set of the bits that it allows
+abbrev pub default_in : ℕ → ℕ → Kind
+default_in allowed bit = if has_bit allowed bit then Allow else Deny
+
+-- what is within a profile stays within it
+abbrev pub KeepsProfiles : List Ace → List Ace → Type 0
+KeepsProfiles list kept = (p : Profile) → AllByRecursion (IsAce p) list → AllByRecursion (IsAce p) kept
+
+-- the plain reduction of a list, within its profiles
+pub record IsReduced (list needed : List Ace) : Type 0 where
+  pub columns : (bit : ℕ) → column needed bit ≡ reduced (column list bit)
+  pub profiles : KeepsProfiles list needed
+
+-- a key before the given one conflicts with it
+abbrev pub is_blocked : Column → Key → Bool
+is_blocked [] e = false
+is_blocked (first ∷ c) e = conflicts first e || is_blocked c e
+
+-- at no bit is the key of the ACE free in the list
+abbrev pub IsNowhereFree : List Ace → Ace → Type 0
+IsNowhereFree list a = (bit : ℕ) → is_free (column list bit) (ace_key a) ≡ false
+
+-- the ACE may come first of the list: with normal flags, it has all bits at which its key is free, and these are some
+pub record IsCandidate (list : List Ace) (a : Ace) : Type 0 where
+  pub flags : a.flags ≡ flags_for (principal_of a)
+  pub mask : a.mask ≢ 0
+  pub all : (bit : ℕ) → has_bit a.mask bit ≡ is_free (column list bit) (ace_key a)
+
+-- the key of the first ACE is no greater than that of the second, where the second is free anywhere
+abbrev pub IsBelow : List Ace → Ace → Ace → Type 0
+IsBelow list a b = (bit : ℕ) → is_free (column list bit) (ace_key b) ≡ true
+    → is_le (compare_keys (ace_key a) (ace_key b)) ≡ true
+
+-- none of the ACEs is free in the list
+abbrev pub AreNowhereFree : List Ace → List Ace → Type 0
+AreNowhereFree list aces = AllByRecursion (IsNowhereFree list) aces
+
+-- the ACE is within each profile that the list is within
+abbrev pub IsWithinAs : List Ace → Ace → Type 0
+IsWithinAs list a = (p : Profile) → AllByRecursion (IsAce p) list → IsAce p a
+
+-- the ACE is a candidate, and below all of the others that are free
+pub record IsLeast (list aces : List Ace) (a : Ace) : Type 0 where
+  pub candidate : IsCandidate list a
+  pub below : AllByRecursion (IsBelow list a) aces
+  pub within : IsWithinAs list a
+
+-- of two candidates the one with the lesser key, the first where both have one
+abbrev pub lesser : Option Ace → Ace → Ace
+lesser None b = b
+lesser (Some a) b = if is_le (compare_keys (ace_key a) (ace_key b)) then a else b
+
+-- of some ACEs, the least that is free in the list, or none where none is
+abbrev pub Best : List Ace → List Ace → Option Ace → Type 0
+Best list aces None = AreNowhereFree list aces
+Best list aces (Some a) = IsLeast list aces a

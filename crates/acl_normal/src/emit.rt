@@ -1,0 +1,4 @@
+//! The order of a normal form: one least free key after the other.
+
+pub(crate) mod emission;
+pub(crate) mod ready;

@@ -1,0 +1,146 @@
+//! The order of a normal form: at each place the least key that has a free bit, with all its free bits.
+ghost use Rattle.std.specs.Prelude.{◌≡◌, ℕ, ◌*◌, ◌<◌, List, length, replicate, IfOk, OnOk};
+ghost use Rattle.acl_perm.specs.Bits.{all_rights};
+ghost use Rattle.acl_nfs4.specs.Ace.{Ace};
+ghost use Rattle.acl_eval.specs.Grant.{SameGrants};
+ghost use Rattle.acl_normal.specs.internal.Emissions.{IsEmission};
+ghost use Rattle.acl_normal.specs.internal.Emitted.{emitted_aces};
+ghost use Rattle.acl_normal.specs.Keys.{plain_key};
+ghost use Rattle.acl_normal.specs.Left.{left};
+ghost use Rattle.acl_normal.specs.Normal.{IsIrreducibleList, IsNormal};
+ghost use Rattle.acl_normal.specs.Places.{key_here, nothing_left};
+ghost use Rattle.acl_normal.specs.internal.Ready.{Adds, Enters, FitsKeys, Frees, HoldsFree, marks};
+ghost use Rattle.acl_normal.specs.internal.Counts.{count_left};
+
+use crate::bits::{has, with};
+use crate::emit::ready::Ready;
+use crate::rows::merged::MergedRows;
+use crate::words::{is_user, other, rank};
+use acl_perm::{Key, Kind};
+use std::alloc::{AllocError, Global};
+
+/// An ACE of a normal form: a key and its bits.
+#[derive(Clone, Copy)]
+pub(crate) struct Emitted<'a> {
+    pub(crate) key: Key<'a>,
+    pub(crate) bits: u32,
+}
+
+/// Marks a bit of the ACE at a place as free.
+fn add(rows: &MergedRows<'_>, place: usize, bit: usize, ready: &mut Ready) -> Result<(), AllocError>
+    requires place { place < length rows.now }
+    requires bit { bit < 21 }
+    requires keys { FitsKeys (nothing_left rows.now) ready.old }
+    ensures keys { OnOk result (FitsKeys (nothing_left rows.now) ready.new) }
+    ensures marks { OnOk result (Adds (key_here rows.now place) bit (marks (nothing_left rows.now) ready.old)
+        (marks (nothing_left rows.now) ready.new)) }
+{
+    let _ = &rows.masks;
+    let number = 2 * rows.row_at(place) + rank(rows.kind_at(place));
+    ready.add(number, bit)
+}
+
+/// Marks what is free of the ACEs that wait in a type and a class with a bit: the places before
+/// the first that something blocks.
+fn enter(
+    rows: &MergedRows<'_>,
+    kind: Kind,
+    users: bool,
+    bit: usize,
+    ready: &mut Ready,
+) -> Result<(), AllocError>
+    requires bit { bit < 21 }
+    requires keys { FitsKeys (nothing_left rows.now) ready.old }
+    ensures keys { OnOk result (FitsKeys (nothing_left rows.now) ready.new) }
+    ensures marks { OnOk result (Enters kind users bit rows.now (marks (nothing_left rows.now) ready.old)
+        (marks (nothing_left rows.now) ready.new)) }
+{
+    let _ = &rows.masks;
+    for place in rows.waiting_at(kind, users, bit) {
+        if !rows.is_clear(*place, kind, users, bit) {
+            return Ok(());
+        }
+        add(rows, *place, bit, ready)?;
+    }
+    Ok(())
+}
+
+/// Marks what became free when bits of a key were taken out.
+fn free_after<'a>(
+    rows: &MergedRows<'a>,
+    at: Key<'a>,
+    bits: u32,
+    ready: &mut Ready,
+) -> Result<(), AllocError>
+    requires { FitsKeys (nothing_left rows.now) ready.old }
+    ensures keys { OnOk result (FitsKeys (nothing_left rows.now) ready.new) }
+    ensures marks { OnOk result (Frees (plain_key at.entry) bits rows.now (marks (nothing_left rows.now) ready.old)
+        (marks (nothing_left rows.now) ready.new)) }
+{
+    let opposite = other(at.kind);
+    for bit in 0..21usize {
+        if bits >> bit == 0 {
+            return Ok(());
+        }
+        if has(bits, bit) {
+            enter(rows, opposite, false, bit, ready)?;
+            if !is_user(at.principal) {
+                enter(rows, opposite, true, bit, ready)?;
+            }
+        }
+    }
+    Ok(())
+}
+
+/// Marks all that is free.
+fn fill(rows: &MergedRows<'_>, ready: &mut Ready) -> Result<(), AllocError>
+    requires { ready.old ≡ replicate (2 * length rows.now) 0 }
+    ensures keys { OnOk result (FitsKeys (nothing_left rows.now) ready.new) }
+    ensures marks { OnOk result (HoldsFree (marks (nothing_left rows.now) ready.new) rows.now) }
+{
+    let _ = &rows.masks;
+    for bit in 0..21usize {
+        enter(rows, Kind::Deny, false, bit, ready)?;
+        enter(rows, Kind::Deny, true, bit, ready)?;
+        enter(rows, Kind::Allow, false, bit, ready)?;
+        enter(rows, Kind::Allow, true, bit, ready)?;
+    }
+    Ok(())
+}
+
+/// Emits what is left: at each step the least key that has a free bit, with all its free bits.
+pub(crate) fn drain<'a>(
+    alloc: Global,
+    rows: &mut MergedRows<'a>,
+) -> Result<Vec<Emitted<'a>>, AllocError>
+    ensures { IfOk result (λ v. IsEmission rows.old (emitted_aces v.items)) }
+{
+    let _ = &rows.masks;
+    let mut ready = Ready::new(alloc, rows.len())?;
+    fill(rows, &mut ready)?;
+    let mut out = Vec::new(alloc);
+    'emitted: while let Some((number, bits)) = ready.pop() {
+        let key = rows.key_of(number);
+        out.push(Emitted { key, bits })?;
+        rows.emit_row(number / 2, key.principal, bits);
+        free_after(rows, key, bits, &mut ready)?;
+    }
+    Ok(out)
+}
+
+/// The normal form of an irreducible list: it grants the same, and no other normal list does.
+pub(crate) fn normalize_left<'a>(
+    alloc: Global,
+    rows: &mut MergedRows<'a>,
+) -> Result<Vec<Emitted<'a>>, AllocError>
+    requires { IsIrreducibleList (left rows.old) }
+    ensures normal { IfOk result (λ v. IsNormal (emitted_aces v.items)) }
+    ensures grants { IfOk result (λ v. SameGrants all_rights rows.old (emitted_aces v.items)) }
+    ensures only { IfOk result (λ v. (ns : List Ace) → IsNormal ns → SameGrants all_rights rows.old ns
+        → ns ≡ emitted_aces v.items) }
+    ensures weight { IfOk result (λ v. count_left 21 (emitted_aces v.items) ≡ count_left 21 rows.old) }
+{
+    let _ = &rows.masks;
+    let out = drain(alloc, rows)?;
+    Ok(out)
+}

@@ -1,0 +1,68 @@
+//! The keys that have a free bit, by number.
+ghost use Rattle.std.specs.Prelude.{◌≡◌, ◌≢◌, ℕ, ◌*◌, ◌^◌, ◌<◌, ◌≤◌, bit_or, length, slice_index_or, slice_set, replicate, IfOk, IfSome, IfNone, OnOk};
+ghost use Rattle.acl_normal.specs.internal.Ready.{IsLeastReady};
+
+use crate::bits::with;
+use std::alloc::{AllocError, Global};
+use std::cmp::Reverse;
+use std::collections::BinaryHeap;
+use std::marker::Model;
+
+/// The keys that have a free bit, by number: their free bits, and the numbers that have some, least first.
+#[derive(Drop)]
+pub(crate) struct Ready {
+    bits: Vec<u32>,
+    numbers: BinaryHeap<Reverse<usize>>,
+}
+
+impl Model for Ready {
+    ghost use Rattle.std.specs.Prelude.{List, ℕ};
+
+    ghost Value = { List ℕ };
+
+    ghost use Rattle.acl_normal.specs.internal.Heaped.{bits_of, IsHeaped};
+
+    ghost view = { bits_of };
+
+    ghost invariant = { IsHeaped };
+}
+
+impl Ready {
+    /// Room for the keys of a number of rows, none of which has a free bit.
+    pub(crate) fn new(alloc: Global, rows: usize) -> Result<Ready, AllocError>
+        requires { rows < 2 ^ 63 }
+        ensures { IfOk result (λ r. r ≡ replicate (2 * rows) 0) }
+    {
+        Ok(Ready {
+            bits: Vec::from_elem(alloc, 0, 2 * rows)?,
+            numbers: BinaryHeap::new(alloc),
+        })
+    }
+
+    /// Marks a bit of the key of a number as free.
+    pub(crate) fn add(&mut self, number: usize, bit: usize) -> Result<(), AllocError>
+        requires number { number < length self.old }
+        requires bit { bit < 21 }
+        ensures { OnOk result
+            (self.new ≡ slice_set self.old number (bit_or (slice_index_or self.old number 0) (2 ^ bit))) }
+    {
+        let bits = self.bits[number];
+        if bits == 0 {
+            self.numbers.push(Reverse(number))?;
+        }
+        self.bits[number] = with(bits, bit);
+        Ok(())
+    }
+
+    /// The least number that has free bits, with them. It has none afterwards.
+    pub(crate) fn pop(&mut self) -> Option<(usize, u32)>
+        ensures least { IfSome result (λ p. IsLeastReady self.old p.0 p.1) }
+        ensures taken { IfSome result (λ p. self.new ≡ slice_set self.old p.0 0) }
+        ensures none { IfNone result ((n : ℕ) → slice_index_or self.old n 0 ≡ 0) }
+    {
+        let Reverse(number) = self.numbers.pop()?;
+        let bits = self.bits[number];
+        self.bits[number] = 0;
+        Some((number, bits))
+    }
+}

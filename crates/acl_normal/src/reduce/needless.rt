@@ -1,0 +1,154 @@
+//! The needless bits: those that only repeat what everyone gets, and that nothing later conflicts with.
+ghost use Rattle.std.specs.Prelude.{◌≡◌, ℕ, ◌<◌, Bool, not, ◌||◌, ◌&&◌, length};
+ghost use Rattle.acl_perm.specs.Bits.{has_bit};
+ghost use Rattle.acl_perm.specs.declared.kind.Kind.{Kind as Sort};
+ghost use Rattle.acl_nfs4.specs.Ace.{ace};
+ghost use Rattle.acl_eval.specs.Column.{column};
+ghost use Rattle.acl_normal.specs.Left.{IsTidy, KeepsFirsts};
+ghost use Rattle.acl_normal.specs.Keys.{ace_key, kind_eq};
+ghost use Rattle.acl_normal.specs.Keys.{plain_key};
+ghost use Rattle.acl_normal.specs.internal.Needed.{default_at, is_kept, later_mask, opposes};
+ghost use Rattle.acl_normal.specs.Places.{is_user, nothing_left, same_class};
+ghost use Rattle.acl_normal.specs.internal.Plain.{default, needed_keys};
+ghost use Rattle.acl_normal.specs.internal.Shown.{with_masks};
+
+use crate::bits::without;
+use crate::words::{is_allow, is_everyone, is_user};
+use acl_nfs4::AceRef;
+use acl_perm::{Key, Kind};
+
+/// The bits that later ACEs have, by type and class.
+#[derive(Clone, Copy, Drop)]
+pub(crate) struct Later {
+    pub(crate) deny_users: u32,
+    pub(crate) deny_others: u32,
+    pub(crate) allow_users: u32,
+    pub(crate) allow_others: u32,
+}
+
+/// The bits that later ACEs have that may conflict with a key.
+fn opposite(later: Later, at: Key<'_>) -> u32
+    ensures { (b : ℕ) → has_bit result b ≡ opposes later (plain_key at.entry) b }
+{
+    let user = is_user(at.principal);
+    match at.kind {
+        Kind::Deny => if user {
+            later.allow_others
+        } else {
+            later.allow_others | later.allow_users
+        },
+        Kind::Allow => if user {
+            later.deny_others
+        } else {
+            later.deny_others | later.deny_users
+        },
+    }
+}
+
+/// With the bits of one more ACE.
+fn noted(later: Later, at: Key<'_>, mask: u32) -> Later
+    ensures { (k : Sort) (users : Bool) (b : ℕ) → has_bit (later_mask result k users) b
+        ≡ (has_bit (later_mask later k users) b
+        || ((kind_eq (plain_key at.entry).1 k && same_class (is_user (plain_key at.entry).0) users)
+        && has_bit mask b)) }
+{
+    let user = is_user(at.principal);
+    match at.kind {
+        Kind::Deny => if user {
+            Later {
+                deny_users: later.deny_users | mask,
+                ..later
+            }
+        } else {
+            Later {
+                deny_others: later.deny_others | mask,
+                ..later
+            }
+        },
+        Kind::Allow => if user {
+            Later {
+                allow_users: later.allow_users | mask,
+                ..later
+            }
+        } else {
+            Later {
+                allow_others: later.allow_others | mask,
+                ..later
+            }
+        },
+    }
+}
+
+/// The bits of a mask that its ACE doesn't need.
+fn needless(at: Key<'_>, mask: u32, allowed: u32, opposite: u32) -> u32
+    ensures { (b : ℕ) → has_bit result b
+        ≡ (has_bit mask b && not (is_kept (default_at allowed b) (plain_key at.entry) (has_bit opposite b))) }
+{
+    if is_everyone(at.principal) {
+        match at.kind {
+            Kind::Allow => 0,
+            Kind::Deny => mask,
+        }
+    } else {
+        match at.kind {
+            Kind::Allow => without(mask & allowed, opposite),
+            Kind::Deny => without(mask, allowed | opposite),
+        }
+    }
+}
+
+/// The bits that everyone is allowed by the ACEs, with these masks.
+fn allowed_to_everyone(aces: &[AceRef<'_>], masks: &[u32]) -> u32
+    requires places { length masks.now ≡ length aces.now }
+    requires tidy { IsTidy (with_masks aces.now masks.now) }
+    ensures { (b : ℕ) → default_at result b ≡ default (column (with_masks aces.now masks.now) b) }
+{
+    let mut bits = 0u32;
+    for place in 0..aces.len() {
+        let ace = aces[place];
+        if is_everyone(ace.principal()) && is_allow(ace.kind) {
+            bits |= masks[place];
+        }
+    }
+    bits
+}
+
+/// Whom the ACE names, and its type.
+fn key(item: AceRef<'_>) -> Key<'_>
+    ensures { plain_key result ≡ ace_key (ace item.entry) }
+{
+    Key {
+        principal: item.principal(),
+        kind: item.kind,
+    }
+}
+
+/// Drops the bits that no situation needs from the masks of first ACEs: one pass, from the last ACE to the first.
+pub(crate) fn drop_needless(aces: &[AceRef<'_>], masks: &mut [u32])
+    requires places { length masks.old ≡ length aces.now }
+    requires tidy { IsTidy (with_masks aces.now masks.old) }
+    ensures places { length masks.new ≡ length aces.now }
+    ensures outline { nothing_left (with_masks aces.now masks.new) ≡ nothing_left (with_masks aces.now masks.old) }
+    ensures tidy { IsTidy (with_masks aces.now masks.new) }
+    ensures columns { (b : ℕ) → b < 21 → column (with_masks aces.now masks.new) b
+        ≡ needed_keys (default (column (with_masks aces.now masks.old) b))
+        (column (with_masks aces.now masks.old) b) }
+    ensures firsts { KeepsFirsts (with_masks aces.now masks.old) (with_masks aces.now masks.new) }
+{
+    let allowed = allowed_to_everyone(aces, masks);
+    let mut later = Later {
+        deny_users: 0,
+        deny_others: 0,
+        allow_users: 0,
+        allow_others: 0,
+    };
+    for done in 0..aces.len() {
+        let place = aces.len() - 1 - done;
+        let ace = aces[place];
+        let at = key(ace);
+        let mask = masks[place];
+        let dropped = needless(at, mask, allowed, opposite(later, at));
+        masks[place] = without(mask, dropped);
+        later = noted(later, at, mask);
+    }
+}

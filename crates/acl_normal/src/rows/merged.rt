@@ -1,0 +1,313 @@
+//! What is left of a list, by rows and by places that wait.
+ghost use Rattle.std.specs.Prelude.{◌≡◌, ℕ, ◌*◌, ◌<◌, ◌≤◌, ◌^◌, true, false, not, ◌||◌, [], length, vec_len, ◌↔◌, IfNone, IfOk, IfSome, IsTrue, OnOk, None};
+ghost use Rattle.std.specs.Ordering.{nat_cmp};
+ghost use Rattle.std.specs.BTreeSet.{contains};
+ghost use Rattle.acl_perm.specs.Bits.{all_rights, has_bit};
+ghost use Rattle.acl_perm.specs.Principal.{Principal as Who, principal};
+ghost use Rattle.acl_perm.specs.declared.kind.Kind.TheVariants.{Deny, Allow};
+ghost use Rattle.acl_eval.specs.Column.{column};
+ghost use Rattle.acl_eval.specs.Grant.{SameGrants};
+ghost use Rattle.acl_normal.specs.internal.Cells.{first_place};
+ghost use Rattle.acl_normal.specs.Keys.{Key as PlainKey};
+ghost use Rattle.acl_normal.specs.Left.{HasFree, IsLowest, IsTidy, KeepsFirsts, left};
+ghost use Rattle.acl_normal.specs.Normal.{IsIrreducibleList, is_free};
+ghost use Rattle.acl_normal.specs.Keys.{plain_key};
+ghost use Rattle.acl_normal.specs.Places.{key_here, first_at, is_blocked, nothing_left, take_out, waits, waits_before};
+ghost use Rattle.acl_normal.specs.internal.Rows.{AreRowNumbers, IsByPrincipal, IsRow, is_named, key_number};
+ghost use Rattle.acl_normal.specs.internal.Shown.{aces_in, with_masks};
+
+use crate::bits::{cleared, has};
+use crate::reduce::reduced_rows;
+use crate::rows::cells::Cells;
+use crate::rows::filling::filled_cells;
+use crate::rows::numbers::{RowNumbers, find_row};
+use crate::rows::waiting::waiting_sets;
+use crate::words::{is_user, other, slot};
+use acl_nfs4::{AceRef, Acl};
+use acl_perm::{Key, Kind, Mask, Principal};
+use std::alloc::{AllocError, Global};
+use std::collections::BTreeSet;
+use std::marker::Model;
+
+/// What is left of a list while its normal form is made: the needed bits that were not emitted yet, by principal, and
+/// by the places in the given list that still wait with them.
+#[derive(Drop)]
+pub struct MergedRows<'a> {
+    pub(crate) aces: Vec<AceRef<'a>>,
+    pub(crate) masks: Vec<u32>,
+    /// By place, the row of the principal that the ACE names.
+    pub(crate) rows: Vec<usize>,
+    /// The places in the order of the principals that their ACEs name.
+    pub(crate) order: Vec<usize>,
+    /// By row.
+    pub(crate) cells: Vec<Cells>,
+    pub(crate) waiting: Vec<BTreeSet<usize>>,
+}
+
+impl<'a> Model for MergedRows<'a> {
+    ghost use Rattle.std.specs.Prelude.{List};
+    ghost use Rattle.acl_nfs4.specs.Ace.{Ace};
+    ghost use Rattle.acl_normal.specs.internal.Merged.{left_of, IsRight};
+
+    ghost Value = { List Ace };
+
+    ghost view = { left_of };
+
+    ghost invariant = { IsRight };
+}
+
+// The lowest of some rights.
+pub(crate) fn lowest(bits: Mask) -> usize
+    ensures bound { result < 21 }
+    ensures lowest { (bit : ℕ) → IsLowest bit bits.bits → result ≡ bit }
+{
+    for bit in 0..21usize {
+        if has(bits.bits(), bit) {
+            return bit;
+        }
+    }
+    0
+}
+
+impl<'a> MergedRows<'a> {
+    /// A list without the bits that play no part, in time that is nearly linear in its bytes.
+    pub fn new(alloc: Global, list: &'a Acl) -> Result<MergedRows<'a>, AllocError>
+        // The places are those of the given list, with their types, flags and whos.
+        ensures places { IfOk result (λ rows. nothing_left rows ≡ nothing_left list.now) }
+        // What is left of a principal at a bit stands where its first ACE with the bit stands in the given list.
+        ensures firsts { IfOk result (λ rows. KeepsFirsts list.now rows) }
+        // It grants the same.
+        ensures grants { IfOk result (λ rows. SameGrants all_rights list.now rows) }
+        // Each bit is needed.
+        ensures irreducible { IfOk result (λ rows. IsIrreducibleList (left rows)) }
+    {
+        reduced_rows(alloc, list)
+    }
+
+    /// Takes rights of a principal out of what is left. Those that it hasn't there are ignored. It takes no memory.
+    pub fn emit(&mut self, p: Principal<'a>, bits: Mask)
+        ensures { self.new ≡ take_out (principal p.entry) bits.bits self.old }
+    {
+        self.emit_bits(p, bits.bits());
+    }
+
+    /// Whether the principal has one of these rights in what is left and is free on it: no ACE before its own
+    /// conflicts with that on the right. It takes no memory.
+    pub fn is_free(&self, p: Principal<'a>, bits: Mask) -> bool
+        ensures { IsTrue result ↔ HasFree self.now (principal p.entry) bits.bits }
+    {
+        for bit in 0..21usize {
+            if has(bits.bits(), bit) && self.is_free_at(p, bit) {
+                return true;
+            }
+        }
+        false
+    }
+
+    /// The places that wait with a right: those of the ACEs of what is left that have it, are of the type, and name a
+    /// user (`users`) or another principal. Of several rights it is the lowest. It takes no memory.
+    pub fn waiting(&self, kind: Kind, users: bool, bits: Mask) -> &BTreeSet<usize>
+        ensures { (bit : ℕ) → IsLowest bit bits.bits → (place : ℕ)
+            → contains nat_cmp result.now place ≡ waits kind users bit self.now place }
+    {
+        self.waiting_at(kind, users, lowest(bits))
+    }
+
+    /// The places of the ACEs of a type and a class that wait with a bit.
+    pub(crate) fn waiting_at(&self, kind: Kind, users: bool, bit: usize) -> &BTreeSet<usize>
+        requires { bit < 21 }
+        ensures { (i : ℕ) → contains nat_cmp result.now i ≡ waits kind users bit self.now i }
+    {
+        &self.waiting[slot(kind, users, bit)]
+    }
+
+    /// Whether no ACE of the type and the class waits with the bit before the place.
+    pub(crate) fn is_before(&self, place: usize, kind: Kind, users: bool, bit: usize) -> bool
+        requires { bit < 21 }
+        ensures { result ≡ not (waits_before kind users bit self.now place) }
+    {
+        match self.waiting_at(kind, users, bit).first() {
+            None => true,
+            Some(first) => place <= *first,
+        }
+    }
+
+    /// Whether nothing that conflicts with the ACE at the place comes before it.
+    pub(crate) fn is_clear(&self, place: usize, kind: Kind, user: bool, bit: usize) -> bool
+        requires { bit < 21 }
+        ensures { result ≡ not (is_blocked kind user bit self.now place) }
+    {
+        let opposite = other(kind);
+        self.is_before(place, opposite, false, bit)
+            && (user || self.is_before(place, opposite, true, bit))
+    }
+
+    /// Whether the principal has the bit and is free on it.
+    pub(crate) fn is_free_at(&self, p: Principal<'a>, bit: usize) -> bool
+        requires { bit < 21 }
+        ensures { result ≡ (is_free (column self.now bit) (principal p.entry, Deny)
+            || is_free (column self.now bit) (principal p.entry, Allow)) }
+    {
+        let _ = &self.masks;
+        match self.source(p, bit) {
+            None => false,
+            Some((kind, place)) => self.is_clear(place, kind, is_user(p), bit),
+        }
+    }
+
+    /// The principal and the type of the ACE at a place.
+    pub(crate) fn key_at(&self, place: usize) -> Key<'a>
+        requires { place < length self.now }
+        ensures { plain_key result ≡ key_here self.now place }
+    {
+        let aces = &self.aces;
+        let ace = aces[place];
+        Key {
+            principal: ace.principal(),
+            kind: ace.kind,
+        }
+    }
+
+    /// The type of the ACE at a place.
+    pub(crate) fn kind_at(&self, place: usize) -> Kind
+        requires { place < length self.now }
+        ensures { result ≡ (key_here self.now place).1 }
+    {
+        let aces = &self.aces;
+        aces[place].kind
+    }
+
+    /// The key of a number.
+    pub(crate) fn key_of(&self, number: usize) -> Key<'a>
+        requires { number < 2 * length self.now }
+        ensures { (k : PlainKey) → is_named k.0 self.now ≡ true → number ≡ key_number k self.now
+            → plain_key result ≡ k }
+    {
+        let first = self.key_at(self.order[number / 2]);
+        let kind = if number % 2 == 0 {
+            Kind::Deny
+        } else {
+            Kind::Allow
+        };
+        Key {
+            principal: first.principal,
+            kind,
+        }
+    }
+
+    /// How many ACEs the source has.
+    pub(crate) fn len(&self) -> usize
+        ensures { result ≡ length self.now }
+    {
+        let aces = &self.aces;
+        aces.len()
+    }
+
+    /// The row of the principal that the ACE at a place names.
+    pub(crate) fn row_at(&self, place: usize) -> usize
+        requires { place < length self.now }
+        ensures { IsRow result (key_here self.now place).0 self.now }
+    {
+        self.rows[place]
+    }
+
+    /// The row of a principal, if an ACE names it.
+    fn row_named(&self, p: Principal<'a>) -> Option<usize>
+        ensures found { IfSome result (λ row. IsRow row (principal p.entry) self.now) }
+        ensures missing { IfNone result (is_named (principal p.entry) self.now ≡ false) }
+    {
+        find_row(&self.aces, &self.rows, &self.order, p)
+    }
+
+    /// The place of the ACE of a row that still waits with a bit.
+    fn place_in(&self, row: usize, bit: usize) -> Option<usize>
+        requires { row < length self.now }
+        ensures { (p : Who) → IsRow row p self.now → result ≡ first_place bit p self.now }
+    {
+        match self.cells[row].get(bit) {
+            None => None,
+            Some(place) => Some(place as usize),
+        }
+    }
+
+    /// The type of the principal's ACE with the bit, and its place.
+    pub(crate) fn source(&self, p: Principal<'a>, bit: usize) -> Option<(Kind, usize)>
+        requires { bit < 21 }
+        ensures { result ≡ first_at bit (principal p.entry) self.now }
+    {
+        let row = self.row_named(p)?;
+        let place = self.place_in(row, bit)?;
+        Some((self.kind_at(place), place))
+    }
+
+    /// Takes bits of a principal out.
+    pub(crate) fn emit_bits(&mut self, p: Principal<'a>, bits: u32)
+        requires { (b : ℕ) → 21 ≤ b → has_bit bits b ≡ false }
+        ensures { self.new ≡ take_out (principal p.entry) bits self.old }
+    {
+        if let Some(row) = self.row_named(p) {
+            self.emit_row(row, p, bits);
+        }
+    }
+
+    /// Takes bits of the principal of a row out.
+    pub(crate) fn emit_row(&mut self, row: usize, p: Principal<'a>, bits: u32)
+        requires row { IsRow row (principal p) self.old }
+        requires rights { (b : ℕ) → 21 ≤ b → has_bit bits b ≡ false }
+        ensures { self.new ≡ take_out (principal p.entry) bits self.old }
+    {
+        for bit in 0..21usize {
+            if bits >> bit == 0 {
+                return;
+            }
+            if has(bits, bit) {
+                self.emit_bit(row, p, bit);
+            }
+        }
+    }
+
+    /// Takes one bit of the principal of a row out.
+    fn emit_bit(&mut self, row: usize, p: Principal<'a>, bit: usize)
+        requires bit { bit < 21 }
+        requires row { IsRow row (principal p) self.old }
+        ensures { self.new ≡ take_out (principal p.entry) (2 ^ bit) self.old }
+    {
+        if let Some(place) = self.place_in(row, bit) {
+            let kind = self.kind_at(place);
+            let cells = &mut self.cells[row];
+            cells.put(bit, None);
+            let at = slot(kind, is_user(p), bit);
+            let set = &mut self.waiting[at];
+            set.remove(&place);
+            self.masks[place] = cleared(self.masks[place], bit);
+        }
+    }
+
+    /// The rows of ACEs with the masks that are left of them.
+    pub(crate) fn of(
+        alloc: Global,
+        aces: Vec<AceRef<'a>>,
+        masks: Vec<u32>,
+        numbers: RowNumbers,
+    ) -> Result<MergedRows<'a>, AllocError>
+        requires few { vec_len aces < 2 ^ 32 }
+        requires places { vec_len masks ≡ vec_len aces }
+        requires tidy { IsTidy (with_masks aces.items masks.items) }
+        requires rights { (b : ℕ) → has_bit all_rights b ≡ false → column (with_masks aces.items masks.items) b ≡ [] }
+        requires rows { AreRowNumbers (with_masks aces.items masks.items) numbers.rows.items }
+        requires order { IsByPrincipal (with_masks aces.items masks.items) numbers.order.items }
+        ensures { IfOk result (λ r. r ≡ with_masks aces.entry.items masks.items) }
+    {
+        let waiting = waiting_sets(alloc, &aces, &masks)?;
+        let cells = filled_cells(alloc, &aces, &masks, &numbers.rows)?;
+        let RowNumbers { rows, order } = numbers;
+        Ok(MergedRows {
+            aces,
+            masks,
+            rows,
+            order,
+            cells,
+            waiting,
+        })
+    }
+}

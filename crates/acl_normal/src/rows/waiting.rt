@@ -1,0 +1,103 @@
+//! The places that wait with each bit, by type and class.
+ghost use Rattle.std.specs.Prelude.{◌≡◌, ℕ, ◌<◌, ◌≤◌, [], Bool, IfOk, OnOk, length, slice_index_or, vec_len};
+ghost use Rattle.std.specs.BTreeMap.{is_at};
+ghost use Rattle.std.specs.List.{list_any};
+ghost use Rattle.std.specs.Ordering.{nat_cmp};
+ghost use Rattle.acl_perm.specs.declared.kind.Kind.{Kind as Sort};
+ghost use Rattle.acl_normal.specs.Normal.{IsQuiet};
+ghost use Rattle.acl_normal.specs.Places.{slot_of, waits};
+ghost use Rattle.acl_normal.specs.internal.Shown.{with_masks};
+ghost use Rattle.acl_normal.specs.internal.Waiting.{HoldWaiting, Notes};
+
+use crate::bits::has;
+use crate::words::{is_user, slot};
+use acl_nfs4::AceRef;
+use acl_perm::Kind;
+use std::alloc::{AllocError, Global};
+use std::collections::BTreeSet;
+
+// One empty list of places for each of 21 bits, 2 types and 2 classes.
+fn no_places(alloc: Global) -> Result<Vec<Vec<usize>>, AllocError>
+    ensures { IfOk result (λ lists. HoldWaiting [] lists.items) }
+{
+    let mut lists = Vec::new(alloc);
+    for _made in 0..84usize {
+        lists.push(Vec::new(alloc))?;
+    }
+    Ok(lists)
+}
+
+// Puts a place into the lists of the bits of a mask.
+fn note(
+    lists: &mut Vec<Vec<usize>>,
+    place: usize,
+    kind: Kind,
+    user: bool,
+    mask: u32,
+) -> Result<(), AllocError>
+    requires { vec_len lists.old ≡ 84 }
+    ensures { OnOk result (Notes place kind user mask lists.old.items lists.new.items) }
+{
+    for bit in 0..21usize {
+        if mask >> bit == 0 {
+            return Ok(());
+        }
+        if has(mask, bit) {
+            let list = &mut lists[slot(kind, user, bit)];
+            list.push(place)?;
+        }
+    }
+    Ok(())
+}
+
+// The places that wait, in order.
+fn waiting_places(
+    alloc: Global,
+    aces: &[AceRef<'_>],
+    masks: &[u32],
+) -> Result<Vec<Vec<usize>>, AllocError>
+    requires places { length masks.now ≡ length aces.now }
+    requires quiet { IsQuiet (with_masks aces.now masks.now) }
+    ensures { IfOk result (λ lists. HoldWaiting (with_masks aces.now masks.now) lists.items) }
+{
+    let mut lists = no_places(alloc)?;
+    for place in 0..aces.len() {
+        let ace = aces[place];
+        note(
+            &mut lists,
+            place,
+            ace.kind,
+            is_user(ace.principal()),
+            masks[place],
+        )?;
+    }
+    Ok(lists)
+}
+
+// The set of the places of a list.
+fn set_of(alloc: Global, places: Vec<usize>) -> Result<BTreeSet<usize>, AllocError>
+    ensures { IfOk result (λ set. (i : ℕ) → list_any (is_at (nat_cmp i)) set.keys
+        ≡ list_any (is_at (nat_cmp i)) places.items) }
+{
+    BTreeSet::from_iter(alloc, places)
+}
+
+/// The sets of the places that wait with each bit, by type and class: each is made at once, of its places in order.
+pub(crate) fn waiting_sets(
+    alloc: Global,
+    aces: &[AceRef<'_>],
+    masks: &[u32],
+) -> Result<Vec<BTreeSet<usize>>, AllocError>
+    requires places { length masks.now ≡ length aces.now }
+    requires quiet { IsQuiet (with_masks aces.now masks.now) }
+    ensures slots { IfOk result (λ sets. vec_len sets ≡ 84) }
+    ensures waiting { IfOk result (λ sets. (k : Sort) (users : Bool) (b i : ℕ) → b < 21
+        → list_any (is_at (nat_cmp i)) (slice_index_or sets.items (slot_of k users b) (record { keys = [] })).keys
+        ≡ waits k users b (with_masks aces.now masks.now) i) }
+{
+    let mut sets = Vec::new(alloc);
+    for places in waiting_places(alloc, aces, masks)? {
+        sets.push(set_of(alloc, places)?)?;
+    }
+    Ok(sets)
+}

@@ -1,0 +1,6 @@
+//! Worked rows, and the calls held against the plain bodies.
+
+mod comparison;
+mod five_forms;
+mod normal;
+mod plain;

@@ -1,0 +1,162 @@
+//! The five forms of lists of one ACE, by its flags.
+
+use crate::*;
+use acl_nfs4::{AceRef, Acl, Flags, Kind, PushFault};
+use acl_perm::{Counted, Mask};
+use std::alloc::{AllocError, Global};
+use std::process::Abort;
+
+// The flags of an ACE that lets alice read, and whether it does so here, in a new file, in a new directory, and in a
+// new file and a new directory in that.
+static INHERITED: [(u32, [bool; 5]); 8] = [
+    (0x06, [true, false, true, false, false]),
+    (0x01, [true, true, false, true, false]),
+    (0x03, [true, true, true, true, true]),
+    (0x0b, [false, true, true, true, true]),
+    (0x05, [true, true, false, false, false]),
+    (0x02, [true, false, true, false, true]),
+    (0x00, [true, false, false, false, false]),
+    (0x80, [true, false, false, false, false]),
+];
+
+// A list of one ACE, which lets alice read.
+fn reading(alloc: Global, flags: u32) -> Result<Acl, PushFault> {
+    let mut list = Acl::new(alloc);
+    if let (Some(flags), Some(mask)) = (Flags::new(flags), Mask::new(1)) {
+        list.push(AceRef {
+            kind: Kind::Allow,
+            flags,
+            mask,
+            who: b"alice",
+        })?;
+    }
+    Ok(list)
+}
+
+fn kept<T>(answer: Result<T, AllocError>) -> Result<T, PushFault> {
+    match answer {
+        Ok(value) => Ok(value),
+        Err(_) => Err(PushFault::Memory),
+    }
+}
+
+fn passes(answer: Result<(), PushFault>) -> bool {
+    matches!(answer, Ok(()) | Err(PushFault::Memory))
+}
+
+fn forms_of(alloc: Global, flags: u32) -> Result<FiveForms, PushFault> {
+    let list = reading(alloc, flags)?;
+    kept(normalize_inherit(alloc, &list))
+}
+
+// The form lets alice read, or is empty.
+fn is_form(form: &Acl, reads: bool, alice: &Acl) -> bool {
+    if reads {
+        form == alice
+    } else {
+        form.is_empty()
+    }
+}
+
+fn are_forms(forms: &FiveForms, reads: &[bool; 5], alice: &Acl) -> bool {
+    is_form(&forms.object, reads[0], alice)
+        && is_form(&forms.file, reads[1], alice)
+        && is_form(&forms.directory, reads[2], alice)
+        && is_form(&forms.file_in_directory, reads[3], alice)
+        && is_form(&forms.directory_in_directory, reads[4], alice)
+}
+
+fn five_forms(rt: &impl Abort, alloc: Global) -> Result<(), PushFault> {
+    let alice = reading(alloc, 0)?;
+    for (flags, reads) in &INHERITED {
+        assert!(rt; are_forms(&forms_of(alloc, *flags)?, reads, &alice));
+    }
+    Ok(())
+}
+
+// A list has five forms, by the flags of its ACEs.
+#[test]
+fn lists_have_five_forms(rt: HostRuntime) {
+    assert!(rt; passes(five_forms(&rt, rt.alloc())));
+}
+
+#[test]
+fn ample_five_forms(rt: HostRuntime) {
+    assert!(rt; five_forms(&rt, rt.alloc()).is_ok());
+}
+
+fn is_same(alloc: Global, forms: &FiveForms, other: &FiveForms) -> Result<bool, PushFault> {
+    Ok(kept(forms.copy(alloc))? == *other)
+}
+
+// Copies of the five are equal exactly if the lists let alice read at the same paths.
+fn copies(rt: &impl Abort, alloc: Global) -> Result<(), PushFault> {
+    for (flags, reads) in &INHERITED {
+        let forms = forms_of(alloc, *flags)?;
+        for (other_flags, other_reads) in &INHERITED {
+            let other = forms_of(alloc, *other_flags)?;
+            assert!(rt; is_same(alloc, &forms, &other)? == (reads == other_reads));
+        }
+    }
+    Ok(())
+}
+
+#[test]
+fn copies_tell_paths_apart(rt: HostRuntime) {
+    assert!(rt; passes(copies(&rt, rt.alloc())));
+}
+
+#[test]
+fn ample_copies_of_five(rt: HostRuntime) {
+    assert!(rt; copies(&rt, rt.alloc()).is_ok());
+}
+
+// The five of an ACE for directories that goes no further: alice's here and in a new directory, and three empty ones.
+const SPELLED: &[u8; 68] = b"\0\0\0\x01\0\0\0\0\0\0\0\0\0\0\0\x01\0\0\0\x05alice\0\0\0\
+    \0\0\0\0\
+    \0\0\0\x01\0\0\0\0\0\0\0\0\0\0\0\x01\0\0\0\x05alice\0\0\0\
+    \0\0\0\0\0\0\0\0";
+
+// How many bytes of the five went into a room, and how many the fault tells.
+fn written(forms: &FiveForms, room: &mut [u8]) -> (usize, Option<u64>) {
+    let size = room.len();
+    let mut sink = Counted::new(room);
+    let answer = forms.encode(&mut sink);
+    let left = sink.into_inner().len();
+    (
+        size.saturating_sub(left),
+        answer.err().map(|fault| fault.written),
+    )
+}
+
+// A room of n bytes: the fault tells n, and the room holds the first n bytes.
+fn cut_forms(rt: &impl Abort, alloc: Global) -> Result<(), PushFault> {
+    let forms = forms_of(alloc, 0x06)?;
+    for size in 0..SPELLED.len() {
+        let mut room = [0u8; 68];
+        assert!(rt; written(&forms, &mut room[..size]) == (size, Some(size as u64)));
+        assert!(rt; &room[..size] == &SPELLED[..size]);
+    }
+    let mut room = [0u8; 68];
+    assert!(rt; written(&forms, &mut room) == (68, None));
+    assert!(rt; &room == SPELLED);
+    Ok(())
+}
+
+#[test]
+fn each_write_of_five_fails_in_turn(rt: HostRuntime) {
+    assert!(rt; passes(cut_forms(&rt, rt.alloc())));
+}
+
+#[test]
+fn ample_bytes_of_five_forms(rt: HostRuntime) {
+    assert!(rt; cut_forms(&rt, rt.alloc()).is_ok());
+}
+
+// A list knows how many bytes spell it.
+#[test]
+fn ample_lengths(rt: HostRuntime) {
+    let alloc = rt.alloc();
+    assert!(rt; Acl::new(alloc).encoded_len() == 4);
+    assert!(rt; matches!(reading(alloc, 0).map(|list| list.encoded_len()), Ok(28)));
+}
