@@ -32,7 +32,7 @@ use Rattle.aclck.specs.Answer.{IsXdrFault, is_read}
 use Rattle.aclck.specs.ListInput.{EndsNot, HasInput, IsNotRead, ReadsLittle, ReadsNone, ReadsValue, RefusalEnds, TakesLittle, TakesOpen, ValueEnds, piece_len}
 use Rattle.aclck.specs.declared.answer.RunFault.{RunFault}
 use Rattle.aclck.specs.declared.answer.RunFault.TheVariants as fault
-use Rattle.aclck.specs.declared.list_input.Value.{Value}
+use Rattle.aclck.specs.declared.input.xdr.Value.{Value}
 
 -- ---- lists are short
 

@@ -10,9 +10,9 @@ use Rattle.acl_posix.specs.declared.names.NameFault.TheVariants as names
 use Rattle.aclck.specs.PosixValues.{id_value}
 use Rattle.aclck.specs.declared.line.LineFault.{LineFault}
 use Rattle.aclck.specs.declared.line.LineFault.TheVariants as line
-use Rattle.aclck.specs.declared.name_words.Half.{Half as HeldHalf}
-use Rattle.aclck.specs.declared.name_words.Half.TheVariants as held
-use Rattle.aclck.specs.declared.name_words.NamedId.{NamedId as HeldNamedId}
+use Rattle.aclck.specs.declared.words.names.Half.{Half as HeldHalf}
+use Rattle.aclck.specs.declared.words.names.Half.TheVariants as held
+use Rattle.aclck.specs.declared.words.names.NamedId.{NamedId as HeldNamedId}
 
 -- what stands before the first of these bytes, and what stands behind it
 abbrev pub first_cut : ℕ → Text → Option (Text × Text)

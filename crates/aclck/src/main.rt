@@ -3,31 +3,13 @@
 
 mod answer;
 mod command;
-#[cfg(test)]
-mod hostile_tests;
-#[cfg(test)]
-mod inherit_tests;
+mod input;
 pub mod laws;
 mod line;
-mod list_input;
-mod name_words;
-#[cfg(test)]
-mod nfs_text_tests;
-#[cfg(test)]
-mod normal_tests;
-mod posix;
-#[cfg(test)]
-mod posix_tests;
-mod posix_values;
-mod profile_argument;
-#[cfg(test)]
-mod runs;
 mod task;
 #[cfg(test)]
 mod tests;
-mod values;
-#[cfg(test)]
-mod xdr_tests;
+mod words;
 
 use acl_perm::{Counted, Sink, Source};
 use answer::RunFault;

@@ -25,7 +25,7 @@ pub mod table;
 
 use crate::answer::{Outcome, RunFault};
 use crate::line::{Argument, LineFault, command_from, parse};
-use crate::profile_argument;
+use crate::words::profile;
 use acl_perm::{Profile, Sink, Source};
 use acl_posix::Names;
 use bridge::run_bridge;
@@ -128,8 +128,7 @@ impl Name {
             Name::CalcMask => calc_mask::arguments(),
             Name::Chmod => chmod::arguments(),
             Name::Create => create::arguments(),
-            Name::ShowNfs | Name::Encode | Name::Mode | Name::Compare =>
-                profile_argument::arguments(),
+            Name::ShowNfs | Name::Encode | Name::Mode | Name::Compare => profile::arguments(),
             Name::CheckNfs => check_nfs::arguments(),
             Name::Child => child::arguments(),
             Name::Bridge => bridge::arguments(),
@@ -212,15 +211,15 @@ impl<'a> Task<'a> {
             Name::CalcMask => Ok(Task::CalcMask(calc_mask::read(alloc, matches)?)),
             Name::Chmod => Ok(Task::Chmod(chmod::read(alloc, matches)?)),
             Name::Create => Ok(Task::Create(create::read(alloc, matches)?)),
-            Name::ShowNfs => Ok(Task::ShowNfs(profile_argument::read(matches)?)),
-            Name::Encode => Ok(Task::Encode(profile_argument::read(matches)?)),
+            Name::ShowNfs => Ok(Task::ShowNfs(profile::read(matches)?)),
+            Name::Encode => Ok(Task::Encode(profile::read(matches)?)),
             Name::CheckNfs => Ok(Task::CheckNfs(check_nfs::read(matches, words)?)),
             Name::Child => Ok(Task::Child(child::read(matches)?)),
-            Name::Mode => Ok(Task::Mode(profile_argument::read(matches)?)),
+            Name::Mode => Ok(Task::Mode(profile::read(matches)?)),
             Name::Bridge => Ok(Task::Bridge(bridge::read(alloc, matches)?)),
             Name::Table => Ok(Task::Table(table::read(matches)?)),
             Name::Normalize => Ok(Task::Normalize(normalize::read(matches)?)),
-            Name::Compare => Ok(Task::Compare(profile_argument::read(matches)?)),
+            Name::Compare => Ok(Task::Compare(profile::read(matches)?)),
         }
     }
 

@@ -9,9 +9,9 @@ ghost use Rattle.aclck.specs.Answer.{Ran, has_read_failed, has_write_failed, is_
 ghost use Rattle.aclck.specs.Bridge.{BridgeAnswer, Bridges, IsBridgeRefusal, bridge_in, bridge_terms};
 
 use crate::answer::{Outcome, RunFault};
+use crate::input::posix::read_file;
 use crate::line::{Argument, LineFault};
-use crate::name_words::names_in;
-use crate::posix::read_file;
+use crate::words::names::names_in;
 use acl_eval::{BridgeFault, bridge};
 use acl_nfs4::Acl;
 use acl_perm::{Sink, Source, read_all};

@@ -9,9 +9,9 @@ ghost use Rattle.aclck.specs.PosixAnswer.{IsPosixFault, Writes};
 ghost use Rattle.aclck.specs.CalcMask.{CalcMaskAnswer, calc_mask_in, calc_mask_terms, masked_text};
 
 use crate::answer::{Outcome, RunFault};
+use crate::input::posix::{canonical, read_file};
 use crate::line::{Argument, LineFault};
-use crate::name_words::names_in;
-use crate::posix::{canonical, read_file};
+use crate::words::names::names_in;
 use acl_perm::{Sink, Source, put_all, read_all};
 use acl_posix::Names;
 use clap::ArgMatches;

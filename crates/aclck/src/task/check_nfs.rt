@@ -13,9 +13,9 @@ ghost use Rattle.aclck.specs.ListInput.{TakesLittle, TakesOpen};
 ghost use Rattle.aclck.specs.CheckNfs.{CheckNfsAnswer, check_nfs_held, check_nfs_in, check_nfs_terms, object_named, object_names, requester_named, requester_names, values_of};
 
 use crate::answer::{Outcome, RunFault, decision_line};
+use crate::input::xdr::read_list;
 use crate::line::{Argument, LineFault, text_of};
-use crate::list_input::read_list;
-use crate::values::{mask_within, profile_in};
+use crate::words::values::{mask_within, profile_in};
 use acl_eval::{Object, Requester, grants};
 use acl_nfs4::Acl;
 use acl_perm::{Mask, Profile, Sink, Source, put_all};

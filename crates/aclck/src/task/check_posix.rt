@@ -11,10 +11,10 @@ ghost use Rattle.aclck.specs.CheckPosix.{CheckPosixAnswer, Checks, check_posix_h
 ghost use Rattle.aclck.specs.PosixAnswer.{IsPosixFault};
 
 use crate::answer::{Outcome, RunFault, decision_line};
+use crate::input::posix::read_file;
 use crate::line::{Argument, LineFault, text_of};
-use crate::name_words::names_in;
-use crate::posix::read_file;
-use crate::posix_values::{id_value, ids_value, want_value};
+use crate::words::names::names_in;
+use crate::words::values::{id_value, ids_value, want_value};
 use acl_perm::{Perm, Sink, Source, put_all, read_all};
 use acl_posix::{Id, Names};
 use clap::ArgMatches;

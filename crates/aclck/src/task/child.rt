@@ -10,9 +10,9 @@ ghost use Rattle.aclck.specs.ListInput.{TakesLittle, TakesOpen};
 ghost use Rattle.aclck.specs.Child.{ChildAnswer, child_held, child_in, child_terms, kind_value};
 
 use crate::answer::{Outcome, RunFault};
+use crate::input::xdr::read_list;
 use crate::line::{Argument, LineFault, text_of};
-use crate::list_input::read_list;
-use crate::values::profile_in;
+use crate::words::values::profile_in;
 use acl_eval::{ChildKind, child};
 use acl_perm::{Profile, Sink, Source};
 use clap::ArgMatches;

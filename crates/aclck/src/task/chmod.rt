@@ -10,10 +10,10 @@ ghost use Rattle.aclck.specs.PosixAnswer.{IsPosixFault, Writes};
 ghost use Rattle.aclck.specs.Chmod.{ChmodAnswer, chmod_held, chmod_in, chmod_terms, chmod_text};
 
 use crate::answer::{Outcome, RunFault};
+use crate::input::posix::{canonical, read_file};
 use crate::line::{Argument, LineFault, text_of};
-use crate::name_words::names_in;
-use crate::posix::{canonical, read_file};
-use crate::posix_values::mode_value;
+use crate::words::names::names_in;
+use crate::words::values::mode_value;
 use acl_perm::{Mode, Sink, Source, put_all, read_all};
 use acl_posix::Names;
 use clap::ArgMatches;

@@ -12,7 +12,7 @@ ghost use Rattle.aclck.specs.ListInput.{HasInput};
 ghost use Rattle.aclck.specs.TwoLists.{AreNotRead, StandsBelow, TakesLittleOfTwo, TakesOpenOfTwo, later};
 
 use crate::answer::{Outcome, RunFault};
-use crate::list_input::{Pulled, Value, read_end, read_value};
+use crate::input::xdr::{Pulled, Value, read_end, read_value};
 use acl_nfs4::{Acl, Fault, bit_name};
 use acl_normal::{Difference, compare};
 use acl_perm::{Mask, Profile, Sink, Source, put_all};

@@ -9,10 +9,10 @@ ghost use Rattle.aclck.specs.PosixAnswer.{IsPosixFault, Writes};
 ghost use Rattle.aclck.specs.Create.{CreateAnswer, create_held, create_in, create_terms, created_text};
 
 use crate::answer::{Outcome, RunFault};
+use crate::input::posix::{canonical, read_file};
 use crate::line::{Argument, LineFault, is_set, text_of};
-use crate::name_words::names_in;
-use crate::posix::{canonical, read_file};
 use crate::task::chmod::mode_in;
+use crate::words::names::names_in;
 use acl_perm::{Mode, Sink, Source, put_all, read_all};
 use acl_posix::{Names, create};
 use clap::ArgMatches;

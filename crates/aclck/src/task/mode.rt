@@ -8,7 +8,7 @@ ghost use Rattle.aclck.specs.ListInput.{TakesLittle, TakesOpen};
 ghost use Rattle.aclck.specs.ListMode.{ModeAnswer, mode_line, octal_digit};
 
 use crate::answer::{Outcome, RunFault};
-use crate::list_input::read_list;
+use crate::input::xdr::read_list;
 use acl_eval::mode_of;
 use acl_perm::{Mode, Perm, Profile, Sink, Source, put_all};
 use std::alloc::Global;

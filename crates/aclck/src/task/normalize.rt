@@ -10,9 +10,9 @@ ghost use Rattle.aclck.specs.ListInput.{TakesLittle, TakesOpen};
 ghost use Rattle.aclck.specs.Normalize.{NormalizeAnswer, NormalizeInheritAnswer, NormalizedAnswer, normalize_held, normalize_in, normalize_terms};
 
 use crate::answer::{Outcome, RunFault};
+use crate::input::xdr::read_list;
 use crate::line::{Argument, LineFault, is_set, text_of};
-use crate::list_input::read_list;
-use crate::values::profile_in;
+use crate::words::values::profile_in;
 use acl_normal::{normalize, normalize_inherit};
 use acl_perm::{Profile, Sink, Source};
 use clap::ArgMatches;

@@ -9,7 +9,7 @@ ghost use Rattle.aclck.specs.ListInput.{TakesLittle, TakesOpen};
 ghost use Rattle.aclck.specs.ShowNfs.{ShowNfsAnswer};
 
 use crate::answer::{Outcome, RunFault};
-use crate::list_input::read_list;
+use crate::input::xdr::read_list;
 use acl_nfs4::Acl;
 use acl_perm::{Counted, Profile, Sink, Source, put_all};
 use std::alloc::{AllocError, Global};

@@ -9,9 +9,9 @@ ghost use Rattle.aclck.specs.PosixAnswer.{IsPosixFault, Writes};
 ghost use Rattle.aclck.specs.ShowPosix.{ShowPosixAnswer, form_text, form_value, show_posix_held, show_posix_in, show_posix_terms};
 
 use crate::answer::{Outcome, RunFault};
+use crate::input::posix::{Form, read_file, text_in};
 use crate::line::{Argument, LineFault, text_of};
-use crate::name_words::names_in;
-use crate::posix::{Form, read_file, text_in};
+use crate::words::names::names_in;
 use acl_perm::{Sink, Source, put_all, read_all};
 use acl_posix::Names;
 use clap::ArgMatches;

@@ -12,9 +12,9 @@ ghost use Rattle.aclck.specs.ListInput.{TakesLittle, TakesOpen};
 ghost use Rattle.aclck.specs.BitTable.{AreTableOf, TableAnswer, bit_value, group_word, right_named, row_line, rows_text, table_held, table_in, table_terms};
 
 use crate::answer::{Outcome, RunFault};
+use crate::input::xdr::read_list;
 use crate::line::{Argument, LineFault, text_of};
-use crate::list_input::read_list;
-use crate::values::profile_in;
+use crate::words::values::profile_in;
 use acl_nfs4::{Acl, read_mask};
 use acl_normal::{Row, table};
 use acl_perm::{Kind, Mask, Profile, Sink, Source, put_all};

@@ -1,0 +1,133 @@
+//! Words that name users and groups: `u:NAME=ID` and `g:NAME=ID`.
+ghost use Rattle.std.specs.Prelude.{◌≡◌, [], None, Some, map, option_map, unwrap_or};
+ghost use Rattle.acl_posix.specs.Names.{no_names};
+ghost use Rattle.clap.specs.Words.{found_of, rows_of};
+ghost use Rattle.aclck.specs.Line.{Reads, words_of};
+ghost use Rattle.aclck.specs.NameWords.{first_cut, half_named, last_cut, named_id, named_of, half_of, names_value, with_name, with_words, Adds};
+
+use crate::line::LineFault;
+use crate::words::values::id_value;
+use acl_posix::{Id, NameFault, Names};
+use clap::ArgMatches;
+use std::alloc::Global;
+
+// A half of a table of names.
+#[derive(Clone, Copy, Debug, PartialEq, Eq)]
+enum Half {
+    Users,
+    Groups,
+}
+
+// A name with its id.
+#[derive(Clone, Copy, Debug)]
+struct NamedId<'a> {
+    half: Half,
+    name: &'a str,
+    id: Id,
+}
+
+impl From<NameFault> for LineFault {
+    ghost use Rattle.std.specs.Prelude.{◌≡◌};
+    ghost use Rattle.aclck.specs.NameWords.{line_fault_of};
+
+    ghost from_gives = { λ fault line. line ≡ line_fault_of fault };
+
+    fn from(fault: NameFault) -> LineFault {
+        match fault {
+            NameFault::EmptyName | NameFault::DigitsOnly | NameFault::Taken => LineFault::Usage,
+            NameFault::Memory => LineFault::Memory,
+        }
+    }
+}
+
+/// The table of the words that are no option's.
+#[tactic(auto, unfolding(crate::specs::NameWords::names_value))]
+pub(crate) fn names_in(alloc: Global, matches: &ArgMatches<'_>) -> Result<Names, LineFault>
+    ensures { Reads (λ n. n) (names_value (words_of (rows_of (found_of matches.now)))) result }
+{
+    names_given(alloc, given(matches))
+}
+
+// The words that are no option's, if there are any.
+fn given<'a, 'm>(matches: &'m ArgMatches<'a>) -> Option<&'m [&'a str]>
+    ensures { unwrap_or (option_map (λ ws. map (λ w. w.now) ws.now) result) []
+        ≡ words_of (rows_of (found_of matches.now)) }
+{
+    matches.get_strs("words")
+}
+
+fn names_given(alloc: Global, words: Option<&[&str]>) -> Result<Names, LineFault>
+    ensures { Reads (λ n. n) (with_words no_names
+        (unwrap_or (option_map (λ ws. map (λ w. w.now) ws.now) words.entry) [])) result }
+{
+    match words {
+        Some(words) => names_of(alloc, words),
+        None => Ok(Names::new(alloc)),
+    }
+}
+
+fn names_of(alloc: Global, words: &[&str]) -> Result<Names, LineFault>
+    ensures { Reads (λ n. n) (with_words no_names (map (λ w. w.now) words.now)) result }
+{
+    let mut names = Names::new(alloc);
+    for word in words {
+        add_word(&mut names, word)?;
+    }
+    Ok(names)
+}
+
+// Adds the name that a word spells.
+fn add_word(names: &mut Names, word: &str) -> Result<(), LineFault>
+    ensures { Adds names.old (named_id word.now) names.new result }
+{
+    match named_id(word) {
+        Some(named) => add_name(names, named),
+        None => Err(LineFault::Usage),
+    }
+}
+
+fn add_name(names: &mut Names, named: NamedId<'_>) -> Result<(), LineFault>
+    ensures { Adds names.old (Some (named_of named.entry)) names.new result }
+{
+    match named.half {
+        Half::Users => names.add_user(named.name.as_bytes(), named.id)?,
+        Half::Groups => names.add_group(named.name.as_bytes(), named.id)?,
+    }
+    Ok(())
+}
+
+// What a word spells.
+#[tactic(auto, unfolding(crate::specs::NameWords::named_id))]
+fn named_id<'a>(word: &'a str) -> Option<NamedId<'a>>
+    ensures { option_map named_of result ≡ named_id word.entry.now }
+{
+    let (front, id) = last_cut(word)?;
+    let (half, name) = first_cut(front)?;
+    let half = half_named(half)?;
+    let id = id_value(id)?;
+    Some(NamedId { half, name, id })
+}
+
+// What stands before and behind the last equals sign.
+fn last_cut<'a>(word: &'a str) -> Option<(&'a str, &'a str)>
+    ensures { option_map (λ cut. (cut.0.now, cut.1.now)) result ≡ last_cut 61 word.entry.now }
+{
+    word.rsplit_once('=')
+}
+
+// What stands before and behind the first colon.
+fn first_cut<'a>(word: &'a str) -> Option<(&'a str, &'a str)>
+    ensures { option_map (λ cut. (cut.0.now, cut.1.now)) result ≡ first_cut 58 word.entry.now }
+{
+    word.split_once(':')
+}
+
+fn half_named(word: &str) -> Option<Half>
+    ensures { option_map half_of result ≡ half_named word.now }
+{
+    match word {
+        "u" => Some(Half::Users),
+        "g" => Some(Half::Groups),
+        _ => None,
+    }
+}
