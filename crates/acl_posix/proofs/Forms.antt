@@ -3,134 +3,143 @@ use Rattle.std.proofs.Common.{◌≡◌, ℕ, Bool, true, false, List, [], ◌�
 use Rattle.std.specs.Prelude.{codes, map}
 use Rattle.std.specs.List.{flat_map}
 use Rattle.std.specs.FinMap as fin
-use Rattle.acl_posix.specs.declared.entry_line.Form.TheVariants as forms
+use Rattle.std.proofs.lemmas.Grind.{flat_map-append}
+use Rattle.std.proofs.lemmas.List.Folds.{flat_map-map}
+use Rattle.acl_posix.specs.declared.form.Form.{Form}
+use Rattle.acl_posix.specs.declared.form.Form.TheVariants as forms
+use Rattle.acl_posix.specs.declared.text_fault.Part.{Part}
 use Rattle.acl_posix.specs.declared.text_fault.Part.TheVariants as parts
 use Rattle.acl_posix.specs.Tag.{Tag}
 use Rattle.acl_posix.specs.Entries.{Entries}
 use Rattle.acl_posix.specs.Valid.{missing}
 use Rattle.acl_posix.specs.Mask.{effective_of}
-use Rattle.acl_posix.specs.Texts.{long_entry, short_entry, long_default, short_default, effective_mark, line, default_entries, default_mark, canonical_text, shown_text, with_commas, short_text}
-use Rattle.acl_posix.specs.Writing.{entry_out, part_out, default_out, form_text}
+use Rattle.acl_posix.specs.Texts.{long_entry, short_entry, long_default, short_default, effective_mark, line, default_entries, default_mark, canonical_text, shown_text, with_commas, short_text, form_text}
+use Rattle.acl_posix.specs.Writing.{entry_out, part_out, default_out, text_out}
 use Rattle.acl_posix.proofs.Whole.{has_owner}
 
-canonical_access : (acl : Entries) (first : Bool) (es : List (Tag × ℕ))
-    → part_out forms.Canonical parts.Access acl first es ≡ flat_map (λ e. line (long_entry e)) es
+-- what goes out for the entries of a part is a text of each, if it is for the first and for each other
+part_is : (form : Form) (part : Part) (acl : Entries) (first : Bool) (text : Tag × ℕ → List ℕ)
+    → ((e : Tag × ℕ) → entry_out form part first (effective_of acl e) e ≡ text e)
+    → ((e : Tag × ℕ) → entry_out form part false (effective_of acl e) e ≡ text e)
+    → (es : List (Tag × ℕ)) → part_out form part acl first es ≡ flat_map text es
+part_is form part acl first text here behind [] = refl
+part_is form part acl first text here behind (e ∷ es) =
+    ap (λ (xs : List ℕ). xs ++ part_out form part acl false es) (here e)
+    ∙ ap (λ (xs : List ℕ). text e ++ xs) (part_is form part acl false text behind behind es)
+
+both : (a b c d : List ℕ) → a ≡ b → c ≡ d → a ++ c ≡ b ++ d
+both a b c d first second = ap (λ (xs : List ℕ). xs ++ c) first ∙ ap (λ (xs : List ℕ). b ++ xs) second
+
+-- ---- the canonical text
+
+canonical_access : (eff : ℕ) (first : Bool) (e : Tag × ℕ)
+    → entry_out forms.Canonical parts.Access first eff e ≡ line (long_entry e)
 unfolding entry_out long_entry
-canonical_access acl first [] = refl
-canonical_access acl first (e ∷ es) = ap (λ (xs : List ℕ). line (long_entry e) ++ xs) (canonical_access acl false es)
+canonical_access eff first e = refl
 
-canonical_part : (acl : Entries) (first : Bool) (es : List (Tag × ℕ))
-    → part_out forms.Canonical parts.Default acl first es ≡ flat_map (λ e. line (long_default e)) es
+canonical_default : (eff : ℕ) (e : Tag × ℕ)
+    → entry_out forms.Canonical parts.Default false eff e ≡ line (long_default e)
 unfolding entry_out long_default long_entry
-canonical_part acl first [] = refl
-canonical_part acl first (e ∷ es) = ap (λ (xs : List ℕ). line (long_default e) ++ xs) (canonical_part acl false es)
+canonical_default eff e = refl
 
-canonical_default : (d : Option Entries) → default_out forms.Canonical d
+canonical_rest : (d : Option Entries) → default_out forms.Canonical d
     ≡ flat_map (λ e. line (long_default e)) (default_entries d)
-canonical_default None = refl
-canonical_default (Some acl) = canonical_part acl false (fin.entries acl)
+canonical_rest None = refl
+canonical_rest (Some acl) =
+    let each = λ (e : Tag × ℕ). canonical_default (effective_of acl e) e in
+    part_is forms.Canonical parts.Default acl false (λ e. line (long_default e)) each each (fin.entries acl)
 
--- the canonical form that is put together is the canonical text
-pub canonical_form : (access : Entries) (default : Option Entries)
-    → form_text forms.Canonical access default ≡ canonical_text access default
+canonical_form : (access : Entries) (default : Option Entries)
+    → text_out forms.Canonical access default ≡ canonical_text access default
 unfolding canonical_text
-canonical_form access default =
-    ap (λ (xs : List ℕ). xs ++ default_out forms.Canonical default) (canonical_access access true (fin.entries access))
-    ∙ ap (λ (xs : List ℕ). flat_map (λ e. line (long_entry e)) (fin.entries access) ++ xs) (canonical_default default)
+canonical_form access default = both _ _ _ _
+    (part_is forms.Canonical parts.Access access true (λ e. line (long_entry e))
+    (λ e. canonical_access (effective_of access e) true e) (λ e. canonical_access (effective_of access e) false e)
+    (fin.entries access))
+    (canonical_rest default)
 
-shown_entry : (acl : Entries) (first : Bool) (e : Tag × ℕ)
+-- ---- the shown text
+
+shown_access : (acl : Entries) (first : Bool) (e : Tag × ℕ)
     → entry_out forms.Shown parts.Access first (effective_of acl e) e ≡ line (long_entry e ++ effective_mark acl e)
 unfolding entry_out long_entry effective_mark
-shown_entry acl first e = sym (append_assoc (long_entry e) (effective_mark acl e) (10 ∷ []))
+shown_access acl first e = sym (append_assoc (long_entry e) (effective_mark acl e) (10 ∷ []))
 
-shown_default_entry : (acl : Entries) (first : Bool) (e : Tag × ℕ)
-    → entry_out forms.Shown parts.Default first (effective_of acl e) e ≡ line (long_default e ++ effective_mark acl e)
+shown_default : (acl : Entries) (e : Tag × ℕ)
+    → entry_out forms.Shown parts.Default false (effective_of acl e) e ≡ line (long_default e ++ effective_mark acl e)
 unfolding entry_out long_default long_entry effective_mark
-shown_default_entry acl first e = sym (append_assoc (long_default e) (effective_mark acl e) (10 ∷ []))
+shown_default acl e = sym (append_assoc (long_default e) (effective_mark acl e) (10 ∷ []))
 
-shown_access : (acl : Entries) (first : Bool) (es : List (Tag × ℕ))
-    → part_out forms.Shown parts.Access acl first es ≡ flat_map (λ e. line (long_entry e ++ effective_mark acl e)) es
-shown_access acl first [] = refl
-shown_access acl first (e ∷ es) =
-    ap (λ (xs : List ℕ). xs ++ part_out forms.Shown parts.Access acl false es) (shown_entry acl first e)
-    ∙ ap (λ (xs : List ℕ). line (long_entry e ++ effective_mark acl e) ++ xs) (shown_access acl false es)
-
-shown_part : (acl : Entries) (first : Bool) (es : List (Tag × ℕ))
-    → part_out forms.Shown parts.Default acl first es ≡ flat_map (λ e. line (long_default e ++ effective_mark acl e)) es
-shown_part acl first [] = refl
-shown_part acl first (e ∷ es) =
-    ap (λ (xs : List ℕ). xs ++ part_out forms.Shown parts.Default acl false es) (shown_default_entry acl first e)
-    ∙ ap (λ (xs : List ℕ). line (long_default e ++ effective_mark acl e) ++ xs) (shown_part acl false es)
-
-shown_default : (d : Option Entries) → default_out forms.Shown d
+shown_rest : (d : Option Entries) → default_out forms.Shown d
     ≡ flat_map (λ e. line (long_default e ++ default_mark d e)) (default_entries d)
-shown_default None = refl
-shown_default (Some acl) = shown_part acl false (fin.entries acl)
+shown_rest None = refl
+shown_rest (Some acl) = part_is forms.Shown parts.Default acl false (λ e. line (long_default e ++ effective_mark acl e))
+    (shown_default acl) (shown_default acl) (fin.entries acl)
 
--- the shown form that is put together is the shown text
-pub shown_form : (access : Entries) (default : Option Entries)
-    → form_text forms.Shown access default ≡ shown_text access default
+shown_form : (access : Entries) (default : Option Entries)
+    → text_out forms.Shown access default ≡ shown_text access default
 unfolding shown_text
-shown_form access default =
-    ap (λ (xs : List ℕ). xs ++ default_out forms.Shown default) (shown_access access true (fin.entries access))
-    ∙ ap (λ (xs : List ℕ). flat_map (λ e. line (long_entry e ++ effective_mark access e)) (fin.entries access) ++ xs)
-    (shown_default default)
+shown_form access default = both _ _ _ _
+    (part_is forms.Shown parts.Access access true (λ e. line (long_entry e ++ effective_mark access e))
+    (shown_access access true) (shown_access access false) (fin.entries access))
+    (shown_rest default)
+
+-- ---- the short text
 
 -- parts with a comma before each
 abbrev led : List (List ℕ) → List ℕ
-led [] = []
-led (x ∷ xs) = (44 ∷ x) ++ led xs
+led parts = flat_map (λ part. 44 ∷ part) parts
 
 commas_led : (x : List ℕ) (xs : List (List ℕ)) → with_commas (x ∷ xs) ≡ x ++ led xs
 commas_led x [] = sym (append-nil x)
 commas_led x (y ∷ ys) = ap (λ (l : List ℕ). x ++ 44 ∷ l) (commas_led y ys)
 
-first_short : (eff : ℕ) (e : Tag × ℕ) → entry_out forms.Short parts.Access true eff e ≡ short_entry e
+short_first : (eff : ℕ) (e : Tag × ℕ) → entry_out forms.Short parts.Access true eff e ≡ short_entry e
 unfolding entry_out short_entry
-first_short eff e = append-nil _
+short_first eff e = append-nil _
 
-next_short : (eff : ℕ) (e : Tag × ℕ) → entry_out forms.Short parts.Access false eff e ≡ 44 ∷ short_entry e
+short_access : (eff : ℕ) (e : Tag × ℕ) → entry_out forms.Short parts.Access false eff e ≡ 44 ∷ short_entry e
 unfolding entry_out short_entry
-next_short eff e = ap (λ (xs : List ℕ). 44 ∷ xs) (append-nil _)
+short_access eff e = ap (λ (xs : List ℕ). 44 ∷ xs) (append-nil _)
 
-next_short_default : (eff : ℕ) (e : Tag × ℕ) → entry_out forms.Short parts.Default false eff e ≡ 44 ∷ short_default e
+short_default_out : (eff : ℕ) (e : Tag × ℕ) → entry_out forms.Short parts.Default false eff e ≡ 44 ∷ short_default e
 unfolding entry_out short_default short_entry
-next_short_default eff e = ap (λ (xs : List ℕ). codes ",d:" ++ xs) (append-nil _)
+short_default_out eff e = ap (λ (xs : List ℕ). codes ",d:" ++ xs) (append-nil _)
 
-short_part : (acl : Entries) (ds : List (Tag × ℕ))
-    → part_out forms.Short parts.Default acl false ds ≡ led (map short_default ds)
-short_part acl [] = refl
-short_part acl (e ∷ es) =
-    ap (λ (xs : List ℕ). xs ++ part_out forms.Short parts.Default acl false es)
-    (next_short_default (effective_of acl e) e)
-    ∙ ap (λ (xs : List ℕ). (44 ∷ short_default e) ++ xs) (short_part acl es)
+-- entries of a part behind the first of a short text
+led_part : (part : Part) (acl : Entries) (text : Tag × ℕ → List ℕ)
+    → ((eff : ℕ) (e : Tag × ℕ) → entry_out forms.Short part false eff e ≡ 44 ∷ text e)
+    → (es : List (Tag × ℕ)) → part_out forms.Short part acl false es ≡ led (map text es)
+led_part part acl text each es =
+    let one = λ (e : Tag × ℕ). each (effective_of acl e) e in
+    part_is forms.Short part acl false (λ e. 44 ∷ text e) one one es
+    ∙ sym (flat_map-map (λ (x : List ℕ). 44 ∷ x) text es)
 
-short_default_is : (d : Option Entries) → default_out forms.Short d ≡ led (map short_default (default_entries d))
-short_default_is None = refl
-short_default_is (Some acl) = short_part acl (fin.entries acl)
-
-short_access : (acl : Entries) (es : List (Tag × ℕ)) (rest : List ℕ) (more : List (List ℕ)) → rest ≡ led more
-    → part_out forms.Short parts.Access acl false es ++ rest ≡ led (map short_entry es ++ more)
-short_access acl [] rest more e = e
-short_access acl (x ∷ xs) rest more e =
-    ap (λ (l : List ℕ). (l ++ part_out forms.Short parts.Access acl false xs) ++ rest)
-    (next_short (effective_of acl x) x)
-    ∙ append_assoc (44 ∷ short_entry x) (part_out forms.Short parts.Access acl false xs) rest
-    ∙ ap (λ (l : List ℕ). (44 ∷ short_entry x) ++ l) (short_access acl xs rest more e)
+short_rest : (d : Option Entries) → default_out forms.Short d ≡ led (map short_default (default_entries d))
+short_rest None = refl
+short_rest (Some acl) = led_part parts.Default acl short_default short_default_out (fin.entries acl)
 
 short_all : (acl : Entries) (es : List (Tag × ℕ)) (rest : List ℕ) (more : List (List ℕ)) → (es ≡ [] → ⊥)
     → rest ≡ led more → part_out forms.Short parts.Access acl true es ++ rest ≡ with_commas (map short_entry es ++ more)
 short_all acl [] rest more some e = absurd (some refl)
 short_all acl (x ∷ xs) rest more some e =
-    ap (λ (l : List ℕ). (l ++ part_out forms.Short parts.Access acl false xs) ++ rest)
-    (first_short (effective_of acl x) x)
-    ∙ append_assoc (short_entry x) (part_out forms.Short parts.Access acl false xs) rest
-    ∙ ap (λ (l : List ℕ). short_entry x ++ l) (short_access acl xs rest more e)
+    let behind = led_part parts.Access acl short_entry short_access xs in
+    both _ _ _ _ (both _ _ _ _ (short_first (effective_of acl x) x) behind) e
+    ∙ append_assoc (short_entry x) (led (map short_entry xs)) (led more)
+    ∙ ap (λ (l : List ℕ). short_entry x ++ l) (sym (flat_map-append (λ (p : List ℕ). 44 ∷ p) (map short_entry xs) more))
     ∙ sym (commas_led (short_entry x) (map short_entry xs ++ more))
 
--- the short form that is put together is the short text
-pub short_form : (access : Entries) (default : Option Entries) → missing access ≡ None
-    → form_text forms.Short access default ≡ short_text access default
+short_form : (access : Entries) (default : Option Entries) → missing access ≡ None
+    → text_out forms.Short access default ≡ short_text access default
 unfolding short_text
 short_form access default valid = short_all access (fin.entries access) (default_out forms.Short default)
-    (map short_default (default_entries default)) (has_owner access valid) (short_default_is default)
+    (map short_default (default_entries default)) (has_owner access valid) (short_rest default)
+
+-- ---- all of them
+
+-- the text that is put together is the text in that form
+pub form_is : (form : Form) (access : Entries) (default : Option Entries) → missing access ≡ None
+    → text_out form access default ≡ form_text form access default
+form_is forms.Canonical access default valid = canonical_form access default
+form_is forms.Shown access default valid = shown_form access default
+form_is forms.Short access default valid = short_form access default valid

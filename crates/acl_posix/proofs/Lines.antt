@@ -1,7 +1,7 @@
 -- Reading pieces and lines one after the other.
-use Rattle.std.proofs.Common.{◌≡◌, ℕ, suc, ◌+◌, ◌^◌, ◌<◌, ◌≤◌, true, false, List, [], ◌∷◌, ◌++◌, length, Option, Some, None, Result, Ok, Err, refl, sym, ap, ◌∙◌, subst, arith, Bor}
+use Rattle.std.proofs.Common.{◌≡◌, ℕ, suc, ◌+◌, ◌^◌, ◌<◌, true, false, List, [], ◌∷◌, ◌++◌, length, Option, Some, None, Result, Ok, Err, refl, sym, ap, ◌∙◌, subst, arith}
 use Rattle.acl_perm.specs.declared.lines.Piece.{Piece}
-use Rattle.acl_perm.specs.Lines.{Span, span_of, cut_at, IsCut, IsLineCut, is_all_blank, before_mark, lines_of}
+use Rattle.acl_perm.specs.Lines.{Span, span_of, cut_at, IsCut, is_all_blank, before_mark}
 use Rattle.acl_posix.specs.declared.text_fault.TextFault.{TextFault}
 use Rattle.acl_posix.specs.declared.text_fault.TextFault.TheVariants as faults
 use Rattle.acl_posix.specs.Names.{Table}

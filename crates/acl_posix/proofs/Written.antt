@@ -1,8 +1,11 @@
 -- Entries that go out one after the other.
-use Rattle.std.proofs.Common.{◌≡◌, ℕ, ◌+◌, ◌<◌, Bool, false, List, ◌∷◌, ◌++◌, length, drop, sym, ap, ◌∙◌, slice_index_or}
-use Rattle.std.proofs.lemmas.List.{drop_more}
+use Rattle.std.proofs.Common.{◌≡◌, ℕ, ◌+◌, ◌-◌, ◌<◌, ◌≤◌, Bool, false, List, ◌∷◌, ◌++◌, length, drop, Option, Err, sym, ap, ◌∙◌, subst, arith, length-append, slice_index_or}
+use Rattle.std.specs.Io.KnownBytes.{Appends}
+use Rattle.std.proofs.lemmas.List.{drop_more, take-append-le}
+use Rattle.acl_perm.specs.declared.whole.WriteFault.{WriteFault}
+use Rattle.acl_perm.specs.Pieces.{WritesFrom}
 use Rattle.acl_posix.specs.declared.entry.Entry.{Entry}
-use Rattle.acl_posix.specs.declared.entry_line.Form.{Form}
+use Rattle.acl_posix.specs.declared.form.Form.{Form}
 use Rattle.acl_posix.specs.declared.text_fault.Part.{Part}
 use Rattle.acl_posix.specs.Entries.{Entries, pair_of, pairs}
 use Rattle.acl_posix.specs.Mask.{effective_of}
@@ -18,3 +21,14 @@ entry_next form part acl first es i e eff line lt read is same =
     (drop_more es i e lt ∙ ap (λ (x : Entry). x ∷ drop (i + 1) es) (sym read))
     ∙ ap (λ (xs : List ℕ). xs ++ part_out form part acl false (pairs (drop (i + 1) es)))
     (ap (λ (n : ℕ). entry_out form part first n (pair_of e)) (sym same) ∙ sym is)
+
+-- a text whose first part was cut is cut
+pub cut_first : (a b : Option (List ℕ)) (start : ℕ) (one two : List ℕ) (f : WriteFault)
+    → WritesFrom a b start one (Err f) → WritesFrom a b start (one ++ two) (Err f)
+cut_first a b start one two f said =
+    let inside : f.written - start ≤ length one = omega (arith, said.0, said.1) in
+    let both = length-append one two in (
+      said.0,
+      omega (arith, both, said.1),
+      subst (λ (t : List ℕ). Appends a b t) (sym (take-append-le (f.written - start) one two inside)) said.2,
+    )

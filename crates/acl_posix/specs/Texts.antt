@@ -4,6 +4,8 @@ use Rattle.std.specs.Prelude.{ℕ, ◌==◌, List, [], ◌∷◌, ◌++◌, code
 use Rattle.std.specs.List.{flat_map, All}
 use Rattle.std.specs.FinMap as set
 use Rattle.acl_posix.specs.declared.file.PosixFile.{PosixFile}
+use Rattle.acl_posix.specs.declared.form.Form.{Form}
+use Rattle.acl_posix.specs.declared.form.Form.TheVariants.{Canonical, Shown, Short}
 use Rattle.acl_posix.specs.Tag.{Tag, user_obj, user, group_obj, group, mask, other}
 use Rattle.acl_posix.specs.Entries.{Entries, IsEntry}
 use Rattle.acl_posix.specs.Valid.{IsValid}
@@ -108,6 +110,12 @@ with_commas (part ∷ next ∷ parts) = part ++ 44 ∷ with_commas (next ∷ par
 unfoldable pub short_text : Entries → Option Entries → List ℕ
 short_text access default =
     with_commas (map short_entry (set.entries access) ++ map short_default (default_entries default))
+
+-- the text in a form
+abbrev pub form_text : Form → Entries → Option Entries → List ℕ
+form_text Canonical access default = canonical_text access default
+form_text Shown access default = shown_text access default
+form_text Short access default = short_text access default
 
 -- a set of entries that an ACL can have
 pub record IsAcl (acl : Entries) : Type 0 where

@@ -2,8 +2,8 @@
 -- code needs. What public clauses say of the texts stands in Texts.
 use Rattle.std.specs.Prelude.{ℕ, Bool, true, false, List, [], ◌∷◌, ◌++◌, codes, Option, Some, None, if◌then◌else◌}
 use Rattle.std.specs.FinMap as set
-use Rattle.acl_posix.specs.declared.entry_line.Form.{Form}
-use Rattle.acl_posix.specs.declared.entry_line.Form.TheVariants.{Canonical, Shown, Short}
+use Rattle.acl_posix.specs.declared.form.Form.{Form}
+use Rattle.acl_posix.specs.declared.form.Form.TheVariants.{Canonical, Shown, Short}
 use Rattle.acl_posix.specs.declared.text_fault.Part.{Part}
 use Rattle.acl_posix.specs.declared.text_fault.Part.TheVariants.{Access, Default}
 use Rattle.acl_posix.specs.Tag.{Tag}
@@ -49,5 +49,5 @@ default_out form None = []
 default_out form (Some acl) = part_out form Default acl false (set.entries acl)
 
 -- a text
-abbrev pub form_text : Form → Entries → Option Entries → List ℕ
-form_text form access default = part_out form Access access true (set.entries access) ++ default_out form default
+abbrev pub text_out : Form → Entries → Option Entries → List ℕ
+text_out form access default = part_out form Access access true (set.entries access) ++ default_out form default

@@ -7,19 +7,12 @@ ghost use Rattle.acl_posix.specs.Texts.{entry_text, letter, long_word, mark_text
 ghost use Rattle.acl_posix.specs.Writing.{ending, entry_out, form_word, lead};
 
 use crate::entry::Entry;
+use crate::form::Form;
 use crate::tag::Tag;
 use crate::text_fault::Part;
 use acl_perm::Perm;
 use arrayvec::ArrayVec;
 use itoa::Buffer;
-
-/// The form of a text.
-#[derive(Clone, Copy)]
-pub(crate) enum Form {
-    Canonical,
-    Shown,
-    Short,
-}
 
 fn add(line: &mut ArrayVec<u8, 64>, bytes: &[u8])
     requires { array_vec_len line.old + length bytes.now ≤ 64 }

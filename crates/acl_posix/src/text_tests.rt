@@ -41,22 +41,11 @@ fn names_of(alloc: Global) -> Option<Names> {
     Some(names)
 }
 
-#[derive(Clone, Copy)]
-enum Form {
-    Canonical,
-    Shown,
-    Short,
-}
-
 // Writes a text into a room, and tells how many bytes went in and what the call answered.
 fn write(file: &PosixFile, form: Form, room: &mut [u8]) -> (usize, Option<u64>) {
     let size = room.len();
     let mut sink = Counted::new(room);
-    let answer = match form {
-        Form::Canonical => file.write_canonical(&mut sink),
-        Form::Shown => file.write_shown(&mut sink),
-        Form::Short => file.write_short(&mut sink),
-    };
+    let answer = file.write(&mut sink, form);
     let left = sink.into_inner().len();
     (
         size.saturating_sub(left),

@@ -4,15 +4,15 @@ ghost use Rattle.std.specs.FinMap as set;
 ghost use Rattle.std.specs.Io.KnownBytes.{Appends};
 ghost use Rattle.acl_perm.specs.Devices.{one_more};
 ghost use Rattle.acl_perm.specs.Pieces.{WritesFrom};
-ghost use Rattle.acl_posix.specs.Texts.{canonical_text, short_text, shown_text};
+ghost use Rattle.acl_posix.specs.Texts.{canonical_text, form_text, short_text, shown_text};
 ghost use Rattle.acl_posix.specs.Entries.{pairs};
-ghost use Rattle.acl_posix.specs.Valid.{IsValid};
-ghost use Rattle.acl_posix.specs.Writing.{default_out, form_text, part_out};
+ghost use Rattle.acl_posix.specs.Writing.{default_out, part_out};
 
 use crate::acl::PosixAcl;
 use crate::entry::Entry;
-use crate::entry_line::{Form, entry_line};
+use crate::entry_line::entry_line;
 use crate::file::PosixFile;
+use crate::form::Form;
 use crate::text_fault::Part;
 use acl_perm::{Sink, WriteFault, put_next};
 
@@ -78,7 +78,6 @@ fn put_file<S: Sink>(
     ensures written { WritesFrom (S.contents sink.old) (S.contents sink.new) 0
         (form_text form access.now (option_map (λ acl. acl.now) default.entry)) result }
     ensures none_failed { OnOk result (S.failure_count sink.new ≡ S.failure_count sink.old) }
-    ensures valid { IsValid access.now }
     ensures failed { OnErr result (S.failure_count sink.new ≡ one_more (S.failure_count sink.old)) }
 {
     let entries = access.entries();
@@ -88,81 +87,23 @@ fn put_file<S: Sink>(
     }
 }
 
-/// Writes a text of the ACLs of a file.
-fn put_text<S: Sink>(
-    sink: &mut S,
-    form: Form,
-    access: &PosixAcl,
-    default: Option<&PosixAcl>,
-) -> Result<(), WriteFault>
-    ensures ok { OnOk result (Appends (S.contents sink.old) (S.contents sink.new)
-        (form_text form access.now (option_map (λ acl. acl.now) default.entry))) }
-    ensures none_failed { OnOk result (S.failure_count sink.new ≡ S.failure_count sink.old) }
-    ensures err { IfErr result (λ fault. Appends (S.contents sink.old) (S.contents sink.new)
-        (take fault.written (form_text form access.now (option_map (λ acl. acl.now) default.entry)))) }
-    ensures short { IfErr result (λ fault. fault.written
-        < length (form_text form access.now (option_map (λ acl. acl.now) default.entry))) }
-    ensures valid { IsValid access.now }
-    ensures failed { OnErr result (S.failure_count sink.new ≡ one_more (S.failure_count sink.old)) }
-{
-    match put_file(sink, form, access, default) {
-        Ok(_) => Ok(()),
-        Err(fault) => Err(fault),
-    }
-}
-
-fn put_canonical<S: Sink>(
-    sink: &mut S,
-    access: &PosixAcl,
-    default: Option<&PosixAcl>,
-) -> Result<(), WriteFault>
-    ensures ok { OnOk result (Appends (S.contents sink.old) (S.contents sink.new)
-        (canonical_text access.now (option_map (λ acl. acl.now) default.entry))) }
-    ensures none_failed { OnOk result (S.failure_count sink.new ≡ S.failure_count sink.old) }
-    ensures err { IfErr result (λ fault. Appends (S.contents sink.old) (S.contents sink.new)
-        (take fault.written (canonical_text access.now (option_map (λ acl. acl.now) default.entry)))) }
-    ensures short { IfErr result (λ fault. fault.written
-        < length (canonical_text access.now (option_map (λ acl. acl.now) default.entry))) }
-    ensures failed { OnErr result (S.failure_count sink.new ≡ one_more (S.failure_count sink.old)) }
-{
-    put_text(sink, Form::Canonical, access, default)
-}
-
-fn put_shown<S: Sink>(
-    sink: &mut S,
-    access: &PosixAcl,
-    default: Option<&PosixAcl>,
-) -> Result<(), WriteFault>
-    ensures ok { OnOk result (Appends (S.contents sink.old) (S.contents sink.new)
-        (shown_text access.now (option_map (λ acl. acl.now) default.entry))) }
-    ensures none_failed { OnOk result (S.failure_count sink.new ≡ S.failure_count sink.old) }
-    ensures err { IfErr result (λ fault. Appends (S.contents sink.old) (S.contents sink.new)
-        (take fault.written (shown_text access.now (option_map (λ acl. acl.now) default.entry)))) }
-    ensures short { IfErr result (λ fault. fault.written
-        < length (shown_text access.now (option_map (λ acl. acl.now) default.entry))) }
-    ensures failed { OnErr result (S.failure_count sink.new ≡ one_more (S.failure_count sink.old)) }
-{
-    put_text(sink, Form::Shown, access, default)
-}
-
-fn put_short<S: Sink>(
-    sink: &mut S,
-    access: &PosixAcl,
-    default: Option<&PosixAcl>,
-) -> Result<(), WriteFault>
-    ensures ok { OnOk result (Appends (S.contents sink.old) (S.contents sink.new)
-        (short_text access.now (option_map (λ acl. acl.now) default.entry))) }
-    ensures none_failed { OnOk result (S.failure_count sink.new ≡ S.failure_count sink.old) }
-    ensures err { IfErr result (λ fault. Appends (S.contents sink.old) (S.contents sink.new)
-        (take fault.written (short_text access.now (option_map (λ acl. acl.now) default.entry)))) }
-    ensures short { IfErr result (λ fault. fault.written
-        < length (short_text access.now (option_map (λ acl. acl.now) default.entry))) }
-    ensures failed { OnErr result (S.failure_count sink.new ≡ one_more (S.failure_count sink.old)) }
-{
-    put_text(sink, Form::Short, access, default)
-}
-
 impl PosixFile {
+    /// Writes the text in a form. The first put that fails ends it; nothing is tried again. No memory; time n log n.
+    pub fn write<S: Sink>(&self, sink: &mut S, form: Form) -> Result<(), WriteFault>
+        ensures ok { OnOk result (Appends (S.contents sink.old) (S.contents sink.new)
+            (form_text form self.now.access self.now.default)) }
+        ensures none_failed { OnOk result (S.failure_count sink.new ≡ S.failure_count sink.old) }
+        ensures err { IfErr result (λ fault. Appends (S.contents sink.old) (S.contents sink.new)
+            (take fault.written (form_text form self.now.access self.now.default))) }
+        ensures short { IfErr result (λ fault. fault.written < length (form_text form self.now.access self.now.default)) }
+        ensures failed { OnErr result (S.failure_count sink.new ≡ one_more (S.failure_count sink.old)) }
+    {
+        match put_file(sink, form, &self.access, self.default.as_ref()) {
+            Ok(_) => Ok(()),
+            Err(fault) => Err(fault),
+        }
+    }
+
     /// Writes the canonical text: a line an entry in canonical order, and the default ACL behind the access ACL. The
     /// first put that fails ends it; nothing is tried again. No memory; time n log n.
     pub fn write_canonical<S: Sink>(&self, sink: &mut S) -> Result<(), WriteFault>
@@ -171,11 +112,10 @@ impl PosixFile {
         ensures none_failed { OnOk result (S.failure_count sink.new ≡ S.failure_count sink.old) }
         ensures err { IfErr result (λ fault. Appends (S.contents sink.old) (S.contents sink.new)
             (take fault.written (canonical_text self.now.access self.now.default))) }
-        ensures short { IfErr result (λ fault. fault.written
-            < length (canonical_text self.now.access self.now.default)) }
+        ensures short { IfErr result (λ fault. fault.written < length (canonical_text self.now.access self.now.default)) }
         ensures failed { OnErr result (S.failure_count sink.new ≡ one_more (S.failure_count sink.old)) }
     {
-        put_canonical(sink, &self.access, self.default.as_ref())
+        self.write(sink, Form::Canonical)
     }
 
     /// Writes the canonical text with a comment behind each entry that the mask cuts: its effective permissions. The
@@ -189,7 +129,7 @@ impl PosixFile {
         ensures short { IfErr result (λ fault. fault.written < length (shown_text self.now.access self.now.default)) }
         ensures failed { OnErr result (S.failure_count sink.new ≡ one_more (S.failure_count sink.old)) }
     {
-        put_shown(sink, &self.access, self.default.as_ref())
+        self.write(sink, Form::Shown)
     }
 
     /// Writes the short text: the entries in canonical order with commas between them, and no line feed. The first put
@@ -203,11 +143,27 @@ impl PosixFile {
         ensures short { IfErr result (λ fault. fault.written < length (short_text self.now.access self.now.default)) }
         ensures failed { OnErr result (S.failure_count sink.new ≡ one_more (S.failure_count sink.old)) }
     {
-        put_short(sink, &self.access, self.default.as_ref())
+        self.write(sink, Form::Short)
     }
 }
 
 impl PosixAcl {
+    /// Writes the text in a form. The first put that fails ends it; nothing is tried again. No memory; time n log n.
+    pub fn write<S: Sink>(&self, sink: &mut S, form: Form) -> Result<(), WriteFault>
+        ensures ok { OnOk result (Appends (S.contents sink.old) (S.contents sink.new)
+            (form_text form self.now None)) }
+        ensures none_failed { OnOk result (S.failure_count sink.new ≡ S.failure_count sink.old) }
+        ensures err { IfErr result (λ fault. Appends (S.contents sink.old) (S.contents sink.new)
+            (take fault.written (form_text form self.now None))) }
+        ensures short { IfErr result (λ fault. fault.written < length (form_text form self.now None)) }
+        ensures failed { OnErr result (S.failure_count sink.new ≡ one_more (S.failure_count sink.old)) }
+    {
+        match put_file(sink, form, self, None) {
+            Ok(_) => Ok(()),
+            Err(fault) => Err(fault),
+        }
+    }
+
     /// Writes the canonical text: a line an entry in canonical order, and the default ACL behind the access ACL. The
     /// first put that fails ends it; nothing is tried again. No memory; time n log n.
     pub fn write_canonical<S: Sink>(&self, sink: &mut S) -> Result<(), WriteFault>
@@ -219,7 +175,7 @@ impl PosixAcl {
         ensures short { IfErr result (λ fault. fault.written < length (canonical_text self.now None)) }
         ensures failed { OnErr result (S.failure_count sink.new ≡ one_more (S.failure_count sink.old)) }
     {
-        put_canonical(sink, self, None)
+        self.write(sink, Form::Canonical)
     }
 
     /// Writes the canonical text with a comment behind each entry that the mask cuts: its effective permissions. The
@@ -233,7 +189,7 @@ impl PosixAcl {
         ensures short { IfErr result (λ fault. fault.written < length (shown_text self.now None)) }
         ensures failed { OnErr result (S.failure_count sink.new ≡ one_more (S.failure_count sink.old)) }
     {
-        put_shown(sink, self, None)
+        self.write(sink, Form::Shown)
     }
 
     /// Writes the short text: the entries in canonical order with commas between them, and no line feed. The first put
@@ -247,6 +203,6 @@ impl PosixAcl {
         ensures short { IfErr result (λ fault. fault.written < length (short_text self.now None)) }
         ensures failed { OnErr result (S.failure_count sink.new ≡ one_more (S.failure_count sink.old)) }
     {
-        put_short(sink, self, None)
+        self.write(sink, Form::Short)
     }
 }
