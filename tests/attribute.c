@@ -1,0 +1,24 @@
+/* Preloaded into nfs4_getfacl and nfs4_setfacl: what they ask of the attribute `system.nfs4_acl`, which a mount has, is
+ * asked of `user.nfs4_acl`, which any file may have.
+ */
+#define _GNU_SOURCE
+#include <dlfcn.h>
+#include <string.h>
+#include <sys/types.h>
+
+static const char *local(const char *name)
+{
+    return strcmp(name, "system.nfs4_acl") == 0 ? "user.nfs4_acl" : name;
+}
+
+ssize_t getxattr(const char *path, const char *name, void *value, size_t size)
+{
+    ssize_t (*next)(const char *, const char *, void *, size_t) = dlsym(RTLD_NEXT, "getxattr");
+    return next(path, local(name), value, size);
+}
+
+int setxattr(const char *path, const char *name, const void *value, size_t size, int flags)
+{
+    int (*next)(const char *, const char *, const void *, size_t, int) = dlsym(RTLD_NEXT, "setxattr");
+    return next(path, local(name), value, size, flags);
+}
