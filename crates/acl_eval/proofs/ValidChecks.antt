@@ -11,7 +11,7 @@ use Rattle.acl_posix.specs.Entries.{Entries, tags}
 use Rattle.acl_posix.specs.Valid.{missing, IsValid}
 use Rattle.acl_posix.specs.Mode.{perm_at}
 use Rattle.acl_posix.specs.Check.{Object, Requester, contains, is_contained, entry_contains, is_member, any_matches, any_contains, class_contains, grants}
-use Rattle.acl_posix.specs.GroupSearch.{group_contains}
+use Rattle.acl_posix.specs.internal.GroupSearch.{group_contains}
 use Rattle.acl_posix.proofs.Tags.{same_tag, is_none}
 use Rattle.acl_posix.proofs.Groups.{any_group, contains_empty}
 

@@ -19,7 +19,7 @@ use Rattle.acl_posix.specs.Tag.{Tag, user_obj, user, group_obj, group, mask, oth
 use Rattle.acl_posix.specs.Entries.{Entries, IsEntry, tags}
 use Rattle.acl_posix.specs.Mask.{effective_of}
 use Rattle.acl_posix.specs.Texts.{perm_text, long_word, short_word, qualifier_text, entry_text, mark_text}
-use Rattle.acl_posix.specs.Writing.{lead, form_word, ending, entry_out, part_out}
+use Rattle.acl_posix.specs.internal.Writing.{lead, form_word, ending, entry_out, part_out}
 use Rattle.acl_posix.proofs.Lookups.{entries_sorted}
 
 -- ---- an entry

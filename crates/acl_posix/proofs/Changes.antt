@@ -10,11 +10,11 @@ use Rattle.std.specs.FinMap as fin
 use Rattle.acl_perm.proofs.Bools.{and_false_right}
 use Rattle.acl_posix.specs.declared.entry.Entry.{Entry}
 use Rattle.acl_posix.specs.Tag.{Tag, user_obj, group_obj, mask, other, tag_of, tag_cmp, is_named}
-use Rattle.acl_posix.specs.TagCode.{tags_total}
+use Rattle.acl_posix.specs.internal.TagCode.{tags_total}
 use Rattle.acl_posix.specs.Entries.{Entries, pairs, pair_of, tags, as_set, IsSorted}
 use Rattle.acl_posix.specs.Valid.{missing, IsValid}
 use Rattle.acl_posix.specs.Mode.{group_class}
-use Rattle.acl_posix.specs.Search.{IsAt, IsGap}
+use Rattle.acl_posix.specs.internal.Search.{IsAt, IsGap}
 use Rattle.acl_posix.proofs.Tags.{exact_tags, swap_tests, same_tests, unequal_less, pairs-set, pairs-insert, length-tags}
 use Rattle.acl_posix.proofs.Lookups.{keys_in_order}
 

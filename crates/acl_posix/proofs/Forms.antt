@@ -14,7 +14,7 @@ use Rattle.acl_posix.specs.Entries.{Entries}
 use Rattle.acl_posix.specs.Valid.{missing}
 use Rattle.acl_posix.specs.Mask.{effective_of}
 use Rattle.acl_posix.specs.Texts.{long_entry, short_entry, long_default, short_default, effective_mark, line, default_entries, default_mark, canonical_text, shown_text, with_commas, short_text, form_text}
-use Rattle.acl_posix.specs.Writing.{entry_out, part_out, default_out, text_out}
+use Rattle.acl_posix.specs.internal.Writing.{entry_out, part_out, default_out, text_out}
 use Rattle.acl_posix.proofs.Whole.{has_owner}
 
 -- what goes out for the entries of a part is a text of each, if it is for the first and for each other

@@ -12,8 +12,8 @@ use Rattle.acl_posix.specs.declared.id.Id.{Id}
 use Rattle.acl_posix.specs.Tag.{Tag, user_obj, user, group_obj, group, mask, other, tag_cmp}
 use Rattle.acl_posix.specs.Entries.{Entries, tags}
 use Rattle.acl_posix.specs.Check.{ids, contains, is_member, matches, any_matches, any_contains, is_contained, entry_contains}
-use Rattle.acl_posix.specs.GroupSearch.{group_contains}
-use Rattle.acl_posix.specs.Search.{IsAt}
+use Rattle.acl_posix.specs.internal.GroupSearch.{group_contains}
+use Rattle.acl_posix.specs.internal.Search.{IsAt}
 use Rattle.acl_posix.proofs.Tags.{same_tag, length-tags_of}
 use Rattle.acl_posix.proofs.Lookups.{find_at}
 

@@ -17,9 +17,9 @@ use Rattle.acl_posix.specs.declared.id.Id.{Id}
 use Rattle.acl_posix.specs.declared.text_fault.Part.TheVariants.{Access, Default}
 use Rattle.acl_posix.specs.Id.{greatest_id, IsId}
 use Rattle.acl_posix.specs.Tag.{Tag, user_obj, user, group_obj, group, mask, other, tag_cmp, IsTag}
-use Rattle.acl_posix.specs.TagCode.{tags_total}
+use Rattle.acl_posix.specs.internal.TagCode.{tags_total}
 use Rattle.acl_posix.specs.Entries.{Entries, IsEntry, as_set}
-use Rattle.acl_posix.specs.NameMaps.{ids_of}
+use Rattle.acl_posix.specs.internal.NameMaps.{ids_of}
 use Rattle.acl_posix.specs.Names.{Ids, Table, AreIds, IsTable, is_number}
 use Rattle.acl_posix.specs.Fields.{is_permission, count_of, permissions_of, id_of, id_in}
 use Rattle.acl_posix.specs.Grammar.{TextPiece, PartEntry, SpellAll, SpellsTag, pieces_of, access_of, default_of, IsAclOf, IsDefaultOf, Reads}

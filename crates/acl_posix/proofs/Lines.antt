@@ -6,7 +6,7 @@ use Rattle.acl_posix.specs.declared.text_fault.TextFault.{TextFault}
 use Rattle.acl_posix.specs.declared.text_fault.TextFault.TheVariants as faults
 use Rattle.acl_posix.specs.Names.{Table}
 use Rattle.acl_posix.specs.Grammar.{TextPiece, PartEntry, numbered, line_pieces, pieces_from}
-use Rattle.acl_posix.specs.Reading.{◌>>=◌, Lists, added, Fails, read_piece, read_pieces}
+use Rattle.acl_posix.specs.internal.Reading.{◌>>=◌, Lists, added, Fails, read_piece, read_pieces}
 
 -- the pieces that are still to be cut
 abbrev pub pieces_left : Option Piece → List Span

@@ -18,9 +18,9 @@ use Rattle.acl_posix.specs.declared.tag.Tag.{Tag as TagOfCode}
 use Rattle.acl_posix.specs.declared.tag.Tag.TheVariants as code
 use Rattle.acl_posix.specs.declared.entry.Entry.{Entry}
 use Rattle.acl_posix.specs.Tag.{Tag, IsTag, tag_of, tag_cmp}
-use Rattle.acl_posix.specs.TagCode.{code_cmp, tags_total, codes_total}
+use Rattle.acl_posix.specs.internal.TagCode.{code_cmp, tags_total, codes_total}
 use Rattle.acl_posix.specs.Entries.{Entries, pairs, pair_of, tags, as_set, IsEntry, IsSorted}
-use Rattle.acl_posix.specs.Search.{IsAt, IsGap}
+use Rattle.acl_posix.specs.internal.Search.{IsAt, IsGap}
 use Rattle.acl_posix.proofs.Tags.{exact_tags, tag_read, length-tags}
 
 -- ---- the set of entries in order has these entries, in this order

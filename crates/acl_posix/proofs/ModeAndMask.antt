@@ -9,7 +9,7 @@ use Rattle.std.specs.FinMap.Entries.{by_order}
 use Rattle.acl_perm.specs.Bits.{has_bit}
 use Rattle.acl_perm.proofs.Sets.{subset, has_bit-or}
 use Rattle.acl_posix.specs.Tag.{is_masked, Tag, user_obj, user, group_obj, group, mask, other, tag_cmp}
-use Rattle.acl_posix.specs.TagCode.{tags_total}
+use Rattle.acl_posix.specs.internal.TagCode.{tags_total}
 use Rattle.acl_posix.specs.Entries.{Entries}
 use Rattle.acl_posix.specs.Mode.{mode_of, chmoded}
 use Rattle.acl_posix.specs.Mask.{class_union, with_mask, effective_of}

@@ -12,7 +12,7 @@ use Rattle.std.specs.Global.{Vec}
 use Rattle.std.specs.FinMap as fin
 use Rattle.acl_posix.specs.declared.id.Id.{Id}
 use Rattle.acl_posix.specs.Names.{Ids}
-use Rattle.acl_posix.specs.NameMaps.{ids_of}
+use Rattle.acl_posix.specs.internal.NameMaps.{ids_of}
 
 -- the ids of names, as numbers
 abbrev table_of : List (Vec ℕ × ℕ) → Ids

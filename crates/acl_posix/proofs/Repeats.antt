@@ -20,9 +20,9 @@ use Rattle.acl_posix.specs.declared.tag.Tag.{Tag as TagOfCode}
 use Rattle.acl_posix.specs.declared.entry.Entry.{Entry}
 use Rattle.acl_posix.specs.declared.fault.AclFault.TheVariants.{Multi, Duplicate}
 use Rattle.acl_posix.specs.Tag.{is_named, Tag, other, tag_of, tag_cmp}
-use Rattle.acl_posix.specs.TagCode.{code_cmp, tags_total}
+use Rattle.acl_posix.specs.internal.TagCode.{code_cmp, tags_total}
 use Rattle.acl_posix.specs.Entries.{Entries, pair_of, pairs, as_set, tags, IsSorted}
-use Rattle.acl_posix.specs.TagMap.{map_pairs, repeat_fault}
+use Rattle.acl_posix.specs.internal.TagMap.{map_pairs, repeat_fault}
 use Rattle.acl_posix.specs.Valid.{tag_at, IsRepeat, IsDistinct, IsFirstRepeat, IsFaultOf}
 use Rattle.acl_posix.proofs.Tags.{length-tags, length-tags_of, exact_tags, same_tag, swap_tests, same_tests, unequal_greater, is_none, tag_read}
 

@@ -16,7 +16,7 @@ use Rattle.acl_posix.specs.Valid.{is_refusal, IsFaultOf, IsValidList}
 use Rattle.acl_posix.specs.Names.{Table}
 use Rattle.acl_posix.specs.Grammar.{PartEntry, TextPiece, pieces_of, SpellAll, access_of, default_of, IsAclOf, IsDefaultOf, Reads}
 use Rattle.acl_posix.specs.TextFault.{acl_fault, IsFirstFault, IsFirstInvalid, IsInvalidText, IsTextFault, IsRefusal}
-use Rattle.acl_posix.specs.Reading.{Lists, no_lists, read_pieces, Fails, IsPartFault, IsDefaultFault}
+use Rattle.acl_posix.specs.internal.Reading.{Lists, no_lists, read_pieces, Fails, IsPartFault, IsDefaultFault}
 use Rattle.acl_posix.proofs.Faults.{one_fault, no_fault}
 use Rattle.acl_posix.proofs.Spelled.{joined, SaysAll, SpellLists, pieces_say, all_read, first_read}
 

@@ -8,7 +8,7 @@ use Rattle.std.proofs.lemmas.Map.Lookups.{exact_pairs, exact_unsigned}
 use Rattle.std.specs.FinMap.{IsAntisymmetric}
 use Rattle.acl_posix.specs.declared.entry.Entry.{Entry}
 use Rattle.acl_posix.specs.Tag.{Tag, rank, qualifier, tag_of, tag_cmp}
-use Rattle.acl_posix.specs.TagCode.{tag_from, tag_again}
+use Rattle.acl_posix.specs.internal.TagCode.{tag_from, tag_again}
 use Rattle.acl_posix.specs.Entries.{pairs, pair_of, tags}
 
 -- tags that compare as equal are equal

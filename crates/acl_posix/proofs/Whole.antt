@@ -20,7 +20,7 @@ use Rattle.acl_posix.specs.Mask.{effective_of}
 use Rattle.acl_posix.specs.Names.{Table}
 use Rattle.acl_posix.specs.Grammar.{TextPiece, PartEntry, Spells, SpellAll, line_pieces, numbered, pieces_from, pieces_of, access_of, default_of, IsAclOf, IsDefaultOf, Reads}
 use Rattle.acl_posix.specs.Texts.{perm_text, long_word, short_word, qualifier_text, long_entry, short_entry, long_default, short_default, effective_mark, line, default_entries, default_mark, canonical_text, shown_text, with_commas, short_text, IsDefault, IsFile}
-use Rattle.acl_posix.specs.TagCode.{tags_total}
+use Rattle.acl_posix.specs.internal.TagCode.{tags_total}
 use Rattle.acl_posix.proofs.Tags.{exact_tags}
 use Rattle.acl_posix.proofs.Repeats.{sorted_distinct}
 use Rattle.acl_posix.proofs.Lookups.{entries_sorted}

@@ -9,7 +9,7 @@ use Rattle.acl_posix.specs.declared.form.Form.{Form}
 use Rattle.acl_posix.specs.declared.text_fault.Part.{Part}
 use Rattle.acl_posix.specs.Entries.{Entries, pair_of, pairs}
 use Rattle.acl_posix.specs.Mask.{effective_of}
-use Rattle.acl_posix.specs.Writing.{entry_out, part_out}
+use Rattle.acl_posix.specs.internal.Writing.{entry_out, part_out}
 
 -- the next entry, and those behind it
 pub entry_next : (form : Form) (part : Part) (acl : Entries) (first : Bool) (es : List Entry) (i : ℕ) (e : Entry)

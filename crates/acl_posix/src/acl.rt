@@ -1,3 +1,4 @@
+//! A valid access control list, and the calls on it.
 ghost use Rattle.std.specs.Prelude.{◌≡◌, All, IfErr, IfOk, IsOk, IsSome, IsTrue, MatchResult, OnErr, OnOk};
 ghost use Rattle.std.specs.FinMap as set;
 ghost use Rattle.acl_posix.specs.declared.fault.AclFault.{AclFault as Fault};
@@ -31,7 +32,7 @@ impl Model for PosixAcl {
     ghost use Rattle.std.specs.FinMap as set;
     ghost use Rattle.std.specs.Coded.{coded_ℕ};
     ghost use Rattle.acl_posix.specs.Tag.{tag_cmp};
-    ghost use Rattle.acl_posix.specs.TagCode.{coded_tag};
+    ghost use Rattle.acl_posix.specs.internal.TagCode.{coded_tag};
     ghost use Rattle.acl_posix.specs.Valid.{IsValid};
 
     ghost Value = { set.FinMap tag_cmp ℕ };

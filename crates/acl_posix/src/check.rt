@@ -1,7 +1,8 @@
+//! The group part of the access check.
 ghost use Rattle.std.specs.Prelude.{◌≡◌};
 ghost use Rattle.acl_posix.specs.Tag.{tag_of};
 ghost use Rattle.acl_posix.specs.Check.{any_contains, any_matches, class_contains, entry_contains, ids};
-ghost use Rattle.acl_posix.specs.GroupSearch.{group_contains};
+ghost use Rattle.acl_posix.specs.internal.GroupSearch.{group_contains};
 
 use crate::id::Id;
 use crate::sorted::SortedEntries;

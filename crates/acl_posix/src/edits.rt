@@ -1,3 +1,4 @@
+//! The mode and the mask of a list that is in order.
 ghost use Rattle.std.specs.Prelude.{◌≡◌, IsOk, IsSome, OnErr, OnOk};
 ghost use Rattle.std.specs.FinMap as set;
 ghost use Rattle.acl_posix.specs.Tag.{mask, tag_of};

@@ -1,3 +1,4 @@
+//! The ACLs of a file, and those of a new one.
 ghost use Rattle.std.specs.Prelude.{◌≡◌, IfOk, Some, option_map};
 ghost use Rattle.acl_posix.specs.Create.{created_access, created_default, cut};
 
@@ -8,7 +9,9 @@ use std::alloc::{AllocError, Global};
 /// The ACLs of a file: its access ACL, and of a directory the default ACL, if it has one (acl(5), "ACL TYPES").
 #[derive(Drop)]
 pub struct PosixFile {
+    /// What decides who may do what with the file.
     pub access: PosixAcl,
+    /// What a new file in this directory gets, if there is one.
     pub default: Option<PosixAcl>,
 }
 

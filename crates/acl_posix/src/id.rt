@@ -1,3 +1,4 @@
+//! Ids of users and groups.
 ghost use Rattle.std.specs.Prelude.{◌≡◌, IfSome, IsSome, ◌↔◌};
 ghost use Rattle.acl_posix.specs.Id.{IsId};
 
@@ -7,6 +8,7 @@ pub(crate) const GREATEST: u32 = u32::MAX - 1;
 /// The id of a user or a group, from 0 to 4294967294: the qualifier of a USER or GROUP entry (acl(5), "ACL ENTRIES").
 #[derive(Clone, Copy, Debug, PartialEq, Eq)]
 pub struct Id {
+    /// Its number.
     pub value: u32,
     ghost within: { IsId value },
 }

@@ -5,7 +5,7 @@ mod acl;
 mod check;
 mod edits;
 mod entry;
-mod entry_line;
+mod entry_writer;
 mod fault;
 mod field;
 mod file;

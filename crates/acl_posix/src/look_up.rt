@@ -1,8 +1,9 @@
+//! What a tag has in a list that is in order.
 ghost use Rattle.std.specs.Prelude.{◌≡◌, MatchResult, option_map};
 ghost use Rattle.std.specs.FinMap as set;
 ghost use Rattle.acl_posix.specs.Tag.{tag_of};
 ghost use Rattle.acl_posix.specs.Mode.{group_class, perm_at};
-ghost use Rattle.acl_posix.specs.Search.{IsAt, IsGap};
+ghost use Rattle.acl_posix.specs.internal.Search.{IsAt, IsGap};
 
 use crate::sorted::SortedEntries;
 use crate::tag::Tag;

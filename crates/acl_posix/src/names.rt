@@ -1,6 +1,7 @@
+//! The names of users and groups that a text may have.
 ghost use Rattle.std.specs.Prelude.{◌≡◌, IfErr, None, OnErr, OnOk, option_map};
 ghost use Rattle.std.specs.FinMap as fin;
-ghost use Rattle.acl_posix.specs.NameMaps.{ids_of};
+ghost use Rattle.acl_posix.specs.internal.NameMaps.{ids_of};
 ghost use Rattle.acl_posix.specs.Names.{name_fault, no_names, with_group, with_user, IsNameFault, IsTable};
 ghost use Rattle.acl_posix.specs.declared.names.NameFault.TheVariants.{Memory};
 
@@ -53,7 +54,7 @@ pub struct Names {
 }
 
 impl Model for Names {
-    ghost use Rattle.acl_posix.specs.NameMaps.{ids_of};
+    ghost use Rattle.acl_posix.specs.internal.NameMaps.{ids_of};
     ghost use Rattle.acl_posix.specs.Names.{coded_table, Table};
 
     ghost Value = { Table };

@@ -5,7 +5,7 @@ ghost use Rattle.acl_posix.specs.declared.text_fault.TextFault.{TextFault as Fau
 ghost use Rattle.acl_posix.specs.declared.text_fault.TextFault.TheVariants.{Memory};
 ghost use Rattle.acl_posix.specs.Entries.{pairs};
 ghost use Rattle.acl_posix.specs.Grammar.{IsAclOf, IsDefaultOf, Reads};
-ghost use Rattle.acl_posix.specs.Reading.{IsDefaultFault, IsPartFault};
+ghost use Rattle.acl_posix.specs.internal.Reading.{IsDefaultFault, IsPartFault};
 ghost use Rattle.acl_posix.specs.TextFault.{IsRefusal, IsTextFault};
 
 use crate::acl::PosixAcl;

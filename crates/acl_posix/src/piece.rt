@@ -2,7 +2,7 @@
 ghost use Rattle.std.specs.Prelude.{◌≡◌, ◌+◌, ◌<◌, ◌^◌, length, option_map, IfSome};
 ghost use Rattle.acl_perm.specs.Lines.{cut_at, span_of};
 ghost use Rattle.acl_posix.specs.Grammar.{fields_of, three_of};
-ghost use Rattle.acl_posix.specs.Reading.{mapped, read_permissions, read_piece, read_tag, read_word, view_entry, view_fields, FieldsFit};
+ghost use Rattle.acl_posix.specs.internal.Reading.{mapped, read_permissions, read_piece, read_tag, read_word, view_entry, view_fields, FieldsFit};
 ghost use Rattle.acl_posix.specs.Tag.{tag_of};
 
 use crate::entry::Entry;
@@ -22,7 +22,7 @@ pub(crate) struct EntryPieces<'a> {
     pub permissions: Piece<'a>,
 }
 
-#[tactic(auto, unfolding(crate::specs::Reading::read_word))]
+#[tactic(auto, unfolding(crate::specs::internal::Reading::read_word))]
 fn word_at(field: Piece, line: usize) -> Result<TagWord, TextFault>
     requires { field.column + length field.bytes.now < 2 ^ 64 }
     ensures { result ≡ read_word line (span_of field.entry) }
@@ -34,7 +34,7 @@ fn word_at(field: Piece, line: usize) -> Result<TagWord, TextFault>
     }
 }
 
-#[tactic(auto, unfolding(crate::specs::Reading::read_permissions))]
+#[tactic(auto, unfolding(crate::specs::internal::Reading::read_permissions))]
 fn permissions_at(field: Piece, line: usize) -> Result<Perm, TextFault>
     requires { field.column + length field.bytes.now < 2 ^ 64 }
     ensures { mapped (λ perm. perm.bits) result ≡ read_permissions line (span_of field.entry) }
@@ -46,7 +46,7 @@ fn permissions_at(field: Piece, line: usize) -> Result<Perm, TextFault>
     }
 }
 
-#[tactic(auto, unfolding(crate::specs::Reading::read_tag))]
+#[tactic(auto, unfolding(crate::specs::internal::Reading::read_tag))]
 fn tag_at(field: Piece, line: usize, word: TagWord, names: &Names) -> Result<Tag, TextFault>
     requires { field.column + length field.bytes.now < 2 ^ 64 }
     ensures { mapped tag_of result ≡ read_tag names.now line (span_of field.entry) word }
@@ -116,7 +116,7 @@ fn fields<'a>(piece: Piece<'a>) -> Option<EntryPieces<'a>>
 }
 
 /// The entry that a piece spells, and its part.
-#[tactic(auto, unfolding(crate::specs::Reading::read_piece))]
+#[tactic(auto, unfolding(crate::specs::internal::Reading::read_piece))]
 pub(crate) fn read_piece(
     piece: Piece,
     line: usize,

@@ -3,7 +3,7 @@ ghost use Rattle.std.specs.Prelude.{◌≡◌, MatchResult, OnOk, Ok};
 ghost use Rattle.acl_perm.specs.Lines.{lines_of};
 ghost use Rattle.acl_posix.specs.Entries.{pair_of};
 ghost use Rattle.acl_posix.specs.Grammar.{line_pieces, numbered, pieces_of};
-ghost use Rattle.acl_posix.specs.Reading.{added, lists_of, no_lists, read_pieces, view_entry, Fails};
+ghost use Rattle.acl_posix.specs.internal.Reading.{added, lists_of, no_lists, read_pieces, view_entry, Fails};
 
 use crate::entry::Entry;
 use crate::names::Names;

@@ -1,3 +1,4 @@
+//! Entries in canonical order.
 ghost use Rattle.std.specs.Prelude.{◌≡◌, All, IfOk};
 ghost use Rattle.std.specs.FinMap as set;
 ghost use Rattle.acl_posix.specs.Entries.{IsEntry, IsSorted, pairs};
@@ -20,7 +21,7 @@ impl Model for SortedEntries {
     ghost use Rattle.std.specs.FinMap as set;
     ghost use Rattle.std.specs.Coded.{coded_ℕ};
     ghost use Rattle.acl_posix.specs.Tag.{tag_cmp};
-    ghost use Rattle.acl_posix.specs.TagCode.{coded_tag};
+    ghost use Rattle.acl_posix.specs.internal.TagCode.{coded_tag};
     ghost use Rattle.acl_posix.specs.Entries.{as_set, IsSorted, pairs};
 
     ghost Value = { set.FinMap tag_cmp ℕ };

@@ -1,11 +1,12 @@
+//! Putting entries in canonical order.
 ghost use Rattle.std.specs.Prelude.{◌≡◌, ◌↔◌, IfErr, IfOk, IsOk, IsTrue, OnOk};
 ghost use Rattle.std.specs.BTreeMap.{IsOrdered};
 ghost use Rattle.acl_posix.specs.declared.fault.AclFault.TheVariants.{Memory};
 ghost use Rattle.acl_posix.specs.Tag.{tag_of};
-ghost use Rattle.acl_posix.specs.TagCode.{code_cmp};
+ghost use Rattle.acl_posix.specs.internal.TagCode.{code_cmp};
 ghost use Rattle.acl_posix.specs.Entries.{as_set, IsSorted, pairs};
 ghost use Rattle.acl_posix.specs.Valid.{IsDistinct, IsFaultOf};
-ghost use Rattle.acl_posix.specs.TagMap.{map_pairs, repeat_fault};
+ghost use Rattle.acl_posix.specs.internal.TagMap.{map_pairs, repeat_fault};
 
 use crate::entry::Entry;
 use crate::fault::AclFault;

@@ -1,10 +1,11 @@
+//! Tags, and their canonical order.
 ghost use Rattle.std.specs.Prelude.{◌≡◌, refl};
 ghost use Rattle.std.proofs.Common.{rules};
 ghost use Rattle.std.specs.Cmp.{partial_order_from_agreeing_total};
 ghost use Rattle.std.specs.Cmp.Rules.{comparing};
 ghost use Rattle.std.specs.Ordering.{as_partial_cmp};
 ghost use Rattle.acl_posix.specs.Tag.{is_masked, is_named, name_of, qualifier, rank, tag_of};
-ghost use Rattle.acl_posix.specs.TagCode.{code_cmp, codes_total};
+ghost use Rattle.acl_posix.specs.internal.TagCode.{code_cmp, codes_total};
 
 use crate::id::Id;
 use std::cmp::Ordering;

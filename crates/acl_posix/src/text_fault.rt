@@ -1,3 +1,4 @@
+//! Why a text spells no file.
 ghost use Rattle.std.specs.Prelude.{◌≡◌};
 ghost use Rattle.acl_posix.specs.TextFault.{part_name};
 ghost use Rattle.acl_posix.specs.declared.text_fault.TextFault.TheVariants.{Memory};
@@ -9,7 +10,9 @@ use thiserror::Error;
 /// A part of a text: the entries of the access ACL, or those of the default ACL.
 #[derive(Clone, Copy, Debug, PartialEq, Eq)]
 pub enum Part {
+    /// The entries of the access ACL, which decides who may do what.
     Access,
+    /// The entries of the default ACL, which what is made in a directory gets.
     Default,
 }
 

@@ -1,3 +1,4 @@
+//! Which tag a valid list lacks.
 ghost use Rattle.std.specs.Prelude.{◌≡◌, option_map};
 ghost use Rattle.std.specs.List.{list_any};
 ghost use Rattle.std.specs.FinMap as set;

@@ -6,11 +6,11 @@ ghost use Rattle.acl_perm.specs.Devices.{one_more};
 ghost use Rattle.acl_perm.specs.Pieces.{WritesFrom};
 ghost use Rattle.acl_posix.specs.Texts.{canonical_text, form_text, short_text, shown_text};
 ghost use Rattle.acl_posix.specs.Entries.{pairs};
-ghost use Rattle.acl_posix.specs.Writing.{default_out, part_out};
+ghost use Rattle.acl_posix.specs.internal.Writing.{default_out, part_out};
 
 use crate::acl::PosixAcl;
 use crate::entry::Entry;
-use crate::entry_line::entry_line;
+use crate::entry_writer::entry_bytes;
 use crate::file::PosixFile;
 use crate::form::Form;
 use crate::text_fault::Part;
@@ -36,7 +36,7 @@ fn put_part<S: Sink>(
     let mut done = done;
     let mut is_first = is_first;
     for entry in entries {
-        let line = entry_line(form, part, is_first, *entry, acl.effective(*entry));
+        let line = entry_bytes(form, part, is_first, *entry, acl.effective(*entry));
         match put_next(sink, done, &line) {
             Ok(count) => done = count,
             Err(fault) => return Err(fault),

@@ -1,6 +1,6 @@
 use Rattle.std.proofs.Common.{ap, ◌∙◌, List, ℕ}
 use Rattle.std.specs.FinMap as fin
-use Rattle.acl_posix.specs.NameMaps.{ids_of}
+use Rattle.acl_posix.specs.internal.NameMaps.{ids_of}
 use Rattle.acl_posix.proofs.NameLemmas.{name_added}
 use Rattle.acl_posix.proofs.names.add.Goals as goal
 

@@ -2,7 +2,7 @@ use Rattle.std.proofs.Common.{◌≡◌, List, ℕ, [], sym, ap, ◌∙◌}
 use Rattle.std.proofs.lemmas.Result.{err_from_is_err_and}
 use Rattle.acl_perm.specs.Lines.{Span, span_of, cut_at, is_all_blank}
 use Rattle.acl_posix.specs.Grammar.{line_pieces, numbered}
-use Rattle.acl_posix.specs.Reading.{Lists, lists_of, read_pieces}
+use Rattle.acl_posix.specs.internal.Reading.{Lists, lists_of, read_pieces}
 use Rattle.acl_posix.proofs.Lines.{pieces_left, fails_is, pieces_blank, pieces_some, pieces_next, fits_next, fits_some, left_none, read_none, read_next, read_fault}
 use Rattle.acl_posix.proofs.reader.read_line.Goals as goal
 

@@ -1,6 +1,6 @@
 use Rattle.std.proofs.Common.{◌≡◌}
 use Rattle.acl_posix.specs.Grammar.{numbered, line_pieces}
-use Rattle.acl_posix.specs.Reading.{lists_of, read_pieces}
+use Rattle.acl_posix.specs.internal.Reading.{lists_of, read_pieces}
 use Rattle.acl_posix.proofs.Lines.{pieces_left, size_left, FitsLeft}
 use Rattle.acl_posix.proofs.reader.read_line.Given as goal
 

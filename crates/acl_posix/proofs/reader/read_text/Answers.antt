@@ -1,7 +1,7 @@
 use Rattle.std.proofs.Common.{ℕ, List, sym, ap, ◌∙◌, subst}
 use Rattle.std.proofs.lemmas.Result.{err_from_is_err_and}
 use Rattle.acl_posix.specs.Grammar.{pieces_from}
-use Rattle.acl_posix.specs.Reading.{lists_of, read_pieces}
+use Rattle.acl_posix.specs.internal.Reading.{lists_of, read_pieces}
 use Rattle.acl_perm.proofs.LineLemmas.{lines_left, lines_next, number_next, NumberFits, no_lines}
 use Rattle.acl_posix.proofs.Lines.{read_none, read_lines_next, read_lines_fault}
 use Rattle.acl_posix.proofs.reader.read_text.Goals as goal

@@ -1,6 +1,6 @@
 use Rattle.std.proofs.Common.{◌≡◌}
 use Rattle.acl_posix.specs.Grammar.{pieces_from, pieces_of}
-use Rattle.acl_posix.specs.Reading.{lists_of, no_lists, read_pieces}
+use Rattle.acl_posix.specs.internal.Reading.{lists_of, no_lists, read_pieces}
 use Rattle.acl_perm.proofs.LineLemmas.{lines_left, text_left, NumberFits}
 use Rattle.acl_posix.proofs.reader.read_text.Given as goal
 

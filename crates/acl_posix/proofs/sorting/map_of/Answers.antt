@@ -3,7 +3,7 @@ use Rattle.std.specs.Prelude.{is_some}
 use Rattle.std.proofs.lemmas.List.{length-map}
 use Rattle.acl_posix.specs.Entries.{pairs, pair_of}
 use Rattle.acl_posix.specs.Valid.{IsFaultOf}
-use Rattle.acl_posix.specs.TagMap.{map_pairs}
+use Rattle.acl_posix.specs.internal.TagMap.{map_pairs}
 use Rattle.acl_posix.proofs.Repeats.{collected_all, distinct_fault, entry_more, entry_repeat}
 use Rattle.acl_posix.proofs.sorting.map_of.Goals as goal
 

@@ -1,6 +1,6 @@
 use Rattle.std.proofs.Common.{◌≡◌}
 use Rattle.acl_posix.specs.Entries.{pairs}
-use Rattle.acl_posix.specs.TagMap.{map_pairs}
+use Rattle.acl_posix.specs.internal.TagMap.{map_pairs}
 use Rattle.acl_posix.proofs.sorting.put_in_order.Given as goal
 
 -- what the map gave is written

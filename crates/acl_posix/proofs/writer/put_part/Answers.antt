@@ -4,7 +4,7 @@ use Rattle.acl_perm.specs.Devices.{one_more}
 use Rattle.acl_posix.specs.declared.entry.Entry.{Entry}
 use Rattle.acl_posix.specs.Tag.{Tag}
 use Rattle.acl_posix.specs.Entries.{pairs}
-use Rattle.acl_posix.specs.Writing.{part_out}
+use Rattle.acl_posix.specs.internal.Writing.{part_out}
 use Rattle.acl_perm.proofs.PieceLemmas.{out_none, next_fits, out_more, out_cut, out_all}
 use Rattle.acl_posix.proofs.Written.{entry_next}
 use Rattle.acl_posix.proofs.writer.put_part.Goals as goal
@@ -21,14 +21,14 @@ pub put_next-requires : goal.put_next-requires
 put_next-requires g c =
     let next = entry_next c.args.form c.args.part c.args.acl.now c.loop-entry.is_first c.args.entries.now
     c.loop-entry.entry-index c.entry-item.result c.effective.result.bits c.deref.result.now c.loop-entry-test.true
-    c.entry-item.is (c.deref.ensures.0 ∙ c.entry_line-line.ensures) c.effective.ensures in
+    c.entry-item.is (c.deref.ensures.0 ∙ c.entry_bytes-line.ensures) c.effective.ensures in
     next_fits c.args.done c.loop-entry.done _ _ _ _ _ _ c.loop-entry.invariant.out next c.requires.room
 
 pub returns-in-Err-clause-written : goal.returns-in-Err-clause-written
 returns-in-Err-clause-written g c =
     let next = entry_next c.args.form c.args.part c.args.acl.now c.loop-entry.is_first c.args.entries.now
     c.loop-entry.entry-index c.entry-item.result c.effective.result.bits c.deref.result.now c.loop-entry-test.true
-    c.entry-item.is (c.deref.ensures.0 ∙ c.entry_line-line.ensures) c.effective.ensures in
+    c.entry-item.is (c.deref.ensures.0 ∙ c.entry_bytes-line.ensures) c.effective.ensures in
     let said = c.in-Err.ensures.written in
     out_cut c.args.done c.loop-entry.done c.in-Err.fault.written _ _ _ _ _ _ _ c.loop-entry.invariant.out next said.0
     said.1 said.2
@@ -40,7 +40,7 @@ pub loop-entry-preserved : goal.loop-entry-preserved
 loop-entry-preserved g c =
     let next = entry_next c.args.form c.args.part c.args.acl.now c.loop-entry.is_first c.args.entries.now
     c.loop-entry.entry-index c.entry-item.result c.effective.result.bits c.deref.result.now c.loop-entry-test.true
-    c.entry-item.is (c.deref.ensures.0 ∙ c.entry_line-line.ensures) c.effective.ensures in
+    c.entry-item.is (c.deref.ensures.0 ∙ c.entry_bytes-line.ensures) c.effective.ensures in
     let said = c.in-Ok.ensures.written in
     record {
       out = out_more c.args.done c.loop-entry.done c.in-Ok.count _ _ _ _ _ _ _ c.loop-entry.invariant.out next said.0

@@ -1,7 +1,7 @@
 use Rattle.std.proofs.Common.{◌≡◌, drop}
 use Rattle.std.specs.List.{list_any}
 use Rattle.acl_posix.specs.Check.{ids}
-use Rattle.acl_posix.specs.GroupSearch.{group_contains}
+use Rattle.acl_posix.specs.internal.GroupSearch.{group_contains}
 use Rattle.acl_posix.proofs.sorted.SortedEntries.any_contains.Given as goal
 
 -- some group that is left has such an entry exactly if some group has

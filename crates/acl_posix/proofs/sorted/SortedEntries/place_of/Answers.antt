@@ -5,7 +5,7 @@ use Rattle.acl_posix.specs.declared.entry.Entry.{Entry}
 use Rattle.acl_posix.specs.declared.tag.Tag.TheVariants.{Other}
 use Rattle.acl_posix.specs.Tag.{Tag, tag_of}
 use Rattle.acl_posix.specs.Entries.{tags}
-use Rattle.acl_posix.specs.Search.{IsAt, IsGap}
+use Rattle.acl_posix.specs.internal.Search.{IsAt, IsGap}
 use Rattle.acl_posix.proofs.Lookups.{searched}
 use Rattle.acl_posix.proofs.sorted.SortedEntries.place_of.Goals as goal
 

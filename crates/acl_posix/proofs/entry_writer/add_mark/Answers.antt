@@ -2,7 +2,7 @@ use Rattle.std.proofs.Common.{◌≡◌, eqb, false, List, ℕ, ◌++◌, ◌∷
 use Rattle.std.proofs.lemmas.Bool.{ne_eqb}
 use Rattle.std.specs.Prelude.{codes}
 use Rattle.acl_posix.specs.Texts.{perm_text}
-use Rattle.acl_posix.proofs.entry_line.add_mark.Goals as goal
+use Rattle.acl_posix.proofs.entry_writer.add_mark.Goals as goal
 
 pub returns-clause-text : goal.returns-clause-text
 returns-clause-text c =

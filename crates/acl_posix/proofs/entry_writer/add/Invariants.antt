@@ -1,5 +1,5 @@
 use Rattle.std.proofs.Common.{◌≡◌, ◌++◌, take}
-use Rattle.acl_posix.proofs.entry_line.add.Given as goal
+use Rattle.acl_posix.proofs.entry_writer.add.Given as goal
 
 -- the bytes so far are added
 abbrev pub invariant-loop-b : goal.invariant-loop-b

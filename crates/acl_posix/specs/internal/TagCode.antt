@@ -1,5 +1,5 @@
 -- What the code needs of tags, and no contract cites (this library's own): their order in the code's words, that it is
--- total, and each tag as two numbers.
+-- total, and each tag as two numbers. The three proofs stand here since a trait's ghost members cite them.
 use Rattle.std.specs.Prelude.{ℕ, zero, suc, ◌≡◌, refl}
 use Rattle.std.specs.Coded.{Coded, code_by, coded×, coded_ℕ}
 use Rattle.std.specs.declared.cmp.Ordering.{Ordering}

@@ -4,7 +4,7 @@ ghost use Rattle.arrayvec.specs.ArrayVec.{array_vec_len};
 ghost use Rattle.acl_posix.specs.Entries.{pair_of};
 ghost use Rattle.acl_posix.specs.Tag.{tag_of};
 ghost use Rattle.acl_posix.specs.Texts.{entry_text, letter, long_word, mark_text, perm_text, qualifier_text, short_word};
-ghost use Rattle.acl_posix.specs.Writing.{ending, entry_out, form_word, lead};
+ghost use Rattle.acl_posix.specs.internal.Writing.{ending, entry_out, form_word, lead};
 
 use crate::entry::Entry;
 use crate::form::Form;
@@ -141,8 +141,8 @@ fn add_ending(line: &mut ArrayVec<u8, 64>, form: Form, effective: Perm, perm: Pe
 }
 
 /// The text of an entry with all that belongs to it.
-#[tactic(auto, unfolding(crate::specs::Writing::entry_out))]
-pub(crate) fn entry_line(
+#[tactic(auto, unfolding(crate::specs::internal::Writing::entry_out))]
+pub(crate) fn entry_bytes(
     form: Form,
     part: Part,
     is_first: bool,

@@ -1,0 +1,16 @@
+-- The code's words (this library's own): no clause of a public call cites them.
+
+-- the order of the tags of the code, and a tag as two numbers
+pub mod TagCode
+-- what is built while a list is put in order, and the fault of a tag that stands twice
+pub mod TagMap
+-- the place of a tag in a list in canonical order, or where it would go
+pub mod Search
+-- what one group is granted
+pub mod GroupSearch
+-- the table that the maps of names stand for
+pub mod NameMaps
+-- what the reader of a text computes
+pub mod Reading
+-- how a text goes out, an entry after the other
+pub mod Writing
