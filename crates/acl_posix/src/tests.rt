@@ -384,6 +384,17 @@ fn messages<A: Abort>(rt: &A, memory: Memory) {
     }
 }
 
+fn tables<A: Abort>(rt: &A, memory: Memory) {
+    lists(rt, memory);
+    cut_lists(rt, memory);
+    effective_permissions(rt, memory);
+    modes(rt, memory);
+    edits(rt, memory);
+    requests(rt, memory);
+    new_files(rt, memory);
+    messages(rt, memory);
+}
+
 // ---- tests
 
 #[test]
@@ -392,14 +403,7 @@ fn ample_tables(rt: HostRuntime) {
         alloc: rt.alloc(),
         is_ample: true,
     };
-    lists(&rt, memory);
-    cut_lists(&rt, memory);
-    effective_permissions(&rt, memory);
-    modes(&rt, memory);
-    edits(&rt, memory);
-    requests(&rt, memory);
-    new_files(&rt, memory);
-    messages(&rt, memory);
+    tables(&rt, memory);
 }
 
 #[test]
@@ -408,14 +412,7 @@ fn tables_where_memory_may_be_wanting(rt: HostRuntime) {
         alloc: rt.alloc(),
         is_ample: false,
     };
-    lists(&rt, memory);
-    cut_lists(&rt, memory);
-    effective_permissions(&rt, memory);
-    modes(&rt, memory);
-    edits(&rt, memory);
-    requests(&rt, memory);
-    new_files(&rt, memory);
-    messages(&rt, memory);
+    tables(&rt, memory);
 }
 
 // A list of a hundred entries.
