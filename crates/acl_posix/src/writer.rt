@@ -95,7 +95,8 @@ impl PosixFile {
         ensures none_failed { OnOk result (S.failure_count sink.new ≡ S.failure_count sink.old) }
         ensures err { IfErr result (λ fault. Appends (S.contents sink.old) (S.contents sink.new)
             (take fault.written (form_text form self.now.access self.now.default))) }
-        ensures short { IfErr result (λ fault. fault.written < length (form_text form self.now.access self.now.default)) }
+        ensures short { IfErr result (λ fault.
+            fault.written < length (form_text form self.now.access self.now.default)) }
         ensures failed { OnErr result (S.failure_count sink.new ≡ one_more (S.failure_count sink.old)) }
     {
         match put_file(sink, form, &self.access, self.default.as_ref()) {
@@ -112,7 +113,8 @@ impl PosixFile {
         ensures none_failed { OnOk result (S.failure_count sink.new ≡ S.failure_count sink.old) }
         ensures err { IfErr result (λ fault. Appends (S.contents sink.old) (S.contents sink.new)
             (take fault.written (canonical_text self.now.access self.now.default))) }
-        ensures short { IfErr result (λ fault. fault.written < length (canonical_text self.now.access self.now.default)) }
+        ensures short { IfErr result (λ fault.
+            fault.written < length (canonical_text self.now.access self.now.default)) }
         ensures failed { OnErr result (S.failure_count sink.new ≡ one_more (S.failure_count sink.old)) }
     {
         self.write(sink, Form::Canonical)
@@ -126,7 +128,8 @@ impl PosixFile {
         ensures none_failed { OnOk result (S.failure_count sink.new ≡ S.failure_count sink.old) }
         ensures err { IfErr result (λ fault. Appends (S.contents sink.old) (S.contents sink.new)
             (take fault.written (shown_text self.now.access self.now.default))) }
-        ensures short { IfErr result (λ fault. fault.written < length (shown_text self.now.access self.now.default)) }
+        ensures short { IfErr result (λ fault.
+            fault.written < length (shown_text self.now.access self.now.default)) }
         ensures failed { OnErr result (S.failure_count sink.new ≡ one_more (S.failure_count sink.old)) }
     {
         self.write(sink, Form::Shown)
@@ -140,7 +143,8 @@ impl PosixFile {
         ensures none_failed { OnOk result (S.failure_count sink.new ≡ S.failure_count sink.old) }
         ensures err { IfErr result (λ fault. Appends (S.contents sink.old) (S.contents sink.new)
             (take fault.written (short_text self.now.access self.now.default))) }
-        ensures short { IfErr result (λ fault. fault.written < length (short_text self.now.access self.now.default)) }
+        ensures short { IfErr result (λ fault.
+            fault.written < length (short_text self.now.access self.now.default)) }
         ensures failed { OnErr result (S.failure_count sink.new ≡ one_more (S.failure_count sink.old)) }
     {
         self.write(sink, Form::Short)
@@ -155,7 +159,8 @@ impl PosixAcl {
         ensures none_failed { OnOk result (S.failure_count sink.new ≡ S.failure_count sink.old) }
         ensures err { IfErr result (λ fault. Appends (S.contents sink.old) (S.contents sink.new)
             (take fault.written (form_text form self.now None))) }
-        ensures short { IfErr result (λ fault. fault.written < length (form_text form self.now None)) }
+        ensures short { IfErr result (λ fault.
+            fault.written < length (form_text form self.now None)) }
         ensures failed { OnErr result (S.failure_count sink.new ≡ one_more (S.failure_count sink.old)) }
     {
         match put_file(sink, form, self, None) {
@@ -172,7 +177,8 @@ impl PosixAcl {
         ensures none_failed { OnOk result (S.failure_count sink.new ≡ S.failure_count sink.old) }
         ensures err { IfErr result (λ fault. Appends (S.contents sink.old) (S.contents sink.new)
             (take fault.written (canonical_text self.now None))) }
-        ensures short { IfErr result (λ fault. fault.written < length (canonical_text self.now None)) }
+        ensures short { IfErr result (λ fault.
+            fault.written < length (canonical_text self.now None)) }
         ensures failed { OnErr result (S.failure_count sink.new ≡ one_more (S.failure_count sink.old)) }
     {
         self.write(sink, Form::Canonical)
@@ -186,7 +192,8 @@ impl PosixAcl {
         ensures none_failed { OnOk result (S.failure_count sink.new ≡ S.failure_count sink.old) }
         ensures err { IfErr result (λ fault. Appends (S.contents sink.old) (S.contents sink.new)
             (take fault.written (shown_text self.now None))) }
-        ensures short { IfErr result (λ fault. fault.written < length (shown_text self.now None)) }
+        ensures short { IfErr result (λ fault.
+            fault.written < length (shown_text self.now None)) }
         ensures failed { OnErr result (S.failure_count sink.new ≡ one_more (S.failure_count sink.old)) }
     {
         self.write(sink, Form::Shown)
@@ -200,7 +207,8 @@ impl PosixAcl {
         ensures none_failed { OnOk result (S.failure_count sink.new ≡ S.failure_count sink.old) }
         ensures err { IfErr result (λ fault. Appends (S.contents sink.old) (S.contents sink.new)
             (take fault.written (short_text self.now None))) }
-        ensures short { IfErr result (λ fault. fault.written < length (short_text self.now None)) }
+        ensures short { IfErr result (λ fault.
+            fault.written < length (short_text self.now None)) }
         ensures failed { OnErr result (S.failure_count sink.new ≡ one_more (S.failure_count sink.old)) }
     {
         self.write(sink, Form::Short)
