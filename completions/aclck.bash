@@ -1,4 +1,5 @@
-# Completion of aclck for bash: commands, their options, and the words of those options that take one of a few.
+# Completion of aclck for bash: commands, their options, the words of those options that take one of a few, and the
+# names of files behind `<`, `>` and `2>`.
 
 # The options of each command.
 declare -gA _aclck_options=(
@@ -53,21 +54,44 @@ _aclck_complete_mask() {
     compopt -o nospace 2> /dev/null
 }
 
+# Whether a word is the sign of a redirection, which bash makes a word of its own.
+_aclck_is_sign() {
+    [[ $1 == @('<'|'>'|'>>'|'<>'|'>|') ]]
+}
+
+# Fills `words` with those between the program and the one that is being typed, without redirections.
+_aclck_words() {
+    local place
+    for ((place = 1; place < COMP_CWORD; place++)); do
+        if _aclck_is_sign "${COMP_WORDS[place]}"; then
+            ((place++))
+        elif [[ ${COMP_WORDS[place]} != +([0-9]) ]] || ! _aclck_is_sign "${COMP_WORDS[place + 1]}"; then
+            words+=("${COMP_WORDS[place]}")
+        fi
+    done
+}
+
 _aclck() {
-    local current=$2 option=$3 command=${COMP_WORDS[1]} place=$COMP_CWORD word unused=() IFS=$' \t\n'
+    local current=$2 option=$3 command word words=() unused=() IFS=$' \t\n'
     COMPREPLY=()
+    if _aclck_is_sign "${COMP_WORDS[COMP_CWORD]}" || _aclck_is_sign "${COMP_WORDS[COMP_CWORD - 1]}"; then
+        compopt -o default 2> /dev/null
+        return
+    fi
+    _aclck_words
     # Bash makes three words of `--form=short`.
     if [[ $current == = ]]; then
         current=''
-        option=${COMP_WORDS[place - 1]}
+        option=${COMP_WORDS[COMP_CWORD - 1]}
     elif [[ $option == = ]]; then
-        option=${COMP_WORDS[place - 2]}
+        option=${COMP_WORDS[COMP_CWORD - 2]}
     fi
-    if ((place == 1)); then
+    if ((${#words[@]} == 0)); then
         _aclck_offer "${!_aclck_options[*]}" "$current"
         return
     fi
-    [[ -n ${_aclck_options[$command]+is} && " ${COMP_WORDS[*]:2:place - 2} " != *' -- '* ]] || return
+    command=${words[0]}
+    [[ -n ${_aclck_options[$command]+is} && " ${words[*]:1} " != *' -- '* ]] || return
     if [[ " ${_aclck_options[$command]} " == *" $option "* ]]; then
         case $option in
             --profile) _aclck_offer 'full narrow' "$current" ;;
@@ -79,7 +103,7 @@ _aclck() {
         [[ $option == --@(dir|inherit) ]] || return
     fi
     for word in ${_aclck_options[$command]}; do
-        [[ " ${COMP_WORDS[*]:2:place - 2} " == *" $word "* ]] || unused+=("$word")
+        [[ " ${words[*]:1} " == *" $word "* ]] || unused+=("$word")
     done
     _aclck_offer "${unused[*]}" "$current"
 }
