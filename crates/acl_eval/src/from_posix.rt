@@ -8,15 +8,12 @@ ghost use Rattle.acl_nfs4.specs.Spelling.{IsAccepted};
 ghost use Rattle.acl_eval.specs.Bridge.{IsBridgeFault, ace_of, allow_of, bridge_list, decide_of, deny_of, flags_of, image, is_group, is_other, is_user, who_of};
 ghost use Rattle.acl_eval.specs.BridgeBody.{Adds, cost_of, fault_of, part_of};
 
-use acl_nfs4::{AceRef, Acl, Flags, Kind, Mask, PushFault};
+use acl_nfs4::{AceRef, Acl, Flags, Kind, MOST_WEIGHT, Mask, PushFault};
 use acl_perm::Perm;
 use acl_posix::{Entry, PosixAcl, Tag};
 use itoa::Buffer;
 use std::alloc::Global;
 use thiserror::Error;
-
-// The greatest number of mask bits, over all ACEs of a list.
-const MOST_WEIGHT: u32 = 65536;
 
 /// Why there is no list for a POSIX ACL.
 #[derive(Clone, Copy, Debug, PartialEq, Eq, Error)]

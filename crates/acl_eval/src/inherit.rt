@@ -6,7 +6,7 @@ ghost use Rattle.acl_nfs4.specs.Ace.{ace};
 ghost use Rattle.acl_nfs4.specs.Spelling.{Fits, IsAccepted};
 ghost use Rattle.acl_eval.specs.Inheritance.{child_flags, children};
 
-use acl_nfs4::{AceRef, Acl, Flags, PushFault};
+use acl_nfs4::{AceRef, Acl, Flags};
 use std::alloc::{AllocError, Global};
 
 /// What is created.
@@ -31,22 +31,10 @@ pub fn child(alloc: Global, parent: &Acl, kind: ChildKind) -> Result<Acl, AllocE
     let mut list = Acl::new(alloc);
     for ace in parent.aces() {
         if let Some(flags) = inherited(kind, ace.flags) {
-            push(&mut list, AceRef { flags, ..ace })?;
+            list.push_accepted(AceRef { flags, ..ace })?;
         }
     }
     Ok(list)
-}
-
-// One more ACE, where the list stays accepted.
-fn push(list: &mut Acl, item: AceRef<'_>) -> Result<(), AllocError>
-    requires { IsAccepted full (list.now ++ ace item ∷ []) }
-    ensures { OnOk result (list.new ≡ list.old ++ ace item.entry ∷ []) }
-{
-    match list.push(item) {
-        Ok(()) => Ok(()),
-        Err(PushFault::Memory) => Err(AllocError),
-        Err(_) => unreachable!(),
-    }
 }
 
 const FILE_INHERIT: u8 = 0x01;

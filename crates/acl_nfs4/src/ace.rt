@@ -1,14 +1,20 @@
-ghost use Rattle.std.specs.Prelude.{◌≡◌};
+//! An ACE that borrows its who.
+ghost use Rattle.std.specs.Prelude.{◌≡◌, not};
+ghost use Rattle.acl_perm.specs.Bits.{has_bit, inherit_only};
 ghost use Rattle.acl_perm.specs.Principal.{principal};
 
-use acl_perm::{Flags, Kind, Mask, Principal};
+use acl_perm::{Flags, Key, Kind, Mask, Principal};
 
 /// An ACE whose who lies elsewhere (RFC 8881, section 6.2.1).
 #[derive(Clone, Copy, Debug)]
 pub struct AceRef<'a> {
+    /// Whether it allows or denies.
     pub kind: Kind,
+    /// How it is inherited, and whether its who is a group.
     pub flags: Flags,
+    /// The rights that it allows or denies.
     pub mask: Mask,
+    /// Whom it speaks of, as `principal` reads it.
     pub who: &'a [u8],
 }
 
@@ -33,5 +39,24 @@ impl<'a> AceRef<'a> {
         } else {
             Principal::User(self.who)
         }
+    }
+
+    /// Whom the ACE names, and its type.
+    pub fn key(&self) -> Key<'a>
+        ensures principal { principal result.principal ≡ principal_of (ace self.now) }
+        ensures kind { result.kind ≡ self.now.kind }
+    {
+        Key {
+            principal: self.principal(),
+            kind: self.kind,
+        }
+    }
+
+    /// Whether the ACE plays a part in what its list grants: it is not there for new objects alone (RFC 8881, section
+    /// 6.2.1.4.1, INHERIT_ONLY).
+    pub fn takes_part(&self) -> bool
+        ensures { result ≡ not (has_bit self.now.flags.bits inherit_only) }
+    {
+        !self.flags.is_inherit_only()
     }
 }

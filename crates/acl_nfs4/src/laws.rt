@@ -20,7 +20,8 @@ ghost use Rattle.acl_nfs4.specs.declared.feed.fed.Fed.{Fed};
 
 /// No spelling begins another, and none spells two lists, whatever the profile.
 pub fn one_spelling()
-    ensures { (p : Profile) (a b : List Ace) (s t x y : List ℕ) → IsProfile p → Xdr p a s → Xdr p b t
+    ensures { (p : Profile) (a b : List Ace) (s t x y : List ℕ) → IsProfile p → Xdr p a s
+        → Xdr p b t
         → s ++ x ≡ t ++ y → (a ≡ b) × (s ≡ t) }
 {}
 
@@ -32,8 +33,10 @@ pub fn accepted_where_it_fits()
 
 /// What stands before a field begins the spelling of some accepted list, and so do the bytes before a fault.
 pub fn faults_break_spellings()
-    ensures border { (p : Profile) (stage : Stage) (text : List ℕ) → Border p stage text → BeginsSpelling p text }
-    ensures fault { (p : Profile) (bytes : List ℕ) (offset : ℕ) (r : Reason) → IsFault p bytes offset r
+    ensures border { (p : Profile) (stage : Stage) (text : List ℕ) → Border p stage text
+        → BeginsSpelling p text }
+    ensures fault { (p : Profile) (bytes : List ℕ) (offset : ℕ) (r : Reason)
+        → IsFault p bytes offset r
         → BeginsSpelling p (take offset bytes) }
 {}
 
@@ -41,15 +44,18 @@ pub fn faults_break_spellings()
 pub fn one_fault()
     ensures one { (p : Profile) (bytes : List ℕ) (o q t u : ℕ) (r s : Reason) → IsProfile p
         → IsFirstFault p bytes o t r → IsFirstFault p bytes q u s → (o ≡ q) × (t ≡ u) × (r ≡ s) }
-    ensures none { (p : Profile) (bytes : List ℕ) (list : List Ace) (text rest : List ℕ) (o : ℕ) (r : Reason)
+    ensures none { (p : Profile) (bytes : List ℕ) (list : List Ace) (text rest : List ℕ) (o : ℕ)
+        (r : Reason)
         → IsProfile p → Xdr p list text → bytes ≡ text ++ rest → IsFault p bytes o r → ⊥ }
 {}
 
 /// At most one fault fits a text that is to be one spelling and nothing more, and none where it is one.
 pub fn one_whole_fault()
-    ensures one { (p : Profile) (bytes : List ℕ) (o q : ℕ) (r s : Reason) → IsProfile p → IsWholeFault p bytes o r
+    ensures one { (p : Profile) (bytes : List ℕ) (o q : ℕ) (r s : Reason) → IsProfile p
+        → IsWholeFault p bytes o r
         → IsWholeFault p bytes q s → (o ≡ q) × (r ≡ s) }
-    ensures none { (p : Profile) (bytes : List ℕ) (list : List Ace) (o : ℕ) (r : Reason) → IsProfile p
+    ensures none { (p : Profile) (bytes : List ℕ) (list : List Ace) (o : ℕ) (r : Reason)
+        → IsProfile p
         → Xdr p list bytes → IsWholeFault p bytes o r → ⊥ }
 {}
 
@@ -63,10 +69,12 @@ pub fn weight_counts_pairs()
 /// as all of them at once, and leave it as all of them at once. One of the two may be refused memory.
 pub fn any_cutting()
     ensures together { (p : Profile) (pieces : List (List ℕ)) (answers : List Fed) (new : Standing)
-        → FeedsEach (more p []) pieces answers new → Feeds (more p []) (concat pieces) (together pieces answers) new }
-    ensures once { (p : Profile) (pieces : List (List ℕ)) (answers : List Fed) (new : Standing) (once : Fed)
-        (now : Standing) → IsProfile p → FeedsEach (more p []) pieces answers new
-        → Feeds (more p []) (concat pieces) once now → SameOrFails (together pieces answers) new once now }
+        → FeedsEach (more p []) pieces answers new
+        → Feeds (more p []) (concat pieces) (together pieces answers) new }
+    ensures once { (p : Profile) (pieces : List (List ℕ)) (answers : List Fed) (new : Standing)
+        (once : Fed) (now : Standing) → IsProfile p → FeedsEach (more p []) pieces answers new
+        → Feeds (more p []) (concat pieces) once now
+        → SameOrFails (together pieces answers) new once now }
 {}
 
 /// The written text of a list spells it, and no other.
@@ -77,10 +85,12 @@ pub fn text_reads_back()
 
 /// A text spells at most one list, it has at most one fault, and not both.
 pub fn one_text_fault()
-    ensures list { (p : Profile) (text : List ℕ) (a b : List Ace) → IsAceText p a text → IsAceText p b text → a ≡ b }
+    ensures list { (p : Profile) (text : List ℕ) (a b : List Ace) → IsAceText p a text
+        → IsAceText p b text → a ≡ b }
     ensures one { (p : Profile) (text : List ℕ) (f g : AceTextFault) → IsAceTextFault p text f
         → IsAceTextFault p text g → f ≡ g }
-    ensures none { (p : Profile) (text : List ℕ) (list : List Ace) (f : AceTextFault) → IsAceText p list text
+    ensures none { (p : Profile) (text : List ℕ) (list : List Ace) (f : AceTextFault)
+        → IsAceText p list text
         → IsAceTextFault p text f → ⊥ }
 {}
 

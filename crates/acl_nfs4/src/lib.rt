@@ -21,6 +21,7 @@ pub use acl_perm::{
 };
 pub use feed::Feed;
 pub use feed::fed::Fed;
+pub use limits::{LONGEST_WHO, MOST_ACES, MOST_WEIGHT};
 pub use list::aces::Aces;
 pub use list::acl::Acl;
 pub use list::push_fault::PushFault;

@@ -1,3 +1,5 @@
+//! What a piece of a stream came to.
+
 use crate::xdr::fault::Fault;
 
 /// What a piece came to.

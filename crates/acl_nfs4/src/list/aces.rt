@@ -1,3 +1,4 @@
+//! The ACEs of a list, one after the other.
 ghost use Rattle.std.specs.Prelude.{◌≡◌, ◌+◌, ◌≤◌, ℕ, List, ◌++◌, length, take, drop};
 ghost use Rattle.acl_perm.specs.Profile.{full};
 ghost use Rattle.acl_nfs4.specs.Ace.{Ace, ace};
@@ -9,6 +10,7 @@ ghost use Rattle.acl_nfs4.specs.internal.Body.{BeginsWithAce};
 use crate::ace::AceRef;
 use acl_perm::{Flags, Kind, Mask};
 use byteorder::{BigEndian, ByteOrder};
+use std::alloc::AllocError;
 use std::marker::Model;
 
 pub(crate) fn word_in(bytes: &[u8], at: usize) -> u32
@@ -90,5 +92,26 @@ impl<'a> Iterator for Aces<'a> {
         self.left -= 1;
         self.rest = after;
         Some(ace)
+    }
+}
+
+impl<'a> ExactSizeIterator for Aces<'a> {
+    fn len(&self) -> usize {
+        self.left as usize
+    }
+}
+
+impl<'a> Clone for Aces<'a> {
+    ghost use Rattle.std.specs.Prelude.{◌≡◌, ⊤};
+
+    ghost is_clone = { λ aces other. other ≡ aces };
+
+    ghost is_infallible = { λ _. ⊤ };
+
+    fn clone(&self) -> Result<Aces<'a>, AllocError> {
+        Ok(Aces {
+            left: self.left,
+            rest: self.rest,
+        })
     }
 }

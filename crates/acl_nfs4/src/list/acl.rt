@@ -135,7 +135,8 @@ impl Acl {
         // A fault is the first condition that refuses; memory is wanted only where none does.
         ensures fault { PushAnswers result (push_refusal self.old (ace item.entry)) }
         // Memory is the answer only where nothing else refuses.
-        ensures wanted { IfErr result (λ f. f ≡ Memory → push_refusal self.old (ace item.entry) ≡ None) }
+        ensures wanted { IfErr result (λ f. f ≡ Memory
+            → push_refusal self.old (ace item.entry) ≡ None) }
         // What is taken leaves the list accepted.
         ensures accepted { OnOk result (IsAccepted full (self.old ++ ace item.entry ∷ [])) }
         // What would leave the list accepted is not refused.
@@ -156,7 +157,18 @@ impl Acl {
         }
     }
 
-    /// Adds an ACE at the end of a list that can take it.
+    /// Adds an ACE at the end of a list that stays accepted with it. Only want of memory fails.
+    pub fn push_accepted(&mut self, item: AceRef<'_>) -> Result<(), AllocError>
+        requires { IsAccepted full (self.old ++ ace item ∷ []) }
+        // What is taken stands at the end.
+        ensures ok { OnOk result (self.new ≡ self.old ++ ace item.entry ∷ []) }
+        // Without memory the list is as it was.
+        ensures err { OnErr result (self.new ≡ self.old) }
+    {
+        self.append(item)
+    }
+
+    // Adds an ACE at the end of a list that can take it.
     pub(crate) fn append(&mut self, item: AceRef<'_>) -> Result<(), AllocError>
         requires room { length self.old < most_aces }
         requires light { spelled.weight self.old + count_ones item.mask.bits ≤ most_weight }
@@ -195,8 +207,8 @@ fn who_refusal(fault: WhoFault) -> PushFault
 // The four words that an ACE begins with.
 fn head(item: &AceRef<'_>) -> [u8; 16]
     requires { length item.now.who.now ≤ longest_who }
-    ensures { result ≡ word (kind_number item.now.kind) ++ word item.now.flags.bits ++ word item.now.mask.bits
-        ++ word (length item.now.who.now) }
+    ensures { result ≡ word (kind_number item.now.kind) ++ word item.now.flags.bits
+        ++ word item.now.mask.bits ++ word (length item.now.who.now) }
 {
     let mut bytes = [0u8; 16];
     BigEndian::write_u32(&mut bytes, kind_word(item.kind));
@@ -235,7 +247,8 @@ fn append_piece(body: &mut Vec<u8>, item: &AceRef<'_>) -> Result<(), AllocError>
 #[tactic(auto, using(crate::proofs::Within::tests))]
 fn fits_ace(ace: &AceRef<'_>, profile: Profile) -> bool
     ensures { IsTrue result
-        ↔ (IsWithin profile.flags.bits ace.now.flags.bits × IsWithin profile.masks.bits ace.now.mask.bits) }
+        ↔ (IsWithin profile.flags.bits ace.now.flags.bits
+        × IsWithin profile.masks.bits ace.now.mask.bits) }
 {
     profile.flags.contains(ace.flags) && profile.masks.contains(ace.mask)
 }
@@ -282,4 +295,18 @@ impl Eq for Acl {
     ghost use Rattle.acl_nfs4.specs.Owned.{same_list_equiv};
 
     ghost laws = { same_list_equiv };
+}
+
+impl<'a> IntoIterator for &'a Acl {
+    ghost use Rattle.std.specs.Prelude.{◌≡◌};
+
+    type Item = AceRef<'a>;
+
+    type IntoIter = Aces<'a>;
+
+    ghost into_iter_gives = { λ acl aces. aces ≡ acl.now };
+
+    fn into_iter(self) -> Aces<'a> {
+        self.aces()
+    }
 }

@@ -1,3 +1,5 @@
+//! Why a list refuses one more ACE.
+
 use thiserror::Error;
 
 /// Why a list doesn't take one more ACE, in the order in which it is judged.

@@ -1,3 +1,5 @@
+//! Rows of the names and numbers of the standard.
+
 use crate::*;
 use std::alloc::Global;
 use std::process::Abort;
@@ -125,6 +127,34 @@ fn is_principal(who: &[u8], flags: u32, principal: Principal<'_>) -> bool {
         who,
     };
     ace.principal() == principal
+}
+
+// Flags, and whether an ACE with them takes part in its own object (RFC 8881, section 6.2.1.4.1).
+static TAKING_PART: [(u32, bool); 6] = [
+    (0, true),
+    (0x08, false),
+    (0x0b, false),
+    (0xf7, true),
+    (0xff, false),
+    (0x40, true),
+];
+
+fn takes_part(flags: u32, kind: Kind) -> Option<bool> {
+    let ace = AceRef {
+        kind,
+        flags: Flags::new(flags)?,
+        mask: Mask::NONE,
+        who: b"bob",
+    };
+    let key = ace.key();
+    Some(ace.takes_part() && key.kind == kind && key.principal == ace.principal())
+}
+
+#[test]
+fn an_ace_takes_part_unless_it_is_for_new_objects_alone(rt: HostRuntime) {
+    for (flags, taken) in TAKING_PART {
+        assert!(rt; takes_part(flags, Kind::Deny) == Some(taken), "{flags}");
+    }
 }
 
 #[test]

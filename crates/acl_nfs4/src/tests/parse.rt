@@ -1,3 +1,5 @@
+//! Rows of bytes that are a list or have a fault.
+
 use crate::*;
 use std::alloc::{AllocError, Global};
 use std::process::Abort;

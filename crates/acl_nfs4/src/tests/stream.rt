@@ -1,3 +1,5 @@
+//! Rows of streams, and of sources and sinks that fail.
+
 use crate::*;
 use std::alloc::{AllocError, Global};
 use std::process::Abort;

@@ -1,3 +1,5 @@
+//! Why a text is no list.
+
 use thiserror::Error;
 
 /// Why a text is no list of ACEs. Lines and columns count from 1, columns in bytes. A field without a byte stands at

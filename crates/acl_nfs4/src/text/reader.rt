@@ -52,7 +52,8 @@ pub fn parse_text_with(alloc: Global, text: &[u8], profile: Profile) -> Result<A
 // Adds the ACE of a line, where it is to spell one.
 fn add_line(acl: &mut Acl, line: &[u8], number: usize, profile: Profile) -> Result<(), AceTextFault>
     ensures { MatchResult result
-        (λ _. read_lines (profile_of profile) acl.old (ace_lines_from number (line.now ∷ [])) ≡ Ok acl.new)
+        (λ _. read_lines (profile_of profile) acl.old (ace_lines_from number (line.now ∷ []))
+        ≡ Ok acl.new)
         (λ fault. Fails fault
         (read_lines (profile_of profile) acl.old (ace_lines_from number (line.now ∷ [])))) }
 {

@@ -45,7 +45,8 @@ fn kind_name(kind: Kind) -> &'static [u8]
 fn add_names(line: &mut Line, table: &[BitName], set: u32)
     requires short { list_all is_short table.now ≡ true }
     requires room { array_vec_len line.old + 21 * length table.now ≤ 1600 }
-    ensures text { line.new.items ≡ line.old.items ++ join_with_byte bar (names_of (table_of table.now) set) }
+    ensures text { line.new.items ≡ line.old.items ++ join_with_byte bar
+        (names_of (table_of table.now) set) }
     ensures len { array_vec_len line.new ≤ array_vec_len line.old + 21 * length table.now }
 {
     let mut is_first = true;
@@ -105,7 +106,8 @@ fn fill(line: &mut Line, item: AceRef<'_>)
 // Writes the lines of the ACEs, and answers how many bytes are out then.
 fn put_lines<S: Sink>(sink: &mut S, aces: Aces<'_>) -> Result<u64, WriteFault>
     requires { length aces ≤ most_aces }
-    ensures written { WritesFrom (S.contents sink.old) (S.contents sink.new) 0 (ace_text aces.entry) result }
+    ensures written { WritesFrom (S.contents sink.old) (S.contents sink.new) 0
+        (ace_text aces.entry) result }
     ensures none_failed { OnOk result (S.failure_count sink.new ≡ S.failure_count sink.old) }
     ensures failed { OnErr result (S.failure_count sink.new ≡ one_more (S.failure_count sink.old)) }
 {
@@ -126,15 +128,18 @@ impl Acl {
     /// bits. The first put that fails ends it: `written` bytes went out, and nothing is tried again. No memory; time
     /// linear in the text.
     pub fn write_text<S: Sink>(&self, sink: &mut S) -> Result<(), WriteFault>
-        ensures ok { OnOk result (Appends (S.contents sink.old) (S.contents sink.new) (ace_text self.now)) }
+        ensures ok { OnOk result (Appends (S.contents sink.old) (S.contents sink.new)
+            (ace_text self.now)) }
         // What is written spells this list and no other.
-        ensures again { (other : List Ace) → IsAceText full other (ace_text self.now) ↔ (other ≡ self.now) }
+        ensures again { (other : List Ace) → IsAceText full other (ace_text self.now)
+            ↔ (other ≡ self.now) }
         ensures none_failed { OnOk result (S.failure_count sink.new ≡ S.failure_count sink.old) }
 
         ensures err { IfErr result (λ fault. Appends (S.contents sink.old) (S.contents sink.new)
             (take fault.written (ace_text self.now))) }
         ensures short { IfErr result (λ fault. fault.written < length (ace_text self.now)) }
-        ensures failed { OnErr result (S.failure_count sink.new ≡ one_more (S.failure_count sink.old)) }
+        ensures failed { OnErr result (S.failure_count sink.new
+            ≡ one_more (S.failure_count sink.old)) }
     {
         match put_lines(sink, self.aces()) {
             Ok(_) => Ok(()),

@@ -1,3 +1,4 @@
+//! What is left of bytes that are read.
 ghost use Rattle.std.specs.Prelude.{◌≤◌, length};
 
 /// The bytes that are left, and how many there were.

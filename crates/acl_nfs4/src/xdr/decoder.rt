@@ -24,7 +24,8 @@ use std::alloc::Global;
 /// nothing is tried again. After a refusal, the bytes to the end of the refused field were taken.
 pub fn decode<S: Source>(alloc: Global, source: &mut S) -> Result<Acl, Fault>
     // What was taken is the value, or what the fault says.
-    ensures given { (given : List ℕ) × Consumes (S.remaining source.old) (S.remaining source.new) given
+    ensures given { (given : List ℕ)
+        × Consumes (S.remaining source.old) (S.remaining source.new) given
         × Decodes full given (IsAtEnd (S.remaining source.new)) result }
     // What stands at the front is found.
     ensures only { (list : List Ace) (text rest : List ℕ) → Xdr full list text
@@ -49,7 +50,8 @@ pub fn decode<S: Source>(alloc: Global, source: &mut S) -> Result<Acl, Fault>
 /// flag or right is FlagBits or MaskBits.
 pub fn decode_with<S: Source>(alloc: Global, source: &mut S, profile: Profile) -> Result<Acl, Fault>
     // What was taken is the value, or what the fault says.
-    ensures given { (given : List ℕ) × Consumes (S.remaining source.old) (S.remaining source.new) given
+    ensures given { (given : List ℕ)
+        × Consumes (S.remaining source.old) (S.remaining source.new) given
         × Decodes (profile_of profile) given (IsAtEnd (S.remaining source.new)) result }
     // What stands at the front is found.
     ensures only { (list : List Ace) (text rest : List ℕ) → Xdr (profile_of profile) list text
@@ -59,7 +61,8 @@ pub fn decode_with<S: Source>(alloc: Global, source: &mut S, profile: Profile) -
         → S.remaining source.old ≡ Some (spelling list ++ rest) → IsOrFails result list }
     // An input with a fault is refused by it.
     ensures refused { (input : List ℕ) (o : ℕ) (r : Reason) → S.remaining source.old ≡ Some input
-        → IsFault (profile_of profile) input o r → FaultsOrFails result (record { offset = o; reason = r }) }
+        → IsFault (profile_of profile) input o r
+        → FaultsOrFails result (record { offset = o; reason = r }) }
     ensures none_failed { OnOk result (S.failure_count source.new ≡ S.failure_count source.old) }
     // Read is told exactly where a pull failed.
     ensures read { IfErr result (λ f. f.reason ≡ Read
@@ -71,7 +74,8 @@ pub fn decode_with<S: Source>(alloc: Global, source: &mut S, profile: Profile) -
 }
 
 fn read_value<S: Source>(alloc: Global, source: &mut S, profile: Profile) -> Result<Acl, Fault>
-    ensures given { (given : List ℕ) × Consumes (S.remaining source.old) (S.remaining source.new) given
+    ensures given { (given : List ℕ)
+        × Consumes (S.remaining source.old) (S.remaining source.new) given
         × Decodes (profile_of profile) given (IsAtEnd (S.remaining source.new)) result }
     ensures none_failed { OnOk result (S.failure_count source.new ≡ S.failure_count source.old) }
     ensures read { IfErr result (λ f. f.reason ≡ Read

@@ -23,7 +23,8 @@ impl Acl {
     /// Writes the bytes that spell the list (RFC 4506 over RFC 8881, section 6.2.1), without memory. The first write
     /// that fails ends it: `written` bytes went out, and nothing is tried again.
     pub fn encode<K: Sink>(&self, sink: &mut K) -> Result<(), WriteFault>
-        ensures ok { OnOk result (Appends (K.contents sink.old) (K.contents sink.new) (spelling self.now)) }
+        ensures ok { OnOk result (Appends (K.contents sink.old) (K.contents sink.new)
+            (spelling self.now)) }
         // What was read as this list is written as it was read.
         ensures read { (p : Profile) (text : List ℕ) → Xdr p self.now text
             → OnOk result (Appends (K.contents sink.old) (K.contents sink.new) text) }
@@ -34,7 +35,8 @@ impl Acl {
         ensures err { IfErr result (λ fault. Appends (K.contents sink.old) (K.contents sink.new)
             (take fault.written (spelling self.now))) }
         ensures short { IfErr result (λ fault. fault.written < length (spelling self.now)) }
-        ensures failed { OnErr result (K.failure_count sink.new ≡ one_more (K.failure_count sink.old)) }
+        ensures failed { OnErr result (K.failure_count sink.new
+            ≡ one_more (K.failure_count sink.old)) }
     {
         let mut count = [0u8; 4];
         BigEndian::write_u32(&mut count, self.count);

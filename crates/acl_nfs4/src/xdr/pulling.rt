@@ -90,7 +90,8 @@ fn from_padding<S: Source>(
     requires room { length room.old ≡ 1040 }
     requires fits { offset + 1040 < 2 ^ 64 }
     requires some { is_no_who_len len ≡ false }
-    ensures { Draws (16 + len) (S.remaining source.old) (S.remaining source.new) (S.failure_count source.old)
+    ensures { Draws (16 + len) (S.remaining source.old) (S.remaining source.new)
+        (S.failure_count source.old)
         (S.failure_count source.new) room.old room.new (FromPadding offset len bits) result }
 {
     let held = 16 + len;
@@ -112,7 +113,8 @@ fn from_who<S: Source>(
     requires room { length room.old ≡ 1040 }
     requires fits { offset + 1040 < 2 ^ 64 }
     requires some { is_no_who_len len ≡ false }
-    ensures { Draws 16 (S.remaining source.old) (S.remaining source.new) (S.failure_count source.old)
+    ensures { Draws 16 (S.remaining source.old) (S.remaining source.new)
+        (S.failure_count source.old)
         (S.failure_count source.new) room.old room.new (FromWho offset len bits) result }
 {
     let end = 16 + len;
@@ -131,7 +133,8 @@ fn from_len<S: Source>(
 ) -> Result<Pulled, Fault>
     requires room { length room.old ≡ 1040 }
     requires fits { offset + 1040 < 2 ^ 64 }
-    ensures { Draws 12 (S.remaining source.old) (S.remaining source.new) (S.failure_count source.old)
+    ensures { Draws 12 (S.remaining source.old) (S.remaining source.new)
+        (S.failure_count source.old)
         (S.failure_count source.new) room.old room.new (FromLen offset bits) result }
 {
     let number = word(source, room, 12, offset + 12)?;
@@ -152,7 +155,8 @@ fn from_mask<S: Source>(
     requires fits { offset + 1040 < 2 ^ 64 }
     requires light { weight ≤ most_weight }
     ensures { Draws 8 (S.remaining source.old) (S.remaining source.new) (S.failure_count source.old)
-        (S.failure_count source.new) room.old room.new (FromMask (profile_of profile) offset weight) result }
+        (S.failure_count source.new) room.old room.new
+        (FromMask (profile_of profile) offset weight) result }
 {
     let number = word(source, room, 8, offset + 8)?;
     let mask = placed(
@@ -175,7 +179,8 @@ fn from_flags<S: Source>(
     requires fits { offset + 1040 < 2 ^ 64 }
     requires light { weight ≤ most_weight }
     ensures { Draws 4 (S.remaining source.old) (S.remaining source.new) (S.failure_count source.old)
-        (S.failure_count source.new) room.old room.new (FromFlags (profile_of profile) offset weight) result }
+        (S.failure_count source.new) room.old room.new
+        (FromFlags (profile_of profile) offset weight) result }
 {
     let number = word(source, room, 4, offset + 4)?;
     placed((offset + 4) as u64, judges::flags_of(number, profile))?;
@@ -196,7 +201,8 @@ pub(crate) fn pull_ace<S: Source>(
     requires fits { offset + 1040 < 2 ^ 64 }
     requires light { weight ≤ most_weight }
     ensures { Draws 0 (S.remaining source.old) (S.remaining source.new) (S.failure_count source.old)
-        (S.failure_count source.new) room.old room.new (FromKind (profile_of profile) offset weight) result }
+        (S.failure_count source.new) room.old room.new
+        (FromKind (profile_of profile) offset weight) result }
 {
     let number = word(source, room, 0, offset)?;
     placed(offset as u64, judges::kind_of(number))?;

@@ -1,3 +1,4 @@
+//! The fields of a list in memory, one after the other.
 ghost use Rattle.std.specs.Prelude.{◌≡◌, ℕ, ◌+◌, ◌-◌, ◌<◌, ◌≤◌, ◌^◌, length, Ok, IfOk, count_ones, false};
 ghost use Rattle.acl_perm.specs.Profile.{profile_of};
 ghost use Rattle.acl_nfs4.specs.Fields.{count_of, kind_of, flags_of, mask_of, who_len_of, who_of, padding_of};
@@ -36,7 +37,8 @@ pub(crate) fn placed<T>(offset: u64, judged: Result<T, Reason>) -> Result<T, Fau
 
 #[inline(always)]
 fn bytes<'a>(cursor: &mut Cursor<'a>, n: usize) -> Result<&'a [u8], Fault>
-    ensures { Gives (λ x. (x.now, place cursor.new)) result (field n (λ bytes. Ok bytes) (place cursor.old)) }
+    ensures { Gives (λ x. (x.now, place cursor.new)) result
+        (field n (λ bytes. Ok bytes) (place cursor.old)) }
 {
     if cursor.rest.len() < n {
         return Err(Fault {
@@ -51,7 +53,8 @@ fn bytes<'a>(cursor: &mut Cursor<'a>, n: usize) -> Result<&'a [u8], Fault>
 
 #[inline(always)]
 fn word(cursor: &mut Cursor<'_>) -> Result<u32, Fault>
-    ensures { Gives (λ x. (x, place cursor.new)) result (word_field (λ n. Ok n) (place cursor.old)) }
+    ensures { Gives (λ x. (x, place cursor.new)) result
+        (word_field (λ n. Ok n) (place cursor.old)) }
 {
     let front = bytes(cursor, 4)?;
     Ok(BigEndian::read_u32(front))
@@ -87,7 +90,8 @@ fn mask(cursor: &mut Cursor<'_>, weight: u32, profile: Profile) -> Result<Mask, 
 
 #[inline(always)]
 fn who_len(cursor: &mut Cursor<'_>) -> Result<usize, Fault>
-    ensures exact { Gives (λ x. (x, place cursor.new)) result (word_field who_len_of (place cursor.old)) }
+    ensures exact { Gives (λ x. (x, place cursor.new)) result
+        (word_field who_len_of (place cursor.old)) }
     ensures some { IfOk result (λ x. is_no_who_len x ≡ false) }
 {
     let offset = offset_of(cursor);
@@ -105,7 +109,8 @@ fn who<'a>(cursor: &mut Cursor<'a>, len: usize) -> Result<&'a [u8], Fault>
 
 #[inline(always)]
 fn padding(cursor: &mut Cursor<'_>, len: usize) -> Result<(), Fault>
-    ensures { Gives (λ _. (tt, place cursor.new)) result (field (pad_len len) padding_of (place cursor.old)) }
+    ensures { Gives (λ _. (tt, place cursor.new)) result
+        (field (pad_len len) padding_of (place cursor.old)) }
 {
     let offset = offset_of(cursor);
     placed(
@@ -156,7 +161,8 @@ pub(crate) fn next_ace<'a>(
 }
 
 pub(crate) fn count(cursor: &mut Cursor<'_>) -> Result<u32, Fault>
-    ensures exact { Gives (λ x. (x, place cursor.new)) result (word_field count_of (place cursor.old)) }
+    ensures exact { Gives (λ x. (x, place cursor.new)) result
+        (word_field count_of (place cursor.old)) }
     ensures small { IfOk result (λ x. x ≤ most_aces) }
 {
     let offset = offset_of(cursor);

@@ -1,3 +1,4 @@
+//! A list that lies in the bytes that spell it.
 ghost use Rattle.std.specs.Prelude.{◌≡◌, ◌≤◌, ◌++◌, ℕ, List, length, take, IfOk, IfErr, IsOkAnd, Ok, Err};
 ghost use Rattle.acl_nfs4.specs.Ace.{Ace};
 ghost use Rattle.acl_nfs4.specs.Spelling.{IsAccepted, Xdr};
@@ -41,7 +42,8 @@ impl<'a> AclView<'a> {
         ensures found { IfOk result (λ x.
             (x.1 ≤ length bytes.now) × Xdr full x.0 (take x.1 bytes.now)) }
         // What stands at the front is found.
-        ensures only { (list : List Ace) (text rest : List ℕ) → Xdr full list text → bytes.now ≡ text ++ rest
+        ensures only { (list : List Ace) (text rest : List ℕ) → Xdr full list text
+            → bytes.now ≡ text ++ rest
             → IsOkAnd result (λ x. (x.0 ≡ list) × (x.1 ≡ length text)) }
         // A fault is that of the bytes.
         ensures fault { IfErr result (λ f. IsFault full bytes.now f.offset f.reason) }
@@ -63,9 +65,11 @@ impl<'a> AclView<'a> {
         ensures only { (list : List Ace) (text rest : List ℕ) → Xdr (profile_of profile) list text
             → bytes.now ≡ text ++ rest → IsOkAnd result (λ x. (x.0 ≡ list) × (x.1 ≡ length text)) }
         // A fault is that of the bytes.
-        ensures fault { IfErr result (λ f. IsFault (profile_of profile) bytes.now f.offset f.reason) }
+        ensures fault { IfErr result (λ f. IsFault
+            (profile_of profile) bytes.now f.offset f.reason) }
         // Bytes with a fault are refused by it.
-        ensures refused { (offset : ℕ) (r : Reason) → IsFault (profile_of profile) bytes.now offset r
+        ensures refused { (offset : ℕ) (r : Reason)
+            → IsFault (profile_of profile) bytes.now offset r
             → result ≡ Err (record { offset = offset; reason = r }) }
     {
         view_of(bytes, profile)
@@ -76,7 +80,8 @@ impl<'a> AclView<'a> {
         // What is found is spelled by the bytes.
         ensures found { IfOk result (λ list. Xdr full list bytes.now) }
         // What the bytes spell is found.
-        ensures only { (list : List Ace) → Xdr full list bytes.now → IsOkAnd result (λ x. x ≡ list) }
+        ensures only { (list : List Ace) → Xdr full list bytes.now
+            → IsOkAnd result (λ x. x ≡ list) }
         // A fault is that of the bytes.
         ensures fault { IfErr result (λ f. IsWholeFault full bytes.now f.offset f.reason) }
         // Bytes with a fault are refused by it.
@@ -95,9 +100,11 @@ impl<'a> AclView<'a> {
         ensures only { (list : List Ace) → Xdr (profile_of profile) list bytes.now
             → IsOkAnd result (λ x. x ≡ list) }
         // A fault is that of the bytes.
-        ensures fault { IfErr result (λ f. IsWholeFault (profile_of profile) bytes.now f.offset f.reason) }
+        ensures fault { IfErr result (λ f. IsWholeFault
+            (profile_of profile) bytes.now f.offset f.reason) }
         // Bytes with a fault are refused by it.
-        ensures refused { (offset : ℕ) (r : Reason) → IsWholeFault (profile_of profile) bytes.now offset r
+        ensures refused { (offset : ℕ) (r : Reason)
+            → IsWholeFault (profile_of profile) bytes.now offset r
             → result ≡ Err (record { offset = offset; reason = r }) }
     {
         let (view, len) = AclView::parse_with(bytes, profile)?;

@@ -17,8 +17,8 @@ loop-ace-init c = (
       ∙ ap (children c.args.kind) (c.into_iter-ace-iterator.ensures.into_iter_gives ∙ c.aces-ace-items.ensures.same),
 )
 
-pub push-requires : goal.push-requires
-push-requires c =
+pub push_accepted-requires : goal.push_accepted-requires
+push_accepted-requires c =
     let item : Ace = with_flags (ace c.in-Some.ace) c.in-Some-inherited.flags.bits in
     let more = children c.args.kind c.next.new.self in
     let whole : (c.loop-ace.list ++ item ∷ []) ++ more ≡ children c.args.kind c.args.parent.now =
@@ -37,7 +37,7 @@ loop-ace-preserved-in-Continue-1 c =
       tt,
       tt,
       c.loop-ace.invariant.2,
-      ap (λ list. list ++ more) c.in_ok-push.ensures
+      ap (λ list. list ++ more) c.in_ok-push_accepted.ensures.ok
           ∙ moved c.loop-ace.list more item
           ∙ ap (λ list. c.loop-ace.list ++ list) (sym (child_has c.args.kind (ace c.in-Some.ace) c.next.new.self
           c.in-Some-inherited.flags.bits (sym c.in-Some-inherited.ensures)))
