@@ -1,6 +1,7 @@
 pub mod Members
 pub mod Columns
 pub mod Scans
+pub mod Decisions
 pub mod Same
 pub mod Children
 pub mod FlagByFlag

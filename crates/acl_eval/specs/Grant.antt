@@ -1,17 +1,11 @@
 -- What a list grants (RFC 8881, section 6.2.1): for each bit the first ACE that has it, takes part and speaks of the
 -- requester decides; a bit that no such ACE has is denied.
-use Rattle.std.specs.Prelude.{◌↔◌, ℕ, List, Bool, true, false, IsTrue}
+use Rattle.std.specs.Prelude.{◌↔◌, ℕ, List, Bool, IsTrue}
 use Rattle.acl_perm.specs.Bits.{has_bit, IsSubset}
 use Rattle.acl_perm.specs.Situation.{Situation, IsSituation, matches}
-use Rattle.acl_perm.specs.declared.kind.Kind.{Kind}
-use Rattle.acl_perm.specs.declared.kind.Kind.TheVariants.{Deny, Allow}
+pub use Rattle.acl_perm.specs.Kind.{is_allow}
 use Rattle.acl_nfs4.specs.Ace.{Ace}
 use Rattle.acl_eval.specs.Column.{column, verdict}
-
--- the type is ALLOW
-abbrev pub is_allow : Kind → Bool
-is_allow Deny = false
-is_allow Allow = true
 
 -- the list grants the requester the bit
 abbrev pub grants_bit : List Ace → Situation → ℕ → Bool

@@ -2,6 +2,8 @@ pub mod Situation
 pub mod Column
 pub mod Grant
 pub mod Scan
+pub mod Deciding
+pub mod internal
 pub mod Laws
 pub mod Names
 pub mod Inheritance

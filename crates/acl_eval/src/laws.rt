@@ -9,6 +9,8 @@ ghost use Rattle.acl_nfs4.specs.Spelling.{IsAccepted};
 ghost use Rattle.acl_eval.specs.BridgeLaws.{AnswersAlike, GrantsSingles, KeepsGrants};
 ghost use Rattle.acl_eval.specs.BridgeNames.{NamesDiffer, NamesStand, OnlyLimitsRefuse};
 ghost use Rattle.acl_eval.specs.Column.{SameVerdicts, column};
+ghost use Rattle.acl_eval.specs.Deciding.{deciding_kind};
+ghost use Rattle.acl_perm.specs.declared.kind.Kind.TheVariants.{Allow};
 ghost use Rattle.acl_eval.specs.Grant.{Grant, SameGrants, grants_bit};
 ghost use Rattle.acl_eval.specs.Inheritance.{child_flags, children, directory_inherit, ends, file_inherit, goes_on, no_propagate_inherit, waits};
 ghost use Rattle.acl_eval.specs.InheritanceLaws.{IsByFlag};
@@ -44,6 +46,12 @@ pub fn same_grants_bit_by_bit()
 pub fn scan_is_bit_by_bit()
     ensures { (list : List Ace) (s : Situation) (request : ℕ) → IsMask request
         → IsTrue (scan list s request) ↔ Grant list s request }
+{}
+
+/// A request is granted exactly if an ALLOW decides each of its rights.
+pub fn allows_decide_what_is_granted()
+    ensures { (list : List Ace) (s : Situation) (request : ℕ) → Grant list s request
+        ↔ ((bit : ℕ) → IsTrue (has_bit request bit) → deciding_kind list s bit ≡ Some Allow) }
 {}
 
 /// The flags of an ACE in a new file: none of inheritance, where the ACE has FILE_INHERIT, and else the ACE is absent.

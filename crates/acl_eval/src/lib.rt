@@ -5,6 +5,7 @@
 mod bridge_tests;
 #[cfg(test)]
 mod child_tests;
+mod deciding;
 #[cfg(test)]
 mod example;
 mod from_posix;
@@ -19,6 +20,7 @@ mod standing;
 #[cfg(test)]
 mod tests;
 
+pub use deciding::{Decision, deciding_ace};
 pub use from_posix::{BridgeFault, bridge};
 pub use grant::grants;
 pub use inherit::{ChildKind, child};

@@ -1,0 +1,21 @@
+-- Which ACE decides a right (RFC 8881, section 6.2.1): of those that have it, take part and speak of the requester, the
+-- first. Places are counted from 0 (this library's own).
+use Rattle.std.specs.Prelude.{ℕ, Bool, ◌&&◌, List, Option, option_map, position}
+use Rattle.std.specs.List.{find}
+use Rattle.acl_perm.specs.Bits.{has_bit}
+use Rattle.acl_perm.specs.Situation.{Situation}
+use Rattle.acl_perm.specs.declared.kind.Kind.{Kind}
+use Rattle.acl_nfs4.specs.Ace.{Ace}
+use Rattle.acl_eval.specs.Scan.{speaks}
+
+-- the ACE has the bit, takes part and speaks of the requester
+abbrev pub decides : Situation → ℕ → Ace → Bool
+decides s bit a = has_bit a.mask bit && speaks s a
+
+-- the place of the first such ACE, if there is one
+abbrev pub deciding_place : List Ace → Situation → ℕ → Option ℕ
+deciding_place list s bit = position (decides s bit) list
+
+-- its type
+abbrev pub deciding_kind : List Ace → Situation → ℕ → Option Kind
+deciding_kind list s bit = option_map (λ a. a.kind) (find (decides s bit) list)

@@ -1,0 +1,56 @@
+//! The ACE that decides one right.
+ghost use Rattle.std.specs.Prelude.{◌≡◌, option_map};
+ghost use Rattle.acl_eval.specs.Deciding.{decides, deciding_kind, deciding_place};
+ghost use Rattle.acl_eval.specs.Situation.{situation};
+ghost use Rattle.acl_eval.specs.internal.DecidingBody.{decision_from};
+
+use crate::situation::{Object, Requester};
+use crate::standing::Standing;
+use acl_nfs4::Aces;
+use acl_perm::{Kind, Right};
+
+/// The ACE that decides a right.
+#[derive(Clone, Copy, Debug, PartialEq, Eq)]
+pub struct Decision {
+    /// Its place in the list, from 0.
+    pub place: usize,
+    /// Whether it denies or allows.
+    pub kind: Kind,
+}
+
+/// The ACE that decides the right for the requester of the object: the first of those without INHERIT_ONLY that has it
+/// and speaks of the requester; none where no ACE does, which denies the right. It goes over the list once, ends at that
+/// ACE, and takes no memory.
+#[tactic(auto, using(crate::proofs::Decisions::decisions))]
+pub fn deciding_ace(
+    aces: Aces<'_>,
+    object: &Object<'_>,
+    requester: &Requester<'_>,
+    right: Right,
+) -> Option<Decision>
+    ensures place { option_map (λ decision. decision.place) result
+        ≡ deciding_place aces.entry (situation object.now requester.now) right.bit }
+    ensures kind { option_map (λ decision. decision.kind) result
+        ≡ deciding_kind aces.entry (situation object.now requester.now) right.bit }
+{
+    first_deciding(aces, &Standing::new(*object, *requester), right)
+}
+
+fn first_deciding(aces: Aces<'_>, standing: &Standing<'_>, right: Right) -> Option<Decision>
+    ensures { result
+        ≡ decision_from 0 (decides (situation standing.now.object standing.now.requester) right.bit) aces.entry }
+{
+    // No place passes the number of ACEs, which has a `usize`.
+    let _number = aces.len();
+    let mut place = 0;
+    for ace in aces {
+        if ace.mask.has(right) && standing.is_meant_by(&ace) {
+            return Some(Decision {
+                place,
+                kind: ace.kind,
+            });
+        }
+        place += 1;
+    }
+    None
+}
