@@ -1,5 +1,5 @@
 //! The first small situation in which two lists grant otherwise.
-ghost use Rattle.std.specs.Prelude.{◌≡◌, ◌↔◌, IsNone, IfOk, IfSome};
+ghost use Rattle.std.specs.Prelude.{◌≡◌, ◌↔◌, IsNone, IsOk, IfOk, IfSome};
 ghost use Rattle.acl_perm.specs.Bits.{all_rights};
 ghost use Rattle.acl_eval.specs.Grant.{SameGrants};
 ghost use Rattle.acl_normal.specs.Difference.{situation_of};
@@ -54,6 +54,8 @@ pub fn compare(alloc: Global, first: &Acl, second: &Acl) -> Result<Option<Differ
     // Its names are names of an object and a requester, to whom one list grants that right and the other doesn't.
     ensures requester { IfOk result (λ r. IfSome r (λ d. TellsApart first.now second.now
         (situation_of d) d.bit.bits d.first_grants)) }
+    // Of equal lists nothing takes memory.
+    ensures equal { first.now ≡ second.now → IsOk result }
 {
     if *first == *second {
         return Ok(None);

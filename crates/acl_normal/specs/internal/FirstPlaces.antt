@@ -1,7 +1,7 @@
 -- Where two lists first speak of each principal, and what they say there (this library's own): words that only code
 -- needs.
 use Rattle.std.specs.Prelude.{◌≡◌, ℕ, ◌<◌, ◌≤◌, ◌+◌, Bool, true, false, not, ◌&&◌, ◌||◌, if◌then◌else◌, nat_lt, ◌==◌, drop, slice_index_or, slice_set, List, [], ◌∷◌, length}
-use Rattle.std.specs.List.{AllByRecursion, AllZip}
+use Rattle.std.specs.List.{AllByRecursion, AllZip, list_any}
 use Rattle.acl_eval.specs.Column.{takes_part}
 use Rattle.acl_eval.specs.Grant.{is_allow}
 use Rattle.acl_nfs4.specs.Ace.{Ace}
@@ -53,8 +53,7 @@ inverts r s = (not (r.user && s.user) && differ r.here.allows s.here.allows)
 
 -- the row inverts one of the others
 abbrev pub inverts_any : Row → List Row → Bool
-inverts_any r [] = false
-inverts_any r (s ∷ rows) = inverts r s || inverts_any r rows
+inverts_any r = list_any (inverts r)
 
 -- on one bit, the lists grant alike wherever this principal and another that may overlap match
 abbrev pub AgreesAt : List Ace → List Ace → List Principal → ℕ → Principal → Type 0
