@@ -2,5 +2,6 @@
 
 mod comparison;
 mod five_forms;
+mod harness;
 mod normal;
 mod plain;

@@ -1,12 +1,15 @@
+//! Comparisons of lists: worked pairs, and the plain search.
+
+use super::harness::{
+    ALLOW, AceRow, DENY, Dice, EXECUTE, GROUP, INHERIT_ONLY, READ_DATA, WRITE_DATA, built, kept,
+    passes,
+};
 use crate::{Difference, compare, plain};
 use acl_eval::{Object, Requester, grants};
 use acl_nfs4::{AceRef, Acl, PushFault};
 use acl_perm::{Flags, Kind, Mask};
 use std::alloc::{AllocError, Global};
 use std::process::Abort;
-
-// An ACE as its type, flags, mask and who.
-type Row = (Kind, u32, u32, &'static [u8]);
 
 // A difference as its owner, owning group, user, groups, right, and whether the first list grants it.
 type Told = (
@@ -18,22 +21,8 @@ type Told = (
     bool,
 );
 
-const ALLOW: Kind = Kind::Allow;
-
-const DENY: Kind = Kind::Deny;
-
-const INHERIT_ONLY: u32 = 0x08;
-
-const GROUP: u32 = 0x40;
-
-const READ_DATA: u32 = 1;
-
-const WRITE_DATA: u32 = 2;
-
-const EXECUTE: u32 = 0x20;
-
 // Pairs of lists, and in which small situation they grant otherwise.
-static PAIRS: [(&[Row], &[Row], Option<Told>); 12] = [
+static PAIRS: [(&[AceRow], &[AceRow], Option<Told>); 12] = [
     (
         &[
             (DENY, 0, READ_DATA, b"bob"),
@@ -144,44 +133,13 @@ static PAIRS: [(&[Row], &[Row], Option<Told>); 12] = [
     (&[], &[], None),
 ];
 
-fn item((kind, flags, mask, who): Row) -> Option<AceRef<'static>> {
-    Some(AceRef {
-        kind,
-        flags: Flags::new(flags)?,
-        mask: Mask::new(mask)?,
-        who,
-    })
-}
-
-fn built(alloc: Global, rows: &[Row]) -> Result<Acl, PushFault> {
-    let mut list = Acl::new(alloc);
-    for row in rows {
-        if let Some(ace) = item(*row) {
-            list.push(ace)?;
+fn same_names(names: &[Vec<u8>], others: &[&[u8]]) -> bool {
+    for (name, other) in names.iter().zip(others) {
+        if name.as_slice() != *other {
+            return false;
         }
     }
-    Ok(list)
-}
-
-// Tables answer Memory where they meet it. Each runs twice: once with Memory for an answer, and in a test named
-// `ample..` without.
-fn kept<T>(answer: Result<T, AllocError>) -> Result<T, PushFault> {
-    match answer {
-        Ok(value) => Ok(value),
-        Err(_) => Err(PushFault::Memory),
-    }
-}
-
-fn passes(answer: Result<(), PushFault>) -> bool {
-    matches!(answer, Ok(()) | Err(PushFault::Memory))
-}
-
-fn same_names(names: &[Vec<u8>], others: &[&[u8]]) -> bool {
     names.len() == others.len()
-        && names
-            .iter()
-            .zip(others.iter())
-            .all(|(name, other)| name.as_slice() == *other)
 }
 
 fn is_told(d: &Difference, (owner, group, user, groups, bit, first_grants): Told) -> bool {
@@ -250,23 +208,18 @@ fn is_plain(
 }
 
 fn told_pairs(rt: &impl Abort, alloc: Global) -> Result<(), PushFault> {
-    for (rows, others, told) in PAIRS {
+    for (rows, others, told) in &PAIRS {
         let first = built(alloc, rows)?;
         let second = built(alloc, others)?;
-        assert!(rt; kept(is_found(alloc, &first, &second, told))?);
-        assert!(rt; kept(is_plain(alloc, &first, &second, told))?);
+        assert!(rt; kept(is_found(alloc, &first, &second, *told))?);
+        assert!(rt; kept(is_plain(alloc, &first, &second, *told))?);
     }
     Ok(())
 }
 
 #[test]
-fn lists_differ_first_in_a_small_situation(rt: HostRuntime) {
+fn compare_names_the_first_small_situation(rt: HostRuntime) {
     assert!(rt; passes(told_pairs(&rt, rt.alloc())));
-}
-
-#[test]
-fn ample_pairs(rt: HostRuntime) {
-    assert!(rt; told_pairs(&rt, rt.alloc()).is_ok());
 }
 
 // Whom the lists name that the next test makes.
@@ -281,55 +234,38 @@ static PEOPLE: [(u32, &[u8]); 8] = [
     (0, b"EVERYONE@"),
 ];
 
-// Numbers that look random.
-#[derive(Drop)]
-struct Dice {
-    state: u32,
+fn any_row(dice: &mut Dice) -> AceRow {
+    let kind = if dice.below(2) == 0 { ALLOW } else { DENY };
+    let (flags, who) = PEOPLE
+        .get(dice.below(8) as usize)
+        .copied()
+        .unwrap_or((0, b"bob"));
+    (kind, flags, dice.below(4), who)
 }
 
-impl Dice {
-    // A number below a bound.
-    fn below(&mut self, bound: u32) -> u32 {
-        self.state = self
-            .state
-            .wrapping_mul(1_664_525)
-            .wrapping_add(1_013_904_223);
-        (self.state >> 8).checked_rem(bound).unwrap_or(0)
+fn any_rows(alloc: Global, dice: &mut Dice) -> Result<Vec<AceRow>, AllocError> {
+    let mut rows = Vec::new(alloc);
+    for _ in 0..dice.below(6).saturating_add(2) {
+        rows.push(any_row(dice))?;
     }
+    Ok(rows)
+}
 
-    fn row(&mut self) -> Row {
-        let kind = if self.below(2) == 0 { ALLOW } else { DENY };
-        let (flags, who) = PEOPLE
-            .get(self.below(8) as usize)
-            .copied()
-            .unwrap_or((0, b"bob"));
-        (kind, flags, self.below(4), who)
-    }
-
-    fn rows(&mut self, alloc: Global) -> Result<Vec<Row>, AllocError> {
-        let mut rows = Vec::new(alloc);
-        for _ in 0..self.below(6).saturating_add(2) {
-            rows.push(self.row())?;
+// The same rows with two of them in each other's place, without one, or rows of their own.
+fn other_rows(alloc: Global, dice: &mut Dice, rows: &[AceRow]) -> Result<Vec<AceRow>, AllocError> {
+    let mut others = Vec::from_slice(alloc, rows)?;
+    match dice.below(4) {
+        0 => any_rows(alloc, dice),
+        1 => {
+            others.pop();
+            Ok(others)
         }
-        Ok(rows)
-    }
-
-    // The same rows with two of them in each other's place, without one, or rows of their own.
-    fn other(&mut self, alloc: Global, rows: &[Row]) -> Result<Vec<Row>, AllocError> {
-        let mut others = Vec::from_slice(alloc, rows)?;
-        match self.below(4) {
-            0 => self.rows(alloc),
-            1 => {
-                others.pop();
-                Ok(others)
+        _ => {
+            let (i, j) = (dice.below(6) as usize, dice.below(6) as usize);
+            if i < others.len() && j < others.len() {
+                others.swap(i, j);
             }
-            _ => {
-                let (i, j) = (self.below(6) as usize, self.below(6) as usize);
-                if i < others.len() && j < others.len() {
-                    others.swap(i, j);
-                }
-                Ok(others)
-            }
+            Ok(others)
         }
     }
 }
@@ -395,8 +331,8 @@ fn found_by_both(
 fn found_of_rows(
     rt: &impl Abort,
     alloc: Global,
-    rows: &[Row],
-    others: &[Row],
+    rows: &[AceRow],
+    others: &[AceRow],
 ) -> Result<Option<bool>, PushFault> {
     let first = built(alloc, rows)?;
     let second = built(alloc, others)?;
@@ -408,30 +344,9 @@ fn found_of_next(
     alloc: Global,
     dice: &mut Dice,
 ) -> Result<Option<bool>, PushFault> {
-    let rows = kept(dice.rows(alloc))?;
-    let others = kept(dice.other(alloc, &rows))?;
+    let rows = kept(any_rows(alloc, dice))?;
+    let others = kept(other_rows(alloc, dice, &rows))?;
     found_of_rows(rt, alloc, &rows, &others)
-}
-
-#[test]
-fn ample_both_searches_find_the_same(rt: HostRuntime) -> Result<(), PushFault> {
-    let mut dice = Dice { state: 2026 };
-    let (mut same, mut apart, mut by_two) = (0u32, 0u32, 0u32);
-    for _ in 0..2_500 {
-        match found_of_next(&rt, rt.alloc(), &mut dice)? {
-            None => same = same.saturating_add(1),
-            Some(is_by_two) => {
-                apart = apart.saturating_add(1);
-                by_two = by_two.saturating_add(u32::from(is_by_two));
-            }
-        }
-    }
-    // The pairs are of each kind.
-    assert!(rt;
-        same > 300 && apart > 300 && by_two > 20,
-        "{same} {apart} {by_two}"
-    );
-    Ok(())
 }
 
 fn push_group(list: &mut Acl, kind: Kind, number: u8) -> Result<(), PushFault> {
@@ -474,11 +389,41 @@ fn found_of_groups(
     kept(found_by_both(rt, alloc, &first, &second))
 }
 
-// They differ for a member of two groups alone, or not at all.
-#[test]
-fn ample_both_searches_find_the_same_of_many_groups(rt: HostRuntime) {
-    for count in [41, 64, 128u8] {
-        assert!(rt; found_of_groups(&rt, rt.alloc(), count, false) == Ok(Some(true)));
-        assert!(rt; found_of_groups(&rt, rt.alloc(), count, true) == Ok(None));
+mod ample {
+    use super::*;
+
+    #[test]
+    fn compare_names_the_first_small_situation(rt: HostRuntime) {
+        assert!(rt; told_pairs(&rt, rt.alloc()).is_ok());
+    }
+
+    #[test]
+    fn compare_finds_what_the_plain_search_finds(rt: HostRuntime) -> Result<(), PushFault> {
+        let mut dice = Dice { state: 2026 };
+        let (mut same, mut apart, mut by_two) = (0u32, 0u32, 0u32);
+        for _ in 0..2_500 {
+            match found_of_next(&rt, rt.alloc(), &mut dice)? {
+                None => same = same.saturating_add(1),
+                Some(is_by_two) => {
+                    apart = apart.saturating_add(1);
+                    by_two = by_two.saturating_add(u32::from(is_by_two));
+                }
+            }
+        }
+        // The pairs are of each kind.
+        assert!(rt;
+            same > 300 && apart > 300 && by_two > 20,
+            "{same} {apart} {by_two}"
+        );
+        Ok(())
+    }
+
+    // They differ for a member of two groups alone, or not at all.
+    #[test]
+    fn compare_finds_what_the_plain_search_finds_of_many_groups(rt: HostRuntime) {
+        for count in [41, 64, 128u8] {
+            assert!(rt; found_of_groups(&rt, rt.alloc(), count, false) == Ok(Some(true)));
+            assert!(rt; found_of_groups(&rt, rt.alloc(), count, true) == Ok(None));
+        }
     }
 }

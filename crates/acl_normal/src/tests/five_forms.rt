@@ -1,9 +1,10 @@
 //! The five forms of lists of one ACE, by its flags.
 
+use super::harness::{ALLOW, READ_DATA, built, kept, passes};
 use crate::*;
-use acl_nfs4::{AceRef, Acl, Flags, Kind, PushFault};
-use acl_perm::{Counted, Mask};
-use std::alloc::{AllocError, Global};
+use acl_nfs4::{Acl, PushFault};
+use acl_perm::Counted;
+use std::alloc::Global;
 use std::process::Abort;
 
 // The flags of an ACE that lets alice read, and whether it does so here, in a new file, in a new directory, and in a
@@ -21,27 +22,7 @@ static INHERITED: [(u32, [bool; 5]); 8] = [
 
 // A list of one ACE, which lets alice read.
 fn reading(alloc: Global, flags: u32) -> Result<Acl, PushFault> {
-    let mut list = Acl::new(alloc);
-    if let (Some(flags), Some(mask)) = (Flags::new(flags), Mask::new(1)) {
-        list.push(AceRef {
-            kind: Kind::Allow,
-            flags,
-            mask,
-            who: b"alice",
-        })?;
-    }
-    Ok(list)
-}
-
-fn kept<T>(answer: Result<T, AllocError>) -> Result<T, PushFault> {
-    match answer {
-        Ok(value) => Ok(value),
-        Err(_) => Err(PushFault::Memory),
-    }
-}
-
-fn passes(answer: Result<(), PushFault>) -> bool {
-    matches!(answer, Ok(()) | Err(PushFault::Memory))
+    built(alloc, &[(ALLOW, flags, READ_DATA, b"alice".as_slice())])
 }
 
 fn forms_of(alloc: Global, flags: u32) -> Result<FiveForms, PushFault> {
@@ -76,13 +57,8 @@ fn five_forms(rt: &impl Abort, alloc: Global) -> Result<(), PushFault> {
 
 // A list has five forms, by the flags of its ACEs.
 #[test]
-fn lists_have_five_forms(rt: HostRuntime) {
+fn five_forms_follow_the_flags(rt: HostRuntime) {
     assert!(rt; passes(five_forms(&rt, rt.alloc())));
-}
-
-#[test]
-fn ample_five_forms(rt: HostRuntime) {
-    assert!(rt; five_forms(&rt, rt.alloc()).is_ok());
 }
 
 fn is_same(alloc: Global, forms: &FiveForms, other: &FiveForms) -> Result<bool, PushFault> {
@@ -102,13 +78,8 @@ fn copies(rt: &impl Abort, alloc: Global) -> Result<(), PushFault> {
 }
 
 #[test]
-fn copies_tell_paths_apart(rt: HostRuntime) {
+fn five_forms_are_equal_where_the_paths_agree(rt: HostRuntime) {
     assert!(rt; passes(copies(&rt, rt.alloc())));
-}
-
-#[test]
-fn ample_copies_of_five(rt: HostRuntime) {
-    assert!(rt; copies(&rt, rt.alloc()).is_ok());
 }
 
 // The five of an ACE for directories that goes no further: alice's here and in a new directory, and three empty ones.
@@ -144,19 +115,32 @@ fn cut_forms(rt: &impl Abort, alloc: Global) -> Result<(), PushFault> {
 }
 
 #[test]
-fn each_write_of_five_fails_in_turn(rt: HostRuntime) {
+fn five_forms_are_cut_where_a_write_fails(rt: HostRuntime) {
     assert!(rt; passes(cut_forms(&rt, rt.alloc())));
 }
 
-#[test]
-fn ample_bytes_of_five_forms(rt: HostRuntime) {
-    assert!(rt; cut_forms(&rt, rt.alloc()).is_ok());
-}
+mod ample {
+    use super::*;
 
-// A list knows how many bytes spell it.
-#[test]
-fn ample_lengths(rt: HostRuntime) {
-    let alloc = rt.alloc();
-    assert!(rt; Acl::new(alloc).encoded_len() == 4);
-    assert!(rt; matches!(reading(alloc, 0).map(|list| list.encoded_len()), Ok(28)));
+    #[test]
+    fn five_forms_follow_the_flags(rt: HostRuntime) {
+        assert!(rt; five_forms(&rt, rt.alloc()).is_ok());
+    }
+
+    #[test]
+    fn five_forms_are_equal_where_the_paths_agree(rt: HostRuntime) {
+        assert!(rt; copies(&rt, rt.alloc()).is_ok());
+    }
+
+    #[test]
+    fn five_forms_are_cut_where_a_write_fails(rt: HostRuntime) {
+        assert!(rt; cut_forms(&rt, rt.alloc()).is_ok());
+    }
+
+    #[test]
+    fn encoded_len_counts_the_bytes_of_a_list(rt: HostRuntime) {
+        let alloc = rt.alloc();
+        assert!(rt; Acl::new(alloc).encoded_len() == 4);
+        assert!(rt; matches!(reading(alloc, 0).map(|list| list.encoded_len()), Ok(28)));
+    }
 }

@@ -1,46 +1,49 @@
+//! Normal forms of worked lists, the rows that they come from, and their bytes.
+
+use super::harness::{AceRow, Dice, built, kept, passes};
 use crate::*;
-use acl_nfs4::{AceRef, Acl, Fault, Flags, Kind, PushFault, Reason};
+use acl_nfs4::{Acl, Fault, Kind, PushFault, Reason};
 use acl_perm::{Mask, Principal, Profile};
 use std::alloc::{AllocError, Global};
 use std::process::Abort;
 use std::test::Fail;
 
-// An ACE as its type, flags, mask and who.
-type Line = (Kind, u32, u32, &'static [u8]);
+const ALICE: AceRow = (Kind::Allow, 0, 1, b"alice");
 
-const ALICE: Line = (Kind::Allow, 0, 1, b"alice");
+const AMY: AceRow = (Kind::Allow, 0, 1, b"amy");
 
-const AMY: Line = (Kind::Allow, 0, 1, b"amy");
+const EVERYONE: AceRow = (Kind::Allow, 0, 1, b"EVERYONE@");
 
-const EVERYONE: Line = (Kind::Allow, 0, 1, b"EVERYONE@");
+const ALL: AceRow = (Kind::Allow, 0, 0x001f_07ff, b"EVERYONE@");
 
-const OPS: Line = (Kind::Allow, 0, 1, b"ops");
+const OPS: AceRow = (Kind::Allow, 0, 1, b"ops");
 
-const NO_BOB: Line = (Kind::Deny, 0, 1, b"bob");
+const NO_BOB: AceRow = (Kind::Deny, 0, 1, b"bob");
 
-const NO_OPS: Line = (Kind::Deny, 0x40, 1, b"ops");
+const NO_OPS: AceRow = (Kind::Deny, 0x40, 1, b"ops");
 
-const NO_STAFF: Line = (Kind::Deny, 0x40, 1, b"staff");
+const NO_STAFF: AceRow = (Kind::Deny, 0x40, 1, b"staff");
 
-const OWNER: Line = (Kind::Allow, 0, 1, b"OWNER@");
+const OWNER: AceRow = (Kind::Allow, 0, 1, b"OWNER@");
 
 // Bob may not write, and the owner may read and write.
-const NO_WRITE: [Line; 2] = [(Kind::Deny, 0, 2, b"bob"), (Kind::Allow, 0, 3, b"OWNER@")];
+const NO_WRITE: [AceRow; 2] = [(Kind::Deny, 0, 2, b"bob"), (Kind::Allow, 0, 3, b"OWNER@")];
 
 // Amy may read and execute, staff may not read, and all may execute.
-const STAFF: [Line; 3] = [
+const STAFF: [AceRow; 3] = [
     NO_STAFF,
     (Kind::Allow, 0, 0x21, b"amy"),
     (Kind::Allow, 0, 0x20, b"EVERYONE@"),
 ];
 
 // An ACE for new files, and one for the object.
-const FOR_FILES: [Line; 2] = [(Kind::Allow, 0x09, 1, b"amy"), AMY];
+const FOR_FILES: [AceRow; 2] = [(Kind::Allow, 0x09, 1, b"amy"), AMY];
 
 // Lists and their normal forms.
-static FORMS: [(&[Line], &[Line]); 18] = [
+static FORMS: [(&[AceRow], &[AceRow]); 19] = [
     (&[], &[]),
     (&[EVERYONE], &[EVERYONE]),
+    (&[ALL, ALL, ALL], &[ALL]),
     (&[NO_BOB, ALICE], &[ALICE]),
     (&[ALICE, NO_BOB], &[ALICE]),
     (&[NO_BOB, EVERYONE], &[NO_BOB, EVERYONE]),
@@ -96,31 +99,9 @@ static FORMS: [(&[Line], &[Line]); 18] = [
     ),
 ];
 
-fn built(alloc: Global, lines: &[Line]) -> Result<Acl, PushFault> {
-    let mut list = Acl::new(alloc);
-    for (kind, flags, mask, who) in lines {
-        if let (Some(flags), Some(mask)) = (Flags::new(*flags), Mask::new(*mask)) {
-            list.push(AceRef {
-                kind: *kind,
-                flags,
-                mask,
-                who: *who,
-            })?;
-        }
-    }
-    Ok(list)
-}
-
-fn kept<T>(answer: Result<T, AllocError>) -> Result<T, PushFault> {
-    match answer {
-        Ok(value) => Ok(value),
-        Err(_) => Err(PushFault::Memory),
-    }
-}
-
-// A test takes want of memory for an answer, where its twin named `ample..` does not.
-fn passes(answer: Result<(), PushFault>) -> bool {
-    matches!(answer, Ok(()) | Err(PushFault::Memory))
+/// The worked lists, with their normal forms.
+pub fn forms() -> &'static [(&'static [AceRow], &'static [AceRow])] {
+    &FORMS
 }
 
 fn has_form(alloc: Global, list: &Acl, wanted: &Acl) -> Result<bool, AllocError> {
@@ -138,7 +119,7 @@ fn is_normalized(alloc: Global, list: &Acl, wanted: &Acl) -> Result<bool, AllocE
 }
 
 fn normal_forms(rt: &impl Abort, alloc: Global) -> Result<(), PushFault> {
-    for (lines, form) in FORMS {
+    for (lines, form) in forms() {
         let list = built(alloc, lines)?;
         let wanted = built(alloc, form)?;
         assert!(rt; kept(is_normalized(alloc, &list, &wanted))?);
@@ -146,15 +127,9 @@ fn normal_forms(rt: &impl Abort, alloc: Global) -> Result<(), PushFault> {
     Ok(())
 }
 
-// A list has its normal form, which is its own.
 #[test]
-fn lists_have_normal_forms(rt: HostRuntime) {
+fn normal_form_of_a_worked_list_is_its_own(rt: HostRuntime) {
     assert!(rt; passes(normal_forms(&rt, rt.alloc())));
-}
-
-#[test]
-fn ample_normal_forms(rt: HostRuntime) {
-    assert!(rt; normal_forms(&rt, rt.alloc()).is_ok());
 }
 
 // The ACEs of a list, so many times.
@@ -168,21 +143,10 @@ fn repeated(alloc: Global, list: &Acl, times: usize) -> Result<Acl, PushFault> {
     Ok(whole)
 }
 
-// The heaviest list of one ACE, again and again.
-#[test]
-fn ample_an_ace_that_is_repeated(rt: HostRuntime) -> Result<(), PushFault> {
-    let line = (Kind::Allow, 0, 0x001f_07ff, b"EVERYONE@".as_slice());
-    let wanted = built(rt.alloc(), &[line])?;
-    let list = repeated(rt.alloc(), &wanted, 4096)?;
-    assert!(rt; is_normal(rt.alloc(), &list) == Ok(false));
-    assert!(rt; has_form(rt.alloc(), &list, &wanted) == Ok(true));
-    Ok(())
-}
-
 // Of a list and a right, the rows: the place, the type, the who, and whether it is the name of a group.
 type Shown = (usize, Kind, &'static [u8], bool);
 
-static TABLES: [(&[Line], u32, &[Shown]); 6] = [
+static TABLES: [(&[AceRow], u32, &[Shown]); 6] = [
     (
         &NO_WRITE,
         2,
@@ -225,9 +189,9 @@ fn is_table(alloc: Global, list: &Acl, bit: Mask, wanted: &[Shown]) -> Result<bo
 }
 
 fn tables(rt: &impl Abort, alloc: Global) -> Result<(), PushFault> {
-    for (lines, bits, wanted) in TABLES {
+    for (lines, bits, wanted) in &TABLES {
         let list = built(alloc, lines)?;
-        if let Some(bit) = Mask::new(bits) {
+        if let Some(bit) = Mask::new(*bits) {
             assert!(rt; kept(is_table(alloc, &list, bit, wanted))?);
         }
     }
@@ -236,13 +200,8 @@ fn tables(rt: &impl Abort, alloc: Global) -> Result<(), PushFault> {
 
 // A row tells the first ACE of its who that has the right and takes part.
 #[test]
-fn rows_tell_their_sources(rt: HostRuntime) {
+fn table_names_the_source_of_each_row(rt: HostRuntime) {
     assert!(rt; passes(tables(&rt, rt.alloc())));
-}
-
-#[test]
-fn ample_tables(rt: HostRuntime) {
-    assert!(rt; tables(&rt, rt.alloc()).is_ok());
 }
 
 const EMPTY: &[u8; 4] = b"\0\0\0\0";
@@ -277,30 +236,6 @@ fn is_answer(answer: Result<Vec<u8>, Fault>, wanted: Result<&'static [u8], Fault
     }
 }
 
-// The bytes of a normal form, of every right and within the narrow profile.
-#[test]
-fn ample_bytes_of_normal_forms(rt: HostRuntime) {
-    let rows: [(&[u8], Result<&'static [u8], Fault>); 6] = [
-        (EMPTY, Ok(EMPTY)),
-        (ALL_MAY_READ, Ok(ALL_MAY_READ)),
-        (SOURCE, Ok(FORM)),
-        (PADDED, fault(29, Reason::Padding)),
-        (TRAILED, fault(32, Reason::TrailingBytes)),
-        (RETENTION, Ok(RETENTION)),
-    ];
-    for (bytes, wanted) in rows {
-        assert!(rt; is_answer(normal_bytes(rt.alloc(), bytes), wanted));
-    }
-    let rows: [(&[u8], Result<&'static [u8], Fault>); 2] = [
-        (SOURCE, Ok(FORM)),
-        (RETENTION, fault(12, Reason::MaskBits)),
-    ];
-    for (bytes, wanted) in rows {
-        let answer = normal_bytes_with(rt.alloc(), bytes, Profile::NARROW);
-        assert!(rt; is_answer(answer, wanted));
-    }
-}
-
 // Bob's ACE waits before the owner's, which is free to write once bob's is out.
 fn bob_goes_first(rt: &impl Abort, rows: &mut MergedRows<'_>, read: Mask, write: Mask) {
     let bob = Principal::User(b"bob");
@@ -314,16 +249,6 @@ fn bob_goes_first(rt: &impl Abort, rows: &mut MergedRows<'_>, read: Mask, write:
     assert!(rt; rows.is_free(Principal::Owner, write));
 }
 
-#[test]
-fn ample_rows_are_freed(rt: HostRuntime) -> Result<(), Fail> {
-    let read = Mask::new(1).ok_or("no such right")?;
-    let write = Mask::new(2).ok_or("no such right")?;
-    let list = built(rt.alloc(), &NO_WRITE)?;
-    let mut rows = MergedRows::new(rt.alloc(), &list)?;
-    bob_goes_first(&rt, &mut rows, read, write);
-    Ok(())
-}
-
 // Whom the ACEs of the lists below name, and with which flags.
 static NAMED: [(&[u8], u32); 6] = [
     (b"OWNER@", 0),
@@ -335,7 +260,7 @@ static NAMED: [(&[u8], u32); 6] = [
 ];
 
 // An ACE of one or two bits, of 36.
-fn chosen(number: usize) -> Line {
+fn chosen(number: usize) -> AceRow {
     let (who, flags) = NAMED[number % 6];
     let kind = if number / 6 % 2 == 0 {
         Kind::Deny
@@ -350,27 +275,18 @@ fn chosen(number: usize) -> Line {
     (kind, flags, mask, who)
 }
 
-// The next number of a row of numbers that repeats late.
-fn after(number: u32) -> u32 {
-    number.wrapping_mul(1_103_515_245).wrapping_add(12_345)
+fn chosen_rows(alloc: Global, count: usize, dice: &mut Dice) -> Result<Vec<AceRow>, AllocError> {
+    let mut rows = Vec::new(alloc);
+    for _place in 0..count {
+        rows.push(chosen(dice.below(36) as usize))?;
+    }
+    Ok(rows)
 }
 
-// A list of so many ACEs, chosen by the numbers from one on.
-fn chosen_list(alloc: Global, count: usize, number: &mut u32) -> Result<Acl, PushFault> {
-    let mut list = Acl::new(alloc);
-    for _place in 0..count {
-        *number = after(*number);
-        let (kind, flags, mask, who) = chosen((*number >> 16) as usize);
-        if let (Some(flags), Some(mask)) = (Flags::new(flags), Mask::new(mask)) {
-            list.push(AceRef {
-                kind,
-                flags,
-                mask,
-                who,
-            })?;
-        }
-    }
-    Ok(list)
+// A list of so many ACEs.
+fn chosen_list(alloc: Global, count: usize, dice: &mut Dice) -> Result<Acl, PushFault> {
+    let rows = kept(chosen_rows(alloc, count, dice))?;
+    built(alloc, &rows)
 }
 
 fn is_one_form(alloc: Global, list: &Acl) -> Result<bool, AllocError> {
@@ -380,15 +296,73 @@ fn is_one_form(alloc: Global, list: &Acl) -> Result<bool, AllocError> {
     Ok(is_normal && form == plain)
 }
 
-// Both ways to the normal form give one list, which is normal: 2,400 lists of up to four ACEs.
-#[test]
-fn ample_both_ways(rt: HostRuntime) -> Result<(), PushFault> {
-    let mut number = 1u32;
-    for round in 0..2400usize {
-        let count = round % 4 + 1;
-        let list = chosen_list(rt.alloc(), count, &mut number)?;
-        assert!(rt; list.len() == count);
-        assert!(rt; kept(is_one_form(rt.alloc(), &list))?);
+mod ample {
+    use super::*;
+
+    #[test]
+    fn normal_form_of_a_worked_list_is_its_own(rt: HostRuntime) {
+        assert!(rt; normal_forms(&rt, rt.alloc()).is_ok());
     }
-    Ok(())
+
+    // The heaviest list of one ACE, again and again.
+    #[test]
+    fn normal_form_of_an_ace_that_is_repeated(rt: HostRuntime) -> Result<(), PushFault> {
+        let wanted = built(rt.alloc(), &[ALL])?;
+        let list = repeated(rt.alloc(), &wanted, 4096)?;
+        assert!(rt; is_normal(rt.alloc(), &list) == Ok(false));
+        assert!(rt; has_form(rt.alloc(), &list, &wanted) == Ok(true));
+        Ok(())
+    }
+
+    #[test]
+    fn table_names_the_source_of_each_row(rt: HostRuntime) {
+        assert!(rt; tables(&rt, rt.alloc()).is_ok());
+    }
+
+    // The bytes of a normal form, of every right and within the narrow profile.
+    #[test]
+    fn normal_bytes_spell_the_form_or_tell_the_fault(rt: HostRuntime) {
+        let rows: [(&[u8], Result<&'static [u8], Fault>); 6] = [
+            (EMPTY, Ok(EMPTY)),
+            (ALL_MAY_READ, Ok(ALL_MAY_READ)),
+            (SOURCE, Ok(FORM)),
+            (PADDED, fault(29, Reason::Padding)),
+            (TRAILED, fault(32, Reason::TrailingBytes)),
+            (RETENTION, Ok(RETENTION)),
+        ];
+        for (bytes, wanted) in rows {
+            assert!(rt; is_answer(normal_bytes(rt.alloc(), bytes), wanted));
+        }
+        let rows: [(&[u8], Result<&'static [u8], Fault>); 2] = [
+            (SOURCE, Ok(FORM)),
+            (RETENTION, fault(12, Reason::MaskBits)),
+        ];
+        for (bytes, wanted) in rows {
+            let answer = normal_bytes_with(rt.alloc(), bytes, Profile::NARROW);
+            assert!(rt; is_answer(answer, wanted));
+        }
+    }
+
+    #[test]
+    fn merged_rows_are_freed_by_what_is_emitted(rt: HostRuntime) -> Result<(), Fail> {
+        let read = Mask::new(1).ok_or("no such right")?;
+        let write = Mask::new(2).ok_or("no such right")?;
+        let list = built(rt.alloc(), &NO_WRITE)?;
+        let mut rows = MergedRows::new(rt.alloc(), &list)?;
+        bob_goes_first(&rt, &mut rows, read, write);
+        Ok(())
+    }
+
+    // Both bodies make one list, which is normal: of 2,400 lists of up to four ACEs.
+    #[test]
+    fn normal_form_is_that_of_the_plain_body(rt: HostRuntime) -> Result<(), PushFault> {
+        let mut dice = Dice { state: 1 };
+        for round in 0..2400usize {
+            let count = round % 4 + 1;
+            let list = chosen_list(rt.alloc(), count, &mut dice)?;
+            assert!(rt; list.len() == count);
+            assert!(rt; kept(is_one_form(rt.alloc(), &list))?);
+        }
+        Ok(())
+    }
 }

@@ -1,0 +1,74 @@
+//! What the tests of this crate share: lists by rows, and how a table takes want of memory.
+
+use acl_nfs4::{AceRef, Acl, PushFault};
+use acl_perm::{Flags, Kind, Mask};
+use std::alloc::{AllocError, Global};
+
+/// An ACE as its type, flags, mask and who.
+pub type AceRow = (Kind, u32, u32, &'static [u8]);
+
+pub const ALLOW: Kind = Kind::Allow;
+
+pub const DENY: Kind = Kind::Deny;
+
+pub const READ_DATA: u32 = 1;
+
+pub const WRITE_DATA: u32 = 2;
+
+pub const EXECUTE: u32 = 0x20;
+
+pub const INHERIT_ONLY: u32 = 0x08;
+
+pub const GROUP: u32 = 0x40;
+
+// The ACE of a row.
+fn item((kind, flags, mask, who): AceRow) -> Option<AceRef<'static>> {
+    Some(AceRef {
+        kind,
+        flags: Flags::new(flags)?,
+        mask: Mask::new(mask)?,
+        who,
+    })
+}
+
+/// The list of some rows.
+pub fn built(alloc: Global, rows: &[AceRow]) -> Result<Acl, PushFault> {
+    let mut list = Acl::new(alloc);
+    for row in rows {
+        if let Some(ace) = item(*row) {
+            list.push(ace)?;
+        }
+    }
+    Ok(list)
+}
+
+/// Want of memory as a list tells it. Tables answer it where they meet it, and each runs twice: once with that for an
+/// answer, and in a module `ample` without.
+pub fn kept<T>(answer: Result<T, AllocError>) -> Result<T, PushFault> {
+    match answer {
+        Ok(value) => Ok(value),
+        Err(_) => Err(PushFault::Memory),
+    }
+}
+
+/// Whether a table holds, as far as memory went.
+pub fn passes(answer: Result<(), PushFault>) -> bool {
+    matches!(answer, Ok(()) | Err(PushFault::Memory))
+}
+
+/// Numbers that look random.
+#[derive(Drop)]
+pub struct Dice {
+    pub state: u32,
+}
+
+impl Dice {
+    /// A number below a bound.
+    pub fn below(&mut self, bound: u32) -> u32 {
+        self.state = self
+            .state
+            .wrapping_mul(1_664_525)
+            .wrapping_add(1_013_904_223);
+        (self.state >> 8).checked_rem(bound).unwrap_or(0)
+    }
+}
