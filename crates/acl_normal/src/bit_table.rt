@@ -1,5 +1,5 @@
 //! The table of one right: what the normal form says of it, and where that comes from.
-ghost use Rattle.std.specs.Prelude.{◌≡◌, ◌<◌, ℕ, List, [], IfOk, OnOk, length, slice_index_or};
+ghost use Rattle.std.specs.Prelude.{◌≡◌, ◌<◌, ℕ, List, [], IfOk, IsOkAnd, OnOk, length, slice_index_or};
 ghost use Rattle.acl_perm.specs.Bits.{IsMask};
 ghost use Rattle.acl_nfs4.specs.Ace.{Ace};
 ghost use Rattle.acl_normal.specs.internal.Emitted.{emitted_ace, emitted_aces};
@@ -35,15 +35,14 @@ pub struct Row {
 /// right there is no row.
 pub fn table(alloc: Global, list: &Acl, bit: Mask) -> Result<Vec<Row>, AllocError>
     ensures rows { IfOk result (λ rows. (b : ℕ) → IsLowest b bit.bits → IsTable b list.now rows.items) }
-    ensures none { bit.bits ≡ 0 → IfOk result (λ rows. rows.items ≡ []) }
+    ensures none { bit.bits ≡ 0 → IsOkAnd result (λ rows. rows.items ≡ []) }
 {
-    if bit.bits() == 0 {
+    let Some(right) = lowest(bit) else {
         return Ok(Vec::new(alloc));
-    }
-    let bit = lowest(bit);
+    };
     let rows = reduced_rows(alloc, list)?;
     let form = form_of(alloc, list)?;
-    let table = rows_of(alloc, &rows, &form, bit)?;
+    let table = rows_of(alloc, &rows, &form, right.bit)?;
     Ok(table)
 }
 

@@ -1,5 +1,5 @@
 //! The normal form of a list of ACEs.
-ghost use Rattle.std.specs.Prelude.{◌≡◌, ◌⊎◌, ◌↔◌, ◌∷◌, ◌++◌, [], List, IfErr, IfOk, IsTrue, OnOk};
+ghost use Rattle.std.specs.Prelude.{◌≡◌, ◌⊎◌, ◌↔◌, ◌∷◌, ◌++◌, [], ℕ, List, Err, IfErr, IfOk, IsOk, IsTrue, OnOk};
 ghost use Rattle.acl_perm.specs.Bits.{IsMask};
 ghost use Rattle.acl_perm.specs.Principal.{principal};
 ghost use Rattle.acl_perm.specs.Profile.{full, profile_of};
@@ -7,6 +7,7 @@ ghost use Rattle.acl_nfs4.specs.Ace.{Ace, ace};
 ghost use Rattle.acl_nfs4.specs.Fault.{IsWholeFault};
 ghost use Rattle.acl_nfs4.specs.Spelling.{IsAccepted, spelling};
 ghost use Rattle.acl_nfs4.specs.Stream.{no_memory};
+ghost use Rattle.acl_nfs4.specs.declared.fault.Reason.{Reason};
 ghost use Rattle.acl_normal.specs.internal.Emitted.{emitted_ace, emitted_aces};
 ghost use Rattle.acl_normal.specs.Normal.{IsNormal, flags_for};
 ghost use Rattle.acl_normal.specs.NormalForm.{IsNormalFormOf, Normalises};
@@ -21,15 +22,22 @@ use std::alloc::{AllocError, Global};
 /// The normal form of a list: the one list that grants the same in every situation, in which each bit is needed, and
 /// which stands in one order. It takes time that is nearly linear in the bytes of the list.
 pub fn normalize(alloc: Global, list: &Acl) -> Result<Acl, AllocError>
-    ensures { IfOk result (λ form. IsNormalFormOf list.now form) }
+    ensures form { IfOk result (λ form. IsNormalFormOf list.now form) }
+    // The empty list takes no memory.
+    ensures empty { list.now ≡ [] → IsOk result }
 {
+    if list.is_empty() {
+        return Ok(Acl::new(alloc));
+    }
     let form = form_of(alloc, list)?;
     written(alloc, &form)
 }
 
 /// Whether a list is its own normal form.
 pub fn is_normal(alloc: Global, list: &Acl) -> Result<bool, AllocError>
-    ensures { IfOk result (λ answer. IsTrue answer ↔ IsNormal list.now) }
+    ensures answer { IfOk result (λ answer. IsTrue answer ↔ IsNormal list.now) }
+    // For the empty list it takes no memory.
+    ensures empty { list.now ≡ [] → IsOk result }
 {
     let form = normalize(alloc, list)?;
     Ok(form == *list)
@@ -40,6 +48,9 @@ pub fn normal_bytes(alloc: Global, bytes: &[u8]) -> Result<Vec<u8>, Fault>
     ensures ok { IfOk result (λ text. Normalises full bytes.now text.items) }
     // A fault is that of the bytes, or want of memory.
     ensures fault { IfErr result (λ f. (f ≡ no_memory) ⊎ IsWholeFault full bytes.now f.offset f.reason) }
+    // Bytes with a fault are refused by it, and never for want of memory.
+    ensures refused { (offset : ℕ) (r : Reason) → IsWholeFault full bytes.now offset r
+        → result ≡ Err (record { offset = offset; reason = r }) }
 {
     normal_bytes_with(alloc, bytes, Profile::FULL)
 }
@@ -49,6 +60,8 @@ pub fn normal_bytes_with(alloc: Global, bytes: &[u8], profile: Profile) -> Resul
     ensures ok { IfOk result (λ text. Normalises (profile_of profile) bytes.now text.items) }
     ensures fault { IfErr result (λ f. (f ≡ no_memory)
         ⊎ IsWholeFault (profile_of profile) bytes.now f.offset f.reason) }
+    ensures refused { (offset : ℕ) (r : Reason) → IsWholeFault (profile_of profile) bytes.now offset r
+        → result ≡ Err (record { offset = offset; reason = r }) }
 {
     let view = AclView::parse_whole_with(bytes, profile)?;
     match spelled_form(alloc, &view) {

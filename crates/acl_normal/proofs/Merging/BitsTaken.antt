@@ -2,7 +2,6 @@
 use Rattle.std.specs.Prelude.{◌≡◌, ℕ, ◌+◌, ◌<◌, ◌≤◌, ◌^◌, zero, suc, Bool, true, false, not, ◌||◌, ◌&&◌, ◌==◌, nat_lt, List, [], ◌∷◌, bit_or, refl, length, slice_index_or}
 use Rattle.std.proofs.Common.{sym, ◌∙◌, ap, arith, ⊎_elim, add-one}
 use Rattle.std.proofs.lemmas.Bool.{cases_eq, eq-eqb, ne_eqb, cases_lt, le-ltb, lt-ltb}
-use Rattle.std.proofs.lemmas.Nat.Bits.{bit_at-zero}
 use Rattle.acl_perm.specs.Principal.{Principal}
 use Rattle.acl_perm.specs.Bits.{has_bit}
 use Rattle.acl_perm.proofs.Sets.{has_bit-or}
@@ -16,11 +15,8 @@ use Rattle.acl_normal.specs.Normal.{is_inherit_only}
 use Rattle.acl_normal.specs.internal.Shown.{with_masks}
 use Rattle.acl_normal.specs.Places.{without_bits, take_out, key_here}
 use Rattle.acl_normal.specs.internal.Ready.{low_bits}
-use Rattle.acl_normal.proofs.Unique.Bits.{masks_same}
+use Rattle.acl_normal.proofs.Unique.Bits.{masks_same, no_bits_of_zero}
 use Rattle.acl_normal.proofs.Merging.BitTaken.{power_is}
-
-no_bits_of_zero : (b : ℕ) → has_bit 0 b ≡ false
-no_bits_of_zero b = ap (λ v. v == 1) (bit_at-zero b)
 
 -- no bits taken out leave the ACE
 pub without_nothing : (p : Principal) (a : Ace) → without_bits p 0 a ≡ a

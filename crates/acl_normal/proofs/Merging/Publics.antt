@@ -110,9 +110,9 @@ lowest_is bits n before here b (has, lacks) = ⊎_elim (λ g. absurd (above g))
         clash : false ≡ true → ⊥
         clash e = cc
 
--- without a right there is none
-pub no_lowest : (bits : ℕ) → IsMask bits → LacksBelow bits 21 → (b : ℕ) → IsLowest b bits → 0 ≡ b
-no_lowest bits is lacks b (has, before) = absurd (clash (sym (lacks b (right_below bits b is has)) ∙ has))
+-- a set with a lowest right has one below the last place
+pub some_lowest : (bits : ℕ) → IsMask bits → LacksBelow bits 21 → (b : ℕ) → IsLowest b bits → ⊥
+some_lowest bits is lacks b (has, before) = absurd (clash (sym (lacks b (right_below bits b is has)) ∙ has))
   where
     clash : false ≡ true → ⊥
     clash e = cc

@@ -8,7 +8,6 @@ use Rattle.std.specs.declared.collections.VecDeque.{VecDeque}
 use Rattle.std.specs.declared.collections.BTreeSet.{BTreeSet}
 use Rattle.std.proofs.Common.{sym, ◌∙◌, ap, subst, arith, Global, inl, inr, ⊎_elim}
 use Rattle.std.proofs.lemmas.Bool.{cases_eq, cases_lt, lt-ltb, le-ltb, and_parts, false_from_ne_true}
-use Rattle.std.proofs.lemmas.Nat.Bits.{bit_at-zero}
 use Rattle.std.proofs.lemmas.List.{append-nil, get_or-set_same, get_or-set_other, map-set, take_more, length-map}
 use Rattle.acl_perm.specs.Bits.{has_bit}
 use Rattle.acl_perm.specs.declared.kind.Kind.{Kind}
@@ -21,6 +20,7 @@ use Rattle.acl_normal.specs.Places.{counts, is_user, is_waiting, same_class, slo
 use Rattle.acl_normal.specs.internal.Shown.{with_masks}
 use Rattle.acl_normal.specs.internal.Waiting.{HoldWaiting, Notes, places_of}
 use Rattle.acl_normal.proofs.Merging.BitTaken.{NoKeys, class_same, is_eq_itself, is_eq_same, slot_below, slot_same}
+use Rattle.acl_normal.proofs.Unique.Bits.{no_bits_of_zero}
 use Rattle.acl_normal.proofs.Unique.Free.{kind_eq_same, kind_eq_itself}
 use Rattle.acl_normal.proofs.Unique.Outline.{length_shown}
 
@@ -273,11 +273,8 @@ quiet_counts b a quiet = go (is_inherit_only a) refl
         kept true = refl
         kept false = refl
     go true e =
-        let none : has_bit a.mask b ≡ false = ap (λ m. has_bit m b) (quiet e) ∙ no_bit_of_zero b in
+        let none : has_bit a.mask b ≡ false = ap (λ m. has_bit m b) (quiet e) ∙ no_bits_of_zero b in
         rw (none) refl
-      where
-        no_bit_of_zero : (b : ℕ) → has_bit 0 b ≡ false
-        no_bit_of_zero b = ap (λ v. v == 1) (bit_at-zero b)
 
 -- an ACE of a quiet list is quiet
 pub quiet_at : (xs : List Ace) (i : ℕ) (d : Ace) → IsQuiet xs → i < length xs

@@ -7,7 +7,10 @@ use Rattle.std.proofs.Common.{sym, ◌∙◌, ap, arith}
 use Rattle.std.proofs.lemmas.Bool.{or_left, or_right, or_from, false_from_ne_true}
 use Rattle.acl_perm.specs.declared.kind.Kind.{Kind}
 use Rattle.acl_nfs4.specs.Ace.{Ace}
+use Rattle.acl_eval.specs.Column.{column}
+use Rattle.acl_normal.specs.Keys.{ace_key}
 use Rattle.acl_normal.specs.Places.{is_waiting, waits, waits_before}
+use Rattle.acl_normal.proofs.Unique.Columns.{column_has, column_lacks, counts}
 
 -- none before, if none of the lesser places waits
 pub before_none : (k : Kind) (u : Bool) (b : ℕ) (xs : List Ace) (i : ℕ) → ((j : ℕ) → j < i → waits k u b xs j ≡ false)
@@ -61,3 +64,17 @@ first_before k u b xs keys i first false w has least up down =
 pub empty_keys : (keys : List ℕ) → (0 < length keys → false ≡ true) → keys ≡ []
 empty_keys [] h = refl
 empty_keys (k ∷ keys) h = cc (h (omega arith))
+
+-- at a bit that no ACE has nothing waits
+pub waits_nowhere : (k : Kind) (u : Bool) (b : ℕ) (xs : List Ace) (i : ℕ) → column xs b ≡ [] → waits k u b xs i ≡ false
+waits_nowhere k u b [] i h = refl
+waits_nowhere k u b (a ∷ xs) i h = go i (counts b a) refl (waits_nowhere k u b xs)
+  where
+    clash : [] ≡ ace_key a ∷ column xs b → ⊥
+    clash e = cc
+
+    go : (i : ℕ) (t : Bool) → counts b a ≡ t → ((j : ℕ) → column xs b ≡ [] → waits k u b xs j ≡ false)
+        → waits k u b (a ∷ xs) i ≡ false
+    go i true e rest = absurd (clash (sym h ∙ column_has b a xs e))
+    go zero false e rest = rw e refl
+    go (suc i) false e rest = rest i (sym (column_lacks b a xs e) ∙ h)

@@ -2,7 +2,6 @@
 use Rattle.std.specs.Prelude.{◌≡◌, ℕ, ◌<◌, ◌≤◌, suc, Bool, true, false, cond, not, ◌||◌, ◌&&◌, ◌==◌, List, [], ◌∷◌, ◌++◌, Option, Some, None, is_some, is_none, option_map, length, replicate, take, slice_set, slice_index_or, bit_or, refl}
 use Rattle.std.proofs.Common.{sym, ◌∙◌, ap, subst, arith, add-one}
 use Rattle.std.proofs.lemmas.List.{append-nil, get_or-replicate, get_or-set_same, get_or-set_other, length-replicate, length-set, length-take-le, take_all, take_more}
-use Rattle.std.proofs.lemmas.Nat.Bits.{bit_at-zero}
 use Rattle.acl_perm.specs.Bits.{has_bit}
 use Rattle.acl_perm.specs.Principal.{Principal, everyone}
 use Rattle.acl_perm.specs.Profile.{full}
@@ -25,7 +24,7 @@ use Rattle.acl_normal.specs.internal.Plain.{unshadowed}
 use Rattle.acl_normal.specs.internal.Rows.{AreRowNumbers, is_named, row_of}
 use Rattle.acl_normal.specs.internal.Shown.{with_masks}
 use Rattle.acl_normal.proofs.Unique.Accepted.{accepted_masks}
-use Rattle.acl_normal.proofs.Unique.Bits.{no_bits}
+use Rattle.acl_normal.proofs.Unique.Bits.{no_bits, no_bits_of_zero}
 use Rattle.acl_normal.proofs.Unique.Columns.{column_first}
 use Rattle.acl_normal.proofs.Merging.BitTaken.{same_default}
 use Rattle.acl_normal.proofs.Unique.FirstKind.{none_within}
@@ -270,9 +269,6 @@ pub record HoldsSeen (whole : List Ace) (seen : List ℕ) (all : ℕ) (xs : List
   pub rows : (p : Principal) → is_named p whole ≡ true → (b : ℕ)
       → has_bit (slice_index_or seen (row_of p whole) 0) b ≡ is_some (first_kind (is_either p p) (column xs b))
   pub everyone : (b : ℕ) → has_bit all b ≡ is_some (first_kind (is_either everyone everyone) (column xs b))
-
-no_bits_of_zero : (b : ℕ) → has_bit 0 b ≡ false
-no_bits_of_zero b = ap (λ v. v == 1) (bit_at-zero b)
 
 -- before the first place
 pub seen_start : (whole : List Ace) (seen : List ℕ) → seen ≡ replicate (length whole) 0 → HoldsSeen whole seen 0 []

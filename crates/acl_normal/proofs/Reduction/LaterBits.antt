@@ -4,7 +4,7 @@ use Rattle.std.specs.Int.{bit_at}
 use Rattle.std.proofs.Common.{sym, ◌∙◌, ap, subst, arith}
 use Rattle.std.proofs.lemmas.Bool.{eq-eqb, ne_eqb, eqb-true}
 use Rattle.std.proofs.lemmas.List.{take_all, take_more}
-use Rattle.std.proofs.lemmas.Nat.Bits.{bit_at_and, bit_at-zero, bit_at-lt}
+use Rattle.std.proofs.lemmas.Nat.Bits.{bit_at_and, bit_at-lt}
 use Rattle.acl_perm.specs.Principal.{Principal, everyone}
 use Rattle.acl_perm.specs.declared.kind.Kind.{Kind}
 use Rattle.acl_perm.specs.declared.kind.Kind.TheVariants.{Deny, Allow}
@@ -27,7 +27,7 @@ use Rattle.acl_normal.specs.declared.reduce.needless.Later.{Later}
 use Rattle.acl_normal.specs.declared.rows.merged.MergedRows.TheInside.{Inside}
 use Rattle.acl_normal.specs.internal.Merged.{left_of, IsRight}
 use Rattle.acl_normal.specs.internal.Needed.{default_at, later_mask, opposes, is_kept}
-use Rattle.acl_normal.proofs.Unique.Bits.{no_bit}
+use Rattle.acl_normal.proofs.Unique.Bits.{no_bit, no_bits_of_zero}
 use Rattle.acl_normal.proofs.Reduction.FirstMasks.{masked}
 use Rattle.acl_normal.proofs.Unique.Names.{principal_eq_same}
 use Rattle.acl_normal.proofs.Unique.Normal.{counts_mask}
@@ -44,10 +44,6 @@ has_bit-and m n b = go (has_bit m b) refl (has_bit n b) refl
         rw (e, f) (ne_eqb _ _ (λ g. absurd
         (omega (arith, g, bit_at_and m n b, eqb-true (bit_at m b) 1 e, no_bit n b f))))
     go false e t f = rw e (ne_eqb _ _ (λ g. absurd (omega (arith, g, bit_at_and m n b, no_bit m b e, bit_at-lt n b))))
-
--- no mask, no bit
-pub no_bits_of_zero : (b : ℕ) → has_bit 0 b ≡ false
-no_bits_of_zero b = ap (λ v. v == 1) (bit_at-zero b)
 
 -- ---- the four masks
 

@@ -24,8 +24,7 @@ use Rattle.acl_normal.specs.Left.{IsTidy, KeepsFirsts}
 use Rattle.acl_normal.specs.internal.Shown.{with_masks}
 use Rattle.acl_normal.specs.declared.reduce.needless.Later.{Later}
 use Rattle.acl_normal.specs.internal.Needed.{default_at, some_of, later_mask, opposes, is_kept}
-use Rattle.acl_normal.proofs.Unique.Bits.{masks_same}
-use Rattle.acl_normal.proofs.Reduction.LaterBits.{no_bits_of_zero}
+use Rattle.acl_normal.proofs.Unique.Bits.{masks_same, no_bits_of_zero}
 use Rattle.acl_normal.proofs.Unique.Names.{principal_eq_itself, principal_eq_same, overlaps_back}
 use Rattle.acl_normal.proofs.Unique.ListColumns.{column-append}
 use Rattle.acl_normal.proofs.Unique.Normal.{counts_mask, quiet_at}

@@ -11,6 +11,10 @@ use Rattle.acl_perm.specs.Bits.{has_bit}
 pub use Rattle.acl_perm.proofs.Sets.{same_set as masks_same}
 use Rattle.acl_eval.specs.Scan.{without}
 
+-- no mask, no bit
+pub no_bits_of_zero : (b : ℕ) → has_bit 0 b ≡ false
+no_bits_of_zero b = ap (λ v. v == 1) (bit_at-zero b)
+
 -- a power of two has its bit
 pub has_power : (b : ℕ) → has_bit (2 ^ b) b ≡ true
 has_power b = rw bit_at-pow_same refl

@@ -246,3 +246,20 @@ form_from source xs t ok = record {
   where
     same_itself : (list : List Ace) → SameGrants all_rights list list
     same_itself list s valid request within = ((λ g. g), (λ g. g))
+
+-- the empty list is its own normal form
+pub empty_form : IsNormalFormOf [] []
+empty_form = form_from [] [] (record {
+  normal = record {
+    irreducible = record { no_empty_mask = tt; needed = λ l a r bit is has same. nothing l a r is };
+    ordered = tt;
+    flags = tt;
+  };
+  grants = λ s valid request within. ((λ g. g), (λ g. g));
+  lighter = omega arith;
+  comes = λ b e h. h;
+}) (record { count = omega arith; weight = omega arith; each = tt })
+  where
+    nothing : (l : List Ace) (a : Ace) (r : List Ace) → [] ≡ l ++ a ∷ r → ⊥
+    nothing [] a r is = cc
+    nothing (b ∷ l) a r is = cc

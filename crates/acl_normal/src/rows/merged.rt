@@ -1,5 +1,5 @@
 //! What is left of a list, by rows and by places that wait.
-ghost use Rattle.std.specs.Prelude.{◌≡◌, ℕ, ◌*◌, ◌<◌, ◌≤◌, ◌^◌, true, false, not, ◌||◌, [], length, vec_len, ◌↔◌, IfNone, IfOk, IfSome, IsTrue, OnOk, None};
+ghost use Rattle.std.specs.Prelude.{◌≡◌, ℕ, ◌*◌, ◌<◌, ◌≤◌, ◌^◌, true, false, not, ◌||◌, [], length, vec_len, ◌↔◌, IfNone, IfOk, IfSome, IsTrue, OnOk, None, Some, option_map};
 ghost use Rattle.std.specs.Ordering.{nat_cmp};
 ghost use Rattle.std.specs.BTreeSet.{contains};
 ghost use Rattle.acl_perm.specs.Bits.{all_rights, has_bit};
@@ -24,7 +24,7 @@ use crate::rows::numbers::{RowNumbers, find_row};
 use crate::rows::waiting::waiting_sets;
 use crate::words::{is_user, other, slot};
 use acl_nfs4::{AceRef, Acl};
-use acl_perm::{Key, Kind, Mask, Principal};
+use acl_perm::{Key, Kind, Mask, Principal, Right};
 use std::alloc::{AllocError, Global};
 use std::collections::BTreeSet;
 use std::marker::Model;
@@ -56,17 +56,21 @@ impl<'a> Model for MergedRows<'a> {
     ghost invariant = { IsRight };
 }
 
-// The lowest of some rights.
-pub(crate) fn lowest(bits: Mask) -> usize
-    ensures bound { result < 21 }
-    ensures lowest { (bit : ℕ) → IsLowest bit bits.bits → result ≡ bit }
+// A bit below 21 that is in no mask.
+const NO_RIGHT: Right = Right { bit: 11 };
+
+// The lowest of some rights, if there are any.
+pub(crate) fn lowest(bits: Mask) -> Option<Right>
+    ensures some { (bit : ℕ) → IsLowest bit bits.bits → option_map (λ right. right.bit) result ≡ Some bit }
+    ensures none { bits.bits ≡ 0 → result ≡ None }
 {
-    for bit in 0..21usize {
-        if has(bits.bits(), bit) {
-            return bit;
+    for bit in 0..Right::COUNT {
+        let right = Right { bit };
+        if bits.has(right) {
+            return Some(right);
         }
     }
-    0
+    None
 }
 
 impl<'a> MergedRows<'a> {
@@ -85,7 +89,7 @@ impl<'a> MergedRows<'a> {
     }
 
     /// Takes rights of a principal out of what is left. Those that it hasn't there are ignored. It takes no memory.
-    pub fn emit(&mut self, p: Principal<'a>, bits: Mask)
+    pub fn emit(&mut self, p: Principal<'_>, bits: Mask)
         ensures { self.new ≡ take_out (principal p.entry) bits.bits self.old }
     {
         self.emit_bits(p, bits.bits());
@@ -93,7 +97,7 @@ impl<'a> MergedRows<'a> {
 
     /// Whether the principal has one of these rights in what is left and is free on it: no ACE before its own
     /// conflicts with that on the right. It takes no memory.
-    pub fn is_free(&self, p: Principal<'a>, bits: Mask) -> bool
+    pub fn is_free(&self, p: Principal<'_>, bits: Mask) -> bool
         ensures { IsTrue result ↔ HasFree self.now (principal p.entry) bits.bits }
     {
         for bit in 0..21usize {
@@ -105,12 +109,20 @@ impl<'a> MergedRows<'a> {
     }
 
     /// The places that wait with a right: those of the ACEs of what is left that have it, are of the type, and name a
-    /// user (`users`) or another principal. Of several rights it is the lowest. It takes no memory.
+    /// user (`users`) or another principal. Of several rights it is the lowest, and of none no place waits. It takes no
+    /// memory.
     pub fn waiting(&self, kind: Kind, users: bool, bits: Mask) -> &BTreeSet<usize>
-        ensures { (bit : ℕ) → IsLowest bit bits.bits → (place : ℕ)
+        ensures places { (bit : ℕ) → IsLowest bit bits.bits → (place : ℕ)
             → contains nat_cmp result.now place ≡ waits kind users bit self.now place }
+        // Of no right it is empty.
+        ensures none { bits.bits ≡ 0 → (place : ℕ) → contains nat_cmp result.now place ≡ false }
     {
-        self.waiting_at(kind, users, lowest(bits))
+        // That a field is looked at lets the check see what the fields are to the list that is left.
+        let _ = &self.masks;
+        match lowest(bits) {
+            Some(right) => self.waiting_at(kind, users, right.bit),
+            None => self.waiting_at(kind, users, NO_RIGHT.bit),
+        }
     }
 
     /// The places of the ACEs of a type and a class that wait with a bit.
@@ -143,7 +155,7 @@ impl<'a> MergedRows<'a> {
     }
 
     /// Whether the principal has the bit and is free on it.
-    pub(crate) fn is_free_at(&self, p: Principal<'a>, bit: usize) -> bool
+    pub(crate) fn is_free_at(&self, p: Principal<'_>, bit: usize) -> bool
         requires { bit < 21 }
         ensures { result ≡ (is_free (column self.now bit) (principal p.entry, Deny)
             || is_free (column self.now bit) (principal p.entry, Allow)) }
@@ -212,7 +224,7 @@ impl<'a> MergedRows<'a> {
     }
 
     /// The row of a principal, if an ACE names it.
-    fn row_named(&self, p: Principal<'a>) -> Option<usize>
+    fn row_named(&self, p: Principal<'_>) -> Option<usize>
         ensures found { IfSome result (λ row. IsRow row (principal p.entry) self.now) }
         ensures missing { IfNone result (is_named (principal p.entry) self.now ≡ false) }
     {
@@ -231,7 +243,7 @@ impl<'a> MergedRows<'a> {
     }
 
     /// The type of the principal's ACE with the bit, and its place.
-    pub(crate) fn source(&self, p: Principal<'a>, bit: usize) -> Option<(Kind, usize)>
+    pub(crate) fn source(&self, p: Principal<'_>, bit: usize) -> Option<(Kind, usize)>
         requires { bit < 21 }
         ensures { result ≡ first_at bit (principal p.entry) self.now }
     {
@@ -241,7 +253,7 @@ impl<'a> MergedRows<'a> {
     }
 
     /// Takes bits of a principal out.
-    pub(crate) fn emit_bits(&mut self, p: Principal<'a>, bits: u32)
+    pub(crate) fn emit_bits(&mut self, p: Principal<'_>, bits: u32)
         requires { (b : ℕ) → 21 ≤ b → has_bit bits b ≡ false }
         ensures { self.new ≡ take_out (principal p.entry) bits self.old }
     {
@@ -251,7 +263,7 @@ impl<'a> MergedRows<'a> {
     }
 
     /// Takes bits of the principal of a row out.
-    pub(crate) fn emit_row(&mut self, row: usize, p: Principal<'a>, bits: u32)
+    pub(crate) fn emit_row(&mut self, row: usize, p: Principal<'_>, bits: u32)
         requires row { IsRow row (principal p) self.old }
         requires rights { (b : ℕ) → 21 ≤ b → has_bit bits b ≡ false }
         ensures { self.new ≡ take_out (principal p.entry) bits self.old }
@@ -267,7 +279,7 @@ impl<'a> MergedRows<'a> {
     }
 
     /// Takes one bit of the principal of a row out.
-    fn emit_bit(&mut self, row: usize, p: Principal<'a>, bit: usize)
+    fn emit_bit(&mut self, row: usize, p: Principal<'_>, bit: usize)
         requires bit { bit < 21 }
         requires row { IsRow row (principal p) self.old }
         ensures { self.new ≡ take_out (principal p.entry) (2 ^ bit) self.old }

@@ -21,3 +21,6 @@ returns-in-Ok-clause-ok c =
         spelled = form.2;
       };
     }
+
+pub returns-in-Ok-clause-refused : goal.returns-in-Ok-clause-refused
+returns-in-Ok-clause-refused c = λ offset r f. let h = c.in_ok-view.ensures.refused offset r f in cc

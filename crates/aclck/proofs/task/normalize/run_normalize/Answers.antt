@@ -12,7 +12,7 @@ returns-in-Ok-clause-ran g c = record {
   means = (
     refl,
     written_form c.args.profile (omega arith) c.in_ok-list.list c.in_ok-form.form c.in_ok-list.ensures.found.input
-        c.in_ok-list.ensures.found.holds c.in_ok-form.ensures,
+        c.in_ok-list.ensures.found.holds c.in_ok-form.ensures.form,
   );
   written = c.in-Ok.ensures.ok;
 }
@@ -26,7 +26,7 @@ returns-clause-ran g c = record {
   means = (
     refl,
     written_form c.args.profile (omega arith) c.in_ok-list.list c.in_ok-form.form c.in_ok-list.ensures.found.input
-        c.in_ok-list.ensures.found.holds c.in_ok-form.ensures,
+        c.in_ok-list.ensures.found.holds c.in_ok-form.ensures.form,
   );
   short = c.in-Err.ensures.short;
   written = c.in-Err.ensures.err;
