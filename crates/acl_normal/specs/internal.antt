@@ -1,20 +1,40 @@
--- What only the code and its proofs need; no public clause cites it.
+-- What only the code of this library and its proofs need; no public clause cites it.
+
+-- columns without a key that plays no part, and columns that agree on the first of each two principals that overlap
 pub mod Alike
+-- the keys that play a part, without a look at any situation
 pub mod Plain
+-- lists that are put into order key by key
 pub mod Emissions
+-- how many keys the columns of a list have
 pub mod Counts
+-- the plain way to the normal form, pass by pass
 pub mod Passes
+-- what lists of the code's ACEs show
 pub mod Shown
+-- where each right of a principal stands
 pub mod Cells
+-- how the rows of principals are numbered
 pub mod Rows
+-- lists of the places that wait
 pub mod Waiting
+-- what is sorted for the numbers of rows
 pub mod RowNumbers
+-- what the fields of merged rows are to the list that is left
 pub mod Merged
+-- the keys that have a free bit, by number
 pub mod Ready
+-- what the fields of those numbers are to their bits
 pub mod Heaped
+-- an ACE of a normal form as it is made
 pub mod Emitted
+-- which bits are needed, told from masks
 pub mod Needed
+-- the search for the first small set of principals at which two lists grant otherwise
 pub mod SetSearch
+-- where two lists first speak of each principal, and what they say there
 pub mod FirstPlaces
+-- tables that tell at once whether a row inverts another
 pub mod PlaceTables
+-- the sets of principals that the code of a comparison holds
 pub mod CodeSets

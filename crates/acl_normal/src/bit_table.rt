@@ -34,7 +34,8 @@ pub struct Row {
 /// The ACEs of the normal form of a list that have a right, in its order. Of several rights it is the lowest; without a
 /// right there is no row.
 pub fn table(alloc: Global, list: &Acl, bit: Mask) -> Result<Vec<Row>, AllocError>
-    ensures rows { IfOk result (λ rows. (b : ℕ) → IsLowest b bit.bits → IsTable b list.now rows.items) }
+    ensures rows { IfOk result (λ rows. (b : ℕ) → IsLowest b bit.bits
+        → IsTable b list.now rows.items) }
     ensures none { bit.bits ≡ 0 → IsOkAnd result (λ rows. rows.items ≡ []) }
 {
     let Some(right) = lowest(bit) else {
@@ -54,10 +55,12 @@ fn rows_of<'a>(
     bit: usize,
 ) -> Result<Vec<Row>, AllocError>
     requires bit { bit < 21 }
-    requires masks { (i : ℕ) (d : Emission) → i < length form.now → IsMask (slice_index_or form.now i d).bits }
+    requires masks { (i : ℕ) (d : Emission) → i < length form.now
+        → IsMask (slice_index_or form.now i d).bits }
     requires keys { (i : ℕ) (d : Emission) → i < length form.now
         → HasKey bit rows.now (emitted_ace (slice_index_or form.now i d)) }
-    ensures { IfOk result (λ table. AreRows bit rows.now (with_bit bit (emitted_aces form.now)) table.items) }
+    ensures { IfOk result (λ table.
+        AreRows bit rows.now (with_bit bit (emitted_aces form.now)) table.items) }
 {
     let mut table = Vec::new(alloc);
     for item in form {
@@ -77,7 +80,8 @@ fn add_row<'a>(
     requires bit { bit < 21 }
     requires mask { IsMask item.bits }
     requires key { HasKey bit rows.now (emitted_ace item) }
-    ensures { OnOk result (AddsRow bit rows.now (emitted_ace item.entry) table.old.items table.new.items) }
+    ensures { OnOk result (AddsRow bit rows.now (emitted_ace item.entry)
+        table.old.items table.new.items) }
 {
     if !has(item.bits, bit) {
         return Ok(());

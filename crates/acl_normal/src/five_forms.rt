@@ -52,13 +52,15 @@ impl FiveForms {
     /// section 6.2.1), without memory. The first write that fails ends it: `written` bytes went out, and nothing is
     /// tried again.
     pub fn encode<K: Sink>(&self, sink: &mut K) -> Result<(), WriteFault>
-        ensures ok { OnOk result (Appends (K.contents sink.old) (K.contents sink.new) (five_spellings self.now)) }
+        ensures ok { OnOk result (Appends (K.contents sink.old) (K.contents sink.new)
+            (five_spellings self.now)) }
         ensures none_failed { OnOk result (K.failure_count sink.new ≡ K.failure_count sink.old) }
 
         ensures err { IfErr result (λ fault. Appends (K.contents sink.old) (K.contents sink.new)
             (take fault.written (five_spellings self.now))) }
         ensures short { IfErr result (λ fault. fault.written < length (five_spellings self.now)) }
-        ensures failed { OnErr result (K.failure_count sink.new ≡ one_more (K.failure_count sink.old)) }
+        ensures failed { OnErr result (K.failure_count sink.new
+            ≡ one_more (K.failure_count sink.old)) }
     {
         match put_forms(sink, self) {
             Ok(_) => Ok(()),
@@ -95,7 +97,8 @@ impl Eq for FiveForms {
 
 // Writes the bytes that spell the five, and answers how many they are.
 fn put_forms<K: Sink>(sink: &mut K, forms: &FiveForms) -> Result<u64, WriteFault>
-    ensures written { WritesFrom (K.contents sink.old) (K.contents sink.new) 0 (five_spellings forms.now) result }
+    ensures written { WritesFrom (K.contents sink.old) (K.contents sink.new) 0
+        (five_spellings forms.now) result }
     ensures none_failed { OnOk result (K.failure_count sink.new ≡ K.failure_count sink.old) }
     ensures failed { OnErr result (K.failure_count sink.new ≡ one_more (K.failure_count sink.old)) }
 {
@@ -109,7 +112,8 @@ fn put_forms<K: Sink>(sink: &mut K, forms: &FiveForms) -> Result<u64, WriteFault
 // Writes the bytes that spell a list, after `done` bytes, and answers how many are out then.
 fn put_list<K: Sink>(sink: &mut K, done: u64, list: &Acl) -> Result<u64, WriteFault>
     requires { done < 2 ^ 62 }
-    ensures written { WritesFrom (K.contents sink.old) (K.contents sink.new) done (spelling list.now) result }
+    ensures written { WritesFrom (K.contents sink.old) (K.contents sink.new) done
+        (spelling list.now) result }
     ensures small { IfOk result (λ count. count < done + 2 ^ 31) }
     ensures none_failed { OnOk result (K.failure_count sink.new ≡ K.failure_count sink.old) }
     ensures failed { OnErr result (K.failure_count sink.new ≡ one_more (K.failure_count sink.old)) }
@@ -130,7 +134,8 @@ fn put_list<K: Sink>(sink: &mut K, done: u64, list: &Acl) -> Result<u64, WriteFa
 pub fn normalize_inherit(alloc: Global, list: &Acl) -> Result<FiveForms, AllocError>
     ensures object { IfOk result (λ forms. IsNormalFormOf (at list.now here) forms.object) }
     ensures file { IfOk result (λ forms. IsNormalFormOf (at list.now (below 0 File)) forms.file) }
-    ensures directory { IfOk result (λ forms. IsNormalFormOf (at list.now (below 0 Directory)) forms.directory) }
+    ensures directory { IfOk result (λ forms.
+        IsNormalFormOf (at list.now (below 0 Directory)) forms.directory) }
     ensures file_in_directory { IfOk result (λ forms.
         IsNormalFormOf (at list.now (below 1 File)) forms.file_in_directory) }
     ensures directory_in_directory { IfOk result (λ forms.

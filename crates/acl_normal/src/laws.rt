@@ -34,7 +34,8 @@ pub fn same_order()
 
 /// Normal lists that grant the same are equal.
 pub fn one_normal_form()
-    ensures { (list other : List Ace) → IsNormal list → IsNormal other → SameGrants all_rights list other
+    ensures { (list other : List Ace) → IsNormal list → IsNormal other
+        → SameGrants all_rights list other
         → list ≡ other }
 {}
 
@@ -76,15 +77,18 @@ pub fn five_paths_suffice()
 /// path of creations.
 pub fn five_forms_tell_apart()
     // They are equal exactly if the lists do.
-    ensures forms { (p : Profile) (list other : List Ace) (five other_five : FiveForms) → IsProfile p
+    ensures forms { (p : Profile) (list other : List Ace) (five other_five : FiveForms)
+        → IsProfile p
         → IsAccepted p list → AreFormsOf list five → IsAccepted p other → AreFormsOf other other_five
         → (five ≡ other_five) ↔ SameAtEveryPath p.masks list other }
     // So are their spellings, pair by pair,
-    ensures spelled { (p : Profile) (list other : List Ace) (five other_five : FiveForms) → IsProfile p
+    ensures spelled { (p : Profile) (list other : List Ace) (five other_five : FiveForms)
+        → IsProfile p
         → IsAccepted p list → AreFormsOf list five → IsAccepted p other → AreFormsOf other other_five
         → AreSpelledAlike five other_five ↔ SameAtEveryPath p.masks list other }
     // and all five, one behind the other.
-    ensures joined { (p : Profile) (list other : List Ace) (five other_five : FiveForms) → IsProfile p
+    ensures joined { (p : Profile) (list other : List Ace) (five other_five : FiveForms)
+        → IsProfile p
         → IsAccepted p list → AreFormsOf list five → IsAccepted p other → AreFormsOf other other_five
         → (five_spellings five ≡ five_spellings other_five) ↔ SameAtEveryPath p.masks list other }
 {}

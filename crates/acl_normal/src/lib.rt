@@ -1,7 +1,6 @@
 //! Normal forms: one list of ACEs for each set of grants.
 #![tactic(auto)]
 
-mod appending;
 mod bit_table;
 mod bits;
 mod comparison;

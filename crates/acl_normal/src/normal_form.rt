@@ -23,7 +23,7 @@ use std::alloc::{AllocError, Global};
 /// which stands in one order. It takes time that is nearly linear in the bytes of the list.
 pub fn normalize(alloc: Global, list: &Acl) -> Result<Acl, AllocError>
     ensures form { IfOk result (λ form. IsNormalFormOf list.now form) }
-    // The empty list takes no memory.
+    // Of the empty list it never wants memory.
     ensures empty { list.now ≡ [] → IsOk result }
 {
     if list.is_empty() {
@@ -36,7 +36,7 @@ pub fn normalize(alloc: Global, list: &Acl) -> Result<Acl, AllocError>
 /// Whether a list is its own normal form.
 pub fn is_normal(alloc: Global, list: &Acl) -> Result<bool, AllocError>
     ensures answer { IfOk result (λ answer. IsTrue answer ↔ IsNormal list.now) }
-    // For the empty list it takes no memory.
+    // Of the empty list it never wants memory.
     ensures empty { list.now ≡ [] → IsOk result }
 {
     let form = normalize(alloc, list)?;
@@ -47,7 +47,8 @@ pub fn is_normal(alloc: Global, list: &Acl) -> Result<bool, AllocError>
 pub fn normal_bytes(alloc: Global, bytes: &[u8]) -> Result<Vec<u8>, Fault>
     ensures ok { IfOk result (λ text. Normalises full bytes.now text.items) }
     // A fault is that of the bytes, or want of memory.
-    ensures fault { IfErr result (λ f. (f ≡ no_memory) ⊎ IsWholeFault full bytes.now f.offset f.reason) }
+    ensures fault { IfErr result (λ f. (f ≡ no_memory)
+        ⊎ IsWholeFault full bytes.now f.offset f.reason) }
     // Bytes with a fault are refused by it, and never for want of memory.
     ensures refused { (offset : ℕ) (r : Reason) → IsWholeFault full bytes.now offset r
         → result ≡ Err (record { offset = offset; reason = r }) }
@@ -60,7 +61,8 @@ pub fn normal_bytes_with(alloc: Global, bytes: &[u8], profile: Profile) -> Resul
     ensures ok { IfOk result (λ text. Normalises (profile_of profile) bytes.now text.items) }
     ensures fault { IfErr result (λ f. (f ≡ no_memory)
         ⊎ IsWholeFault (profile_of profile) bytes.now f.offset f.reason) }
-    ensures refused { (offset : ℕ) (r : Reason) → IsWholeFault (profile_of profile) bytes.now offset r
+    ensures refused { (offset : ℕ) (r : Reason)
+        → IsWholeFault (profile_of profile) bytes.now offset r
         → result ≡ Err (record { offset = offset; reason = r }) }
 {
     let view = AclView::parse_whole_with(bytes, profile)?;
@@ -75,7 +77,8 @@ pub fn normal_bytes_with(alloc: Global, bytes: &[u8], profile: Profile) -> Resul
 
 // The bytes of the normal form of the list that a view shows.
 fn spelled_form(alloc: Global, view: &AclView<'_>) -> Result<Vec<u8>, AllocError>
-    ensures { IfOk result (λ text. (form : List Ace) × IsNormalFormOf view.now form × (text.items ≡ spelling form)) }
+    ensures { IfOk result (λ text. (form : List Ace) × IsNormalFormOf view.now form
+        × (text.items ≡ spelling form)) }
 {
     let list = Acl::from_view(alloc, view)?;
     let form = normalize(alloc, &list)?;
@@ -115,8 +118,8 @@ fn written(alloc: Global, form: &[Emitted<'_>]) -> Result<Acl, AllocError>
     Ok(list)
 }
 
-// One more ACE, where the list stays accepted.
-fn push(list: &mut Acl, item: AceRef<'_>) -> Result<(), AllocError>
+/// One more ACE, where the list stays accepted.
+pub(crate) fn push(list: &mut Acl, item: AceRef<'_>) -> Result<(), AllocError>
     requires { IsAccepted full (list.now ++ ace item ∷ []) }
     ensures { OnOk result (list.new ≡ list.old ++ ace item.entry ∷ []) }
 {
@@ -141,8 +144,8 @@ pub(crate) fn ace_of<'a>(item: Emitted<'a>) -> AceRef<'a>
 
 const IDENTIFIER_GROUP: u8 = 0x40;
 
-// The flags that say whom an ACE names, and no others.
-fn flags_of(p: Principal<'_>) -> Flags
+/// The flags that say whom an ACE names, and no others.
+pub(crate) fn flags_of(p: Principal<'_>) -> Flags
     ensures { result.bits ≡ flags_for (principal p.entry) }
 {
     match p {

@@ -41,10 +41,12 @@ pub(crate) fn reduced_masks(
         → column (with_masks aces.now masks.items) b ≡ []) }
     ensures columns { IfOk result (λ masks. (b : ℕ) → b < 21
         → column (with_masks aces.now masks.items) b ≡ reduced (column (aces_in aces.now) b)) }
-    ensures firsts { IfOk result (λ masks. KeepsFirsts (aces_in aces.now) (with_masks aces.now masks.items)) }
+    ensures firsts { IfOk result (λ masks. KeepsFirsts (aces_in aces.now)
+        (with_masks aces.now masks.items)) }
     ensures grants { IfOk result (λ masks. SameGrants all_rights (aces_in aces.now)
         (with_masks aces.now masks.items)) }
-    ensures irreducible { IfOk result (λ masks. IsIrreducibleList (left (with_masks aces.now masks.items))) }
+    ensures irreducible { IfOk result (λ masks.
+        IsIrreducibleList (left (with_masks aces.now masks.items))) }
 {
     let mut masks = first_masks(alloc, aces, rows)?;
     drop_needless(aces, &mut masks);
@@ -54,7 +56,8 @@ pub(crate) fn reduced_masks(
 /// The rows of a list, without what no situation needs.
 pub(crate) fn reduced_rows<'a>(alloc: Global, list: &'a Acl) -> Result<MergedRows<'a>, AllocError>
     ensures outline { IfOk result (λ rows. nothing_left rows ≡ nothing_left list.now) }
-    ensures columns { IfOk result (λ rows. (b : ℕ) → b < 21 → column rows b ≡ reduced (column list.now b)) }
+    ensures columns { IfOk result (λ rows. (b : ℕ) → b < 21 → column rows b
+        ≡ reduced (column list.now b)) }
     ensures firsts { IfOk result (λ rows. KeepsFirsts list.now rows) }
     ensures grants { IfOk result (λ rows. SameGrants all_rights list.now rows) }
     ensures irreducible { IfOk result (λ rows. IsIrreducibleList (left rows)) }

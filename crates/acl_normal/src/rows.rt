@@ -1,7 +1,6 @@
 //! What is left of a list while its normal form is made, by principal and by place.
 
 pub(crate) mod cells;
-pub(crate) mod filling;
 pub(crate) mod merged;
 pub(crate) mod numbers;
 pub(crate) mod waiting;

@@ -22,11 +22,18 @@ pub conflict_is : (s p : Principal) (j k : Kind) → principal_eq s p ≡ false
     || (not (is_user p) && (kind_eq j (other_kind k) && same_class (is_user s) true)))
 conflict_is s p j k h = go s p h j k
   where
-    kinds : (j k : Kind) → not (kind_eq j k) ≡ kind_eq j (other_kind k)
-    kinds Deny Deny = refl
-    kinds Deny Allow = refl
-    kinds Allow Deny = refl
-    kinds Allow Allow = refl
+    -- one that is no user conflicts with each of the other type
+    other : (j k : Kind) (t : Bool)
+        → (true && not (kind_eq j k)) ≡ ((kind_eq j (other_kind k) && true)
+        || (not t && (kind_eq j (other_kind k) && false)))
+    other Deny Deny true = refl
+    other Deny Allow true = refl
+    other Allow Deny true = refl
+    other Allow Allow true = refl
+    other Deny Deny false = refl
+    other Deny Allow false = refl
+    other Allow Deny false = refl
+    other Allow Allow false = refl
 
     go : (s p : Principal) → principal_eq s p ≡ false → (j k : Kind)
         → conflicts (s, j) (p, k) ≡ ((kind_eq j (other_kind k) && same_class (is_user s) false)
@@ -52,57 +59,9 @@ conflict_is s p j k h = go s p h j k
     go (user a) everyone h Allow Deny = refl
     go (user a) everyone h Allow Allow = refl
     go owner p h j k = other j k (is_user p)
-      where
-        other : (j k : Kind) (t : Bool)
-            → (true && not (kind_eq j k)) ≡ ((kind_eq j (other_kind k) && true)
-            || (not t && (kind_eq j (other_kind k) && false)))
-        other Deny Deny true = refl
-        other Deny Allow true = refl
-        other Allow Deny true = refl
-        other Allow Allow true = refl
-        other Deny Deny false = refl
-        other Deny Allow false = refl
-        other Allow Deny false = refl
-        other Allow Allow false = refl
     go group p h j k = other j k (is_user p)
-      where
-        other : (j k : Kind) (t : Bool)
-            → (true && not (kind_eq j k)) ≡ ((kind_eq j (other_kind k) && true)
-            || (not t && (kind_eq j (other_kind k) && false)))
-        other Deny Deny true = refl
-        other Deny Allow true = refl
-        other Allow Deny true = refl
-        other Allow Allow true = refl
-        other Deny Deny false = refl
-        other Deny Allow false = refl
-        other Allow Deny false = refl
-        other Allow Allow false = refl
     go (group_named a) p h j k = other j k (is_user p)
-      where
-        other : (j k : Kind) (t : Bool)
-            → (true && not (kind_eq j k)) ≡ ((kind_eq j (other_kind k) && true)
-            || (not t && (kind_eq j (other_kind k) && false)))
-        other Deny Deny true = refl
-        other Deny Allow true = refl
-        other Allow Deny true = refl
-        other Allow Allow true = refl
-        other Deny Deny false = refl
-        other Deny Allow false = refl
-        other Allow Deny false = refl
-        other Allow Allow false = refl
     go everyone p h j k = other j k (is_user p)
-      where
-        other : (j k : Kind) (t : Bool)
-            → (true && not (kind_eq j k)) ≡ ((kind_eq j (other_kind k) && true)
-            || (not t && (kind_eq j (other_kind k) && false)))
-        other Deny Deny true = refl
-        other Deny Allow true = refl
-        other Allow Deny true = refl
-        other Allow Allow true = refl
-        other Deny Deny false = refl
-        other Deny Allow false = refl
-        other Allow Deny false = refl
-        other Allow Allow false = refl
 
 -- a principal that the column lacks has no free key
 pub lacking_not_free : (p : Principal) (k : Kind) (c : Column) → first_kind (is_either p p) c ≡ None

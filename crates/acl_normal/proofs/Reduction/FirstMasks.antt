@@ -22,13 +22,13 @@ use Rattle.acl_normal.specs.Normal.{IsQuiet, is_inherit_only}
 use Rattle.acl_normal.specs.Places.{counts, first_at, nothing_left}
 use Rattle.acl_normal.specs.internal.Plain.{unshadowed}
 use Rattle.acl_normal.specs.internal.Rows.{AreRowNumbers, is_named, row_of}
-use Rattle.acl_normal.specs.internal.Shown.{with_masks}
+use Rattle.acl_normal.specs.internal.Shown.{aces_in, with_masks}
 use Rattle.acl_normal.proofs.Unique.Accepted.{accepted_masks}
 use Rattle.acl_normal.proofs.Unique.Bits.{no_bits, no_bits_of_zero}
 use Rattle.acl_normal.proofs.Unique.Columns.{column_first}
 use Rattle.acl_normal.proofs.Merging.BitTaken.{same_default}
 use Rattle.acl_normal.proofs.Unique.FirstKind.{none_within}
-use Rattle.acl_normal.proofs.Reduction.FirstRows.{column_more, first_then, first_there, key_at_index, none_from, none_is, some_either, unshadowed_push}
+use Rattle.acl_normal.proofs.Reduction.FirstRows.{column_more, first_then, first_there, index_is, key_at_index, length_of, none_from, none_is, some_either, unshadowed_push}
 use Rattle.acl_normal.proofs.Unique.Irreducible.{either_same}
 use Rattle.acl_normal.proofs.Unique.ListColumns.{column-append}
 use Rattle.acl_normal.proofs.Unique.Names.{either_first, either_second, principal_eq_itself, principal_eq_same}
@@ -427,3 +427,17 @@ named_there whole i a l is =
 pub row_value : (seen : List ℕ) (row r v : ℕ) → v ≡ slice_index_or seen row v → row ≡ r → r < length seen
     → v ≡ slice_index_or seen r 0
 row_value seen row r v h e l = h ∙ ap (λ n. slice_index_or seen n v) e ∙ same_default seen r v 0 l
+
+-- the row of the ACE at a place is one of those that are seen
+pub row_seen : (aces : List AceRef) (rows seen : List ℕ) (place all : ℕ) (xs : List Ace) (x : AceRef)
+    → AreRowNumbers (aces_in aces) rows → place < length aces → x ≡ slice_index_or aces place x
+    → HoldsSeen (aces_in aces) seen all xs → slice_index_or rows place 0 < length seen
+row_seen aces rows seen place all xs x r l is holds =
+    let within : place < length (aces_in aces) = omega (arith, length_of aces, l) in
+    let at = index_is aces place x l is in
+    omega (
+      arith,
+      row_here (aces_in aces) rows place (ace x) r within at,
+      row_below (principal_of (ace x)) (aces_in aces) (named_there (aces_in aces) place (ace x) within at),
+      holds.count,
+    )

@@ -32,7 +32,8 @@ fn add(rows: &MergedRows<'_>, place: usize, bit: usize, ready: &mut Ready) -> Re
     requires bit { bit < 21 }
     requires keys { FitsKeys (nothing_left rows.now) ready.old }
     ensures keys { OnOk result (FitsKeys (nothing_left rows.now) ready.new) }
-    ensures marks { OnOk result (Adds (key_here rows.now place) bit (marks (nothing_left rows.now) ready.old)
+    ensures marks { OnOk result (Adds (key_here rows.now place) bit
+        (marks (nothing_left rows.now) ready.old)
         (marks (nothing_left rows.now) ready.new)) }
 {
     let _ = &rows.masks;
@@ -52,7 +53,8 @@ fn enter(
     requires bit { bit < 21 }
     requires keys { FitsKeys (nothing_left rows.now) ready.old }
     ensures keys { OnOk result (FitsKeys (nothing_left rows.now) ready.new) }
-    ensures marks { OnOk result (Enters kind users bit rows.now (marks (nothing_left rows.now) ready.old)
+    ensures marks { OnOk result (Enters kind users bit rows.now
+        (marks (nothing_left rows.now) ready.old)
         (marks (nothing_left rows.now) ready.new)) }
 {
     let _ = &rows.masks;
@@ -74,7 +76,8 @@ fn free_after<'a>(
 ) -> Result<(), AllocError>
     requires { FitsKeys (nothing_left rows.now) ready.old }
     ensures keys { OnOk result (FitsKeys (nothing_left rows.now) ready.new) }
-    ensures marks { OnOk result (Frees (plain_key at.entry) bits rows.now (marks (nothing_left rows.now) ready.old)
+    ensures marks { OnOk result (Frees (plain_key at.entry) bits rows.now
+        (marks (nothing_left rows.now) ready.old)
         (marks (nothing_left rows.now) ready.new)) }
 {
     let opposite = other(at.kind);
@@ -119,6 +122,7 @@ pub(crate) fn drain<'a>(
     let mut ready = Ready::new(alloc, rows.len())?;
     fill(rows, &mut ready)?;
     let mut out = Vec::new(alloc);
+    // The label names the loop for its proof.
     'emitted: while let Some((number, bits)) = ready.pop() {
         let key = rows.key_of(number);
         out.push(Emitted { key, bits })?;
@@ -136,9 +140,11 @@ pub(crate) fn normalize_left<'a>(
     requires { IsIrreducibleList (left rows.old) }
     ensures normal { IfOk result (λ v. IsNormal (emitted_aces v.items)) }
     ensures grants { IfOk result (λ v. SameGrants all_rights rows.old (emitted_aces v.items)) }
-    ensures only { IfOk result (λ v. (ns : List Ace) → IsNormal ns → SameGrants all_rights rows.old ns
+    ensures only { IfOk result (λ v. (ns : List Ace) → IsNormal ns
+        → SameGrants all_rights rows.old ns
         → ns ≡ emitted_aces v.items) }
-    ensures weight { IfOk result (λ v. count_left 21 (emitted_aces v.items) ≡ count_left 21 rows.old) }
+    ensures weight { IfOk result (λ v. count_left 21 (emitted_aces v.items)
+        ≡ count_left 21 rows.old) }
 {
     let _ = &rows.masks;
     let out = drain(alloc, rows)?;

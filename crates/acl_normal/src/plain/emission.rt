@@ -3,7 +3,6 @@
 ghost use Rattle.std.specs.Prelude.{◌≡◌, ◌≤◌, ◌&&◌, not, ℕ, List, option_map, ◌∷◌, ◌++◌, [], true, false, IfOk, IfNone, IfSome, length};
 ghost use Rattle.std.specs.List.{AllByRecursion};
 ghost use Rattle.acl_perm.specs.Bits.{has_bit};
-ghost use Rattle.acl_perm.specs.Principal.{principal};
 ghost use Rattle.acl_perm.specs.Order.{key_of};
 ghost use Rattle.std.specs.Ordering.{is_le};
 ghost use Rattle.acl_perm.specs.Profile.{full};
@@ -15,13 +14,13 @@ ghost use Rattle.acl_eval.specs.Column.{column};
 ghost use Rattle.acl_normal.specs.internal.Counts.{count_left};
 ghost use Rattle.acl_normal.specs.internal.Emissions.{HasOnceColumns, IsEmission};
 ghost use Rattle.acl_normal.specs.Keys.{compare_keys, key_record, ace_key, kind_eq, principal_eq};
-ghost use Rattle.acl_normal.specs.Normal.{flags_for, is_free};
+ghost use Rattle.acl_normal.specs.Normal.{is_free};
 ghost use Rattle.acl_normal.specs.internal.Passes.{Best, is_blocked, IsCandidate, IsNowhereFree, IsWithinAs, KeepsProfiles, lesser, list_of};
 ghost use Rattle.acl_normal.specs.internal.Plain.{without_principal};
 
 use super::reduction::{active, is_same};
-use crate::appending::push;
-use acl_nfs4::{AceRef, Acl, Flags, Mask, Principal};
+use crate::normal_form::{flags_of, push};
+use acl_nfs4::{AceRef, Acl, Mask};
 use acl_perm::{Key, overlaps};
 use std::alloc::{AllocError, Global};
 
@@ -79,7 +78,8 @@ fn own_conflict(other: &AceRef<'_>, item: &AceRef<'_>) -> Mask
 
 // The bits at which the key of the ACE is free.
 fn free_bits(left: &[AceRef<'_>], item: &AceRef<'_>) -> Mask
-    ensures { (bit : ℕ) → has_bit result.bits bit ≡ is_free (column (list_of left.now) bit) (ace_key (ace item.now)) }
+    ensures { (bit : ℕ) → has_bit result.bits bit
+        ≡ is_free (column (list_of left.now) bit) (ace_key (ace item.now)) }
 {
     let mut free = Mask::NONE;
     let mut blocked = Mask::NONE;
@@ -88,21 +88,6 @@ fn free_bits(left: &[AceRef<'_>], item: &AceRef<'_>) -> Mask
         blocked = blocked.union(own_conflict(other, item));
     }
     free
-}
-
-const IDENTIFIER_GROUP: u8 = 0x40;
-
-// The flags that say whom the ACE names, and no others.
-fn naming_flags(whom: Principal<'_>) -> Flags
-    ensures { result.bits ≡ flags_for (principal whom.entry) }
-{
-    match whom {
-        Principal::GroupNamed(_) => Flags {
-            bits: IDENTIFIER_GROUP,
-        },
-        Principal::Owner | Principal::User(_) | Principal::Group | Principal::Everyone =>
-            Flags::NONE,
-    }
 }
 
 // The ACE with all bits at which its key is free.
@@ -119,7 +104,7 @@ fn candidate<'a>(left: &[AceRef<'a>], item: &AceRef<'a>) -> Option<AceRef<'a>>
     }
     Some(AceRef {
         mask,
-        flags: naming_flags(item.principal()),
+        flags: flags_of(item.principal()),
         ..*item
     })
 }

@@ -36,7 +36,8 @@ pub(super) fn active(item: &AceRef<'_>) -> Mask
 
 // The bits with which the ACE shadows later ones of the principal.
 fn own_shadow(item: &AceRef<'_>, of: Principal<'_>) -> Mask
-    ensures { (bit : ℕ) → has_bit result.bits bit ≡ is_shadowed (principal of.entry) (ace item.now ∷ []) bit }
+    ensures { (bit : ℕ) → has_bit result.bits bit
+        ≡ is_shadowed (principal of.entry) (ace item.now ∷ []) bit }
 {
     let whom = item.principal();
     if is_same(whom, of) || is_same(whom, Principal::Everyone) {
@@ -48,7 +49,8 @@ fn own_shadow(item: &AceRef<'_>, of: Principal<'_>) -> Mask
 
 // The bits with which some of the ACEs names the principal, or everyone.
 fn shadow(before: &[AceRef<'_>], of: Principal<'_>) -> Mask
-    ensures { (bit : ℕ) → has_bit result.bits bit ≡ is_shadowed (principal of.entry) (list_of before.now) bit }
+    ensures { (bit : ℕ) → has_bit result.bits bit
+        ≡ is_shadowed (principal of.entry) (list_of before.now) bit }
 {
     let mut bits = Mask::NONE;
     for item in before {
@@ -89,7 +91,8 @@ fn own_allowed(item: &AceRef<'_>, seen: Mask) -> Mask
 
 // The bits that an ACE of everyone allows, and no earlier one of everyone denies.
 fn allowed_to_everyone(aces: &[AceRef<'_>]) -> Mask
-    ensures { (bit : ℕ) → has_bit result.bits bit ≡ kind_eq (default (column (list_of aces.now) bit)) Allow }
+    ensures { (bit : ℕ) → has_bit result.bits bit
+        ≡ kind_eq (default (column (list_of aces.now) bit)) Allow }
 {
     let mut allowed = Mask::NONE;
     let mut seen = Mask::NONE;

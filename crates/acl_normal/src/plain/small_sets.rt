@@ -27,7 +27,8 @@ fn first_single<'a>(
     other: &[AceRef<'_>],
     whole: &[Principal<'a>],
 ) -> Option<SmallSet<'a>>
-    ensures { Finds (list_of list.now) (list_of other.now) (singles (principals whole.now)) (set_or_none result) }
+    ensures { Finds (list_of list.now) (list_of other.now) (singles (principals whole.now))
+        (set_or_none result) }
 {
     for p in whole {
         let set = SmallSet::One(*p);
@@ -78,7 +79,8 @@ fn first_pair<'a>(
     other: &[AceRef<'_>],
     whole: &[Principal<'a>],
 ) -> Option<SmallSet<'a>>
-    ensures { Finds (list_of list.now) (list_of other.now) (pairs (principals whole.now)) (set_or_none result) }
+    ensures { Finds (list_of list.now) (list_of other.now) (pairs (principals whole.now))
+        (set_or_none result) }
 {
     for i in 0..whole.len() {
         let (_, rest) = whole.split_at(i + 1);
@@ -95,7 +97,8 @@ fn first_set<'a>(
     other: &[AceRef<'_>],
     whole: &[Principal<'a>],
 ) -> Option<SmallSet<'a>>
-    ensures { Finds (list_of list.now) (list_of other.now) (small_sets (principals whole.now)) (set_or_none result) }
+    ensures { Finds (list_of list.now) (list_of other.now) (small_sets (principals whole.now))
+        (set_or_none result) }
 {
     if !grant_alike(list, other, SmallSet::Empty) {
         return Some(SmallSet::Empty);

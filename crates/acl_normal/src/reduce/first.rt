@@ -42,7 +42,8 @@ pub(crate) fn first_masks(
     ensures tidy { IfOk result (λ masks. IsTidy (with_masks aces.now masks.items)) }
     ensures columns { IfOk result (λ masks. (b : ℕ)
         → column (with_masks aces.now masks.items) b ≡ unshadowed [] (column (aces_in aces.now) b)) }
-    ensures firsts { IfOk result (λ masks. KeepsFirsts (aces_in aces.now) (with_masks aces.now masks.items)) }
+    ensures firsts { IfOk result (λ masks. KeepsFirsts (aces_in aces.now)
+        (with_masks aces.now masks.items)) }
 {
     let mut seen = vec![in alloc; 0u32; aces.len()]?;
     let mut everyone = 0u32;

@@ -128,7 +128,8 @@ pub(crate) fn drop_needless(aces: &[AceRef<'_>], masks: &mut [u32])
     requires places { length masks.old ≡ length aces.now }
     requires tidy { IsTidy (with_masks aces.now masks.old) }
     ensures places { length masks.new ≡ length aces.now }
-    ensures outline { nothing_left (with_masks aces.now masks.new) ≡ nothing_left (with_masks aces.now masks.old) }
+    ensures outline { nothing_left (with_masks aces.now masks.new)
+        ≡ nothing_left (with_masks aces.now masks.old) }
     ensures tidy { IsTidy (with_masks aces.now masks.new) }
     ensures columns { (b : ℕ) → b < 21 → column (with_masks aces.now masks.new) b
         ≡ needed_keys (default (column (with_masks aces.now masks.old) b))

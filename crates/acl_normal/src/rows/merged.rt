@@ -18,8 +18,7 @@ ghost use Rattle.acl_normal.specs.internal.Shown.{aces_in, with_masks};
 
 use crate::bits::{cleared, has};
 use crate::reduce::reduced_rows;
-use crate::rows::cells::Cells;
-use crate::rows::filling::filled_cells;
+use crate::rows::cells::{Cells, filled_cells};
 use crate::rows::numbers::{RowNumbers, find_row};
 use crate::rows::waiting::waiting_sets;
 use crate::words::{is_user, other, slot};
@@ -31,6 +30,7 @@ use std::marker::Model;
 
 /// What is left of a list while its normal form is made: the needed bits that were not emitted yet, by principal, and
 /// by the places in the given list that still wait with them.
+// A body that says `let _ = &rows.masks;` looks at a field, so that the check has the invariant there. It does nothing.
 #[derive(Drop)]
 pub struct MergedRows<'a> {
     pub(crate) aces: Vec<AceRef<'a>>,
@@ -61,7 +61,8 @@ const NO_RIGHT: Right = Right { bit: 11 };
 
 // The lowest of some rights, if there are any.
 pub(crate) fn lowest(bits: Mask) -> Option<Right>
-    ensures some { (bit : ℕ) → IsLowest bit bits.bits → option_map (λ right. right.bit) result ≡ Some bit }
+    ensures some { (bit : ℕ) → IsLowest bit bits.bits → option_map (λ right. right.bit) result
+        ≡ Some bit }
     ensures none { bits.bits ≡ 0 → result ≡ None }
 {
     for bit in 0..Right::COUNT {
@@ -117,7 +118,6 @@ impl<'a> MergedRows<'a> {
         // Of no right it is empty.
         ensures none { bits.bits ≡ 0 → (place : ℕ) → contains nat_cmp result.now place ≡ false }
     {
-        // That a field is looked at lets the check see what the fields are to the list that is left.
         let _ = &self.masks;
         match lowest(bits) {
             Some(right) => self.waiting_at(kind, users, right.bit),
@@ -305,7 +305,8 @@ impl<'a> MergedRows<'a> {
         requires few { vec_len aces < 2 ^ 32 }
         requires places { vec_len masks ≡ vec_len aces }
         requires tidy { IsTidy (with_masks aces.items masks.items) }
-        requires rights { (b : ℕ) → has_bit all_rights b ≡ false → column (with_masks aces.items masks.items) b ≡ [] }
+        requires rights { (b : ℕ) → has_bit all_rights b ≡ false
+            → column (with_masks aces.items masks.items) b ≡ [] }
         requires rows { AreRowNumbers (with_masks aces.items masks.items) numbers.rows.items }
         requires order { IsByPrincipal (with_masks aces.items masks.items) numbers.order.items }
         ensures { IfOk result (λ r. r ≡ with_masks aces.entry.items masks.items) }

@@ -1,29 +1,31 @@
-use Rattle.std.specs.Prelude.{◌≡◌}
+use Rattle.std.specs.Prelude.{◌≡◌, ℕ, List}
 use Rattle.std.proofs.Common.{◌∙◌, ap, subst, sym}
 use Rattle.std.proofs.lemmas.Result.{IfOk-weaker}
 use Rattle.acl_perm.specs.Bits.{all_rights}
+use Rattle.acl_nfs4.specs.declared.ace.AceRef.{AceRef}
 use Rattle.acl_eval.specs.Grant.{SameGrants}
 use Rattle.acl_normal.specs.Places.{nothing_left}
 use Rattle.acl_normal.specs.internal.Shown.{aces_in, with_masks}
 use Rattle.acl_normal.proofs.Merging.CellsOf.{order_alike, rows_alike}
 use Rattle.acl_normal.proofs.reduce.reduced_rows.Goals as goal
 
+-- what is left has the outline of the ACEs
+outline_left : (one two aces : List AceRef) (masks : List ℕ) → one ≡ aces → two ≡ aces
+    → nothing_left (with_masks two masks) ≡ nothing_left (aces_in two)
+    → nothing_left (aces_in one) ≡ nothing_left (with_masks aces masks)
+outline_left one two aces masks e f same =
+    ap (λ v. nothing_left (aces_in v)) (e ∙ sym f) ∙ sym same ∙ ap (λ v. nothing_left (with_masks v masks)) f
+
 pub of-requires-clause-rows : goal.of-requires-clause-rows
 of-requires-clause-rows c =
-    let outline : nothing_left (aces_in c.deref.result.now)
-    ≡ nothing_left (with_masks c.in_ok-aces.aces.items c.in_ok-masks.masks.items) =
-    ap (λ v. nothing_left (aces_in v)) (c.deref.ensures.value ∙ sym c.deref-2.ensures.value)
-    ∙ sym c.in_ok-masks.ensures.outline
-    ∙ ap (λ v. nothing_left (with_masks v c.in_ok-masks.masks.items)) c.deref-2.ensures.value in
+    let outline = outline_left c.deref.result.now c.deref-2.result.now c.in_ok-aces.aces.items
+    c.in_ok-masks.masks.items c.deref.ensures.value c.deref-2.ensures.value c.in_ok-masks.ensures.outline in
     rows_alike (aces_in c.deref.result.now) _ _ outline c.in_ok-numbers.ensures.rows
 
 pub of-requires-clause-order : goal.of-requires-clause-order
 of-requires-clause-order c =
-    let outline : nothing_left (aces_in c.deref.result.now)
-    ≡ nothing_left (with_masks c.in_ok-aces.aces.items c.in_ok-masks.masks.items) =
-    ap (λ v. nothing_left (aces_in v)) (c.deref.ensures.value ∙ sym c.deref-2.ensures.value)
-    ∙ sym c.in_ok-masks.ensures.outline
-    ∙ ap (λ v. nothing_left (with_masks v c.in_ok-masks.masks.items)) c.deref-2.ensures.value in
+    let outline = outline_left c.deref.result.now c.deref-2.result.now c.in_ok-aces.aces.items
+    c.in_ok-masks.masks.items c.deref.ensures.value c.deref-2.ensures.value c.in_ok-masks.ensures.outline in
     order_alike (aces_in c.deref.result.now) _ _ outline c.in_ok-numbers.ensures.order
 
 pub returns-clause-grants : goal.returns-clause-grants

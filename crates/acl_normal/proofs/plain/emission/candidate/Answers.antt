@@ -6,4 +6,4 @@ use Rattle.acl_normal.proofs.plain.emission.candidate.Goals as goal
 
 pub returns-clause-within : goal.returns-clause-within
 returns-clause-within c = candidate_within _ (ace c.args.item.now) _
-    (c.naming_flags.ensures ∙ ap flags_for c.principal.ensures) refl c.free_bits-mask.ensures
+    (c.flags_of.ensures ∙ ap flags_for c.principal.ensures) refl c.free_bits-mask.ensures

@@ -7,7 +7,7 @@ use Rattle.acl_eval.specs.Scan.{without}
 use Rattle.acl_normal.specs.Keys.{principal_eq}
 use Rattle.acl_normal.specs.internal.Rows.{row_of}
 use Rattle.acl_normal.specs.internal.Shown.{aces_in, with_masks}
-use Rattle.acl_normal.proofs.Reduction.FirstMasks.{FirstsTo, HoldsSeen, IsFresh, firsts_tidy, firsts_to_all, firsts_to_more, firsts_to_start, fresh_is, masked, masks_none, masks_push, named_there, row_here, row_value, seen_more, seen_start}
+use Rattle.acl_normal.proofs.Reduction.FirstMasks.{FirstsTo, HoldsSeen, IsFresh, firsts_tidy, firsts_to_all, firsts_to_more, firsts_to_start, fresh_is, masked, masks_none, masks_push, named_there, row_here, row_seen, row_value, seen_more, seen_start}
 use Rattle.acl_normal.proofs.Reduction.FirstRows.{index_is, length_of}
 use Rattle.acl_normal.proofs.Merging.Rows.{row_below}
 use Rattle.acl_normal.proofs.reduce.first.first_masks.Goals as goal
@@ -34,31 +34,19 @@ loop-place-init c =
 
 pub index-requires : goal.index-requires
 index-requires c =
-    let within : c.loop-place.place < length (aces_in c.args.aces.now) =
-    omega (arith, length_of c.args.aces.now, c.loop-place-test.true) in
-    let is = index_is c.args.aces.now c.loop-place.place _ c.loop-place-test.true c.index-aces-place.is in
-    let row = row_here (aces_in c.args.aces.now) c.args.rows.now c.loop-place.place _ c.requires.rows within is in
-    let named = named_there (aces_in c.args.aces.now) c.loop-place.place _ within is in
     omega (
       arith,
-      row,
-      row_below (principal_of (ace c.index-aces-place.result)) (aces_in c.args.aces.now) named,
-      c.loop-place.invariant.seen.count,
+      row_seen c.args.aces.now c.args.rows.now c.loop-place.seen.items c.loop-place.place _ _ _ c.requires.rows
+          c.loop-place-test.true c.index-aces-place.is c.loop-place.invariant.seen,
       c.loop-place.seen.ok,
     )
 
 pub index_mut-requires : goal.index_mut-requires
 index_mut-requires c =
-    let within : c.loop-place.place < length (aces_in c.args.aces.now) =
-    omega (arith, length_of c.args.aces.now, c.loop-place-test.true) in
-    let is = index_is c.args.aces.now c.loop-place.place _ c.loop-place-test.true c.index-aces-place.is in
-    let row = row_here (aces_in c.args.aces.now) c.args.rows.now c.loop-place.place _ c.requires.rows within is in
-    let named = named_there (aces_in c.args.aces.now) c.loop-place.place _ within is in
     omega (
       arith,
-      row,
-      row_below (principal_of (ace c.index-aces-place.result)) (aces_in c.args.aces.now) named,
-      c.loop-place.invariant.seen.count,
+      row_seen c.args.aces.now c.args.rows.now c.loop-place.seen.items c.loop-place.place _ _ _ c.requires.rows
+          c.loop-place-test.true c.index-aces-place.is c.loop-place.invariant.seen,
       c.loop-place.seen.ok,
     )
 

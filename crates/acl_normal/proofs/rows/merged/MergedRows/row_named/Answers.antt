@@ -1,6 +1,9 @@
-use Rattle.std.proofs.Common.{◌≡◌, ◌∙◌, sym, ap}
+use Rattle.std.proofs.Common.{◌≡◌, List, ◌∙◌, sym, ap}
 use Rattle.acl_perm.specs.Principal.{principal}
-use Rattle.acl_normal.specs.internal.Merged.{left_of}
+use Rattle.acl_nfs4.specs.Ace.{Ace}
+use Rattle.acl_nfs4.specs.declared.ace.AceRef.{AceRef}
+use Rattle.acl_normal.specs.internal.Merged.{left_of, IsRight}
+use Rattle.acl_normal.specs.declared.rows.merged.MergedRows.TheInside.{Inside}
 use Rattle.acl_normal.specs.Places.{nothing_left}
 use Rattle.acl_normal.specs.internal.Shown.{aces_in}
 use Rattle.acl_normal.proofs.Merging.CellsOf.{order_alike, rows_alike}
@@ -19,20 +22,22 @@ find_row-requires-clause-order c =
     rw (c.deref.ensures.value, c.deref-3.ensures.value) (order_alike (left_of s) (aces_in s.aces.items) s.order.items
     (outline_of s c.self.invariant) c.self.invariant.order)
 
+-- the ACEs have the outline of what is left
+outline_seen : (s : Inside) (aces : List AceRef) (list : List Ace) → IsRight s → aces ≡ s.aces.items
+    → left_of s ≡ list → nothing_left (aces_in aces) ≡ nothing_left list
+outline_seen s aces list right e is =
+    ap (λ v. nothing_left (aces_in v)) e ∙ sym (outline_of s right) ∙ ap nothing_left is
+
 pub returns-clause-found : goal.returns-clause-found
 returns-clause-found c =
-    let s = c.self.inside in
-    let same : nothing_left (aces_in c.deref.result.now) ≡ nothing_left c.args.self.now =
-    ap (λ v. nothing_left (aces_in v)) c.deref.ensures.value ∙ sym (outline_of s c.self.invariant)
-    ∙ ap nothing_left c.self.view_is in
+    let same = outline_seen c.self.inside c.deref.result.now c.args.self.now c.self.invariant c.deref.ensures.value
+    c.self.view_is in
     found_row (principal c.args.p) (aces_in c.deref.result.now) c.args.self.now c.find_row.result same
     c.find_row.ensures.found
 
 pub returns-clause-missing : goal.returns-clause-missing
 returns-clause-missing c =
-    let s = c.self.inside in
-    let same : nothing_left (aces_in c.deref.result.now) ≡ nothing_left c.args.self.now =
-    ap (λ v. nothing_left (aces_in v)) c.deref.ensures.value ∙ sym (outline_of s c.self.invariant)
-    ∙ ap nothing_left c.self.view_is in
+    let same = outline_seen c.self.inside c.deref.result.now c.args.self.now c.self.invariant c.deref.ensures.value
+    c.self.view_is in
     missed_row (principal c.args.p) (aces_in c.deref.result.now) c.args.self.now c.find_row.result same
     c.find_row.ensures.missing

@@ -2,8 +2,8 @@ use Rattle.std.proofs.Common.{sym, ◌∙◌, arith}
 use Rattle.acl_normal.proofs.Merging.FilledCells.{put_start, put_skip, put_on, put_all, low_right}
 use Rattle.acl_normal.proofs.Merging.FromCells.{right_cell}
 use Rattle.acl_normal.proofs.Unique.Bits.{no_more_bits}
-use Rattle.acl_normal.proofs.rows.filling.put_rights.Goals as goal
-use Rattle.acl_normal.proofs.rows.filling.put_rights.Goals.{then-has, else-has}
+use Rattle.acl_normal.proofs.rows.cells.put_rights.Goals as goal
+use Rattle.acl_normal.proofs.rows.cells.put_rights.Goals.{then-has, else-has}
 
 pub loop-bit-init : goal.loop-bit-init
 loop-bit-init c = put_start c.args.rights c.args.place c.args.cells.now

@@ -11,7 +11,7 @@ use Rattle.acl_normal.proofs.Merging.CellsOf.{NoPlaces}
 use Rattle.acl_normal.proofs.Merging.BitTaken.{same_default}
 use Rattle.acl_normal.proofs.Merging.Rows.{row_below}
 use Rattle.acl_normal.proofs.Unique.Outline.{length_shown}
-use Rattle.acl_normal.proofs.rows.filling.filled_cells.Goals as goal
+use Rattle.acl_normal.proofs.rows.cells.filled_cells.Goals as goal
 
 pub loop-done-init : goal.loop-done-init
 loop-done-init c =
