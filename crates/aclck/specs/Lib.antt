@@ -22,6 +22,7 @@ pub mod ShowNfs
 pub mod Encode
 pub mod Compare
 pub mod TwoLists
+pub mod Run
 pub mod Task
 pub mod Command
 pub mod Laws

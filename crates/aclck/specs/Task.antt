@@ -2,7 +2,6 @@
 use Rattle.std.specs.Prelude.{◌∷◌, [], List, ℕ, Option, None, Bool, false, codes, find, is_some, if◌then◌else◌}
 use Rattle.std.specs.Option.{option_and_then, option_map}
 use Rattle.std.specs.Str.{bytes_eq}
-use Rattle.std.specs.Io.KnownBytes.{IsAtEnd}
 use Rattle.clap.specs.Words.{App, Row, Text}
 use Rattle.aclck.specs.Line.{Term, app_from, is_taken, rows_at, words_of}
 use Rattle.aclck.specs.Answer.{Answer}
@@ -20,8 +19,7 @@ use Rattle.aclck.specs.ListMode.{ModeAnswer}
 use Rattle.aclck.specs.Compare.{CompareAnswer}
 use Rattle.aclck.specs.ShowNfs.{ShowNfsAnswer}
 use Rattle.aclck.specs.Encode.{EncodeAnswer}
-use Rattle.aclck.specs.ListInput.{TakesLittle, TakesOpen}
-use Rattle.aclck.specs.TwoLists.{TakesLittleOfTwo, TakesOpenOfTwo}
+use Rattle.aclck.specs.Run.{Shape, of_list, of_text, of_two}
 use Rattle.aclck.specs.ProfileArgument.{profile_in, profile_terms}
 use Rattle.acl_perm.specs.Profile.{Profile, profile_of}
 use Rattle.acl_posix.specs.Names.{Table}
@@ -124,12 +122,6 @@ Answers (compare p) = CompareAnswer p
 
 -- ---- how much of an input is taken
 
--- what the input of a task is to be: a text, one list, or two
-pub data Shape : Type 0 where
-  of_text : Shape
-  of_list : Profile → Shape
-  of_two : Profile → Shape
-
 -- what a task reads
 abbrev pub shape_of : Task → Shape
 shape_of (show_posix v) = of_text
@@ -146,24 +138,6 @@ shape_of (bridge known) = of_text
 shape_of (table v) = of_list v.profile
 shape_of (normalize v) = of_list v.profile
 shape_of (compare p) = of_two p
-
--- what a run takes of its source: of a text whatever it gives, and of lists little more than they have
-abbrev pub Takes : Shape → Option (List ℕ) → Option (List ℕ) → Type 0
-Takes of_text known left = Unit {0}
-Takes (of_list p) known left = TakesLittle p known left
-Takes (of_two p) known left = TakesLittleOfTwo p known left
-
--- what a run has taken of its source when a read fails: of a text whatever came, and of lists nothing that refuses them
-abbrev pub Stops : Shape → Option (List ℕ) → Option (List ℕ) → Type 0
-Stops of_text known left = Unit {0}
-Stops (of_list p) known left = TakesOpen p known left
-Stops (of_two p) known left = TakesOpenOfTwo p known left
-
--- a text that is refused was read whole
-abbrev pub Ends : Shape → Option (List ℕ) → Type 0
-Ends of_text left = IsAtEnd left
-Ends (of_list p) left = Unit {0}
-Ends (of_two p) left = Unit {0}
 
 -- the task that the program holds
 abbrev pub task_held : HeldTask → Task

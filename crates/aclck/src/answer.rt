@@ -51,6 +51,17 @@ impl From<ReadFault> for RunFault {
     }
 }
 
+impl From<WriteFault> for RunFault {
+    ghost use Rattle.std.specs.Prelude.{◌≡◌};
+    ghost use Rattle.aclck.specs.declared.answer.RunFault.TheVariants.{Write};
+
+    ghost from_gives = { λ fault run. run ≡ Write fault };
+
+    fn from(fault: WriteFault) -> RunFault {
+        RunFault::Write(fault)
+    }
+}
+
 impl RunFault {
     /// Whether the fault is the input's.
     pub(crate) fn is_refusal(self) -> bool

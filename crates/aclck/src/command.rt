@@ -1,11 +1,11 @@
 //! The program over a source and sinks.
-ghost use Rattle.std.specs.Prelude.{◌≡◌, ◌⊎◌, ◌<◌, ◌≤◌, IfErr, IsSome, None, Err, OnOk, false, map, true};
+ghost use Rattle.std.specs.Prelude.{◌≡◌, ◌⊎◌, ◌<◌, ◌≤◌, IsSome, None, Err, false, map};
 ghost use Rattle.std.specs.Io.KnownBytes.{IsAtEnd};
-ghost use Rattle.acl_perm.specs.Devices.{failures_after, one_more};
+ghost use Rattle.acl_perm.specs.Devices.{one_more};
 ghost use Rattle.clap.specs.Words.{found_of, rows_of};
 ghost use Rattle.aclck.specs.Line.{words_of};
 ghost use Rattle.aclck.specs.Task.{is_command, task_in, task_of};
-ghost use Rattle.aclck.specs.Command.{IsBegun, IsDone, IsEnded, IsRefused, IsStopped, IsTaken, Performs, has_failed, is_read_fault, is_write_fault, outcome_at, status_of};
+ghost use Rattle.aclck.specs.Command.{IsBegun, IsDone, IsEnded, IsRefused, IsStopped, IsTaken, RunsTask, outcome_at, status_of};
 
 use crate::answer::{Outcome, RunFault};
 use crate::line::{LineFault, words_in};
@@ -34,6 +34,17 @@ impl From<LineFault> for CommandFault {
             LineFault::Usage => CommandFault::Usage,
             LineFault::Memory => CommandFault::Run(RunFault::Memory),
         }
+    }
+}
+
+impl From<RunFault> for CommandFault {
+    ghost use Rattle.std.specs.Prelude.{◌≡◌};
+    ghost use Rattle.aclck.specs.declared.command.CommandFault.TheVariants.{Run};
+
+    ghost from_gives = { λ fault command. command ≡ Run fault };
+
+    fn from(fault: RunFault) -> CommandFault {
+        CommandFault::Run(fault)
     }
 }
 
@@ -124,23 +135,11 @@ fn perform<'a, S: Source, K: Sink>(
     source: &mut S,
     out: &mut K,
 ) -> Result<Outcome, CommandFault>
-    ensures performs { Performs (task_of (map (λ w. w.now) words.entry.now)) (S.remaining source.old)
-        (K.contents out.old) (K.contents out.new) result }
-    ensures whole { OnOk result (IsAtEnd (S.remaining source.new)) }
-    ensures unread { result ≡ Err CommandFault.Usage → source.new ≡ source.old }
+    ensures runs { RunsTask (task_of (map (λ w. w.now) words.entry.now))
+        S.remaining S.failure_count source.old source.new
+        K.contents K.failure_count out.old out.new result }
     ensures unnamed { is_command (map (λ w. w.now) words.entry.now) ≡ false
         → result ≡ Err CommandFault.Usage }
-    ensures bound { (source.new ≡ source.old) ⊎ IsTaken (task_of (map (λ w. w.now) words.entry.now))
-        (S.remaining source.old) (S.remaining source.new) }
-    ensures stopped { IfErr result (λ e. is_read_fault e ≡ true
-        → IsStopped (task_of (map (λ w. w.now) words.entry.now)) (S.remaining source.old) (S.remaining source.new)) }
-    ensures ended { IfErr result (λ e. status_of e ≡ 2
-        → IsEnded (task_of (map (λ w. w.now) words.entry.now)) (S.remaining source.new)) }
-    ensures unwritten { IfErr result (λ e. (is_write_fault e ≡ true) ⊎ (out.new ≡ out.old)) }
-    ensures reads { S.failure_count source.new
-        ≡ failures_after (S.failure_count source.old) (has_failed is_read_fault result) }
-    ensures writes { K.failure_count out.new
-        ≡ failures_after (K.failure_count out.old) (has_failed is_write_fault result) }
 {
     let Some(word) = words.first() else {
         return Err(CommandFault::Usage);
@@ -160,31 +159,16 @@ fn perform_named<S: Source, K: Sink>(
     source: &mut S,
     out: &mut K,
 ) -> Result<Outcome, CommandFault>
-    ensures performs { Performs
+    ensures { RunsTask
         (task_in name (rows_of (found_of matches.now)) (words_of (rows_of (found_of matches.now))))
-        (S.remaining source.old) (K.contents out.old) (K.contents out.new) result }
-    ensures whole { OnOk result (IsAtEnd (S.remaining source.new)) }
-    ensures unread { result ≡ Err CommandFault.Usage → source.new ≡ source.old }
-    ensures bound { (source.new ≡ source.old) ⊎ IsTaken
-        (task_in name (rows_of (found_of matches.now)) (words_of (rows_of (found_of matches.now))))
-        (S.remaining source.old) (S.remaining source.new) }
-    ensures stopped { IfErr result (λ e. is_read_fault e ≡ true → IsStopped
-        (task_in name (rows_of (found_of matches.now)) (words_of (rows_of (found_of matches.now))))
-        (S.remaining source.old) (S.remaining source.new)) }
-    ensures ended { IfErr result (λ e. status_of e ≡ 2 → IsEnded
-        (task_in name (rows_of (found_of matches.now)) (words_of (rows_of (found_of matches.now))))
-        (S.remaining source.new)) }
-    ensures unwritten { IfErr result (λ e. (is_write_fault e ≡ true) ⊎ (out.new ≡ out.old)) }
-    ensures reads { S.failure_count source.new
-        ≡ failures_after (S.failure_count source.old) (has_failed is_read_fault result) }
-    ensures writes { K.failure_count out.new
-        ≡ failures_after (K.failure_count out.old) (has_failed is_write_fault result) }
+        S.remaining S.failure_count source.old source.new
+        K.contents K.failure_count out.old out.new result }
 {
     let Ok(texts) = words_in(alloc, matches) else {
         return Err(CommandFault::Run(RunFault::Memory));
     };
     let task = Task::read(alloc, name, matches, texts.as_slice())?;
-    task.run(alloc, source, out).map_err(CommandFault::Run)
+    Ok(task.run(alloc, source, out)?)
 }
 
 // One line on the fault, made without memory. A fault of `err` changes nothing.

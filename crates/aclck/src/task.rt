@@ -1,12 +1,10 @@
 //! The commands: a row a command in each table, and a file a command.
-ghost use Rattle.std.specs.Prelude.{◌≡◌, ◌⊎◌, IfErr, IfOk, OnOk, false, find, map, true};
+ghost use Rattle.std.specs.Prelude.{◌≡◌, IfErr, IfOk, OnOk, false, find, map, true};
 ghost use Rattle.std.specs.Str.{bytes_eq};
-ghost use Rattle.std.specs.Io.KnownBytes.{IsAtEnd};
 ghost use Rattle.clap.specs.Words.{app_of, found_of, rows_of};
-ghost use Rattle.acl_perm.specs.Devices.{failures_after};
-ghost use Rattle.aclck.specs.Answer.{Ran, has_read_failed, has_write_failed, is_read, is_refusal, is_write};
+ghost use Rattle.aclck.specs.Run.{Runs};
 ghost use Rattle.aclck.specs.Line.{Reads, is_sound, is_taken, rows_at, term};
-ghost use Rattle.aclck.specs.Task.{Answers, Ends, Stops, Takes, app_named, command_named, shape_of, task_held, task_in, terms_of, word_of};
+ghost use Rattle.aclck.specs.Task.{Answers, app_named, command_named, shape_of, task_held, task_in, terms_of, word_of};
 
 pub mod bridge;
 pub mod calc_mask;
@@ -231,19 +229,9 @@ impl<'a> Task<'a> {
         source: &mut S,
         sink: &mut K,
     ) -> Result<Outcome, RunFault>
-        ensures ran { Ran (Answers (task_held self.now)) (S.remaining source.old)
-            (K.contents sink.old) (K.contents sink.new) result }
-        ensures whole { OnOk result (IsAtEnd (S.remaining source.new)) }
-        ensures bound { Takes (shape_of (task_held self.now)) (S.remaining source.old) (S.remaining source.new) }
-        ensures stopped { IfErr result (λ e. is_read e ≡ true
-            → Stops (shape_of (task_held self.now)) (S.remaining source.old) (S.remaining source.new)) }
-        ensures ended { IfErr result (λ e. is_refusal e ≡ true
-            → Ends (shape_of (task_held self.now)) (S.remaining source.new)) }
-        ensures unwritten { IfErr result (λ e. (is_write e ≡ true) ⊎ (sink.new ≡ sink.old)) }
-        ensures reads { S.failure_count source.new
-            ≡ failures_after (S.failure_count source.old) (has_read_failed result) }
-        ensures writes { K.failure_count sink.new
-            ≡ failures_after (K.failure_count sink.old) (has_write_failed result) }
+        ensures { Runs (Answers (task_held self.now)) (shape_of (task_held self.now))
+            S.remaining S.failure_count source.old source.new
+            K.contents K.failure_count sink.old sink.new result }
     {
         match self {
             Task::ShowPosix(v) => run_show_posix(alloc, source, sink, v.form, &v.names),

@@ -1,15 +1,12 @@
 //! `check-nfs`: whether a list grants a request.
-ghost use Rattle.std.specs.Prelude.{◌≡◌, ◌⊎◌, ◌↔◌, IfErr, OnOk, map, option_and_then, option_map, true};
-ghost use Rattle.std.specs.Io.KnownBytes.{IsAtEnd};
+ghost use Rattle.std.specs.Prelude.{◌≡◌, ◌↔◌, map, option_and_then, option_map};
 ghost use Rattle.clap.specs.Words.{found_of, rows_of};
-ghost use Rattle.acl_perm.specs.Devices.{failures_after};
 ghost use Rattle.acl_perm.specs.Profile.{profile_of};
+ghost use Rattle.aclck.specs.Run.{Runs, of_list};
 ghost use Rattle.aclck.specs.Line.{Reads, term};
 ghost use Rattle.aclck.specs.Values.{mask_within};
 ghost use Rattle.acl_eval.specs.Grant.{Grant};
 ghost use Rattle.acl_eval.specs.Situation.{situation};
-ghost use Rattle.aclck.specs.Answer.{Ran, has_read_failed, has_write_failed, is_read, is_write};
-ghost use Rattle.aclck.specs.ListInput.{TakesLittle, TakesOpen};
 ghost use Rattle.aclck.specs.CheckNfs.{CheckNfsAnswer, check_nfs_held, check_nfs_in, check_nfs_terms, object_named, object_names, requester_named, requester_names, values_of};
 
 use crate::answer::{Outcome, RunFault, decision_line};
@@ -114,24 +111,14 @@ pub fn run_check_nfs<S: Source, K: Sink>(
     mask: Mask,
     profile: Profile,
 ) -> Result<Outcome, RunFault>
-    ensures ran { Ran (CheckNfsAnswer (values_of object.now requester.now mask profile))
-        (S.remaining source.old) (K.contents sink.old) (K.contents sink.new) result }
-    ensures whole { OnOk result (IsAtEnd (S.remaining source.new)) }
-    ensures bound { TakesLittle (profile_of profile) (S.remaining source.old) (S.remaining source.new) }
-    ensures stopped { IfErr result (λ e. is_read e ≡ true
-        → TakesOpen (profile_of profile) (S.remaining source.old) (S.remaining source.new)) }
-    ensures unwritten { IfErr result (λ e. (is_write e ≡ true) ⊎ (sink.new ≡ sink.old)) }
-    ensures reads { S.failure_count source.new
-        ≡ failures_after (S.failure_count source.old) (has_read_failed result) }
-    ensures writes { K.failure_count sink.new
-        ≡ failures_after (K.failure_count sink.old) (has_write_failed result) }
+    ensures { Runs (CheckNfsAnswer (values_of object.now requester.now mask profile)) (of_list (profile_of profile))
+        S.remaining S.failure_count source.old source.new
+        K.contents K.failure_count sink.old sink.new result }
 {
     let list = read_list(alloc, source, profile)?;
     let outcome = decide(&list, object, requester, mask);
-    match put_all(sink, decision_line(outcome)) {
-        Ok(()) => Ok(outcome),
-        Err(fault) => Err(RunFault::Write(fault)),
-    }
+    put_all(sink, decision_line(outcome))?;
+    Ok(outcome)
 }
 
 // Whether the list grants the request.

@@ -1,12 +1,11 @@
 //! `check-posix`: whether the access part of a text grants a request.
-ghost use Rattle.std.specs.Prelude.{◌≡◌, ◌⊎◌, IfErr, IfOk, OnOk, map, option_and_then, option_map, true};
-ghost use Rattle.std.specs.Io.KnownBytes.{IsAtEnd};
+ghost use Rattle.std.specs.Prelude.{◌≡◌, ◌⊎◌, IfErr, IfOk, map, option_and_then, option_map, true};
 ghost use Rattle.clap.specs.Words.{found_of, rows_of};
-ghost use Rattle.acl_perm.specs.Devices.{failures_after};
 ghost use Rattle.acl_posix.specs.Check.{ids};
+ghost use Rattle.aclck.specs.Run.{Runs, of_text};
 ghost use Rattle.aclck.specs.Line.{Reads, term};
 ghost use Rattle.aclck.specs.PosixValues.{id_value, want_value};
-ghost use Rattle.aclck.specs.Answer.{Ran, has_read_failed, has_write_failed, is_refusal, is_write};
+ghost use Rattle.aclck.specs.Answer.{is_refusal};
 ghost use Rattle.aclck.specs.CheckPosix.{CheckPosixAnswer, Checks, check_posix_held, check_posix_in, check_posix_terms, groups_value, values_of};
 ghost use Rattle.aclck.specs.PosixAnswer.{IsPosixFault};
 
@@ -103,22 +102,14 @@ pub fn run_check_posix<S: Source, K: Sink>(
     want: Perm,
     names: &Names,
 ) -> Result<Outcome, RunFault>
-    ensures ran { Ran (CheckPosixAnswer (values_of owner group user groups.now want names.now))
-        (S.remaining source.old) (K.contents sink.old) (K.contents sink.new) result }
-    ensures whole { OnOk result (IsAtEnd (S.remaining source.new)) }
-    ensures ended { IfErr result (λ e. is_refusal e ≡ true → IsAtEnd (S.remaining source.new)) }
-    ensures unwritten { IfErr result (λ e. (is_write e ≡ true) ⊎ (sink.new ≡ sink.old)) }
-    ensures reads { S.failure_count source.new
-        ≡ failures_after (S.failure_count source.old) (has_read_failed result) }
-    ensures writes { K.failure_count sink.new
-        ≡ failures_after (K.failure_count sink.old) (has_write_failed result) }
+    ensures { Runs (CheckPosixAnswer (values_of owner group user groups.now want names.now)) of_text
+        S.remaining S.failure_count source.old source.new
+        K.contents K.failure_count sink.old sink.new result }
 {
     let input = read_all(alloc, source)?;
     let outcome = decide(alloc, input, owner, group, user, groups, want, names)?;
-    match put_all(sink, decision_line(outcome)) {
-        Ok(()) => Ok(outcome),
-        Err(fault) => Err(RunFault::Write(fault)),
-    }
+    put_all(sink, decision_line(outcome))?;
+    Ok(outcome)
 }
 
 // Whether the access ACL of the file whose text the input is grants the request.

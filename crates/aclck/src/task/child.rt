@@ -1,12 +1,9 @@
 //! `child`: the list that a new object takes from its directory.
-ghost use Rattle.std.specs.Prelude.{◌≡◌, ◌⊎◌, IfErr, OnOk, map, option_and_then, option_map, true};
-ghost use Rattle.std.specs.Io.KnownBytes.{IsAtEnd};
+ghost use Rattle.std.specs.Prelude.{◌≡◌, map, option_and_then, option_map};
 ghost use Rattle.clap.specs.Words.{found_of, rows_of};
-ghost use Rattle.acl_perm.specs.Devices.{failures_after};
 ghost use Rattle.acl_perm.specs.Profile.{profile_of};
+ghost use Rattle.aclck.specs.Run.{Runs, of_list};
 ghost use Rattle.aclck.specs.Line.{Reads, term};
-ghost use Rattle.aclck.specs.Answer.{Ran, has_read_failed, has_write_failed, is_read, is_write};
-ghost use Rattle.aclck.specs.ListInput.{TakesLittle, TakesOpen};
 ghost use Rattle.aclck.specs.Child.{ChildAnswer, child_held, child_in, child_terms, kind_value};
 
 use crate::answer::{Outcome, RunFault};
@@ -74,23 +71,13 @@ pub fn run_child<S: Source, K: Sink>(
     kind: ChildKind,
     profile: Profile,
 ) -> Result<Outcome, RunFault>
-    ensures ran { Ran (ChildAnswer (record { created = kind; profile = profile_of profile }))
-        (S.remaining source.old) (K.contents sink.old) (K.contents sink.new) result }
-    ensures whole { OnOk result (IsAtEnd (S.remaining source.new)) }
-    ensures bound { TakesLittle (profile_of profile) (S.remaining source.old) (S.remaining source.new) }
-    ensures stopped { IfErr result (λ e. is_read e ≡ true
-        → TakesOpen (profile_of profile) (S.remaining source.old) (S.remaining source.new)) }
-    ensures unwritten { IfErr result (λ e. (is_write e ≡ true) ⊎ (sink.new ≡ sink.old)) }
-    ensures reads { S.failure_count source.new
-        ≡ failures_after (S.failure_count source.old) (has_read_failed result) }
-    ensures writes { K.failure_count sink.new
-        ≡ failures_after (K.failure_count sink.old) (has_write_failed result) }
+    ensures { Runs (ChildAnswer (record { created = kind; profile = profile_of profile })) (of_list (profile_of profile))
+        S.remaining S.failure_count source.old source.new
+        K.contents K.failure_count sink.old sink.new result }
 {
     let parent = read_list(alloc, source, profile)?;
     let list = child(alloc, &parent, kind)?;
     drop(parent);
-    match list.encode(sink) {
-        Ok(()) => Ok(Outcome::Yes),
-        Err(fault) => Err(RunFault::Write(fault)),
-    }
+    list.encode(sink)?;
+    Ok(Outcome::Yes)
 }

@@ -1,12 +1,13 @@
 //! `compare`: whether two lists grant the same, and where not.
-ghost use Rattle.std.specs.Prelude.{◌≡◌, ◌⊎◌, ◌++◌, ◌<◌, ◌^◌, [], codes, IfErr, IfOk, OnOk, flat_map, map, true, unwrap_or};
+ghost use Rattle.std.specs.Prelude.{◌≡◌, ◌++◌, ◌<◌, ◌^◌, [], codes, IfErr, IfOk, OnOk, flat_map, map, true, unwrap_or};
 ghost use Rattle.std.specs.Io.KnownBytes.{IsAtEnd};
 ghost use Rattle.acl_perm.specs.Devices.{failures_after};
 ghost use Rattle.acl_perm.specs.Profile.{profile_of};
 ghost use Rattle.acl_nfs4.specs.BitNames.{first_name};
 ghost use Rattle.acl_nfs4.specs.Rights.{rights};
 ghost use Rattle.acl_normal.specs.Difference.{situation_of};
-ghost use Rattle.aclck.specs.Answer.{Ran, has_read_failed, has_write_failed, is_read, is_write};
+ghost use Rattle.aclck.specs.Run.{Runs, of_two};
+ghost use Rattle.aclck.specs.Answer.{has_read_failed, is_read};
 ghost use Rattle.aclck.specs.Compare.{AreTwo, CompareAnswer, compared_outcome, compared_text, decision, difference_text, line};
 ghost use Rattle.aclck.specs.ListInput.{HasInput};
 ghost use Rattle.aclck.specs.TwoLists.{AreNotRead, StandsBelow, TakesLittleOfTwo, TakesOpenOfTwo, later};
@@ -28,25 +29,15 @@ pub fn run_compare<S: Source, K: Sink>(
     sink: &mut K,
     profile: Profile,
 ) -> Result<Outcome, RunFault>
-    ensures ran { Ran (CompareAnswer (profile_of profile))
-        (S.remaining source.old) (K.contents sink.old) (K.contents sink.new) result }
-    ensures whole { OnOk result (IsAtEnd (S.remaining source.new)) }
-    ensures bound { TakesLittleOfTwo (profile_of profile) (S.remaining source.old) (S.remaining source.new) }
-    ensures stopped { IfErr result (λ e. is_read e ≡ true
-        → TakesOpenOfTwo (profile_of profile) (S.remaining source.old) (S.remaining source.new)) }
-    ensures unwritten { IfErr result (λ e. (is_write e ≡ true) ⊎ (sink.new ≡ sink.old)) }
-    ensures reads { S.failure_count source.new
-        ≡ failures_after (S.failure_count source.old) (has_read_failed result) }
-    ensures writes { K.failure_count sink.new
-        ≡ failures_after (K.failure_count sink.old) (has_write_failed result) }
+    ensures { Runs (CompareAnswer (profile_of profile)) (of_two (profile_of profile))
+        S.remaining S.failure_count source.old source.new
+        K.contents K.failure_count sink.old sink.new result }
 {
     let (list, other) = read_two(alloc, source, profile)?;
     let difference = compare(alloc, &list, &other)?;
     let text = text_of_answer(alloc, &difference)?;
-    match put_all(sink, &text) {
-        Ok(()) => Ok(outcome_of(&difference)),
-        Err(fault) => Err(RunFault::Write(fault)),
-    }
+    put_all(sink, &text)?;
+    Ok(outcome_of(&difference))
 }
 
 // The two lists of the profile that an input is, one after the other, and nothing more.

@@ -1,10 +1,9 @@
 //! `encode`: the bytes that spell the list of a text.
-ghost use Rattle.std.specs.Prelude.{◌≡◌, ◌⊎◌, IfErr, IfOk, OnOk, true};
-ghost use Rattle.std.specs.Io.KnownBytes.{IsAtEnd};
-ghost use Rattle.acl_perm.specs.Devices.{failures_after};
+ghost use Rattle.std.specs.Prelude.{◌≡◌, ◌⊎◌, IfErr, IfOk, true};
 ghost use Rattle.acl_perm.specs.Profile.{profile_of};
 ghost use Rattle.acl_nfs4.specs.AceText.{IsAceText};
-ghost use Rattle.aclck.specs.Answer.{Ran, has_read_failed, has_write_failed, is_refusal, is_write};
+ghost use Rattle.aclck.specs.Run.{Runs, of_text};
+ghost use Rattle.aclck.specs.Answer.{is_refusal};
 ghost use Rattle.aclck.specs.Encode.{EncodeAnswer, IsNfsTextFault};
 
 use crate::answer::{Outcome, RunFault};
@@ -20,22 +19,14 @@ pub fn run_encode<S: Source, K: Sink>(
     sink: &mut K,
     profile: Profile,
 ) -> Result<Outcome, RunFault>
-    ensures ran { Ran (EncodeAnswer (profile_of profile))
-        (S.remaining source.old) (K.contents sink.old) (K.contents sink.new) result }
-    ensures whole { OnOk result (IsAtEnd (S.remaining source.new)) }
-    ensures ended { IfErr result (λ e. is_refusal e ≡ true → IsAtEnd (S.remaining source.new)) }
-    ensures unwritten { IfErr result (λ e. (is_write e ≡ true) ⊎ (sink.new ≡ sink.old)) }
-    ensures reads { S.failure_count source.new
-        ≡ failures_after (S.failure_count source.old) (has_read_failed result) }
-    ensures writes { K.failure_count sink.new
-        ≡ failures_after (K.failure_count sink.old) (has_write_failed result) }
+    ensures { Runs (EncodeAnswer (profile_of profile)) of_text
+        S.remaining S.failure_count source.old source.new
+        K.contents K.failure_count sink.old sink.new result }
 {
     let input = read_all(alloc, source)?;
     let list = list_of_text(alloc, input, profile)?;
-    match list.encode(sink) {
-        Ok(()) => Ok(Outcome::Yes),
-        Err(fault) => Err(RunFault::Write(fault)),
-    }
+    list.encode(sink)?;
+    Ok(Outcome::Yes)
 }
 
 // The list whose text an input is.

@@ -1,10 +1,7 @@
 //! `mode`: the mode of a list.
-ghost use Rattle.std.specs.Prelude.{◌≡◌, ◌⊎◌, IfErr, OnOk, true};
-ghost use Rattle.std.specs.Io.KnownBytes.{IsAtEnd};
-ghost use Rattle.acl_perm.specs.Devices.{failures_after};
+ghost use Rattle.std.specs.Prelude.{◌≡◌};
 ghost use Rattle.acl_perm.specs.Profile.{profile_of};
-ghost use Rattle.aclck.specs.Answer.{Ran, has_read_failed, has_write_failed, is_read, is_write};
-ghost use Rattle.aclck.specs.ListInput.{TakesLittle, TakesOpen};
+ghost use Rattle.aclck.specs.Run.{Runs, of_list};
 ghost use Rattle.aclck.specs.ListMode.{ModeAnswer, mode_line, octal_digit};
 
 use crate::answer::{Outcome, RunFault};
@@ -21,24 +18,14 @@ pub fn run_mode<S: Source, K: Sink>(
     sink: &mut K,
     profile: Profile,
 ) -> Result<Outcome, RunFault>
-    ensures ran { Ran (ModeAnswer (profile_of profile))
-        (S.remaining source.old) (K.contents sink.old) (K.contents sink.new) result }
-    ensures whole { OnOk result (IsAtEnd (S.remaining source.new)) }
-    ensures bound { TakesLittle (profile_of profile) (S.remaining source.old) (S.remaining source.new) }
-    ensures stopped { IfErr result (λ e. is_read e ≡ true
-        → TakesOpen (profile_of profile) (S.remaining source.old) (S.remaining source.new)) }
-    ensures unwritten { IfErr result (λ e. (is_write e ≡ true) ⊎ (sink.new ≡ sink.old)) }
-    ensures reads { S.failure_count source.new
-        ≡ failures_after (S.failure_count source.old) (has_read_failed result) }
-    ensures writes { K.failure_count sink.new
-        ≡ failures_after (K.failure_count sink.old) (has_write_failed result) }
+    ensures { Runs (ModeAnswer (profile_of profile)) (of_list (profile_of profile))
+        S.remaining S.failure_count source.old source.new
+        K.contents K.failure_count sink.old sink.new result }
 {
     let list = read_list(alloc, source, profile)?;
     let line = mode_line(mode_of(list.aces()));
-    match put_all(sink, &line) {
-        Ok(()) => Ok(Outcome::Yes),
-        Err(fault) => Err(RunFault::Write(fault)),
-    }
+    put_all(sink, &line)?;
+    Ok(Outcome::Yes)
 }
 
 // The three octal digits of a mode, and a line feed.

@@ -1,11 +1,8 @@
 //! `show-nfs`: the text of a list.
-ghost use Rattle.std.specs.Prelude.{◌≡◌, ◌⊎◌, IfErr, IfOk, OnOk, true};
-ghost use Rattle.std.specs.Io.KnownBytes.{IsAtEnd};
-ghost use Rattle.acl_perm.specs.Devices.{failures_after};
+ghost use Rattle.std.specs.Prelude.{◌≡◌, IfOk};
 ghost use Rattle.acl_perm.specs.Profile.{profile_of};
 ghost use Rattle.acl_nfs4.specs.AceText.{ace_text};
-ghost use Rattle.aclck.specs.Answer.{Ran, has_read_failed, has_write_failed, is_read, is_write};
-ghost use Rattle.aclck.specs.ListInput.{TakesLittle, TakesOpen};
+ghost use Rattle.aclck.specs.Run.{Runs, of_list};
 ghost use Rattle.aclck.specs.ShowNfs.{ShowNfsAnswer};
 
 use crate::answer::{Outcome, RunFault};
@@ -22,25 +19,15 @@ pub fn run_show_nfs<S: Source, K: Sink>(
     sink: &mut K,
     profile: Profile,
 ) -> Result<Outcome, RunFault>
-    ensures ran { Ran (ShowNfsAnswer (profile_of profile))
-        (S.remaining source.old) (K.contents sink.old) (K.contents sink.new) result }
-    ensures whole { OnOk result (IsAtEnd (S.remaining source.new)) }
-    ensures bound { TakesLittle (profile_of profile) (S.remaining source.old) (S.remaining source.new) }
-    ensures stopped { IfErr result (λ e. is_read e ≡ true
-        → TakesOpen (profile_of profile) (S.remaining source.old) (S.remaining source.new)) }
-    ensures unwritten { IfErr result (λ e. (is_write e ≡ true) ⊎ (sink.new ≡ sink.old)) }
-    ensures reads { S.failure_count source.new
-        ≡ failures_after (S.failure_count source.old) (has_read_failed result) }
-    ensures writes { K.failure_count sink.new
-        ≡ failures_after (K.failure_count sink.old) (has_write_failed result) }
+    ensures { Runs (ShowNfsAnswer (profile_of profile)) (of_list (profile_of profile))
+        S.remaining S.failure_count source.old source.new
+        K.contents K.failure_count sink.old sink.new result }
 {
     let list = read_list(alloc, source, profile)?;
     let text = text_of_list(alloc, &list)?;
     drop(list);
-    match put_all(sink, text.as_slice()) {
-        Ok(()) => Ok(Outcome::Yes),
-        Err(fault) => Err(RunFault::Write(fault)),
-    }
+    put_all(sink, text.as_slice())?;
+    Ok(Outcome::Yes)
 }
 
 // The text of a list.

@@ -1,10 +1,9 @@
 //! `show-posix`: the text of a file in a form.
-ghost use Rattle.std.specs.Prelude.{◌≡◌, ◌⊎◌, IfErr, IfOk, OnOk, map, option_and_then, option_map, true};
-ghost use Rattle.std.specs.Io.KnownBytes.{IsAtEnd};
+ghost use Rattle.std.specs.Prelude.{◌≡◌, ◌⊎◌, IfErr, IfOk, map, option_and_then, option_map, true};
 ghost use Rattle.clap.specs.Words.{found_of, rows_of};
-ghost use Rattle.acl_perm.specs.Devices.{failures_after};
+ghost use Rattle.aclck.specs.Run.{Runs, of_text};
 ghost use Rattle.aclck.specs.Line.{Reads, term};
-ghost use Rattle.aclck.specs.Answer.{Ran, has_read_failed, has_write_failed, is_refusal, is_write};
+ghost use Rattle.aclck.specs.Answer.{is_refusal};
 ghost use Rattle.aclck.specs.PosixAnswer.{IsPosixFault, Writes};
 ghost use Rattle.aclck.specs.ShowPosix.{ShowPosixAnswer, form_text, form_value, show_posix_held, show_posix_in, show_posix_terms};
 
@@ -70,22 +69,14 @@ pub fn run_show_posix<S: Source, K: Sink>(
     form: Form,
     names: &Names,
 ) -> Result<Outcome, RunFault>
-    ensures ran { Ran (ShowPosixAnswer (record { form = form; names = names.now }))
-        (S.remaining source.old) (K.contents sink.old) (K.contents sink.new) result }
-    ensures whole { OnOk result (IsAtEnd (S.remaining source.new)) }
-    ensures ended { IfErr result (λ e. is_refusal e ≡ true → IsAtEnd (S.remaining source.new)) }
-    ensures unwritten { IfErr result (λ e. (is_write e ≡ true) ⊎ (sink.new ≡ sink.old)) }
-    ensures reads { S.failure_count source.new
-        ≡ failures_after (S.failure_count source.old) (has_read_failed result) }
-    ensures writes { K.failure_count sink.new
-        ≡ failures_after (K.failure_count sink.old) (has_write_failed result) }
+    ensures { Runs (ShowPosixAnswer (record { form = form; names = names.now })) of_text
+        S.remaining S.failure_count source.old source.new
+        K.contents K.failure_count sink.old sink.new result }
 {
     let input = read_all(alloc, source)?;
     let text = shown(alloc, input, form, names)?;
-    match put_all(sink, text.as_slice()) {
-        Ok(()) => Ok(Outcome::Yes),
-        Err(fault) => Err(RunFault::Write(fault)),
-    }
+    put_all(sink, text.as_slice())?;
+    Ok(Outcome::Yes)
 }
 
 // The text in the form.

@@ -1,14 +1,11 @@
 //! `table`: what the normal form of a list says of one right.
-ghost use Rattle.std.specs.Prelude.{◌≡◌, ◌⊎◌, ◌++◌, ◌∷◌, [], IfErr, IfOk, List, OnOk, decimal, map, option_and_then, option_map, true};
-ghost use Rattle.std.specs.Io.KnownBytes.{IsAtEnd};
+ghost use Rattle.std.specs.Prelude.{◌≡◌, ◌++◌, ◌∷◌, [], IfOk, List, OnOk, decimal, map, option_and_then, option_map};
 ghost use Rattle.clap.specs.Words.{found_of, rows_of};
-ghost use Rattle.acl_perm.specs.Devices.{failures_after};
 ghost use Rattle.acl_perm.specs.Profile.{profile_of};
 ghost use Rattle.acl_perm.specs.Lines.{line_feed};
 ghost use Rattle.acl_nfs4.specs.AceText.{kind_name, space};
+ghost use Rattle.aclck.specs.Run.{Runs, of_list};
 ghost use Rattle.aclck.specs.Line.{Reads, term};
-ghost use Rattle.aclck.specs.Answer.{Ran, has_read_failed, has_write_failed, is_read, is_write};
-ghost use Rattle.aclck.specs.ListInput.{TakesLittle, TakesOpen};
 ghost use Rattle.aclck.specs.BitTable.{AreTableOf, TableAnswer, bit_value, group_word, right_named, row_line, rows_text, table_held, table_in, table_terms};
 
 use crate::answer::{Outcome, RunFault};
@@ -93,25 +90,15 @@ pub fn run_table<S: Source, K: Sink>(
     bit: Mask,
     profile: Profile,
 ) -> Result<Outcome, RunFault>
-    ensures ran { Ran (TableAnswer (record { bit = bit.bits; profile = profile_of profile }))
-        (S.remaining source.old) (K.contents sink.old) (K.contents sink.new) result }
-    ensures whole { OnOk result (IsAtEnd (S.remaining source.new)) }
-    ensures bound { TakesLittle (profile_of profile) (S.remaining source.old) (S.remaining source.new) }
-    ensures stopped { IfErr result (λ e. is_read e ≡ true
-        → TakesOpen (profile_of profile) (S.remaining source.old) (S.remaining source.new)) }
-    ensures unwritten { IfErr result (λ e. (is_write e ≡ true) ⊎ (sink.new ≡ sink.old)) }
-    ensures reads { S.failure_count source.new
-        ≡ failures_after (S.failure_count source.old) (has_read_failed result) }
-    ensures writes { K.failure_count sink.new
-        ≡ failures_after (K.failure_count sink.old) (has_write_failed result) }
+    ensures { Runs (TableAnswer (record { bit = bit.bits; profile = profile_of profile })) (of_list (profile_of profile))
+        S.remaining S.failure_count source.old source.new
+        K.contents K.failure_count sink.old sink.new result }
 {
     let list = read_list(alloc, source, profile)?;
     let text = table_text(alloc, &list, bit)?;
     drop(list);
-    match put_all(sink, text.as_slice()) {
-        Ok(()) => Ok(Outcome::Yes),
-        Err(fault) => Err(RunFault::Write(fault)),
-    }
+    put_all(sink, text.as_slice())?;
+    Ok(Outcome::Yes)
 }
 
 // The text of the rows of a list at a right.

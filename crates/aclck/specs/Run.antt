@@ -1,0 +1,57 @@
+-- What a run of an engine does to its source and its sink (this library's own).
+use Rattle.std.specs.Prelude.{◌≡◌, ◌⊎◌, List, ℕ, Option, true, IfErr, OnOk, Result}
+use Rattle.std.specs.Io.KnownBytes.{IsAtEnd}
+use Rattle.acl_perm.specs.Devices.{failures_after}
+use Rattle.acl_perm.specs.Profile.{Profile}
+use Rattle.aclck.specs.Answer.{Answer, Ran, has_read_failed, has_write_failed, is_read, is_refusal, is_write}
+use Rattle.aclck.specs.ListInput.{TakesLittle, TakesOpen}
+use Rattle.aclck.specs.TwoLists.{TakesLittleOfTwo, TakesOpenOfTwo}
+use Rattle.aclck.specs.declared.answer.Outcome.{Outcome}
+use Rattle.aclck.specs.declared.answer.RunFault.{RunFault}
+
+-- what an input is to be: a text, one list, or two
+pub data Shape : Type 0 where
+  of_text : Shape
+  of_list : Profile → Shape
+  of_two : Profile → Shape
+
+-- what a run takes of its source: of a text whatever it gives, and of lists little more than they have
+abbrev pub Takes : Shape → Option (List ℕ) → Option (List ℕ) → Type 0
+Takes of_text known left = Unit {0}
+Takes (of_list p) known left = TakesLittle p known left
+Takes (of_two p) known left = TakesLittleOfTwo p known left
+
+-- what a run has taken of its source when a read fails: of a text whatever came, and of lists nothing that refuses them
+abbrev pub Stops : Shape → Option (List ℕ) → Option (List ℕ) → Type 0
+Stops of_text known left = Unit {0}
+Stops (of_list p) known left = TakesOpen p known left
+Stops (of_two p) known left = TakesOpenOfTwo p known left
+
+-- a text that is refused was read whole
+abbrev pub Ends : Shape → Option (List ℕ) → Type 0
+Ends of_text left = IsAtEnd left
+Ends (of_list p) left = Unit {0}
+Ends (of_two p) left = Unit {0}
+
+-- a run over an input of this shape, which means these answers, from a source and to a sink as they were, and as they
+-- are after it: by the bytes that the source has left and that the sink holds, and by how many of their calls failed
+pub record Runs {S K : Type 0} (Means : List ℕ → Answer → Type 0) (shape : Shape)
+    (left : S → Option (List ℕ)) (reads_failed : S → ℕ) (source source_after : S)
+    (holds : K → Option (List ℕ)) (writes_failed : K → ℕ) (sink sink_after : K)
+    (r : Result Outcome RunFault) : Type 0 where
+  -- the answer is the input's, and its text was written, or a beginning of it where a write failed
+  pub ran : Ran Means (left source) (holds sink) (holds sink_after) r
+  -- where it ran to its end, the input was read whole
+  pub whole : OnOk r (IsAtEnd (left source_after))
+  -- little of the source was taken
+  pub bound : Takes shape (left source) (left source_after)
+  -- where a read failed, what was taken is not refused
+  pub stopped : IfErr r (λ e. is_read e ≡ true → Stops shape (left source) (left source_after))
+  -- a text that is refused was read whole
+  pub ended : IfErr r (λ e. is_refusal e ≡ true → Ends shape (left source_after))
+  -- nothing was written, unless a write failed
+  pub unwritten : IfErr r (λ e. (is_write e ≡ true) ⊎ (sink_after ≡ sink))
+  -- one read failed where the answer says so, and else none
+  pub reads : reads_failed source_after ≡ failures_after (reads_failed source) (has_read_failed r)
+  -- one write failed where the answer says so, and else none
+  pub writes : writes_failed sink_after ≡ failures_after (writes_failed sink) (has_write_failed r)
