@@ -3,31 +3,38 @@ use Rattle.std.proofs.Common.{◌≡◌, ℕ, Bool, true, false, List, Option, S
 use Rattle.std.proofs.lemmas.Bool.{true≢false}
 use Rattle.std.specs.Prelude.{◌⊎◌, ◌<◌, IsSome}
 use Rattle.acl_perm.specs.Devices.{failures_after, one_more}
-use Rattle.aclck.specs.Answer.{Answer, Fails, Refuses, is_refusal}
+use Rattle.aclck.specs.Answer.{Answer, Begins, FailsBy, Refuses, cause_of, is_input, is_refusal, is_sink, is_write}
 use Rattle.aclck.specs.Command.{IsBegun, IsRefused, Performs, is_write_fault, status_of}
 use Rattle.aclck.specs.Task.{Answers, Task}
+use Rattle.aclck.specs.declared.answer.Cause.{Cause}
+use Rattle.aclck.specs.declared.answer.Cause.TheVariants as cause
 use Rattle.aclck.specs.declared.answer.Outcome.{Outcome}
 use Rattle.aclck.specs.declared.answer.RunFault.{RunFault}
-use Rattle.aclck.specs.declared.answer.RunFault.TheVariants as fault
 use Rattle.aclck.specs.declared.command.CommandFault.{CommandFault}
 use Rattle.aclck.specs.declared.command.CommandFault.TheVariants as command
 
 -- a fault of the input is one that some input has
-fails_refused : (Means : List ℕ → Answer → Type 0) (known held holds : Option (List ℕ)) (f : RunFault)
-    → is_refusal f ≡ true → Fails Means known held holds f → Refuses Means known f
-fails_refused Means known held holds (fault.Nfs x) is h = h
-fails_refused Means known held holds (fault.NfsText x) is h = h
-fails_refused Means known held holds (fault.Posix x) is h = h
-fails_refused Means known held holds fault.Limits is h = h
-fails_refused Means known held holds fault.Read is h = absurd cc
-fails_refused Means known held holds (fault.Write w) is h = absurd cc
-fails_refused Means known held holds fault.Memory is h = absurd cc
+refuses_by : (Means : List ℕ → Answer → Type 0) (known held holds : Option (List ℕ)) (f : RunFault) (c : Cause)
+    → is_input c ≡ true → FailsBy Means known held holds f c → Refuses Means known f
+refuses_by Means known held holds f cause.Input is h = h
+refuses_by Means known held holds f cause.Source is h = absurd cc
+refuses_by Means known held holds f (cause.Sink w) is h = absurd cc
+refuses_by Means known held holds f cause.Memory is h = absurd cc
+
+-- and one of the sink leaves a beginning of a text
+begins_by : (Means : List ℕ → Answer → Type 0) (known held holds : Option (List ℕ)) (f : RunFault) (c : Cause)
+    → is_sink c ≡ true → FailsBy Means known held holds f c → (n : ℕ) × Begins Means known held holds n
+begins_by Means known held holds f cause.Input is h = absurd cc
+begins_by Means known held holds f cause.Source is h = absurd cc
+begins_by Means known held holds f (cause.Sink w) is h = (w.written, h)
+begins_by Means known held holds f cause.Memory is h = absurd cc
 
 refused_run : (task : Option Task) (known held holds : Option (List ℕ)) (f : RunFault) → is_refusal f ≡ true
     → Performs task known held holds (Err (command.Run f)) → IsRefused task known
 refused_run task known held holds f is (inl memory) = absurd (true≢false (sym is ∙ ap is_refusal memory))
 refused_run None known held holds f is (inr fails) = absurd fails
-refused_run (Some t) known held holds f is (inr fails) = (f, fails_refused (Answers t) known held holds f is fails)
+refused_run (Some t) known held holds f is (inr fails) =
+    (f, refuses_by (Answers t) known held holds f (cause_of f) is fails)
 
 -- at 2 the input has a fault
 pub refused_told : (task : Option Task) (known held holds : Option (List ℕ)) (f : CommandFault) (status : ℕ)
@@ -59,19 +66,15 @@ below_named (Some t) known held holds (command.Run f) status (inr fails) is belo
 begun_at : (task : Option Task) (known held holds : Option (List ℕ)) (f : CommandFault)
     → Performs task known held holds (Err f) → is_write_fault f ≡ true → IsBegun task known held holds
 begun_at task known held holds command.Usage performs write = absurd cc
-begun_at task known held holds (command.Run (fault.Nfs x)) performs write = absurd cc
-begun_at task known held holds (command.Run (fault.NfsText x)) performs write = absurd cc
-begun_at task known held holds (command.Run (fault.Posix x)) performs write = absurd cc
-begun_at task known held holds (command.Run fault.Limits) performs write = absurd cc
-begun_at task known held holds (command.Run fault.Read) performs write = absurd cc
-begun_at task known held holds (command.Run (fault.Write w)) (inl memory) write = absurd cc
-begun_at None known held holds (command.Run (fault.Write w)) (inr fails) write = absurd fails
-begun_at (Some t) known held holds (command.Run (fault.Write w)) (inr fails) write = (w.written, fails)
-begun_at task known held holds (command.Run fault.Memory) performs write = absurd cc
+begun_at task known held holds (command.Run f) (inl memory) write =
+    absurd (true≢false (sym write ∙ ap is_write memory))
+begun_at None known held holds (command.Run f) (inr fails) write = absurd fails
+begun_at (Some t) known held holds (command.Run f) (inr fails) write =
+    begins_by (Answers t) known held holds f (cause_of f) write fails
 
 -- nothing was written, or a write failed when a beginning was
-pub told_begun : (task : Option Task) (known held holds : Option (List ℕ)) (f : CommandFault) (Kept : Type 0) (old new : ℕ)
-    → Performs task known held holds (Err f) → (is_write_fault f ≡ true) ⊎ Kept
+pub told_begun : (task : Option Task) (known held holds : Option (List ℕ)) (f : CommandFault) (Kept : Type 0)
+    (old new : ℕ) → Performs task known held holds (Err f) → (is_write_fault f ≡ true) ⊎ Kept
     → new ≡ failures_after old (is_write_fault f)
     → Kept ⊎ ((new ≡ one_more old) × IsBegun task known held holds)
 told_begun task known held holds f Kept old new performs (inr kept) failed = inl kept

@@ -11,7 +11,8 @@ use Rattle.acl_eval.specs.Grant.{SameGrants}
 use Rattle.acl_normal.specs.Difference.{situation_of}
 use Rattle.acl_normal.specs.SmallSets.{IsFirstDifference}
 use Rattle.acl_normal.specs.declared.comparison.Difference.{Difference}
-use Rattle.aclck.specs.Compare.{Compares, compared_outcome, compared_text, decision, difference_text, line}
+use Rattle.aclck.specs.Compare.{Compares, decision, difference_text, line}
+use Rattle.aclck.specs.internal.Compared.{compared_outcome, compared_text}
 use Rattle.aclck.specs.declared.answer.Outcome.{Outcome}
 
 -- seven parts behind a first one

@@ -29,9 +29,11 @@ use Rattle.acl_nfs4.proofs.Lengths.{spelling_short}
 use Rattle.acl_nfs4.proofs.OneFault.{never_truncated, value_or_fault}
 use Rattle.acl_nfs4.proofs.Pieces.{breaks_whole, fault_stays}
 use Rattle.aclck.specs.Answer.{IsXdrFault, is_read}
-use Rattle.aclck.specs.ListInput.{EndsNot, HasInput, IsNotRead, ReadsLittle, ReadsNone, ReadsValue, RefusalEnds, TakesLittle, TakesOpen, ValueEnds, piece_len}
-use Rattle.aclck.specs.declared.answer.RunFault.{RunFault}
+use Rattle.aclck.specs.ListInput.{RefusalEnds, TakesLittle, TakesOpen, ValueEnds, piece_len}
+use Rattle.aclck.specs.internal.Reading.{EndsNot, HasInput, IsNotRead, ReadsLittle, ReadsNone, ReadsPart, ReadsValue, told}
 use Rattle.aclck.specs.declared.answer.RunFault.TheVariants as fault
+use Rattle.aclck.specs.declared.input.xdr.ListFault.{ListFault}
+use Rattle.aclck.specs.declared.input.xdr.ListFault.TheVariants as unread
 use Rattle.aclck.specs.declared.input.xdr.Value.{Value}
 
 -- ---- lists are short
@@ -90,7 +92,7 @@ ends_somewhere p text b = ends_as p text (value_at p text) b (gives_itself (valu
 
 -- the value that a feed held
 pub done_reads : (p : Profile) (left given text pulled pull new_left : List ℕ) (old new : Option (List ℕ)) (fed t : ℕ)
-    (feed : Standing) (list : List Ace) (r : Result Value RunFault) → left ++ given ≡ text ++ pulled
+    (feed : Standing) (list : List Ace) (r : Result Value ListFault) → left ++ given ≡ text ++ pulled
     → Consumes old new given → fed ≡ length text → pull ≡ pulled → new_left ≡ drop t pulled → t ≤ length pull
     → feed ≡ done list → Xdr p list (text ++ take t pull)
     → IfOk r (λ v. (v.len ≡ fed + t) × Finishes feed (Ok v.list))
@@ -111,10 +113,10 @@ done_reads p left given text pulled pull new_left old new fed t feed list (Ok v)
 
 -- the value that a feed held, which want of memory took
 pub done_none : (p : Profile) (left given text pulled pull : List ℕ) (old new : Option (List ℕ)) (t : ℕ)
-    (feed : Standing) (list : List Ace) (r : Result Value RunFault) → left ++ given ≡ text ++ pulled
+    (feed : Standing) (list : List Ace) (r : Result Value ListFault) → left ++ given ≡ text ++ pulled
     → Consumes old new given → pull ≡ pulled → length pulled ≤ piece_len → feed ≡ done list
     → Xdr p list (text ++ take t pull) → IsBytes (text ++ pull)
-    → IfErr r (λ e. (e ≡ fault.Memory) ⊎ ((f : Fault) × (e ≡ fault.Nfs f) × Finishes feed (Err f)))
+    → IfErr r (λ e. (e ≡ unread.Memory) ⊎ ((f : Fault) × (e ≡ unread.Refused f) × Finishes feed (Err f)))
     → IfErr r (λ e. ReadsNone p left old new e)
 done_none p left given text pulled pull old new t feed list (Ok v) parts c same short is x bytes h = tt
 done_none p left given text pulled pull old new t feed list (Err e) parts c same short is x bytes (inr (f, at, h)) =
@@ -124,17 +126,19 @@ done_none p left given text pulled pull old new t feed list (Err e) parts c same
       given = given;
       end = length text + t;
       taken = c;
-      bytes = subst IsBytes (ap (λ (y : List ℕ). text ++ y) same ∙ sym parts) bytes;
       is_end = inl (record {
-        list = list;
-        spelled = subst (λ (y : List ℕ). Xdr p list y) (ap (λ (y : List ℕ). text ++ take t y) same
-            ∙ sym (ap (take (length text + t)) parts ∙ take-append-add text pulled t)) x;
+        bytes = subst IsBytes (ap (λ (y : List ℕ). text ++ y) same ∙ sym parts) bytes;
+        value = record {
+          list = list;
+          spelled = subst (λ (y : List ℕ). Xdr p list y) (ap (λ (y : List ℕ). text ++ take t y) same
+              ∙ sym (ap (take (length text + t)) parts ∙ take-append-add text pulled t)) x;
+        };
       });
       near = omega (arith, short, ap length parts, length-append text pulled);
     })
 
 -- a value is short
-pub reads_small : (p : Profile) (left new_left : List ℕ) (old new : Option (List ℕ)) (r : Result Value RunFault)
+pub reads_small : (p : Profile) (left new_left : List ℕ) (old new : Option (List ℕ)) (r : Result Value ListFault)
     → IfOk r (λ v. ReadsValue p left new_left old new v.list v.len) → IfOk r (λ v. v.len < 2 ^ 32)
 reads_small p left new_left old new (Err e) h = tt
 reads_small p left new_left old new (Ok v) h = omega (arith, h.is_len, spelled_short p v.list h.text h.spelled)
@@ -205,10 +209,10 @@ end_whole left given text pulled pull new_pulled parts same none =
 
 -- the source ends where the stream is cut short
 pub end_reads : (p : Profile) (left given text pulled pull new_pulled : List ℕ) (old mid new : Option (List ℕ))
-    (feed : Standing) (r : Result Value RunFault) → left ++ given ≡ text ++ pulled → pull ≡ pulled
+    (feed : Standing) (r : Result Value ListFault) → left ++ given ≡ text ++ pulled → pull ≡ pulled
     → Consumes old mid given → Consumes mid new new_pulled → new_pulled ≡ [] → IsAtEnd new
     → feed ≡ more p (text ++ pull) → IsCut p (text ++ pull) → IsBytes (text ++ pull)
-    → IfErr r (λ e. (e ≡ fault.Memory) ⊎ ((f : Fault) × (e ≡ fault.Nfs f) × Finishes feed (Err f)))
+    → IfErr r (λ e. (e ≡ unread.Memory) ⊎ ((f : Fault) × (e ≡ unread.Refused f) × Finishes feed (Err f)))
     → IfErr r (λ e. ReadsNone p left old new e)
 end_reads p left given text pulled pull new_pulled old mid new feed (Ok v) parts same c d none end is cut bytes h = tt
 end_reads p left given text pulled pull new_pulled old mid new feed (Err e) parts same c d none end is cut bytes
@@ -218,7 +222,6 @@ end_reads p left given text pulled pull new_pulled old mid new feed (Err e) part
       given = given ++ new_pulled;
       end = cut.1.0;
       taken = Consumes-trans old mid new given new_pulled c d;
-      bytes = subst IsBytes whole bytes;
       is_end = inr (record {
         offset = cut.0;
         reason = Truncated;
@@ -241,9 +244,9 @@ end_reads p left given text pulled pull new_pulled old mid new feed (Err e) part
       all = λ t. end;
     })
 
--- what an engine tells of a fault
-abbrev pub IsTold : RunFault → Fault → Type 0
-IsTold e f = (e ≡ fault.Memory) ⊎ ((e ≡ fault.Nfs f) × (f.reason ≢ Memory))
+-- what is told of a fault
+abbrev pub IsTold : ListFault → Fault → Type 0
+IsTold e f = (e ≡ unread.Memory) ⊎ ((e ≡ unread.Refused f) × (f.reason ≢ Memory))
 
 -- a text goes on behind a beginning that is cut short, to the end of a value
 value_behind_cut : (p : Profile) (text pull : List ℕ) (list : List Ace) (end : ℕ) → IsProfile p → IsCut p text
@@ -281,14 +284,19 @@ memory_reads p left given text pulled pull old new ok parts c same short cut byt
       given = given;
       end = ends.0;
       taken = c;
-      bytes = subst IsBytes whole bytes;
-      is_end = subst (λ (x : List ℕ). ValueEnds p x ends.0 ⊎ RefusalEnds p x ends.0) whole ends.1;
+      is_end = elim ends.1 [
+        | inl v ↦ inl (record {
+          bytes = subst IsBytes whole bytes;
+          value = subst (λ (x : List ℕ). ValueEnds p x ends.0) whole v;
+        })
+        | inr r ↦ inr (subst (λ (x : List ℕ). RefusalEnds p x ends.0) whole r)
+      ];
       near = omega (arith, far, short, ap length parts, length-append text pulled);
     }
 
 -- a stream is refused
 pub refused_reads : (p : Profile) (left given text pulled pull : List ℕ) (old new : Option (List ℕ)) (f : Fault)
-    (e : RunFault) → IsProfile p → left ++ given ≡ text ++ pulled → Consumes old new given → pull ≡ pulled
+    (e : ListFault) → IsProfile p → left ++ given ≡ text ++ pulled → Consumes old new given → pull ≡ pulled
     → length pulled ≤ piece_len → IsCut p text → IsBytes (text ++ pull) → Refuses p (text ++ pull) f → IsTold e f
     → ReadsNone p left old new e
 refused_reads p left given text pulled pull old new f e ok parts c same short cut bytes h (inl memory) =
@@ -307,7 +315,67 @@ refused_reads p left given text pulled pull old new f e ok parts c same short cu
       all = λ t. absurd (h.1 t);
     })
 
+-- ---- why a value was not read, and why an input does not end behind one
+
+-- little was taken
+pub none_little : (p : Profile) (left : List ℕ) (old new : Option (List ℕ)) (e : ListFault) → ReadsNone p left old new e
+    → ReadsLittle p left old new
+none_little p left old new (unread.Refused f) h = record {
+  given = h.given;
+  end = h.end;
+  taken = h.taken;
+  is_end = inr (record { offset = f.offset; reason = f.reason; has = h.has });
+  near = h.near;
+}
+none_little p left old new unread.Read h = record {
+  given = h.given;
+  end = h.cut.1.0;
+  taken = h.taken;
+  is_end = inr (record { offset = h.cut.0; reason = Truncated; has = h.cut.1.1 });
+  near = omega (arith, cut_end p (left ++ h.given) h.cut.0 h.cut.1.0 h.cut.1.1 h.cut.1.1.breaks);
+}
+none_little p left old new unread.Memory h = h
+
+-- where a read failed, what came is cut short
+pub none_part : (p : Profile) (left : List ℕ) (old new : Option (List ℕ)) (e : ListFault) → ReadsNone p left old new e
+    → is_read (told e) ≡ true → ReadsPart p left old new
+none_part p left old new (unread.Refused f) h r = absurd cc
+none_part p left old new unread.Read h r = h
+none_part p left old new unread.Memory h r = absurd cc
+
+-- what an end or no end behind a value took of the source
+pub record TakesPast (left : List ℕ) (mid new : Option (List ℕ)) : Type 0 where
+  pub given : List ℕ
+  pub taken : Consumes mid new given
+  pub near : length (left ++ given) ≤ piece_len
+
+-- little was taken where an input goes on
+pub past_end : (len : ℕ) (left : List ℕ) (mid new : Option (List ℕ)) (e : ListFault) → EndsNot len left mid new e
+    → TakesPast left mid new
+past_end len left mid new (unread.Refused f) h = record { given = h.1.given; taken = h.1.taken; near = h.1.near }
+past_end len left mid new unread.Read h = record {
+  given = [];
+  taken = Consumes-kept mid mid new [] (Consumes-nil mid) h.1;
+  near = rw h.0 (omega arith);
+}
+past_end len left mid new unread.Memory h = absurd h
+
+-- and where a read failed, nothing
+pub end_kept : (len : ℕ) (left : List ℕ) (mid new : Option (List ℕ)) (e : ListFault) → EndsNot len left mid new e
+    → is_read (told e) ≡ true → (left ≡ []) × Consumes mid new []
+end_kept len left mid new (unread.Refused f) h r = absurd cc
+end_kept len left mid new unread.Read h r = (h.0, Consumes-kept mid mid new [] (Consumes-nil mid) h.1)
+end_kept len left mid new unread.Memory h r = absurd h
+
 -- ---- a whole input
+
+-- what holds of the bytes that were taken, with those that are left, holds of an input
+pub input_found : (Holds : List ℕ → Type 0) (given : List ℕ) (old new : Option (List ℕ)) → Consumes old new given
+    → ((left : List ℕ) → (IsAtEnd new → left ≡ []) → Holds (given ++ left)) → HasInput Holds old
+input_found Holds given None new c h = record { input = given ++ []; is_input = tt; holds = h [] (λ _. refl) }
+input_found Holds given (Some known) None c h = absurd c
+input_found Holds given (Some known) (Some left) c h =
+    record { input = known; is_input = refl; holds = subst Holds (sym c) (h left (λ e. e)) }
 
 -- a value and nothing behind it
 whole_text : (p : Profile) (text given after : List ℕ) (list : List Ace) → Xdr p list text
@@ -359,8 +427,8 @@ regroup : (a b c d : List ℕ) → ((a ++ b) ++ c) ++ d ≡ a ++ ((b ++ c) ++ d)
 regroup a b c d = simp append_assoc
 
 -- a beginning that is refused, or all of an input that is cut short
-pub still_has : (p : Profile) (given left : List ℕ) (f : Fault) (end : ℕ) (h : IsFirstFault p given f.offset end f.reason)
-    → Breaks p h.stage h.rest h.more f.reason → (f.reason ≡ Truncated → left ≡ [])
+pub still_has : (p : Profile) (given left : List ℕ) (f : Fault) (end : ℕ)
+    (h : IsFirstFault p given f.offset end f.reason) → Breaks p h.stage h.rest h.more f.reason → (f.reason ≡ Truncated → left ≡ [])
     → IsFault p (given ++ left) f.offset f.reason
 still_has p given left f end h (inl b) all =
     subst (λ (x : List ℕ). IsFault p x f.offset f.reason)
@@ -369,71 +437,38 @@ still_has p given left f end h (inr b) all =
     fault_stays p given left f.offset f.reason (end, h)
     (λ e. never_truncated p h.stage _ (subst (λ (r : Reason). refuses p h.stage (take (size h.stage) h.rest) r) e b.2))
 
--- an input has the fault that was read
-fault_found : (p : Profile) (given : List ℕ) (old mid : Option (List ℕ)) (f : Fault) (end : ℕ)
-    → IsFirstFault p given f.offset end f.reason → Consumes old mid given → (f.reason ≡ Truncated → IsAtEnd mid)
-    → HasInput (λ input. IsXdrFault p input (fault.Nfs f)) old
-fault_found p given None mid f end h c all = record {
-  input = given;
-  is_input = tt;
-  holds = record { found = f; is = refl; has = of_value f.offset f.reason (end, h) };
-}
-fault_found p given (Some known) None f end h c all = absurd c
-fault_found p given (Some known) (Some left) f end h c all = record {
-  input = known;
-  is_input = refl;
-  holds = record {
-    found = f;
-    is = refl;
-    has = of_value f.offset f.reason (subst (λ (x : List ℕ). IsFault p x f.offset f.reason) (sym c)
-        (still_has p given left f end h h.breaks all));
-  };
-}
-
 -- why a value was not read is why a list was not
-pub not_read : (p : Profile) (old mid : Option (List ℕ)) (e : RunFault) → ReadsNone p [] old mid e → IsNotRead p old e
-not_read p old mid (fault.Nfs f) h = fault_found p h.given old mid f h.end h.has h.taken h.all
-not_read p old mid (fault.NfsText f) h = h
-not_read p old mid (fault.Posix f) h = h
-not_read p old mid fault.Limits h = h
-not_read p old mid fault.Read h = tt
-not_read p old mid (fault.Write w) h = h
-not_read p old mid fault.Memory h = tt
+pub not_read : (p : Profile) (old mid : Option (List ℕ)) (e : ListFault) → ReadsNone p [] old mid e
+    → IsNotRead p old (told e)
+not_read p old mid (unread.Refused f) h =
+    input_found (λ input. IsXdrFault p input (fault.Nfs f)) h.given old mid h.taken (λ left end. record {
+      found = f;
+      is = refl;
+      has = of_value f.offset f.reason
+          (still_has p h.given left f h.end h.has h.has.breaks (λ t. end (h.all t)));
+    })
+not_read p old mid unread.Read h = tt
+not_read p old mid unread.Memory h = tt
 
 -- and then little was taken
-pub none_near : (p : Profile) (old mid : Option (List ℕ)) (e : RunFault) → ReadsNone p [] old mid e
+pub none_near : (p : Profile) (old mid : Option (List ℕ)) (e : ListFault) → ReadsNone p [] old mid e
     → TakesLittle p old mid
-none_near p old mid (fault.Nfs f) h = record {
-  given = h.given;
-  end = h.end;
-  taken = h.taken;
-  is_end = inr (record { offset = f.offset; reason = f.reason; has = h.has });
-  near = h.near;
-}
-none_near p old mid (fault.NfsText f) h = absurd h
-none_near p old mid (fault.Posix f) h = absurd h
-none_near p old mid fault.Limits h = absurd h
-none_near p old mid fault.Read h = record {
-  given = h.given;
-  end = h.cut.1.0;
-  taken = h.taken;
-  is_end = inr (record { offset = h.cut.0; reason = Truncated; has = h.cut.1.1 });
-  near = omega (arith, cut_end p h.given h.cut.0 h.cut.1.0 h.cut.1.1 h.cut.1.1.breaks);
-}
-none_near p old mid (fault.Write w) h = absurd h
-none_near p old mid fault.Memory h =
-    record { given = h.given; end = h.end; taken = h.taken; is_end = h.is_end; near = h.near }
+none_near p old mid e h =
+    let little = none_little p [] old mid e h in
+    record {
+      given = little.given;
+      end = little.end;
+      taken = little.taken;
+      is_end = elim little.is_end [ inl v ↦ inl v.value | inr r ↦ inr r ];
+      near = little.near;
+    }
 
 -- and where a read failed, a text that is cut short
-pub none_open : (p : Profile) (old mid : Option (List ℕ)) (e : RunFault) → ReadsNone p [] old mid e
-    → is_read e ≡ true → TakesOpen p old mid
-none_open p old mid (fault.Nfs f) h r = absurd cc
-none_open p old mid (fault.NfsText f) h r = absurd h
-none_open p old mid (fault.Posix f) h r = absurd h
-none_open p old mid fault.Limits h r = absurd h
-none_open p old mid fault.Read h r = record { given = h.given; taken = h.taken; is_open = inl h.cut }
-none_open p old mid (fault.Write w) h r = absurd h
-none_open p old mid fault.Memory h r = absurd cc
+pub none_open : (p : Profile) (old mid : Option (List ℕ)) (e : ListFault) → ReadsNone p [] old mid e
+    → is_read (told e) ≡ true → TakesOpen p old mid
+none_open p old mid e h r =
+    let part = none_part p [] old mid e h r in
+    record { given = part.given; taken = part.taken; is_open = inl part.cut }
 
 -- an input that goes on behind its value
 trailing : (p : Profile) (list : List Ace) (text after given others : List ℕ) (len : ℕ) → Xdr p list text
@@ -444,76 +479,39 @@ trailing p list text after given others len x e some is left =
     (ap (λ (y : List ℕ). (y ++ others) ++ left) e ∙ regroup text after others left)
     (omega (arith, some, length-append (after ++ others) left)))
 
--- the input goes on behind its value
-more_found : (p : Profile) (list : List Ace) (text after given others : List ℕ) (old new : Option (List ℕ)) (len : ℕ)
-    → Xdr p list text → given ≡ text ++ after → Consumes old new (given ++ others) → 0 < length (after ++ others)
-    → len ≡ length text
-    → HasInput (λ input. IsXdrFault p input (fault.Nfs (record { offset = len; reason = TrailingBytes }))) old
-more_found p list text after given others None new len x e c some is = record {
-  input = (given ++ others) ++ [];
-  is_input = tt;
-  holds = record {
-    found = record { offset = len; reason = TrailingBytes };
-    is = refl;
-    has = trailing p list text after given others len x e some is [];
-  };
-}
-more_found p list text after given others (Some known) None len x e c some is = absurd c
-more_found p list text after given others (Some known) (Some left) len x e c some is = record {
-  input = known;
-  is_input = refl;
-  holds = record {
-    found = record { offset = len; reason = TrailingBytes };
-    is = refl;
-    has = subst (λ (y : List ℕ). IsWholeFault p y len TrailingBytes) (sym c)
-        (trailing p list text after given others len x e some is left);
-  };
-}
-
 -- why an input does not end behind a list is why a list was not read
 pub ends_not : (p : Profile) (list : List Ace) (text after given : List ℕ) (old mid new : Option (List ℕ)) (len : ℕ)
-    (e : RunFault) → Xdr p list text → given ≡ text ++ after → Consumes old mid given → len ≡ length text
-    → EndsNot len after mid new e → IsNotRead p old e
-ends_not p list text after given old mid new len (fault.Nfs f) x e c is h =
-    rw h.0 (more_found p list text after given h.1.given old new len x e
-    (Consumes-trans old mid new given h.1.given c h.1.taken) h.1.some is)
-ends_not p list text after given old mid new len (fault.NfsText f) x e c is h = h
-ends_not p list text after given old mid new len (fault.Posix f) x e c is h = h
-ends_not p list text after given old mid new len fault.Limits x e c is h = h
-ends_not p list text after given old mid new len fault.Read x e c is h = tt
-ends_not p list text after given old mid new len (fault.Write w) x e c is h = h
-ends_not p list text after given old mid new len fault.Memory x e c is h = tt
+    (e : ListFault) → Xdr p list text → given ≡ text ++ after → Consumes old mid given → len ≡ length text
+    → EndsNot len after mid new e → IsNotRead p old (told e)
+ends_not p list text after given old mid new len (unread.Refused f) x e c is h =
+    rw h.0 (input_found _ (given ++ h.1.given) old new (Consumes-trans old mid new given h.1.given c h.1.taken)
+    (λ left end. record {
+      found = record { offset = len; reason = TrailingBytes };
+      is = refl;
+      has = trailing p list text after given h.1.given len x e h.1.some is left;
+    }))
+ends_not p list text after given old mid new len unread.Read x e c is h = tt
+ends_not p list text after given old mid new len unread.Memory x e c is h = tt
 
 -- and then little was taken
 pub ends_near : (p : Profile) (list : List Ace) (text after given : List ℕ) (old mid new : Option (List ℕ)) (len : ℕ)
-    (e : RunFault) → Xdr p list text → given ≡ text ++ after → Consumes old mid given → EndsNot len after mid new e
+    (e : ListFault) → Xdr p list text → given ≡ text ++ after → Consumes old mid given → EndsNot len after mid new e
     → TakesLittle p old new
-ends_near p list text after given old mid new len (fault.Nfs f) x e c h =
-    value_near p list text after given h.1.given old mid new x e c h.1.taken h.1.near
-ends_near p list text after given old mid new len (fault.NfsText f) x e c h = absurd h
-ends_near p list text after given old mid new len (fault.Posix f) x e c h = absurd h
-ends_near p list text after given old mid new len fault.Limits x e c h = absurd h
-ends_near p list text after given old mid new len fault.Read x e c h =
-    value_near p list text after given [] old mid new x e c
-    (Consumes-kept mid mid new [] (Consumes-nil mid) h.1) (rw h.0 (omega arith))
-ends_near p list text after given old mid new len (fault.Write w) x e c h = absurd h
-ends_near p list text after given old mid new len fault.Memory x e c h = absurd h
+ends_near p list text after given old mid new len e x is c h =
+    let past = past_end len after mid new e h in
+    value_near p list text after given past.given old mid new x is c past.taken past.near
 
 -- and where a read failed, one value and nothing behind it
 pub ends_open : (p : Profile) (list : List Ace) (text after given : List ℕ) (old mid new : Option (List ℕ)) (len : ℕ)
-    (e : RunFault) → Xdr p list text → given ≡ text ++ after → Consumes old mid given → EndsNot len after mid new e
-    → is_read e ≡ true → TakesOpen p old new
-ends_open p list text after given old mid new len (fault.Nfs f) x e c h r = absurd cc
-ends_open p list text after given old mid new len (fault.NfsText f) x e c h r = absurd h
-ends_open p list text after given old mid new len (fault.Posix f) x e c h r = absurd h
-ends_open p list text after given old mid new len fault.Limits x e c h r = absurd h
-ends_open p list text after given old mid new len fault.Read x e c h r = record {
-  given = given ++ [];
-  taken = Consumes-trans old mid new given [] c (Consumes-kept mid mid new [] (Consumes-nil mid) h.1);
-  is_open = inr (
-    list,
-    subst (λ (y : List ℕ). Xdr p list y) (sym (append-nil given)) (whole_text p text given after list x e h.0),
-  );
-}
-ends_open p list text after given old mid new len (fault.Write w) x e c h r = absurd h
-ends_open p list text after given old mid new len fault.Memory x e c h r = absurd h
+    (e : ListFault) → Xdr p list text → given ≡ text ++ after → Consumes old mid given → EndsNot len after mid new e
+    → is_read (told e) ≡ true → TakesOpen p old new
+ends_open p list text after given old mid new len e x is c h r =
+    let kept = end_kept len after mid new e h r in
+    record {
+      given = given ++ [];
+      taken = Consumes-trans old mid new given [] c kept.1;
+      is_open = inr (
+        list,
+        subst (λ (y : List ℕ). Xdr p list y) (sym (append-nil given)) (whole_text p text given after list x is kept.0),
+      );
+    }

@@ -20,7 +20,8 @@ use Rattle.acl_posix.proofs.Whole.{apart, back, canonical_reads}
 use Rattle.aclck.specs.Headline.{Headline}
 
 -- bytes spell one list
-pub one_of : (p : Profile) (list other : List Ace) (x : List ℕ) → IsProfile p → Xdr p list x → Xdr p other x → list ≡ other
+pub one_of : (p : Profile) (list other : List Ace) (x : List ℕ) → IsProfile p → Xdr p list x → Xdr p other x
+    → list ≡ other
 one_of p list other x is h k = (one p list other x x [] [] is h k refl).0
 
 -- the list that was written is a form of the list that was read

@@ -1,7 +1,7 @@
 -- What two lists that are read from pulls, one after the other, take of their input.
-use Rattle.std.proofs.Common.{◌≡◌, ◌⊎◌, ℕ, ◌+◌, ◌^◌, ◌≤◌, List, [], ◌++◌, length, take, drop, true, Option, None, Some, refl, sym, ap, subst, ◌∙◌, append_assoc, arith, inl, inr}
+use Rattle.std.proofs.Common.{◌≡◌, ◌⊎◌, ℕ, ◌+◌, ◌^◌, ◌≤◌, List, [], ◌++◌, length, take, drop, true, Option, refl, sym, ap, subst, ◌∙◌, append_assoc, arith, inl, inr}
 use Rattle.std.specs.Io.KnownBytes.{Consumes, IsAtEnd}
-use Rattle.std.proofs.KnownBytes.{Consumes-kept, Consumes-nil, Consumes-trans, Consumes-whole}
+use Rattle.std.proofs.KnownBytes.{Consumes-trans, Consumes-whole}
 use Rattle.std.proofs.Math.Seq.{take-length}
 use Rattle.std.proofs.lemmas.List.{append-nil, length-append, length-take, take-append-drop, take-append-le}
 use Rattle.acl_perm.specs.Profile.{Profile}
@@ -17,37 +17,27 @@ use Rattle.acl_nfs4.proofs.Fields.{IsBytes-drop}
 use Rattle.aclck.specs.Answer.{is_read}
 use Rattle.aclck.specs.Compare.{AreTwo, IsFaultOfTwo, IsRefusedTwo}
 use Rattle.aclck.specs.Compare.IsFaultOfTwo.{of_first, of_second}
-use Rattle.aclck.specs.ListInput.{EndsNot, HasInput, ReadsNone, RefusalEnds, ValueEnds, piece_len}
-use Rattle.aclck.specs.TwoLists.{AreNotRead, StandsBelow, TakesLittleOfTwo, TakesOpenOfTwo, later}
-use Rattle.aclck.specs.declared.answer.RunFault.{RunFault}
+use Rattle.aclck.specs.ListInput.{RefusalEnds, ValueEnds, piece_len}
+use Rattle.aclck.specs.TwoLists.{TakesLittleOfTwo, TakesOpenOfTwo}
+use Rattle.aclck.specs.internal.Reading.{AreNotRead, EndsNot, HasInput, ReadsNone, StandsBelow, later, told}
 use Rattle.aclck.specs.declared.answer.RunFault.TheVariants as fault
-use Rattle.aclck.proofs.ListInputLemmas.{cut_end, ends_somewhere, spelled_short, still_has}
-
--- what holds of the bytes that were taken, with those that are left, holds of an input
-pub input_found : (Holds : List ℕ → Type 0) (given : List ℕ) (old new : Option (List ℕ)) → Consumes old new given
-    → ((left : List ℕ) → (IsAtEnd new → left ≡ []) → Holds (given ++ left)) → HasInput Holds old
-input_found Holds given None new c h = record { input = given ++ []; is_input = tt; holds = h [] (λ _. refl) }
-input_found Holds given (Some known) None c h = absurd c
-input_found Holds given (Some known) (Some left) c h =
-    record { input = known; is_input = refl; holds = subst Holds (sym c) (h left (λ e. e)) }
+use Rattle.aclck.specs.declared.input.xdr.ListFault.{ListFault}
+use Rattle.aclck.specs.declared.input.xdr.ListFault.TheVariants as unread
+use Rattle.aclck.proofs.ListInputLemmas.{end_kept, ends_somewhere, input_found, none_little, none_part, past_end, spelled_short, still_has}
 
 -- ---- the first list is refused
 
 -- why the first list was not read is why both were not
-pub first_not_read : (p : Profile) (old mid : Option (List ℕ)) (e : RunFault) → ReadsNone p [] old mid e
-    → AreNotRead p old e
-first_not_read p old mid (fault.Nfs f) h =
+pub first_not_read : (p : Profile) (old mid : Option (List ℕ)) (e : ListFault) → ReadsNone p [] old mid e
+    → AreNotRead p old (told e)
+first_not_read p old mid (unread.Refused f) h =
     input_found (λ input. IsRefusedTwo p input (fault.Nfs f)) h.given old mid h.taken (λ left end. record {
       found = f;
       is = refl;
       has = of_first f.offset f.reason (still_has p h.given left f h.end h.has h.has.breaks (λ t. end (h.all t)));
     })
-first_not_read p old mid (fault.NfsText f) h = h
-first_not_read p old mid (fault.Posix f) h = h
-first_not_read p old mid fault.Limits h = h
-first_not_read p old mid fault.Read h = tt
-first_not_read p old mid (fault.Write w) h = h
-first_not_read p old mid fault.Memory h = tt
+first_not_read p old mid unread.Read h = tt
+first_not_read p old mid unread.Memory h = tt
 
 -- the first list ended, and the text goes on to an end behind it
 ended_first : (p : Profile) (old mid : Option (List ℕ)) (list : List Ace) (given : List ℕ) (end : ℕ)
@@ -73,56 +63,39 @@ ended_first p old mid list given end c x bytes near =
     }
 
 -- and then little was taken
-pub first_near : (p : Profile) (old mid : Option (List ℕ)) (e : RunFault) → ReadsNone p [] old mid e
+pub first_near : (p : Profile) (old mid : Option (List ℕ)) (e : ListFault) → ReadsNone p [] old mid e
     → TakesLittleOfTwo p old mid
-first_near p old mid (fault.Nfs f) h = record {
-  given = h.given;
-  end = h.end;
-  taken = h.taken;
-  is_end = inr (record { offset = f.offset; reason = f.reason; has = h.has });
-  near = h.near;
-}
-first_near p old mid (fault.NfsText f) h = absurd h
-first_near p old mid (fault.Posix f) h = absurd h
-first_near p old mid fault.Limits h = absurd h
-first_near p old mid fault.Read h = record {
-  given = h.given;
-  end = h.cut.1.0;
-  taken = h.taken;
-  is_end = inr (record { offset = h.cut.0; reason = Truncated; has = h.cut.1.1 });
-  near = omega (arith, cut_end p h.given h.cut.0 h.cut.1.0 h.cut.1.1 h.cut.1.1.breaks);
-}
-first_near p old mid (fault.Write w) h = absurd h
-first_near p old mid fault.Memory h = elim h.is_end [
-  | inr r ↦ record { given = h.given; end = h.end; taken = h.taken; is_end = inr r; near = h.near }
-  | inl v ↦ ended_first p old mid v.list h.given h.end h.taken v.spelled h.bytes h.near
-]
+first_near p old mid e h =
+    let little = none_little p [] old mid e h in
+    elim little.is_end [
+      | inl v ↦
+          ended_first p old mid v.value.list little.given little.end little.taken v.value.spelled v.bytes little.near
+      | inr r ↦ record {
+        given = little.given;
+        end = little.end;
+        taken = little.taken;
+        is_end = inr r;
+        near = little.near;
+      }
+    ]
 
 -- and where a read failed, a text that is cut short
-pub first_open : (p : Profile) (old mid : Option (List ℕ)) (e : RunFault) → ReadsNone p [] old mid e
-    → is_read e ≡ true → TakesOpenOfTwo p old mid
-first_open p old mid (fault.Nfs f) h r = absurd cc
-first_open p old mid (fault.NfsText f) h r = absurd h
-first_open p old mid (fault.Posix f) h r = absurd h
-first_open p old mid fault.Limits h r = absurd h
-first_open p old mid fault.Read h r = record { given = h.given; taken = h.taken; is_open = inl h.cut }
-first_open p old mid (fault.Write w) h r = absurd h
-first_open p old mid fault.Memory h r = absurd cc
+pub first_open : (p : Profile) (old mid : Option (List ℕ)) (e : ListFault) → ReadsNone p [] old mid e
+    → is_read (told e) ≡ true → TakesOpenOfTwo p old mid
+first_open p old mid e h r =
+    let part = none_part p [] old mid e h r in
+    record { given = part.given; taken = part.taken; is_open = inl part.cut }
 
 -- ---- the second list is refused
 
 -- a fault stands where accepted fields end, which are few bytes
-pub fault_below : (p : Profile) (left : List ℕ) (old mid : Option (List ℕ)) (e : RunFault) → ReadsNone p left old mid e
+pub fault_below : (p : Profile) (left : List ℕ) (old mid : Option (List ℕ)) (e : ListFault) → ReadsNone p left old mid e
     → StandsBelow (2 ^ 32) e
-fault_below p left old mid (fault.Nfs f) h =
+fault_below p left old mid (unread.Refused f) h =
     let b = begins p h.has.stage h.has.front h.has.border in
     omega (arith, h.has.here, length-append h.has.front b.1, spelled_short p b.0 (h.has.front ++ b.1) b.2)
-fault_below p left old mid (fault.NfsText f) h = tt
-fault_below p left old mid (fault.Posix f) h = tt
-fault_below p left old mid fault.Limits h = tt
-fault_below p left old mid fault.Read h = tt
-fault_below p left old mid (fault.Write w) h = tt
-fault_below p left old mid fault.Memory h = tt
+fault_below p left old mid unread.Read h = tt
+fault_below p left old mid unread.Memory h = tt
 
 -- what was taken, by the first list and what was taken behind it
 regroup : (given text after others : List ℕ) → given ≡ text ++ after → given ++ others ≡ text ++ (after ++ others)
@@ -146,16 +119,12 @@ second_refused p list text after given others old mid new f end len x e c is d h
 
 -- why the second list was not read is why both were not
 pub second_not_read : (p : Profile) (list : List Ace) (text after given : List ℕ) (old mid new : Option (List ℕ))
-    (len : ℕ) (e : RunFault) → Xdr p list text → given ≡ text ++ after → Consumes old mid given → len ≡ length text
-    → ReadsNone p after mid new e → AreNotRead p old (later e len)
-second_not_read p list text after given old mid new len (fault.Nfs f) x e c is h =
+    (len : ℕ) (e : ListFault) → Xdr p list text → given ≡ text ++ after → Consumes old mid given → len ≡ length text
+    → ReadsNone p after mid new e → AreNotRead p old (told (later e len))
+second_not_read p list text after given old mid new len (unread.Refused f) x e c is h =
     second_refused p list text after given h.given old mid new f h.end len x e c is h.taken h.has h.all
-second_not_read p list text after given old mid new len (fault.NfsText f) x e c is h = h
-second_not_read p list text after given old mid new len (fault.Posix f) x e c is h = h
-second_not_read p list text after given old mid new len fault.Limits x e c is h = h
-second_not_read p list text after given old mid new len fault.Read x e c is h = tt
-second_not_read p list text after given old mid new len (fault.Write w) x e c is h = h
-second_not_read p list text after given old mid new len fault.Memory x e c is h = tt
+second_not_read p list text after given old mid new len unread.Read x e c is h = tt
+second_not_read p list text after given old mid new len unread.Memory x e c is h = tt
 
 second_taken : (p : Profile) (list : List Ace) (text after given others : List ℕ) (old mid new : Option (List ℕ))
     (end : ℕ) → Xdr p list text → given ≡ text ++ after → Consumes old mid given → Consumes mid new others
@@ -180,59 +149,52 @@ second_taken p list text after given others old mid new end x e c d is_end near 
 
 -- and then little was taken
 pub second_near : (p : Profile) (list : List Ace) (text after given : List ℕ) (old mid new : Option (List ℕ))
-    (e : RunFault) → Xdr p list text → given ≡ text ++ after → Consumes old mid given → ReadsNone p after mid new e
+    (e : ListFault) → Xdr p list text → given ≡ text ++ after → Consumes old mid given → ReadsNone p after mid new e
     → TakesLittleOfTwo p old new
-second_near p list text after given old mid new (fault.Nfs f) x e c h =
-    second_taken p list text after given h.given old mid new h.end x e c h.taken
-    (inr (record { offset = f.offset; reason = f.reason; has = h.has })) h.near
-second_near p list text after given old mid new (fault.NfsText f) x e c h = absurd h
-second_near p list text after given old mid new (fault.Posix f) x e c h = absurd h
-second_near p list text after given old mid new fault.Limits x e c h = absurd h
-second_near p list text after given old mid new fault.Read x e c h =
-    second_taken p list text after given h.given old mid new h.cut.1.0 x e c h.taken
-    (inr (record { offset = h.cut.0; reason = Truncated; has = h.cut.1.1 }))
-    (omega (arith, cut_end p (after ++ h.given) h.cut.0 h.cut.1.0 h.cut.1.1 h.cut.1.1.breaks))
-second_near p list text after given old mid new (fault.Write w) x e c h = absurd h
-second_near p list text after given old mid new fault.Memory x e c h =
-    second_taken p list text after given h.given old mid new h.end x e c h.taken h.is_end h.near
+second_near p list text after given old mid new e x is c h =
+    let little = none_little p after mid new e h in
+    second_taken p list text after given little.given old mid new little.end x is c little.taken
+    (elim little.is_end [ inl v ↦ inl v.value | inr r ↦ inr r ]) little.near
+
+-- a fault of the second list is told as a failed read where a read failed
+later_read : (e : ListFault) (len : ℕ) → is_read (told (later e len)) ≡ true → is_read (told e) ≡ true
+later_read (unread.Refused f) len r = r
+later_read unread.Read len r = r
+later_read unread.Memory len r = r
 
 -- and where a read failed, a text that is cut short behind the first list
 pub second_open : (p : Profile) (list : List Ace) (text after given : List ℕ) (old mid new : Option (List ℕ))
-    (len : ℕ) (e : RunFault) → Xdr p list text → given ≡ text ++ after → Consumes old mid given
-    → ReadsNone p after mid new e → is_read (later e len) ≡ true → TakesOpenOfTwo p old new
-second_open p list text after given old mid new len (fault.Nfs f) x e c h r = absurd cc
-second_open p list text after given old mid new len (fault.NfsText f) x e c h r = absurd h
-second_open p list text after given old mid new len (fault.Posix f) x e c h r = absurd h
-second_open p list text after given old mid new len fault.Limits x e c h r = absurd h
-second_open p list text after given old mid new len fault.Read x e c h r = record {
-  given = given ++ h.given;
-  taken = Consumes-trans old mid new given h.given c h.taken;
-  is_open = inr (record {
-    list = list;
-    first = text;
-    rest = after ++ h.given;
-    parts = regroup given text after h.given e;
-    spelled = x;
-    is_open = inl h.cut;
-  });
-}
-second_open p list text after given old mid new len (fault.Write w) x e c h r = absurd h
-second_open p list text after given old mid new len fault.Memory x e c h r = absurd cc
+    (len : ℕ) (e : ListFault) → Xdr p list text → given ≡ text ++ after → Consumes old mid given
+    → ReadsNone p after mid new e → is_read (told (later e len)) ≡ true → TakesOpenOfTwo p old new
+second_open p list text after given old mid new len e x is c h r =
+    let part = none_part p after mid new e h (later_read e len r) in
+    record {
+      given = given ++ part.given;
+      taken = Consumes-trans old mid new given part.given c part.taken;
+      is_open = inr (record {
+        list = list;
+        first = text;
+        rest = after ++ part.given;
+        parts = regroup given text after part.given is;
+        spelled = x;
+        is_open = inl part.cut;
+      });
+    }
 
 -- ---- both are read
 
 -- the first list, the second, and what is left
-pub three_parts : (given others text after second left : List ℕ) → given ≡ text ++ after → after ++ others ≡ second ++ left
-    → given ++ others ≡ text ++ (second ++ left)
+pub three_parts : (given others text after second left : List ℕ) → given ≡ text ++ after
+    → after ++ others ≡ second ++ left → given ++ others ≡ text ++ (second ++ left)
 three_parts given others text after second left e parts =
     regroup given text after others e ∙ ap (λ v. text ++ v) parts
 
 -- a byte stands behind the second list
 pub more_not_read : (p : Profile) (list other : List Ace) (text second given left : List ℕ)
-    (old mid new : Option (List ℕ)) (len : ℕ) (e : RunFault) → Xdr p list text → Xdr p other second
+    (old mid new : Option (List ℕ)) (len : ℕ) (e : ListFault) → Xdr p list text → Xdr p other second
     → given ≡ text ++ (second ++ left) → Consumes old mid given → len ≡ length text + length second
-    → EndsNot len left mid new e → AreNotRead p old e
-more_not_read p list other text second given left old mid new len (fault.Nfs f) x y e c is h =
+    → EndsNot len left mid new e → AreNotRead p old (told e)
+more_not_read p list other text second given left old mid new len (unread.Refused f) x y e c is h =
     rw h.0 (input_found _ (given ++ h.1.given) old new (Consumes-trans old mid new given h.1.given c h.1.taken)
     (λ rest end. record {
       found = record { offset = len; reason = TrailingBytes };
@@ -243,12 +205,8 @@ more_not_read p list other text second given left old mid new len (fault.Nfs f) 
           (behind other second ((left ++ h.1.given) ++ rest) y refl
           (omega (arith, h.1.some, length-append (left ++ h.1.given) rest))));
     }))
-more_not_read p list other text second given left old mid new len (fault.NfsText f) x y e c is h = h
-more_not_read p list other text second given left old mid new len (fault.Posix f) x y e c is h = h
-more_not_read p list other text second given left old mid new len fault.Limits x y e c is h = h
-more_not_read p list other text second given left old mid new len fault.Read x y e c is h = tt
-more_not_read p list other text second given left old mid new len (fault.Write w) x y e c is h = h
-more_not_read p list other text second given left old mid new len fault.Memory x y e c is h = tt
+more_not_read p list other text second given left old mid new len unread.Read x y e c is h = tt
+more_not_read p list other text second given left old mid new len unread.Memory x y e c is h = tt
 
 -- two lists, and little behind them
 pub two_near : (p : Profile) (list other : List Ace) (text second given left others : List ℕ)
@@ -271,8 +229,8 @@ two_near p list other text second given left others old mid new x y e c d near =
         behind = length second;
         is_end = inl (record {
           list = other;
-          spelled = subst (λ v. Xdr p other v) (sym (take-append-le (length second) second (left ++ others) (omega arith)
-              ∙ take-length second)) y;
+          spelled = subst (λ v. Xdr p other v)
+              (sym (take-append-le (length second) second (left ++ others) (omega arith) ∙ take-length second)) y;
         });
         is = refl;
       });
@@ -287,41 +245,30 @@ two_near p list other text second given left others old mid new x y e c d near =
 
 -- and why the input does not end there leaves little taken
 pub more_near : (p : Profile) (list other : List Ace) (text second given left : List ℕ) (old mid new : Option (List ℕ))
-    (len : ℕ) (e : RunFault) → Xdr p list text → Xdr p other second → given ≡ text ++ (second ++ left)
+    (len : ℕ) (e : ListFault) → Xdr p list text → Xdr p other second → given ≡ text ++ (second ++ left)
     → Consumes old mid given → EndsNot len left mid new e → TakesLittleOfTwo p old new
-more_near p list other text second given left old mid new len (fault.Nfs f) x y e c h =
-    two_near p list other text second given left h.1.given old mid new x y e c h.1.taken h.1.near
-more_near p list other text second given left old mid new len (fault.NfsText f) x y e c h = absurd h
-more_near p list other text second given left old mid new len (fault.Posix f) x y e c h = absurd h
-more_near p list other text second given left old mid new len fault.Limits x y e c h = absurd h
-more_near p list other text second given left old mid new len fault.Read x y e c h =
-    two_near p list other text second given left [] old mid new x y e c
-    (Consumes-kept mid mid new [] (Consumes-nil mid) h.1) (rw h.0 (omega arith))
-more_near p list other text second given left old mid new len (fault.Write w) x y e c h = absurd h
-more_near p list other text second given left old mid new len fault.Memory x y e c h = absurd h
+more_near p list other text second given left old mid new len e x y is c h =
+    let past = past_end len left mid new e h in
+    two_near p list other text second given left past.given old mid new x y is c past.taken past.near
 
 -- and where a read failed, two lists and nothing behind them
 pub more_open : (p : Profile) (list other : List Ace) (text second given left : List ℕ) (old mid new : Option (List ℕ))
-    (len : ℕ) (e : RunFault) → Xdr p list text → Xdr p other second → given ≡ text ++ (second ++ left)
-    → Consumes old mid given → EndsNot len left mid new e → is_read e ≡ true → TakesOpenOfTwo p old new
-more_open p list other text second given left old mid new len (fault.Nfs f) x y e c h r = absurd cc
-more_open p list other text second given left old mid new len (fault.NfsText f) x y e c h r = absurd h
-more_open p list other text second given left old mid new len (fault.Posix f) x y e c h r = absurd h
-more_open p list other text second given left old mid new len fault.Limits x y e c h r = absurd h
-more_open p list other text second given left old mid new len fault.Read x y e c h r = record {
-  given = given ++ [];
-  taken = Consumes-trans old mid new given [] c (Consumes-kept mid mid new [] (Consumes-nil mid) h.1);
-  is_open = inr (record {
-    list = list;
-    first = text;
-    rest = second;
-    parts = append-nil given ∙ e ∙ ap (λ v. text ++ v) (ap (λ v. second ++ v) h.0 ∙ append-nil second);
-    spelled = x;
-    is_open = inr (other, y);
-  });
-}
-more_open p list other text second given left old mid new len (fault.Write w) x y e c h r = absurd h
-more_open p list other text second given left old mid new len fault.Memory x y e c h r = absurd h
+    (len : ℕ) (e : ListFault) → Xdr p list text → Xdr p other second → given ≡ text ++ (second ++ left)
+    → Consumes old mid given → EndsNot len left mid new e → is_read (told e) ≡ true → TakesOpenOfTwo p old new
+more_open p list other text second given left old mid new len e x y is c h r =
+    let kept = end_kept len left mid new e h r in
+    record {
+      given = given ++ [];
+      taken = Consumes-trans old mid new given [] c kept.1;
+      is_open = inr (record {
+        list = list;
+        first = text;
+        rest = second;
+        parts = append-nil given ∙ is ∙ ap (λ v. text ++ v) (ap (λ v. second ++ v) kept.0 ∙ append-nil second);
+        spelled = x;
+        is_open = inr (other, y);
+      });
+    }
 
 -- an input that is two lists
 pub two_found : (p : Profile) (list other : List Ace) (text second given left : List ℕ) (old mid new : Option (List ℕ))

@@ -7,7 +7,7 @@ use Rattle.std.specs.Str.Parse.{AllDigits, IsNumeral, ParsesUnsigned, digits_val
 use Rattle.std.proofs.lemmas.Bool.{ltb-true}
 use Rattle.std.proofs.lemmas.Str.Parse.{without_leading_plus_none}
 use Rattle.acl_perm.proofs.Bools.{and_true}
-use Rattle.aclck.specs.PosixValues.{are_digits}
+use Rattle.aclck.specs.Values.{are_digits}
 
 all_digits : (radix : ℕ) (bs : List ℕ) → list_all (λ b. is_digit b radix) bs ≡ true → AllDigits radix bs
 all_digits radix [] h = tt

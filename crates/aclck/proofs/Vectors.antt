@@ -16,12 +16,11 @@ use Rattle.aclck.specs.Chmod.{chmod_in}
 use Rattle.aclck.specs.Create.{create_in}
 use Rattle.aclck.specs.NameWords.{named_id, names_value}
 use Rattle.aclck.specs.NameWords as words
-use Rattle.aclck.specs.PosixValues.{id_value, ids_value, mode_value, want_value}
 use Rattle.aclck.specs.declared.input.posix.Form.TheVariants as form
 use Rattle.acl_eval.specs.declared.inherit.ChildKind.TheVariants as kind
 use Rattle.aclck.specs.Child.{child_in, kind_value}
 use Rattle.aclck.specs.Task.{Task, bridge, calc_mask, check_nfs, check_posix, child, chmod, compare, create, encode, mode, normalize, show_nfs, show_posix, table, task_named, task_of}
-use Rattle.aclck.specs.Values.{mask_value, profile_value}
+use Rattle.aclck.specs.Values.{id_value, ids_value, mask_value, mode_value, profile_value, want_value}
 
 -- ---- `check-nfs`
 

@@ -6,6 +6,8 @@ use Rattle.acl_perm.specs.declared.whole.ReadFault.{ReadFault}
 use Rattle.acl_perm.specs.declared.whole.ReadFault.TheVariants as read
 use Rattle.acl_nfs4.specs.Fault.{IsWholeFault}
 use Rattle.acl_nfs4.specs.declared.xdr.fault.Fault.{Fault}
+use Rattle.aclck.specs.declared.answer.Cause.{Cause}
+use Rattle.aclck.specs.declared.answer.Cause.TheVariants as cause
 use Rattle.aclck.specs.declared.answer.Outcome.{Outcome}
 use Rattle.aclck.specs.declared.answer.Outcome.TheVariants as outcome
 use Rattle.aclck.specs.declared.answer.RunFault.{RunFault}
@@ -31,35 +33,48 @@ pub record IsXdrFault (p : Profile) (input : List ℕ) (f : RunFault) : Type 0 w
 
 -- ---- faults
 
+-- whose a fault is: the one table of all faults
+abbrev pub cause_of : RunFault → Cause
+cause_of (fault.Nfs f) = cause.Input
+cause_of (fault.NfsText f) = cause.Input
+cause_of (fault.Posix f) = cause.Input
+cause_of fault.Limits = cause.Input
+cause_of fault.Read = cause.Source
+cause_of (fault.Write w) = cause.Sink w
+cause_of fault.Memory = cause.Memory
+
+-- it is the input's
+abbrev pub is_input : Cause → Bool
+is_input cause.Input = true
+is_input cause.Source = false
+is_input (cause.Sink w) = false
+is_input cause.Memory = false
+
+-- it is the source's
+abbrev pub is_source : Cause → Bool
+is_source cause.Input = false
+is_source cause.Source = true
+is_source (cause.Sink w) = false
+is_source cause.Memory = false
+
+-- it is the sink's
+abbrev pub is_sink : Cause → Bool
+is_sink cause.Input = false
+is_sink cause.Source = false
+is_sink (cause.Sink w) = true
+is_sink cause.Memory = false
+
 -- the fault is the input's
 abbrev pub is_refusal : RunFault → Bool
-is_refusal (fault.Nfs f) = true
-is_refusal (fault.NfsText f) = true
-is_refusal (fault.Posix f) = true
-is_refusal fault.Limits = true
-is_refusal fault.Read = false
-is_refusal (fault.Write w) = false
-is_refusal fault.Memory = false
+is_refusal e = is_input (cause_of e)
 
 -- the fault is the source's
 abbrev pub is_read : RunFault → Bool
-is_read (fault.Nfs f) = false
-is_read (fault.NfsText f) = false
-is_read (fault.Posix f) = false
-is_read fault.Limits = false
-is_read fault.Read = true
-is_read (fault.Write w) = false
-is_read fault.Memory = false
+is_read e = is_source (cause_of e)
 
 -- the fault is the sink's
 abbrev pub is_write : RunFault → Bool
-is_write (fault.Nfs f) = false
-is_write (fault.NfsText f) = false
-is_write (fault.Posix f) = false
-is_write fault.Limits = false
-is_write fault.Read = false
-is_write (fault.Write w) = true
-is_write fault.Memory = false
+is_write e = is_sink (cause_of e)
 
 -- the faults of whole reads as an engine tells them
 abbrev pub run_fault_of : ReadFault → RunFault
@@ -102,16 +117,18 @@ pub record Refuses (Means : List ℕ → Answer → Type 0) (known : Option (Lis
   pub is_input : IfSome known (λ bytes. input ≡ bytes)
   pub means : Means input (refused f)
 
--- what a fault says of the input and of what was written
+-- what a fault says of the input and of what was written, by whose it is
+abbrev pub FailsBy : (List ℕ → Answer → Type 0) → Option (List ℕ) → Option (List ℕ) → Option (List ℕ)
+    → RunFault → Cause → Type 0
+FailsBy Means known held holds e cause.Input = Refuses Means known e
+FailsBy Means known held holds e cause.Source = Unit {0}
+FailsBy Means known held holds e (cause.Sink w) = Begins Means known held holds w.written
+FailsBy Means known held holds e cause.Memory = Unit {0}
+
+-- the same of a fault as it is told
 abbrev pub Fails :
     (List ℕ → Answer → Type 0) → Option (List ℕ) → Option (List ℕ) → Option (List ℕ) → RunFault → Type 0
-Fails Means known held holds (fault.Nfs f) = Refuses Means known (fault.Nfs f)
-Fails Means known held holds (fault.NfsText f) = Refuses Means known (fault.NfsText f)
-Fails Means known held holds (fault.Posix f) = Refuses Means known (fault.Posix f)
-Fails Means known held holds fault.Limits = Refuses Means known fault.Limits
-Fails Means known held holds fault.Read = Unit {0}
-Fails Means known held holds (fault.Write w) = Begins Means known held holds w.written
-Fails Means known held holds fault.Memory = Unit {0}
+Fails Means known held holds e = FailsBy Means known held holds e (cause_of e)
 
 -- a run that is to find an input's answer and write its text
 abbrev pub Ran :

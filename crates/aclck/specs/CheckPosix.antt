@@ -10,7 +10,7 @@ use Rattle.acl_posix.specs.declared.file.PosixFile.{PosixFile}
 use Rattle.acl_posix.specs.declared.id.Id.{Id}
 use Rattle.aclck.specs.Line.{Term, any_words, optional, required, words_of}
 use Rattle.aclck.specs.NameWords.{names_value}
-use Rattle.aclck.specs.PosixValues.{id_value, ids_value, want_value}
+use Rattle.aclck.specs.Values.{id_value, ids_value, want_value}
 use Rattle.aclck.specs.Answer.{Answer, decision_line, done, refused}
 use Rattle.aclck.specs.PosixAnswer.{IsPosixFault}
 use Rattle.aclck.specs.declared.answer.Outcome.{Outcome}

@@ -1,5 +1,5 @@
 -- `compare`: its words, and what it makes of an input (this library's own, over RFC 8881, section 6.2.1).
-use Rattle.std.specs.Prelude.{◌≡◌, ◌+◌, ◌∷◌, ◌++◌, [], List, ℕ, Bool, true, false, not, Option, Some, None, codes, length, unwrap_or}
+use Rattle.std.specs.Prelude.{◌≡◌, ◌+◌, ◌∷◌, ◌++◌, [], List, ℕ, Bool, true, false, not, codes, length, unwrap_or}
 use Rattle.std.specs.List.{flat_map}
 use Rattle.acl_perm.specs.Bits.{all_rights}
 use Rattle.acl_perm.specs.Profile.{Profile}
@@ -12,9 +12,7 @@ use Rattle.acl_nfs4.specs.Spelling.{Xdr}
 use Rattle.acl_nfs4.specs.declared.xdr.fault.Fault.{Fault}
 use Rattle.acl_nfs4.specs.declared.xdr.fault.Reason.{Reason}
 use Rattle.acl_eval.specs.Grant.{SameGrants}
-use Rattle.acl_normal.specs.Difference.{situation_of}
 use Rattle.acl_normal.specs.SmallSets.{IsFirstDifference}
-use Rattle.acl_normal.specs.declared.comparison.Difference.{Difference}
 use Rattle.aclck.specs.Answer.{Answer, done, refused}
 use Rattle.aclck.specs.declared.answer.Outcome.{Outcome}
 use Rattle.aclck.specs.declared.answer.Outcome.TheVariants as outcome
@@ -98,15 +96,3 @@ pub record ComparesInput (p : Profile) (input : List ℕ) (o : Outcome) (text : 
 abbrev pub CompareAnswer : Profile → List ℕ → Answer → Type 0
 CompareAnswer p input (done o text) = ComparesInput p input o text
 CompareAnswer p input (refused f) = IsRefusedTwo p input f
-
--- ---- the text of what the library answers (words that only code needs)
-
--- the text of a difference, if there is one
-abbrev pub compared_text : Option Difference → List ℕ
-compared_text None = same_text
-compared_text (Some d) = difference_text (situation_of d) d.bit.bits d.first_grants
-
--- No where there is a difference
-abbrev pub compared_outcome : Option Difference → Outcome
-compared_outcome None = outcome.Yes
-compared_outcome (Some d) = outcome.No

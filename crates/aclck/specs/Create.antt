@@ -9,7 +9,7 @@ use Rattle.acl_posix.specs.Texts.{canonical_text}
 use Rattle.acl_posix.specs.declared.file.PosixFile.{PosixFile}
 use Rattle.aclck.specs.Line.{Term, any_words, flag, is_given, required, words_of}
 use Rattle.aclck.specs.NameWords.{names_value}
-use Rattle.aclck.specs.PosixValues.{mode_value}
+use Rattle.aclck.specs.Values.{mode_value}
 use Rattle.aclck.specs.Answer.{Answer}
 use Rattle.aclck.specs.PosixAnswer.{WritesAnswer}
 use Rattle.aclck.specs.declared.task.create.Create.{Create}

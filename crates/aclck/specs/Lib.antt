@@ -1,6 +1,5 @@
 pub mod Line
 pub mod Values
-pub mod PosixValues
 pub mod NameWords
 pub mod Answer
 pub mod ListInput
@@ -27,3 +26,4 @@ pub mod Task
 pub mod Command
 pub mod Laws
 pub mod Headline
+pub mod internal

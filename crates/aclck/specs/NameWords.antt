@@ -7,7 +7,7 @@ use Rattle.clap.specs.Words.{Text}
 use Rattle.acl_posix.specs.Names.{Table, name_fault, no_names, with_group, with_user}
 use Rattle.acl_posix.specs.declared.names.NameFault.{NameFault}
 use Rattle.acl_posix.specs.declared.names.NameFault.TheVariants as names
-use Rattle.aclck.specs.PosixValues.{id_value}
+use Rattle.aclck.specs.Values.{id_value}
 use Rattle.aclck.specs.declared.line.LineFault.{LineFault}
 use Rattle.aclck.specs.declared.line.LineFault.TheVariants as line
 use Rattle.aclck.specs.declared.words.names.Half.{Half as HeldHalf}

@@ -1,15 +1,12 @@
 -- How two lists are read from an input that comes in pieces, and how much of the input is taken (this library's own,
 -- over RFC 4506 and RFC 8881, section 6.2.1).
-use Rattle.std.specs.Prelude.{◌≡◌, ◌⊎◌, ◌+◌, ◌<◌, ◌≤◌, ◌++◌, List, ℕ, Option, length}
+use Rattle.std.specs.Prelude.{◌≡◌, ◌⊎◌, ◌+◌, ◌≤◌, ◌++◌, List, ℕ, Option, length}
 use Rattle.std.specs.Io.KnownBytes.{Consumes}
 use Rattle.acl_perm.specs.Profile.{Profile}
 use Rattle.acl_nfs4.specs.Ace.{Ace}
 use Rattle.acl_nfs4.specs.Spelling.{Xdr}
 use Rattle.acl_nfs4.specs.Stream.{IsCut}
-use Rattle.aclck.specs.Compare.{IsRefusedTwo}
-use Rattle.aclck.specs.ListInput.{HasInput, IsOpen, RefusalEnds, ValueEnds, piece_len}
-use Rattle.aclck.specs.declared.answer.RunFault.{RunFault}
-use Rattle.aclck.specs.declared.answer.RunFault.TheVariants as fault
+use Rattle.aclck.specs.ListInput.{IsOpen, RefusalEnds, ValueEnds, piece_len}
 
 -- a text begins with one value, and the second value, or a refused field of it, ends so many bytes behind that
 pub record SecondEnds (p : Profile) (text : List ℕ) (end : ℕ) : Type 0 where
@@ -44,33 +41,3 @@ pub record TakesOpenOfTwo (p : Profile) (known left : Option (List ℕ)) : Type 
   pub given : List ℕ
   pub taken : Consumes known left given
   pub is_open : IsCut p given ⊎ SecondIsOpen p given
-
--- why two lists were not read: their input has a fault, or a read failed, or memory ran out
-abbrev pub AreNotRead : Profile → Option (List ℕ) → RunFault → Type 0
-AreNotRead p known (fault.Nfs f) = HasInput (λ input. IsRefusedTwo p input (fault.Nfs f)) known
-AreNotRead p known (fault.NfsText f) = ⊥
-AreNotRead p known (fault.Posix f) = ⊥
-AreNotRead p known fault.Limits = ⊥
-AreNotRead p known fault.Read = Unit {0}
-AreNotRead p known (fault.Write w) = ⊥
-AreNotRead p known fault.Memory = Unit {0}
-
--- the fault of what stands behind so many bytes, counted from their start
-abbrev pub later : RunFault → ℕ → RunFault
-later (fault.Nfs f) n = fault.Nfs (record { offset = f.offset + n; reason = f.reason })
-later (fault.NfsText f) n = fault.NfsText f
-later (fault.Posix f) n = fault.Posix f
-later fault.Limits n = fault.Limits
-later fault.Read n = fault.Read
-later (fault.Write w) n = fault.Write w
-later fault.Memory n = fault.Memory
-
--- the fault of a list has an offset below n
-abbrev pub StandsBelow : ℕ → RunFault → Type 0
-StandsBelow n (fault.Nfs f) = f.offset < n
-StandsBelow n (fault.NfsText f) = Unit {0}
-StandsBelow n (fault.Posix f) = Unit {0}
-StandsBelow n fault.Limits = Unit {0}
-StandsBelow n fault.Read = Unit {0}
-StandsBelow n (fault.Write w) = Unit {0}
-StandsBelow n fault.Memory = Unit {0}

@@ -1,6 +1,6 @@
 //! What an engine answers.
 ghost use Rattle.std.specs.Prelude.{◌≡◌};
-ghost use Rattle.aclck.specs.Answer.{decision_line, is_refusal};
+ghost use Rattle.aclck.specs.Answer.{cause_of, decision_line, is_refusal};
 
 use acl_nfs4::{AceTextFault, Fault, ReadFault, WriteFault};
 use acl_posix::TextFault;
@@ -62,14 +62,36 @@ impl From<WriteFault> for RunFault {
     }
 }
 
+/// Whose a fault is.
+#[derive(Clone, Copy, Debug, PartialEq, Eq)]
+pub enum Cause {
+    Input,
+    Source,
+    Sink(WriteFault),
+    Memory,
+}
+
 impl RunFault {
+    /// Whose the fault is: the one table of all faults.
+    fn cause(self) -> Cause
+        ensures { result ≡ cause_of self }
+    {
+        match self {
+            RunFault::Nfs(_) | RunFault::NfsText(_) | RunFault::Posix(_) | RunFault::Limits =>
+                Cause::Input,
+            RunFault::Read => Cause::Source,
+            RunFault::Write(fault) => Cause::Sink(fault),
+            RunFault::Memory => Cause::Memory,
+        }
+    }
+
     /// Whether the fault is the input's.
     pub(crate) fn is_refusal(self) -> bool
         ensures { result ≡ is_refusal self }
     {
-        match self {
-            RunFault::Nfs(_) | RunFault::NfsText(_) | RunFault::Posix(_) | RunFault::Limits => true,
-            RunFault::Read | RunFault::Write(_) | RunFault::Memory => false,
+        match self.cause() {
+            Cause::Input => true,
+            Cause::Source | Cause::Sink(_) | Cause::Memory => false,
         }
     }
 }

@@ -90,7 +90,8 @@ pub fn command<S: Source, K: Sink, E: Sink>(
         (S.remaining source.old) (S.remaining source.new) }
     ensures stopped { (S.failure_count source.new ≡ S.failure_count source.old)
         ⊎ IsStopped (task_of (map (λ w. w.now) words.entry.now)) (S.remaining source.old) (S.remaining source.new) }
-    ensures ended { result ≡ 2 → IsEnded (task_of (map (λ w. w.now) words.entry.now)) (S.remaining source.new) }
+    ensures ended { result ≡ 2 → IsEnded
+        (task_of (map (λ w. w.now) words.entry.now)) (S.remaining source.new) }
 
     // At 2 and 3 nothing was written.
     ensures unwritten { 2 ≤ result → result ≤ 3 → out.new ≡ out.old }

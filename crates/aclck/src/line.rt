@@ -145,7 +145,8 @@ pub(crate) fn is_set(matches: &ArgMatches<'_>, id: &str) -> bool
 }
 
 fn is_true(text: Option<&str>) -> bool
-    ensures { result ≡ option_map_or (λ t. bytes_eq t (codes "true")) (option_map (λ s. s.now) text.entry) false }
+    ensures { result ≡ option_map_or (λ t. bytes_eq t (codes "true"))
+        (option_map (λ s. s.now) text.entry) false }
 {
     match text {
         Some(text) => text == "true",
@@ -158,7 +159,8 @@ pub(crate) fn words_in<'a>(
     alloc: Global,
     matches: &ArgMatches<'a>,
 ) -> Result<Vec<&'a [u8]>, AllocError>
-    ensures { IfOk result (λ v. map (λ g. g.now) v.items ≡ words_of (rows_of (found_of matches.now))) }
+    ensures { IfOk result (λ v.
+        map (λ g. g.now) v.items ≡ words_of (rows_of (found_of matches.now))) }
 {
     match matches.get_strs("words") {
         Some(texts) => bytes_of(alloc, texts),

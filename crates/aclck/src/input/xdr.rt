@@ -7,7 +7,10 @@ ghost use Rattle.acl_nfs4.specs.Spelling.{Xdr};
 ghost use Rattle.acl_nfs4.specs.Stream.{Finishes};
 ghost use Rattle.acl_nfs4.specs.declared.xdr.fault.Reason.TheVariants.{Memory};
 ghost use Rattle.aclck.specs.Answer.{has_read_failed, is_read};
-ghost use Rattle.aclck.specs.ListInput.{EndsNot, HasInput, IsNotRead, ReadsNone, ReadsValue, TakesLittle, TakesOpen, piece_len};
+ghost use Rattle.aclck.specs.Compare.{AreTwo};
+ghost use Rattle.aclck.specs.ListInput.{TakesLittle, TakesOpen, piece_len};
+ghost use Rattle.aclck.specs.TwoLists.{TakesLittleOfTwo, TakesOpenOfTwo};
+ghost use Rattle.aclck.specs.internal.Reading.{AreNotRead, EndsNot, HasInput, IsNotRead, ReadsNone, ReadsValue, StandsBelow, has_pull_failed, later};
 ghost use Rattle.acl_nfs4.specs.internal.Progress.{IsBytes};
 
 use crate::answer::RunFault;
@@ -15,6 +18,30 @@ use acl_nfs4::{Acl, Fault, Fed, Feed, Reason};
 use acl_perm::{Profile, Source};
 use std::alloc::Global;
 use std::marker::Model;
+
+/// Why a list was not read.
+#[derive(Clone, Copy, Debug, PartialEq, Eq)]
+pub(crate) enum ListFault {
+    /// The input is no accepted list of the profile.
+    Refused(Fault),
+    Read,
+    Memory,
+}
+
+impl From<ListFault> for RunFault {
+    ghost use Rattle.std.specs.Prelude.{◌≡◌};
+    ghost use Rattle.aclck.specs.internal.Reading.{told};
+
+    ghost from_gives = { λ fault run. run ≡ told fault };
+
+    fn from(fault: ListFault) -> RunFault {
+        match fault {
+            ListFault::Refused(fault) => RunFault::Nfs(fault),
+            ListFault::Read => RunFault::Read,
+            ListFault::Memory => RunFault::Memory,
+        }
+    }
+}
 
 // How many bytes a pull asks for at most.
 const PIECE: usize = 4096;
@@ -76,15 +103,17 @@ impl Pulled {
     }
 
     // What is left is done with: what one more pull gives stands in its place. Whether that is any byte.
-    fn pull<S: Source>(&mut self, source: &mut S) -> Result<bool, RunFault>
-        ensures given { OnOk result (Consumes (S.remaining source.old) (S.remaining source.new) self.new) }
+    fn pull<S: Source>(&mut self, source: &mut S) -> Result<bool, ListFault>
+        ensures given { OnOk result
+            (Consumes (S.remaining source.old) (S.remaining source.new) self.new) }
         ensures some { IfOk result (λ came. came ≡ true → 0 < length self.new) }
-        ensures end { IfOk result (λ came. came ≡ false → (self.new ≡ []) × IsAtEnd (S.remaining source.new)) }
-        ensures failed { IfErr result (λ e. e ≡ RunFault.Read) }
+        ensures end { IfOk result (λ came.
+            came ≡ false → (self.new ≡ []) × IsAtEnd (S.remaining source.new)) }
+        ensures failed { IfErr result (λ e. e ≡ ListFault.Read) }
         ensures kept { OnErr result (Keeps (S.remaining source.old) (S.remaining source.new)) }
         ensures short { length self.new ≤ piece_len }
         ensures reads { S.failure_count source.new
-            ≡ failures_after (S.failure_count source.old) (has_read_failed result) }
+            ≡ failures_after (S.failure_count source.old) (has_pull_failed result) }
     {
         match source.pull(&mut self.room) {
             Ok(count) => {
@@ -92,7 +121,7 @@ impl Pulled {
                 self.end = count;
                 Ok(count > 0)
             }
-            Err(_) => Err(RunFault::Read),
+            Err(_) => Err(ListFault::Read),
         }
     }
 }
@@ -104,14 +133,15 @@ pub(crate) struct Value {
     pub(crate) len: u64,
 }
 
-// A fault of a list as an engine tells it.
-fn told(fault: Fault) -> RunFault
-    ensures { (result ≡ RunFault.Memory) ⊎ ((result ≡ RunFault.Nfs fault) × (fault.reason ≢ Memory)) }
+// A fault of a list, which may be want of memory.
+fn list_fault(fault: Fault) -> ListFault
+    ensures { (result ≡ ListFault.Memory)
+        ⊎ ((result ≡ ListFault.Refused fault) × (fault.reason ≢ Memory)) }
 {
     if fault.reason == Reason::Memory {
-        RunFault::Memory
+        ListFault::Memory
     } else {
-        RunFault::Nfs(fault)
+        ListFault::Refused(fault)
     }
 }
 
@@ -122,14 +152,14 @@ pub(crate) fn read_value<S: Source>(
     source: &mut S,
     pulled: &mut Pulled,
     profile: Profile,
-) -> Result<Value, RunFault>
+) -> Result<Value, ListFault>
     ensures value { IfOk result (λ value. ReadsValue (profile_of profile) pulled.old pulled.new
         (S.remaining source.old) (S.remaining source.new) value.list value.len) }
     ensures small { IfOk result (λ value. value.len < 2 ^ 32) }
     ensures none { IfErr result (λ e. ReadsNone (profile_of profile) pulled.old
         (S.remaining source.old) (S.remaining source.new) e) }
     ensures reads { S.failure_count source.new
-        ≡ failures_after (S.failure_count source.old) (has_read_failed result) }
+        ≡ failures_after (S.failure_count source.old) (has_pull_failed result) }
 {
     let mut feed = Feed::with_profile(alloc, profile);
     let mut fed = 0u64;
@@ -140,7 +170,7 @@ pub(crate) fn read_value<S: Source>(
                 pulled.take(taken);
                 return finish(feed, fed + taken as u64);
             }
-            Fed::Refused(fault) => return Err(told(fault)),
+            Fed::Refused(fault) => return Err(list_fault(fault)),
         }
         fed += pulled.left().len() as u64;
         if !pulled.pull(source)? {
@@ -150,14 +180,14 @@ pub(crate) fn read_value<S: Source>(
 }
 
 // What a feed comes to that gets no more.
-fn finish(feed: Feed, len: u64) -> Result<Value, RunFault>
+fn finish(feed: Feed, len: u64) -> Result<Value, ListFault>
     ensures list { IfOk result (λ value. (value.len ≡ len) × Finishes feed (Ok value.list)) }
-    ensures fault { IfErr result (λ e. (e ≡ RunFault.Memory)
-        ⊎ ((fault : Fault) × (e ≡ RunFault.Nfs fault) × Finishes feed (Err fault))) }
+    ensures fault { IfErr result (λ e. (e ≡ ListFault.Memory)
+        ⊎ ((fault : Fault) × (e ≡ ListFault.Refused fault) × Finishes feed (Err fault))) }
 {
     match feed.finish() {
         Ok(list) => Ok(Value { list, len }),
-        Err(fault) => Err(told(fault)),
+        Err(fault) => Err(list_fault(fault)),
     }
 }
 
@@ -166,14 +196,16 @@ pub(crate) fn read_end<S: Source>(
     source: &mut S,
     pulled: &mut Pulled,
     len: u64,
-) -> Result<(), RunFault>
-    ensures end { OnOk result ((pulled.old ≡ []) × Consumes (S.remaining source.old) (S.remaining source.new) []
+) -> Result<(), ListFault>
+    ensures end { OnOk result
+        ((pulled.old ≡ []) × Consumes (S.remaining source.old) (S.remaining source.new) []
         × IsAtEnd (S.remaining source.new)) }
-    ensures not { IfErr result (λ e. EndsNot len pulled.old (S.remaining source.old) (S.remaining source.new) e) }
+    ensures not { IfErr result (λ e.
+        EndsNot len pulled.old (S.remaining source.old) (S.remaining source.new) e) }
     ensures reads { S.failure_count source.new
-        ≡ failures_after (S.failure_count source.old) (has_read_failed result) }
+        ≡ failures_after (S.failure_count source.old) (has_pull_failed result) }
 {
-    let fault = RunFault::Nfs(Fault {
+    let fault = ListFault::Refused(Fault {
         offset: len,
         reason: Reason::TrailingBytes,
     });
@@ -197,8 +229,10 @@ pub(crate) fn read_list<S: Source>(
     ensures found { IfOk result (λ list.
         HasInput (λ input. Xdr (profile_of profile) list input) (S.remaining source.old)) }
     ensures whole { OnOk result (IsAtEnd (S.remaining source.new)) }
-    ensures not_read { IfErr result (λ e. IsNotRead (profile_of profile) (S.remaining source.old) e) }
-    ensures bound { TakesLittle (profile_of profile) (S.remaining source.old) (S.remaining source.new) }
+    ensures not_read { IfErr result (λ e.
+        IsNotRead (profile_of profile) (S.remaining source.old) e) }
+    ensures bound { TakesLittle (profile_of profile)
+        (S.remaining source.old) (S.remaining source.new) }
     ensures stopped { IfErr result (λ e. is_read e ≡ true
         → TakesOpen (profile_of profile) (S.remaining source.old) (S.remaining source.new)) }
     ensures reads { S.failure_count source.new
@@ -208,4 +242,60 @@ pub(crate) fn read_list<S: Source>(
     let Value { list, len } = read_value(alloc, source, &mut pulled, profile)?;
     read_end(source, &mut pulled, len)?;
     Ok(list)
+}
+
+/// Two lists.
+#[derive(Drop)]
+pub(crate) struct TwoLists {
+    pub(crate) first: Acl,
+    pub(crate) second: Acl,
+}
+
+/// Reads the two lists of the profile that an input is, one after the other, and nothing more, as `read_list` does. A
+/// fault counts from the start of the input.
+pub(crate) fn read_two<S: Source>(
+    alloc: Global,
+    source: &mut S,
+    profile: Profile,
+) -> Result<TwoLists, RunFault>
+    ensures found { IfOk result (λ two. HasInput
+        (λ input. AreTwo (profile_of profile) two.first two.second input) (S.remaining source.old)) }
+    ensures whole { OnOk result (IsAtEnd (S.remaining source.new)) }
+    ensures not_read { IfErr result (λ e.
+        AreNotRead (profile_of profile) (S.remaining source.old) e) }
+    ensures bound { TakesLittleOfTwo (profile_of profile)
+        (S.remaining source.old) (S.remaining source.new) }
+    ensures stopped { IfErr result (λ e. is_read e ≡ true
+        → TakesOpenOfTwo (profile_of profile) (S.remaining source.old) (S.remaining source.new)) }
+    ensures reads { S.failure_count source.new
+        ≡ failures_after (S.failure_count source.old) (has_read_failed result) }
+{
+    let mut pulled = Pulled::new();
+    let first = read_value(alloc, source, &mut pulled, profile)?;
+    match read_value(alloc, source, &mut pulled, profile) {
+        Ok(second) => {
+            read_end(source, &mut pulled, first.len + second.len)?;
+            Ok(TwoLists {
+                first: first.list,
+                second: second.list,
+            })
+        }
+        Err(fault) => Err(RunFault::from(behind(fault, first.len))),
+    }
+}
+
+// The fault of what stands behind so many bytes, counted from their start.
+fn behind(fault: ListFault, len: u64) -> ListFault
+    requires fault { StandsBelow (2 ^ 32) fault }
+    requires len { len < 2 ^ 32 }
+    ensures { result ≡ later fault len }
+{
+    match fault {
+        ListFault::Refused(found) => ListFault::Refused(Fault {
+            offset: found.offset + len,
+            reason: found.reason,
+        }),
+        ListFault::Read => ListFault::Read,
+        ListFault::Memory => ListFault::Memory,
+    }
 }

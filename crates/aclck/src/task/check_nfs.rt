@@ -111,7 +111,8 @@ pub fn run_check_nfs<S: Source, K: Sink>(
     mask: Mask,
     profile: Profile,
 ) -> Result<Outcome, RunFault>
-    ensures { Runs (CheckNfsAnswer (values_of object.now requester.now mask profile)) (of_list (profile_of profile))
+    ensures { Runs (CheckNfsAnswer (values_of object.now requester.now mask profile))
+        (of_list (profile_of profile))
         S.remaining S.failure_count source.old source.new
         K.contents K.failure_count sink.old sink.new result }
 {
@@ -123,7 +124,8 @@ pub fn run_check_nfs<S: Source, K: Sink>(
 
 // Whether the list grants the request.
 fn decide(list: &Acl, object: &Object<'_>, requester: &Requester<'_>, mask: Mask) -> Outcome
-    ensures { (result ≡ Outcome.Yes) ↔ Grant list.now (situation object.now requester.now) mask.bits }
+    ensures { (result ≡ Outcome.Yes)
+        ↔ Grant list.now (situation object.now requester.now) mask.bits }
 {
     if grants(list.aces(), object, requester, mask) {
         Outcome::Yes

@@ -4,7 +4,7 @@ ghost use Rattle.clap.specs.Words.{found_of, rows_of};
 ghost use Rattle.acl_posix.specs.Check.{ids};
 ghost use Rattle.aclck.specs.Run.{Runs, of_text};
 ghost use Rattle.aclck.specs.Line.{Reads, term};
-ghost use Rattle.aclck.specs.PosixValues.{id_value, want_value};
+ghost use Rattle.aclck.specs.Values.{id_value, want_value};
 ghost use Rattle.aclck.specs.Answer.{is_refusal};
 ghost use Rattle.aclck.specs.CheckPosix.{CheckPosixAnswer, Checks, check_posix_held, check_posix_in, check_posix_terms, groups_value, values_of};
 ghost use Rattle.aclck.specs.PosixAnswer.{IsPosixFault};
@@ -68,7 +68,8 @@ pub(crate) fn read(alloc: Global, matches: &ArgMatches<'_>) -> Result<CheckPosix
 }
 
 fn id_in(word: Option<&str>) -> Result<Id, LineFault>
-    ensures { Reads (λ id. id.value) (option_and_then id_value (option_map (λ s. s.now) word.entry)) result }
+    ensures { Reads (λ id. id.value)
+        (option_and_then id_value (option_map (λ s. s.now) word.entry)) result }
 {
     word.and_then(id_value).ok_or(LineFault::Usage)
 }
@@ -83,7 +84,8 @@ fn groups_in(alloc: Global, word: Option<&str>) -> Result<Vec<Id>, LineFault>
 }
 
 fn want_in(word: Option<&str>) -> Result<Perm, LineFault>
-    ensures { Reads (λ perm. perm.bits) (option_and_then want_value (option_map (λ s. s.now) word.entry)) result }
+    ensures { Reads (λ perm. perm.bits)
+        (option_and_then want_value (option_map (λ s. s.now) word.entry)) result }
 {
     word.and_then(want_value).ok_or(LineFault::Usage)
 }
@@ -123,7 +125,8 @@ fn decide(
     want: Perm,
     names: &Names,
 ) -> Result<Outcome, RunFault>
-    ensures decided { IfOk result (λ o. Checks (values_of owner group user groups.now want names.now) input.items o) }
+    ensures decided { IfOk result (λ o.
+        Checks (values_of owner group user groups.now want names.now) input.items o) }
     ensures refused { IfErr result (λ e. (e ≡ RunFault.Memory)
         ⊎ ((is_refusal e ≡ true) × IsPosixFault names.now input.items e)) }
 {

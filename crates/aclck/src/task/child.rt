@@ -45,7 +45,8 @@ pub(crate) fn read(matches: &ArgMatches<'_>) -> Result<Child, LineFault>
 }
 
 fn kind_in(word: Option<&str>) -> Result<ChildKind, LineFault>
-    ensures { Reads (λ kind. kind) (option_and_then kind_value (option_map (λ s. s.now) word.entry)) result }
+    ensures { Reads (λ kind. kind)
+        (option_and_then kind_value (option_map (λ s. s.now) word.entry)) result }
 {
     word.and_then(kind_value).ok_or(LineFault::Usage)
 }
@@ -71,7 +72,8 @@ pub fn run_child<S: Source, K: Sink>(
     kind: ChildKind,
     profile: Profile,
 ) -> Result<Outcome, RunFault>
-    ensures { Runs (ChildAnswer (record { created = kind; profile = profile_of profile })) (of_list (profile_of profile))
+    ensures { Runs (ChildAnswer (record { created = kind; profile = profile_of profile }))
+        (of_list (profile_of profile))
         S.remaining S.failure_count source.old source.new
         K.contents K.failure_count sink.old sink.new result }
 {

@@ -3,7 +3,7 @@ ghost use Rattle.std.specs.Prelude.{◌≡◌, ◌⊎◌, IfErr, IfOk, map, opti
 ghost use Rattle.clap.specs.Words.{found_of, rows_of};
 ghost use Rattle.aclck.specs.Run.{Runs, of_text};
 ghost use Rattle.aclck.specs.Line.{Reads, term};
-ghost use Rattle.aclck.specs.PosixValues.{mode_value};
+ghost use Rattle.aclck.specs.Values.{mode_value};
 ghost use Rattle.aclck.specs.Answer.{is_refusal};
 ghost use Rattle.aclck.specs.PosixAnswer.{IsPosixFault, Writes};
 ghost use Rattle.aclck.specs.Chmod.{ChmodAnswer, chmod_held, chmod_in, chmod_terms, chmod_text};
@@ -46,7 +46,8 @@ pub(crate) fn read(alloc: Global, matches: &ArgMatches<'_>) -> Result<Chmod, Lin
 
 /// The mode that an option's value spells.
 pub(crate) fn mode_in(word: Option<&str>) -> Result<Mode, LineFault>
-    ensures { Reads (λ mode. mode.bits) (option_and_then mode_value (option_map (λ s. s.now) word.entry)) result }
+    ensures { Reads (λ mode. mode.bits)
+        (option_and_then mode_value (option_map (λ s. s.now) word.entry)) result }
 {
     word.and_then(mode_value).ok_or(LineFault::Usage)
 }
@@ -72,7 +73,8 @@ pub fn run_chmod<S: Source, K: Sink>(
 
 // The canonical text of the file with its mode set.
 fn with_mode(alloc: Global, input: Vec<u8>, mode: Mode, names: &Names) -> Result<Vec<u8>, RunFault>
-    ensures made { IfOk result (λ text. Writes names.now (chmod_text mode.bits) input.items text.items) }
+    ensures made { IfOk result (λ text.
+        Writes names.now (chmod_text mode.bits) input.items text.items) }
     ensures refused { IfErr result (λ e. (e ≡ RunFault.Memory)
         ⊎ ((is_refusal e ≡ true) × IsPosixFault names.now input.items e)) }
 {

@@ -1,20 +1,16 @@
 //! `compare`: whether two lists grant the same, and where not.
-ghost use Rattle.std.specs.Prelude.{◌≡◌, ◌++◌, ◌<◌, ◌^◌, [], codes, IfErr, IfOk, OnOk, flat_map, map, true, unwrap_or};
-ghost use Rattle.std.specs.Io.KnownBytes.{IsAtEnd};
-ghost use Rattle.acl_perm.specs.Devices.{failures_after};
+ghost use Rattle.std.specs.Prelude.{◌≡◌, ◌++◌, [], codes, IfOk, OnOk, flat_map, map, unwrap_or};
 ghost use Rattle.acl_perm.specs.Profile.{profile_of};
 ghost use Rattle.acl_nfs4.specs.BitNames.{first_name};
 ghost use Rattle.acl_nfs4.specs.Rights.{rights};
 ghost use Rattle.acl_normal.specs.Difference.{situation_of};
 ghost use Rattle.aclck.specs.Run.{Runs, of_two};
-ghost use Rattle.aclck.specs.Answer.{has_read_failed, is_read};
-ghost use Rattle.aclck.specs.Compare.{AreTwo, CompareAnswer, compared_outcome, compared_text, decision, difference_text, line};
-ghost use Rattle.aclck.specs.ListInput.{HasInput};
-ghost use Rattle.aclck.specs.TwoLists.{AreNotRead, StandsBelow, TakesLittleOfTwo, TakesOpenOfTwo, later};
+ghost use Rattle.aclck.specs.Compare.{CompareAnswer, decision, difference_text, line};
+ghost use Rattle.aclck.specs.internal.Compared.{compared_outcome, compared_text};
 
 use crate::answer::{Outcome, RunFault};
-use crate::input::xdr::{Pulled, Value, read_end, read_value};
-use acl_nfs4::{Acl, Fault, bit_name};
+use crate::input::xdr::read_two;
+use acl_nfs4::bit_name;
 use acl_normal::{Difference, compare};
 use acl_perm::{Mask, Profile, Sink, Source, put_all};
 use std::alloc::{AllocError, Global};
@@ -33,58 +29,11 @@ pub fn run_compare<S: Source, K: Sink>(
         S.remaining S.failure_count source.old source.new
         K.contents K.failure_count sink.old sink.new result }
 {
-    let (list, other) = read_two(alloc, source, profile)?;
-    let difference = compare(alloc, &list, &other)?;
+    let lists = read_two(alloc, source, profile)?;
+    let difference = compare(alloc, &lists.first, &lists.second)?;
     let text = text_of_answer(alloc, &difference)?;
     put_all(sink, &text)?;
     Ok(outcome_of(&difference))
-}
-
-// The two lists of the profile that an input is, one after the other, and nothing more.
-fn read_two<S: Source>(
-    alloc: Global,
-    source: &mut S,
-    profile: Profile,
-) -> Result<(Acl, Acl), RunFault>
-    ensures found { IfOk result (λ two.
-        HasInput (λ input. AreTwo (profile_of profile) two.0 two.1 input) (S.remaining source.old)) }
-    ensures whole { OnOk result (IsAtEnd (S.remaining source.new)) }
-    ensures not_read { IfErr result (λ e. AreNotRead (profile_of profile) (S.remaining source.old) e) }
-    ensures bound { TakesLittleOfTwo (profile_of profile) (S.remaining source.old) (S.remaining source.new) }
-    ensures stopped { IfErr result (λ e. is_read e ≡ true
-        → TakesOpenOfTwo (profile_of profile) (S.remaining source.old) (S.remaining source.new)) }
-    ensures reads { S.failure_count source.new
-        ≡ failures_after (S.failure_count source.old) (has_read_failed result) }
-{
-    let mut pulled = Pulled::new();
-    let first = read_value(alloc, source, &mut pulled, profile)?;
-    match read_value(alloc, source, &mut pulled, profile) {
-        Ok(second) => {
-            read_end(source, &mut pulled, first.len + second.len)?;
-            Ok((first.list, second.list))
-        }
-        Err(fault) => Err(behind(fault, first.len)),
-    }
-}
-
-// The fault of what stands behind so many bytes, counted from their start.
-fn behind(fault: RunFault, len: u64) -> RunFault
-    requires fault { StandsBelow (2 ^ 32) fault }
-    requires len { len < 2 ^ 32 }
-    ensures { result ≡ later fault len }
-{
-    match fault {
-        RunFault::Nfs(found) => RunFault::Nfs(Fault {
-            offset: found.offset + len,
-            reason: found.reason,
-        }),
-        RunFault::NfsText(_)
-        | RunFault::Posix(_)
-        | RunFault::Limits
-        | RunFault::Read
-        | RunFault::Write(_)
-        | RunFault::Memory => fault,
-    }
 }
 
 // Yes where there is no difference.

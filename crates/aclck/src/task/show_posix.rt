@@ -43,7 +43,8 @@ pub(crate) fn read(alloc: Global, matches: &ArgMatches<'_>) -> Result<ShowPosix,
 }
 
 fn form_in(word: Option<&str>) -> Result<Form, LineFault>
-    ensures { Reads (λ form. form) (option_and_then form_value (option_map (λ s. s.now) word.entry)) result }
+    ensures { Reads (λ form. form)
+        (option_and_then form_value (option_map (λ s. s.now) word.entry)) result }
 {
     word.and_then(form_value).ok_or(LineFault::Usage)
 }

@@ -81,8 +81,8 @@ fn right_named(word: &[u8]) -> Option<Mask>
 }
 
 /// Writes the rows of one right of the list that the whole input spells: a line for each ACE of its normal form that
-/// has the right, in order, with the place in the given list from which it comes. Nothing is written before the input is
-/// accepted, as a list that keeps to the profile. Nothing is read after a refusal.
+/// has the right, in order, with the place in the given list from which it comes. Nothing is written before the input
+/// is accepted, as a list that keeps to the profile. Nothing is read after a refusal.
 pub fn run_table<S: Source, K: Sink>(
     alloc: Global,
     source: &mut S,
@@ -90,7 +90,8 @@ pub fn run_table<S: Source, K: Sink>(
     bit: Mask,
     profile: Profile,
 ) -> Result<Outcome, RunFault>
-    ensures { Runs (TableAnswer (record { bit = bit.bits; profile = profile_of profile })) (of_list (profile_of profile))
+    ensures { Runs (TableAnswer (record { bit = bit.bits; profile = profile_of profile }))
+        (of_list (profile_of profile))
         S.remaining S.failure_count source.old source.new
         K.contents K.failure_count sink.old sink.new result }
 {

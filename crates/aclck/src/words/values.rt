@@ -6,8 +6,7 @@ ghost use Rattle.std.specs.Str.Parse.{digits_value};
 ghost use Rattle.acl_perm.specs.Profile.{profile_of};
 ghost use Rattle.acl_posix.specs.Check.{ids};
 ghost use Rattle.aclck.specs.Line.{Reads};
-ghost use Rattle.aclck.specs.Values.{mask_value, mask_within, profile_value};
-ghost use Rattle.aclck.specs.PosixValues.{are_digits, each_value, id_value, ids_value, is_letter, letters_value, mode_value, want_value};
+ghost use Rattle.aclck.specs.Values.{are_digits, each_value, id_value, ids_value, is_letter, letters_value, mask_value, mask_within, mode_value, profile_value, want_value};
 
 use crate::line::LineFault;
 use acl_nfs4::read_mask;
@@ -56,7 +55,8 @@ fn profile_value(word: &str) -> Option<Profile>
 
 /// The profile that the value of `--profile` names.
 pub(crate) fn profile_in(word: Option<&str>) -> Result<Profile, LineFault>
-    ensures { Reads profile_of (option_and_then profile_value (option_map (λ s. s.now) word.entry)) result }
+    ensures { Reads profile_of
+        (option_and_then profile_value (option_map (λ s. s.now) word.entry)) result }
 {
     word.and_then(profile_value).ok_or(LineFault::Usage)
 }
@@ -79,7 +79,7 @@ fn all_digits(bytes: &[u8], radix: u32) -> bool
 }
 
 /// The value of an ID: decimal digits within the limit, any number of zeros in front.
-#[tactic(auto, unfolding(crate::specs::PosixValues::id_value))]
+#[tactic(auto, unfolding(crate::specs::Values::id_value))]
 pub(crate) fn id_value(word: &str) -> Option<Id>
     ensures { option_map (λ id. id.value) result ≡ id_value word.now }
 {
@@ -91,13 +91,14 @@ pub(crate) fn id_value(word: &str) -> Option<Id>
 
 fn decimal(word: &str) -> Result<u32, ParseIntError>
     requires { are_digits 10 word.now ≡ true }
-    ensures { MatchResult result (λ n. n ≡ digits_value 10 word.now) (λ _. 2 ^ 32 ≤ digits_value 10 word.now) }
+    ensures { MatchResult result (λ n. n ≡ digits_value 10 word.now)
+        (λ _. 2 ^ 32 ≤ digits_value 10 word.now) }
 {
     word.parse()
 }
 
 /// The value of `--groups`: IDs with commas between them.
-#[tactic(auto, unfolding(crate::specs::PosixValues::ids_value))]
+#[tactic(auto, unfolding(crate::specs::Values::ids_value))]
 pub(crate) fn ids_value(alloc: Global, word: &str) -> Result<Vec<Id>, LineFault>
     ensures { Reads (λ v. ids v.items) (ids_value word.now) result }
 {
@@ -107,7 +108,8 @@ pub(crate) fn ids_value(alloc: Global, word: &str) -> Result<Vec<Id>, LineFault>
 
 // What stands between the commas.
 fn items_of<'a>(alloc: Global, word: &'a str) -> Result<Vec<&'a str>, AllocError>
-    ensures { IfOk result (λ v. map (λ s. s.now) v.items ≡ slice_split (λ b. b == 44) word.entry.now) }
+    ensures { IfOk result (λ v.
+        map (λ s. s.now) v.items ≡ slice_split (λ b. b == 44) word.entry.now) }
 {
     word.split(',').collect(alloc)
 }
@@ -124,7 +126,7 @@ fn each_id(alloc: Global, items: &[&str]) -> Result<Vec<Id>, LineFault>
 }
 
 /// The value of an OCT: one to four octal digits, of at most `0o777`.
-#[tactic(auto, unfolding(crate::specs::PosixValues::mode_value))]
+#[tactic(auto, unfolding(crate::specs::Values::mode_value))]
 pub(crate) fn mode_value(word: &str) -> Option<Mode>
     ensures { option_map (λ mode. mode.bits) result ≡ mode_value word.now }
 {
@@ -136,7 +138,8 @@ pub(crate) fn mode_value(word: &str) -> Option<Mode>
 
 fn octal(word: &str) -> Result<u16, ParseIntError>
     requires { are_digits 8 word.now ≡ true }
-    ensures { MatchResult result (λ n. n ≡ digits_value 8 word.now) (λ _. 2 ^ 16 ≤ digits_value 8 word.now) }
+    ensures { MatchResult result (λ n. n ≡ digits_value 8 word.now)
+        (λ _. 2 ^ 16 ≤ digits_value 8 word.now) }
 {
     u16::from_str_radix(word, 8)
 }
@@ -167,7 +170,7 @@ fn letters(bytes: &[u8]) -> Option<Perm>
 }
 
 /// The value of `--want`: r, w and x in any order, or `none`.
-#[tactic(auto, unfolding(crate::specs::PosixValues::want_value))]
+#[tactic(auto, unfolding(crate::specs::Values::want_value))]
 pub(crate) fn want_value(word: &str) -> Option<Perm>
     ensures { option_map (λ perm. perm.bits) result ≡ want_value word.now }
 {

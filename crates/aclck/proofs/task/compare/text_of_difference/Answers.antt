@@ -15,9 +15,11 @@ returns c =
     c.in_ok-text.ensures.items
     (c.in_ok-add_line.ensures ∙ ap (λ v. c.in_ok-text.text.items ++ line (codes "owner") v) c.deref.ensures.value)
     (c.in_ok-add_line-2.ensures ∙ ap (λ v. c.add_line.new.text.items ++ line (codes "group") v) c.deref-2.ensures.value)
-    (c.in_ok-add_line-3.ensures ∙ ap (λ v. c.add_line-2.new.text.items ++ line (codes "user") v) c.deref-3.ensures.value)
+    (c.in_ok-add_line-3.ensures
+    ∙ ap (λ v. c.add_line-2.new.text.items ++ line (codes "user") v) c.deref-3.ensures.value)
     (c.in_ok-add_members.ensures
-    ∙ ap (λ v. c.add_line-3.new.text.items ++ flat_map (line (codes "member")) (map (λ g. g.items) v)) c.deref-4.ensures.value)
+    ∙ ap (λ v. c.add_line-3.new.text.items ++ flat_map (line (codes "member")) (map (λ g. g.items) v))
+    c.deref-4.ensures.value)
     (c.in_ok-add_line-4.ensures ∙ ap (λ v. c.add_members.new.text.items ++ line (codes "mask") v) c.right_name.ensures)
     (c.in_ok-add_line-5.ensures ∙ ap (λ v. c.add_line-4.new.text.items ++ line (codes "first") v) c.decision.ensures)
     (c.in_ok-add_line-6.ensures ∙ ap (λ v. c.add_line-5.new.text.items ++ line (codes "second") v) c.decision-2.ensures)

@@ -1,7 +1,7 @@
 use Rattle.std.proofs.Common.{◌≡◌, ◌++◌, drop, map}
 use Rattle.std.specs.Option.{option_map}
 use Rattle.acl_posix.specs.Check.{ids}
-use Rattle.aclck.specs.PosixValues.{each_value, id_value}
+use Rattle.aclck.specs.Values.{each_value, id_value}
 use Rattle.aclck.proofs.words.values.each_id.Given as goal
 
 abbrev pub invariant-loop-item : goal.invariant-loop-item

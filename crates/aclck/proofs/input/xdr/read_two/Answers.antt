@@ -3,7 +3,7 @@ use Rattle.std.proofs.KnownBytes.{Consumes-trans}
 use Rattle.std.proofs.lemmas.Result.{err_from_is_err_and}
 use Rattle.acl_perm.specs.Profile.{profile_of}
 use Rattle.aclck.proofs.TwoListLemmas.{fault_below, first_near, first_not_read, first_open, more_near, more_not_read, more_open, second_near, second_not_read, second_open, three_parts, two_found, two_near}
-use Rattle.aclck.proofs.task.compare.read_two.Goals as goal
+use Rattle.aclck.proofs.input.xdr.read_two.Goals as goal
 
 pub returns-in_err-first-clause-not_read : goal.returns-in_err-first-clause-not_read
 returns-in_err-first-clause-not_read g c =
@@ -78,8 +78,8 @@ returns-in_ok-read_end-in-Ok-clause-bound g c =
 pub returns-in-Err-clause-not_read : goal.returns-in-Err-clause-not_read
 returns-in-Err-clause-not_read g c =
     let v = rw c.new-pulled.ensures at c.in_ok-first.ensures.value in
-    rw c.behind.ensures (second_not_read (profile_of c.args.profile) _ v.text _ v.given _ _ _ _ c.in-Err.fault
-    v.spelled v.parts v.taken v.is_len c.in-Err.ensures.none)
+    rw (c.from.ensures, c.behind.ensures)
+    (second_not_read (profile_of c.args.profile) _ v.text _ v.given _ _ _ _ c.in-Err.fault v.spelled v.parts v.taken v.is_len c.in-Err.ensures.none)
 
 pub returns-in-Err-clause-bound : goal.returns-in-Err-clause-bound
 returns-in-Err-clause-bound g c =
@@ -90,5 +90,5 @@ returns-in-Err-clause-bound g c =
 pub returns-in-Err-clause-stopped : goal.returns-in-Err-clause-stopped
 returns-in-Err-clause-stopped g c =
     let v = rw c.new-pulled.ensures at c.in_ok-first.ensures.value in
-    rw c.behind.ensures (second_open (profile_of c.args.profile) _ v.text _ v.given _ _ _ c.in_ok-first.first.len
-    c.in-Err.fault v.spelled v.parts v.taken c.in-Err.ensures.none)
+    rw (c.from.ensures, c.behind.ensures)
+    (second_open (profile_of c.args.profile) _ v.text _ v.given _ _ _ c.in_ok-first.first.len c.in-Err.fault v.spelled v.parts v.taken c.in-Err.ensures.none)

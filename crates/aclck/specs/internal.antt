@@ -1,0 +1,5 @@
+-- What only the code and its proofs need (this library's own).
+-- Reading: how one list and two are read from pulls
+-- Compared: the text and the outcome of what `acl_normal` answers
+pub mod Reading
+pub mod Compared

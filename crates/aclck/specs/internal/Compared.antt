@@ -1,0 +1,17 @@
+-- The text and the outcome of what a comparison of lists answers (this library's own).
+use Rattle.std.specs.Prelude.{List, ℕ, Option, Some, None}
+use Rattle.acl_normal.specs.Difference.{situation_of}
+use Rattle.acl_normal.specs.declared.comparison.Difference.{Difference}
+use Rattle.aclck.specs.Compare.{difference_text, same_text}
+use Rattle.aclck.specs.declared.answer.Outcome.{Outcome}
+use Rattle.aclck.specs.declared.answer.Outcome.TheVariants as outcome
+
+-- the text of a difference, if there is one
+abbrev pub compared_text : Option Difference → List ℕ
+compared_text None = same_text
+compared_text (Some d) = difference_text (situation_of d) d.bit.bits d.first_grants
+
+-- No where there is a difference
+abbrev pub compared_outcome : Option Difference → Outcome
+compared_outcome None = outcome.Yes
+compared_outcome (Some d) = outcome.No

@@ -1,0 +1,138 @@
+-- How one list, and two, are read from an input that comes in pieces (this library's own, over RFC 4506 and RFC 8881,
+-- section 6.2.1).
+use Rattle.std.specs.Prelude.{◌≡◌, ◌⊎◌, ◌+◌, ◌≤◌, ◌<◌, ◌++◌, [], List, ℕ, Bool, false, true, Option, IfSome, Result, Ok, Err, length}
+use Rattle.std.specs.Io.KnownBytes.{Consumes, IsAtEnd, Keeps}
+use Rattle.acl_perm.specs.Profile.{Profile}
+use Rattle.acl_nfs4.specs.Ace.{Ace}
+use Rattle.acl_nfs4.specs.Fault.{IsFirstFault}
+use Rattle.acl_nfs4.specs.Spelling.{Xdr}
+use Rattle.acl_nfs4.specs.Progress.{IsBytes}
+use Rattle.acl_nfs4.specs.Stream.{IsCut}
+use Rattle.acl_nfs4.specs.declared.fault.Fault.{Fault}
+use Rattle.acl_nfs4.specs.declared.fault.Reason.TheVariants.{TrailingBytes, Truncated}
+use Rattle.aclck.specs.Answer.{IsXdrFault, cause_of}
+use Rattle.aclck.specs.Compare.{IsRefusedTwo}
+use Rattle.aclck.specs.ListInput.{RefusalEnds, ValueEnds, piece_len}
+use Rattle.aclck.specs.declared.answer.Cause.{Cause}
+use Rattle.aclck.specs.declared.answer.Cause.TheVariants as cause
+use Rattle.aclck.specs.declared.answer.RunFault.{RunFault}
+use Rattle.aclck.specs.declared.answer.RunFault.TheVariants as fault
+use Rattle.aclck.specs.declared.input.xdr.ListFault.{ListFault}
+use Rattle.aclck.specs.declared.input.xdr.ListFault.TheVariants as unread
+
+-- ---- faults
+
+-- why a list was not read, as an engine tells it
+abbrev pub told : ListFault → RunFault
+told (unread.Refused f) = fault.Nfs f
+told unread.Read = fault.Read
+told unread.Memory = fault.Memory
+
+-- a pull failed
+abbrev pub is_failed_pull : ListFault → Bool
+is_failed_pull (unread.Refused f) = false
+is_failed_pull unread.Read = true
+is_failed_pull unread.Memory = false
+
+-- the answer is that a pull failed
+abbrev pub has_pull_failed : {X : Type 0} → Result X ListFault → Bool
+has_pull_failed (Ok x) = false
+has_pull_failed (Err e) = is_failed_pull e
+
+-- the fault of what stands behind so many bytes, counted from their start
+abbrev pub later : ListFault → ℕ → ListFault
+later (unread.Refused f) n = unread.Refused (record { offset = f.offset + n; reason = f.reason })
+later unread.Read n = unread.Read
+later unread.Memory n = unread.Memory
+
+-- a refusal has an offset below n
+abbrev pub StandsBelow : ℕ → ListFault → Type 0
+StandsBelow n (unread.Refused f) = f.offset < n
+StandsBelow n unread.Read = Unit {0}
+StandsBelow n unread.Memory = Unit {0}
+
+-- ---- inputs
+
+-- an input, the source's where it tells its bytes, of which something holds
+pub record HasInput (Holds : List ℕ → Type 0) (known : Option (List ℕ)) : Type 0 where
+  pub input : List ℕ
+  pub is_input : IfSome known (λ bytes. input ≡ bytes)
+  pub holds : Holds input
+
+-- why an input was not read: it is refused, or a read failed, or memory ran out
+abbrev pub Unread : Type 0 → Cause → Type 0
+Unread Refused cause.Input = Refused
+Unread Refused cause.Source = Unit {0}
+Unread Refused (cause.Sink w) = ⊥
+Unread Refused cause.Memory = Unit {0}
+
+-- why one list was not read
+abbrev pub IsNotRead : Profile → Option (List ℕ) → RunFault → Type 0
+IsNotRead p known e = Unread (HasInput (λ input. IsXdrFault p input e) known) (cause_of e)
+
+-- why two lists were not read
+abbrev pub AreNotRead : Profile → Option (List ℕ) → RunFault → Type 0
+AreNotRead p known e = Unread (HasInput (λ input. IsRefusedTwo p input e) known) (cause_of e)
+
+-- ---- one value
+
+-- a value was read from what was left of the last pull, and what the source gave: so many bytes, and what is left then
+pub record ReadsValue (p : Profile) (left now_left : List ℕ) (known now_known : Option (List ℕ)) (list : List Ace)
+    (len : ℕ) : Type 0 where
+  pub given : List ℕ
+  pub text : List ℕ
+  pub taken : Consumes known now_known given
+  pub parts : left ++ given ≡ text ++ now_left
+  pub spelled : Xdr p list text
+  pub is_len : len ≡ length text
+
+-- what was left of the last pull, and what the source gave, has this fault, and was read to the end of its field or
+-- little further; where it is cut short, to the end of the source
+pub record ReadsFault (p : Profile) (left : List ℕ) (known now_known : Option (List ℕ)) (f : Fault) : Type 0 where
+  pub given : List ℕ
+  pub end : ℕ
+  pub taken : Consumes known now_known given
+  pub has : IsFirstFault p (left ++ given) f.offset end f.reason
+  pub near : length (left ++ given) ≤ end + piece_len
+  pub all : f.reason ≡ Truncated → IsAtEnd now_known
+
+-- bytes begin with a value that ends there
+pub record BytesEnd (p : Profile) (text : List ℕ) (end : ℕ) : Type 0 where
+  pub bytes : IsBytes text
+  pub value : ValueEnds p text end
+
+-- what was left of the last pull, and what the source gave, ends with its value or the refused field, or little further
+pub record ReadsLittle (p : Profile) (left : List ℕ) (known now_known : Option (List ℕ)) : Type 0 where
+  pub given : List ℕ
+  pub end : ℕ
+  pub taken : Consumes known now_known given
+  pub is_end : BytesEnd p (left ++ given) end ⊎ RefusalEnds p (left ++ given) end
+  pub near : length (left ++ given) ≤ end + piece_len
+
+-- what was left of the last pull, and what the source gave, is cut short
+pub record ReadsPart (p : Profile) (left : List ℕ) (known now_known : Option (List ℕ)) : Type 0 where
+  pub given : List ℕ
+  pub taken : Consumes known now_known given
+  pub cut : IsCut p (left ++ given)
+
+-- why a value was not read
+abbrev pub ReadsNone : Profile → List ℕ → Option (List ℕ) → Option (List ℕ) → ListFault → Type 0
+ReadsNone p left known now_known (unread.Refused f) = ReadsFault p left known now_known f
+ReadsNone p left known now_known unread.Read = ReadsPart p left known now_known
+ReadsNone p left known now_known unread.Memory = ReadsLittle p left known now_known
+
+-- ---- the end
+
+-- a byte stands behind the last value, in what was left of the last pull or in what the source gave
+pub record ReadsMore (left : List ℕ) (known now_known : Option (List ℕ)) : Type 0 where
+  pub given : List ℕ
+  pub taken : Consumes known now_known given
+  pub some : 0 < length (left ++ given)
+  pub near : length (left ++ given) ≤ piece_len
+
+-- why an input does not end behind a value of so many bytes
+abbrev pub EndsNot : ℕ → List ℕ → Option (List ℕ) → Option (List ℕ) → ListFault → Type 0
+EndsNot len left known now_known (unread.Refused f) =
+    (f ≡ record { offset = len; reason = TrailingBytes }) × ReadsMore left known now_known
+EndsNot len left known now_known unread.Read = (left ≡ []) × Keeps known now_known
+EndsNot len left known now_known unread.Memory = ⊥
