@@ -7,7 +7,7 @@ ghost use Rattle.acl_nfs4.specs.Ace.{Ace, ace};
 ghost use Rattle.acl_nfs4.specs.Fault.{IsWholeFault};
 ghost use Rattle.acl_nfs4.specs.Spelling.{IsAccepted, spelling};
 ghost use Rattle.acl_nfs4.specs.Stream.{no_memory};
-ghost use Rattle.acl_nfs4.specs.declared.fault.Reason.{Reason};
+ghost use Rattle.acl_nfs4.specs.declared.xdr.fault.Reason.{Reason};
 ghost use Rattle.acl_normal.specs.internal.Emitted.{emitted_ace, emitted_aces};
 ghost use Rattle.acl_normal.specs.Normal.{IsNormal, flags_for};
 ghost use Rattle.acl_normal.specs.NormalForm.{IsNormalFormOf, Normalises};

@@ -6,10 +6,10 @@ use Rattle.acl_perm.specs.Profile.{Profile}
 use Rattle.acl_nfs4.specs.Ace.{Ace}
 use Rattle.acl_nfs4.specs.Fault.{IsFirstFault}
 use Rattle.acl_nfs4.specs.Spelling.{Xdr}
-use Rattle.acl_nfs4.specs.Progress.{IsBytes}
+use Rattle.acl_nfs4.specs.internal.Progress.{IsBytes}
 use Rattle.acl_nfs4.specs.Stream.{IsCut}
-use Rattle.acl_nfs4.specs.declared.fault.Fault.{Fault}
-use Rattle.acl_nfs4.specs.declared.fault.Reason.TheVariants.{TrailingBytes, Truncated}
+use Rattle.acl_nfs4.specs.declared.xdr.fault.Fault.{Fault}
+use Rattle.acl_nfs4.specs.declared.xdr.fault.Reason.TheVariants.{TrailingBytes, Truncated}
 use Rattle.aclck.specs.Answer.{IsXdrFault, cause_of}
 use Rattle.aclck.specs.Compare.{IsRefusedTwo}
 use Rattle.aclck.specs.ListInput.{RefusalEnds, ValueEnds, piece_len}
