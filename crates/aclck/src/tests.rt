@@ -1,10 +1,19 @@
-//! Tests of the commands over devices in memory.
+//! Tests of the commands over devices in memory, a file for a command or for a few that read alike. Those of a module
+//! `ample` want memory to be there; each other takes want of memory for an answer.
 
+mod ample;
+mod bridge;
 mod check_nfs;
+mod check_nfs_devices;
+mod child;
+mod compare;
 mod harness;
 mod hostile;
 mod inherit;
+mod lists;
 mod nfs_text;
-mod normal;
+mod normalize;
 mod posix;
-mod xdr;
+mod posix_faults;
+mod table;
+mod texts;

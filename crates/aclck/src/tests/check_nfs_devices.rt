@@ -1,0 +1,204 @@
+//! `check-nfs` over devices that fail once and then work, or fail for good.
+
+use crate::answer::{Outcome, RunFault};
+use crate::task::check_nfs::run_check_nfs;
+use crate::tests::check_nfs::changed;
+use crate::tests::harness::{Calls, Devices, FINE, fails_at_read, fails_at_write, run};
+use crate::tests::lists::READ_OF_ALL;
+use acl_eval::{Object, Requester};
+use acl_nfs4::{Fault, Reason};
+use acl_perm::{Counted, Fused, Mask, Profile, Source};
+use std::alloc::Global;
+
+// The words of a check, of which the last names the rights.
+fn asking(mask: &'static str) -> [&'static str; 9] {
+    [
+        "check-nfs",
+        "--owner",
+        "alice",
+        "--group",
+        "staff",
+        "--user",
+        "bob",
+        "--mask",
+        mask,
+    ]
+}
+
+// The rights that are asked for, the write that fails, and what has gone out.
+const WRITES: [(&str, u64, &[u8]); 6] = [
+    ("READ_DATA", 1, b""),
+    ("READ_DATA", 2, b"gra"),
+    ("READ_DATA", 3, b"grante"),
+    ("WRITE_DATA", 1, b""),
+    ("WRITE_DATA", 2, b"den"),
+    ("WRITE_DATA", 3, b"denied"),
+];
+
+// The rights that are asked for, the byte at place 3 of a list, the read that fails, the status, and what goes out.
+const STATUSES: [(&str, u8, u64, u8, &[u8]); 5] = [
+    ("READ_DATA", 1, 10, 0, b"granted\n"),
+    ("WRITE_DATA", 1, 10, 1, b"denied\n"),
+    ("READ_DATA", 2, 10, 2, b""),
+    ("NOTHING", 1, 10, 3, b""),
+    ("READ_DATA", 1, 9, 4, b""),
+];
+
+// The first and the last call of `err` that fail, and how many bytes the others take.
+const ERRS: [(u64, u64, usize); 5] = [
+    (1, 1, 4),
+    (2, 2, 4),
+    (1, 1, 64),
+    (2, 2, 64),
+    (1, u64::MAX, 1),
+];
+
+// Whether a status stays what it is over such an `err`, and nothing is told again.
+fn keeps_status(
+    alloc: Global,
+    mask: &'static str,
+    (byte, reads): (u8, u64),
+    (status, line): (u8, &[u8]),
+    err: Calls,
+) -> bool {
+    let source = Calls::since(reads, 4);
+    let input = changed(3, byte);
+    let ran = run(
+        alloc,
+        &asking(mask),
+        &input,
+        Devices {
+            source,
+            err,
+            ..FINE
+        },
+    );
+    let most = if status < 2 { 0 } else { err.first };
+    ran.status == status && ran.wrote(line) && ran.tellings <= most
+}
+
+const AUDIT: RunFault = RunFault::Nfs(Fault {
+    offset: 4,
+    reason: Reason::AuditOrAlarm,
+});
+
+const TOO_MANY: RunFault = RunFault::Nfs(Fault {
+    offset: 0,
+    reason: Reason::TooManyAces,
+});
+
+const TRAILING: RunFault = RunFault::Nfs(Fault {
+    offset: 4,
+    reason: Reason::TrailingBytes,
+});
+
+// An input, the reads of how many bytes that pass, the fault that is told, and how many reads fail.
+const FAULTS: [(&[u8], u64, usize, RunFault, u64); 6] = [
+    (b"\0\0\0\x01\0\0\0\x02", 1, 64, AUDIT, 0),
+    (b"\0\0\0\x01\0\0\0\x02", 2, 4, AUDIT, 0),
+    (b"\0\x01\0\x01\0", 1, 4, TOO_MANY, 0),
+    (b"\0\0\0\0\0", 1, 64, TRAILING, 0),
+    (b"\0\0\0\0\0\0", 2, 4, TRAILING, 0),
+    (b"\0\0\0\x01\0\0", 2, 4, RunFault::Read, 1),
+];
+
+// A check of no rights by bob, of what alice owns.
+fn run_check<S: Source>(alloc: Global, source: &mut S) -> Option<Result<Outcome, RunFault>> {
+    let object = Object::new(b"alice", b"staff")?;
+    let requester = Requester::new(b"bob", &[])?;
+    let mut room = [0u8; 16];
+    let mut out = Counted::new(room.as_mut_slice());
+    let answer = run_check_nfs(
+        alloc,
+        source,
+        &mut out,
+        &object,
+        &requester,
+        Mask::NONE,
+        Profile::FULL,
+    );
+    Some(answer)
+}
+
+// What is answered where memory is ample.
+mod ample {
+    use super::*;
+
+    #[test]
+    fn check_nfs_tells_of_a_read_that_fails_and_reads_no_more(rt: HostRuntime) {
+        for failing in 1..10u64 {
+            assert!(rt;
+                fails_at_read(
+                    rt.alloc(),
+                    &asking("READ_DATA"),
+                    READ_OF_ALL,
+                    Calls::one(failing, 4)
+                ),
+                "at read {failing}"
+            );
+            assert!(rt;
+                fails_at_read(
+                    rt.alloc(),
+                    &asking("READ_DATA"),
+                    READ_OF_ALL,
+                    Calls::since(failing, 4)
+                ),
+                "from read {failing} on"
+            );
+        }
+    }
+
+    // The sink would go on after it, or takes no byte.
+    #[test]
+    fn check_nfs_tells_of_a_write_that_fails_and_writes_no_more(rt: HostRuntime) {
+        for (mask, failing, gone) in &WRITES {
+            assert!(rt;
+                fails_at_write(
+                    rt.alloc(),
+                    &asking(mask),
+                    READ_OF_ALL,
+                    Calls::one(*failing, 3),
+                    gone
+                ),
+                "{mask}, write {failing}"
+            );
+        }
+        let none = Calls {
+            first: 1,
+            last: 0,
+            step: 0,
+        };
+        assert!(rt; fails_at_write(rt.alloc(), &asking("READ_DATA"), READ_OF_ALL, none, b""));
+    }
+
+    // At each call, or at one alone and then it works.
+    #[test]
+    fn a_status_stays_and_nothing_is_told_again_where_err_fails(rt: HostRuntime) {
+        for (mask, byte, reads, status, line) in &STATUSES {
+            for (first, last, step) in &ERRS {
+                let err = Calls {
+                    first: *first,
+                    last: *last,
+                    step: *step,
+                };
+                assert!(rt;
+                    keeps_status(rt.alloc(), mask, (*byte, *reads), (*status, line), err),
+                    "{mask}, failing from {first} to {last}"
+                );
+            }
+        }
+    }
+
+    // What is cut short is a failed read.
+    #[test]
+    fn a_refusal_is_told_before_a_read_that_would_fail(rt: HostRuntime) {
+        for (input, reads, step, fault, failures) in &FAULTS {
+            let mut source = Counted::new(Fused::new(*input, *reads, *step));
+            let answer = run_check(rt.alloc(), &mut source);
+            assert!(rt;
+                answer == Some(Err(*fault)) && source.failures() == *failures,
+                "{input:?}"
+            );
+        }
+    }
+}

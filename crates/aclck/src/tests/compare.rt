@@ -1,0 +1,246 @@
+//! `compare` over two lists in bytes, one behind the other.
+
+use crate::tests::harness::{
+    Memory, fails_at_each_read, fails_at_each_write, joined, line_is_refused_at_once,
+};
+use crate::tests::lists::{
+    AMY_AND_ALL, AMY_INHERITED, BEHIND_ALICE, EMPTY, OPS_FIRST, OPS_LAST, READ_OF_ALICE,
+    READ_OF_ALL, READ_OF_THE_GROUP, READ_OF_THE_OWNER, RETENTION_OF_BOB, WITH_A_BYTE, WITHOUT_BOB,
+};
+use std::alloc::{AllocError, Global};
+use std::process::Abort;
+use std::test::Fail;
+
+// ---- lists
+
+// DENY GROUP READ_DATA staff, ALLOW - READ_DATA GROUP@.
+const STAFF_DENIED: &[u8] = b"\0\0\0\x02\
+    \0\0\0\x01\0\0\0@\0\0\0\x01\0\0\0\x05staff\0\0\0\
+    \0\0\0\0\0\0\0\0\0\0\0\x01\0\0\0\x06GROUP@\0\0";
+
+// ALLOW - WRITE_DATA EVERYONE@.
+const WRITE_OF_ALL: &[u8] = b"\0\0\0\x01\0\0\0\0\0\0\0\0\0\0\0\x02\0\0\0\x09EVERYONE@\0\0\0";
+
+// ALLOW - READ_DATA|EXECUTE OWNER@.
+const OWNER_RUNS: &[u8] = b"\0\0\0\x01\0\0\0\0\0\0\0\0\0\0\0!\0\0\0\x06OWNER@\0\0";
+
+// ALLOW - READ_DATA bob, DENY - READ_DATA OWNER@.
+const BOB_FIRST: &[u8] = b"\0\0\0\x02\
+    \0\0\0\0\0\0\0\0\0\0\0\x01\0\0\0\x03bob\0\
+    \0\0\0\x01\0\0\0\0\0\0\0\x01\0\0\0\x06OWNER@\0\0";
+
+// DENY - READ_DATA OWNER@, ALLOW - READ_DATA bob.
+const BOB_LAST: &[u8] = b"\0\0\0\x02\
+    \0\0\0\x01\0\0\0\0\0\0\0\x01\0\0\0\x06OWNER@\0\0\
+    \0\0\0\0\0\0\0\0\0\0\0\x01\0\0\0\x03bob\0";
+
+// DENY GROUP READ_DATA eng, ALLOW GROUP READ_DATA staff, and the other way round.
+const ENG_FIRST: &[u8] = b"\0\0\0\x02\
+    \0\0\0\x01\0\0\0@\0\0\0\x01\0\0\0\x03eng\0\
+    \0\0\0\0\0\0\0@\0\0\0\x01\0\0\0\x05staff\0\0\0";
+
+const ENG_LAST: &[u8] = b"\0\0\0\x02\
+    \0\0\0\0\0\0\0@\0\0\0\x01\0\0\0\x05staff\0\0\0\
+    \0\0\0\x01\0\0\0@\0\0\0\x01\0\0\0\x03eng\0";
+
+// DENY - EXECUTE OWNER@, ALLOW - EXECUTE GROUP@, and the other way round.
+const OWNER_FIRST: &[u8] = b"\0\0\0\x02\
+    \0\0\0\x01\0\0\0\0\0\0\0\x20\0\0\0\x06OWNER@\0\0\
+    \0\0\0\0\0\0\0\0\0\0\0\x20\0\0\0\x06GROUP@\0\0";
+
+const OWNER_LAST: &[u8] = b"\0\0\0\x02\
+    \0\0\0\0\0\0\0\0\0\0\0\x20\0\0\0\x06GROUP@\0\0\
+    \0\0\0\x01\0\0\0\0\0\0\0\x20\0\0\0\x06OWNER@\0\0";
+
+// The first ten bytes of a list.
+const BEGUN: &[u8] = b"\0\0\0\x01\0\0\0\0\0\0";
+
+// ---- rows
+
+// Two lists, with the status and what `compare` writes of them.
+type Pair = (&'static [u8], &'static [u8], u8, &'static [u8]);
+
+// A line of words and two lists, with what is told of them.
+type RefusedPair = (&'static str, &'static [u8], &'static [u8], &'static str);
+
+// Lists that are the same, or differ first in a situation.
+const COMPARISONS: [Pair; 11] = [
+    (WITHOUT_BOB, BEHIND_ALICE, 0, b"same\n"),
+    (
+        OPS_FIRST,
+        OPS_LAST,
+        1,
+        b"differ\nowner oooo\ngroup gggg\nuser ops\nmember ops\nmask READ_DATA\nfirst granted\nsecond denied\n",
+    ),
+    (
+        STAFF_DENIED,
+        READ_OF_THE_GROUP,
+        1,
+        b"differ\nowner oooooo\ngroup staff\nuser uuuuuu\nmember staff\nmask READ_DATA\nfirst denied\n\
+        second granted\n",
+    ),
+    (
+        EMPTY,
+        WRITE_OF_ALL,
+        1,
+        b"differ\nowner o\ngroup g\nuser u\nmask WRITE_DATA\nfirst denied\nsecond granted\n",
+    ),
+    (
+        OWNER_RUNS,
+        READ_OF_THE_OWNER,
+        1,
+        b"differ\nowner u\ngroup g\nuser u\nmask EXECUTE\nfirst granted\nsecond denied\n",
+    ),
+    (
+        BOB_FIRST,
+        BOB_LAST,
+        1,
+        b"differ\nowner bob\ngroup gggg\nuser bob\nmask READ_DATA\nfirst granted\nsecond denied\n",
+    ),
+    // Strange names are by one byte longer than the longest mentioned one.
+    (
+        READ_OF_ALICE,
+        EMPTY,
+        1,
+        b"differ\nowner oooooo\ngroup gggggg\nuser alice\nmask READ_DATA\nfirst granted\n\
+        second denied\n",
+    ),
+    // Without a name they are of one byte; the strange group is that of the object and of the user.
+    (
+        READ_OF_THE_GROUP,
+        EMPTY,
+        1,
+        b"differ\nowner o\ngroup g\nuser u\nmember g\nmask READ_DATA\nfirst granted\nsecond denied\n",
+    ),
+    // An object's owner in its group.
+    (
+        OWNER_FIRST,
+        OWNER_LAST,
+        1,
+        b"differ\nowner u\ngroup g\nuser u\nmember g\nmask EXECUTE\nfirst denied\nsecond granted\n",
+    ),
+    // A user in two groups, and of these neither is the object's.
+    (
+        ENG_FIRST,
+        ENG_LAST,
+        1,
+        b"differ\nowner oooooo\ngroup gggggg\nuser uuuuuu\nmember eng\nmember staff\nmask READ_DATA\n\
+        first denied\nsecond granted\n",
+    ),
+    // For a user amy in the group staff they differ on READ_DATA, but nobody by name comes first.
+    (
+        AMY_INHERITED,
+        AMY_AND_ALL,
+        1,
+        b"differ\nowner oooooo\ngroup gggggg\nuser uuuuuu\nmask EXECUTE\nfirst denied\nsecond granted\n",
+    ),
+];
+
+fn pairs() -> &'static [Pair] {
+    &COMPARISONS
+}
+
+// Lists of which the second is refused.
+const REFUSALS: [RefusedPair; 4] = [
+    (
+        "compare",
+        READ_OF_ALL,
+        BEGUN,
+        "aclck: Truncated at byte 40\n",
+    ),
+    (
+        "compare",
+        READ_OF_ALL,
+        WITH_A_BYTE,
+        "aclck: TrailingBytes at byte 64\n",
+    ),
+    (
+        "compare --profile narrow",
+        EMPTY,
+        RETENTION_OF_BOB,
+        "aclck: MaskBits at byte 16\n",
+    ),
+    ("compare", EMPTY, b"", "aclck: Truncated at byte 4\n"),
+];
+
+fn refusals() -> &'static [RefusedPair] {
+    &REFUSALS
+}
+
+// Whether `compare` gives this answer.
+fn compares(memory: Memory, pair: &Pair) -> bool {
+    let (first, second, status, text) = pair;
+    match joined(memory.alloc, first, second) {
+        Ok(input) => memory.gives_at(&["compare"], &input, *status, text, ""),
+        Err(_) => !memory.is_ample,
+    }
+}
+
+fn comparisons_hold<A: Abort>(rt: &A, memory: Memory) {
+    for pair in pairs() {
+        assert!(rt; compares(memory, pair), "{pair:?}");
+    }
+}
+
+// Whether a line refuses two lists.
+fn refuses(memory: Memory, pair: &RefusedPair) -> bool {
+    let (line, first, second, told) = pair;
+    match joined(memory.alloc, first, second) {
+        Ok(input) => memory.gives(line, &input, 2, b"", told),
+        Err(_) => !memory.is_ample,
+    }
+}
+
+/// Each pair of lists is answered or refused as it says.
+pub fn all_rows_hold<A: Abort>(rt: &A, memory: Memory) {
+    comparisons_hold(rt, memory);
+    for pair in refusals() {
+        assert!(rt; refuses(memory, pair), "{pair:?}");
+    }
+}
+
+// The source fails at each read in turn, of four bytes each, and then the sink at each write, of one byte each.
+fn pair_fails_everywhere(alloc: Global, pair: &Pair) -> Result<bool, AllocError> {
+    let (first, second, _, text) = pair;
+    let input = joined(alloc, first, second)?;
+    let words = &["compare"];
+    Ok(
+        fails_at_each_read(alloc, words, &input, 4)
+            && fails_at_each_write(alloc, words, &input, text),
+    )
+}
+
+// The source of a line is spent just after it has refused two lists.
+fn pair_refuses_at_once(alloc: Global, pair: &RefusedPair) -> Result<bool, AllocError> {
+    let (line, first, second, told) = pair;
+    let input = joined(alloc, first, second)?;
+    line_is_refused_at_once(alloc, line, &input, 2, told)
+}
+
+// ---- tests
+
+#[test]
+fn compare_answers_each_pair_or_wants_memory(rt: HostRuntime) {
+    all_rows_hold(&rt, Memory::scarce(rt.alloc()));
+}
+
+// What is answered where memory is ample.
+mod ample {
+    use super::*;
+
+    #[test]
+    fn compare_tells_of_each_device_that_fails(rt: HostRuntime) -> Result<(), Fail> {
+        for pair in pairs() {
+            assert!(rt; pair_fails_everywhere(rt.alloc(), pair)?, "{pair:?}");
+        }
+        Ok(())
+    }
+
+    #[test]
+    fn compare_reads_nothing_behind_a_refusal(rt: HostRuntime) -> Result<(), Fail> {
+        for pair in refusals() {
+            assert!(rt; pair_refuses_at_once(rt.alloc(), pair)?, "{pair:?}");
+        }
+        Ok(())
+    }
+}

@@ -1,0 +1,137 @@
+//! Runs of a command, and what they answer.
+
+use super::devices::{Device, Devices, FINE};
+use crate::command::command;
+use acl_perm::Counted;
+use std::alloc::{AllocError, Global};
+
+// Room for what a run writes, and for what it tells.
+const ROOM: usize = 256;
+
+/// What a command answered, what it wrote and told, and the calls of its devices.
+#[derive(Clone, Copy)]
+pub struct Ran {
+    pub status: u8,
+    out: [u8; ROOM],
+    written: usize,
+    err: [u8; ROOM],
+    told: usize,
+    pub reads: u64,
+    pub failed_reads: u64,
+    pub writes: u64,
+    pub failed_writes: u64,
+    pub tellings: u64,
+}
+
+impl Ran {
+    /// Whether it is this answer.
+    pub fn is(&self, status: u8, out: &[u8], err: &str) -> bool {
+        self.status == status && self.wrote(out) && self.told(err)
+    }
+
+    /// Whether this went out, and nothing more.
+    pub fn wrote(&self, text: &[u8]) -> bool {
+        self.written == text.len() && self.out.starts_with(text)
+    }
+
+    /// Whether it tells what the other does.
+    pub fn tells_as(&self, other: &Ran) -> bool {
+        self.err == other.err
+    }
+
+    /// Whether it is done, or tells a fault of its input and writes nothing.
+    pub fn is_judged(&self) -> bool {
+        match self.status {
+            0 => self.told(""),
+            2 => self.written == 0 && self.err.starts_with(b"aclck: "),
+            _ => false,
+        }
+    }
+
+    fn told(&self, line: &str) -> bool {
+        self.told == line.len() && self.err.starts_with(line.as_bytes())
+    }
+
+    /// Whether a read failed, and nothing was read after it or written.
+    pub fn is_failed_read(&self, failing: u64) -> bool {
+        self.is(4, b"", "aclck: read failed\n") && self.failed_reads == 1 && self.reads == failing
+    }
+
+    /// Whether a write failed when this had gone out, and nothing was written after it.
+    pub fn is_failed_write(&self, failing: u64, gone: &[u8]) -> bool {
+        self.is(4, gone, "aclck: write failed\n")
+            && self.failed_writes == 1
+            && self.writes == failing
+    }
+}
+
+/// Runs a command over devices of which some calls fail.
+pub fn run(alloc: Global, words: &[&str], input: &[u8], devices: Devices) -> Ran {
+    let mut out_room = [0u8; ROOM];
+    let mut err_room = [0u8; ROOM];
+    let mut source = Counted::new(Device::new(input, devices.source));
+    let mut out = Counted::new(Device::new(out_room.as_mut_slice(), devices.out));
+    let mut err = Counted::new(Device::new(err_room.as_mut_slice(), devices.err));
+    let status = command(alloc, words, &mut source, &mut out, &mut err);
+    let failed_reads = source.failures();
+    let failed_writes = out.failures();
+    let reads = source.into_inner().calls;
+    let out = out.into_inner();
+    let err = err.into_inner();
+    let (writes, written) = (out.calls, ROOM.saturating_sub(out.inner.len()));
+    let (tellings, told) = (err.calls, ROOM.saturating_sub(err.inner.len()));
+    Ran {
+        status,
+        out: out_room,
+        written,
+        err: err_room,
+        told,
+        reads,
+        failed_reads,
+        writes,
+        failed_writes,
+        tellings,
+    }
+}
+
+/// The words of a line, cut at each space, where memory is there.
+pub fn words_of<'a>(alloc: Global, line: &'a str) -> Result<Vec<&'a str>, AllocError> {
+    line.split(' ').collect::<Vec<&str>>(alloc)
+}
+
+/// Whether memory may be wanting, which is then an answer to every line.
+#[derive(Clone, Copy)]
+pub struct Memory {
+    pub alloc: Global,
+    pub is_ample: bool,
+}
+
+impl Memory {
+    pub fn ample(alloc: Global) -> Memory {
+        Memory {
+            alloc,
+            is_ample: true,
+        }
+    }
+
+    pub fn scarce(alloc: Global) -> Memory {
+        Memory {
+            alloc,
+            is_ample: false,
+        }
+    }
+
+    /// Whether a line gives this answer over the input.
+    pub fn gives(self, line: &str, input: &[u8], status: u8, out: &[u8], err: &str) -> bool {
+        match words_of(self.alloc, line) {
+            Ok(words) => self.gives_at(words.as_slice(), input, status, out, err),
+            Err(_) => !self.is_ample,
+        }
+    }
+
+    /// Whether words give this answer over the input.
+    pub fn gives_at(self, words: &[&str], input: &[u8], status: u8, out: &[u8], err: &str) -> bool {
+        let ran = run(self.alloc, words, input, FINE);
+        ran.is(status, out, err) || !self.is_ample && ran.is(4, b"", "aclck: out of memory\n")
+    }
+}

@@ -1,0 +1,12 @@
+//! Texts of POSIX ACLs that the tests of more than one command read.
+
+/// What getfacl prints of a directory (getfacl(1)), with a tab before the effective permissions.
+pub const PRINTED: &[u8] =
+    b"# file: reports\n# owner: alice\n# group: staff\nuser::rw-\nuser:bob:rwx\t#effective:r--\n\
+    group::r--\nmask::r--\nother::---\ndefault:user::rwx\ndefault:group::r-x\ndefault:other::---\n\n";
+
+/// Two groups that have what is asked for together, and not alone.
+pub const GROUPS: &[u8] = b"u::rwx,g::---,g:50:r--,g:60:-w-,m::rw-,o::---";
+
+/// A directory without a default ACL.
+pub const PLAIN: &[u8] = b"u::rwx,g::r-x,o::---";
