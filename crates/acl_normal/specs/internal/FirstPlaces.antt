@@ -170,3 +170,33 @@ pub record IsCompared (c : Compared) : Type 0 where
   pub there : AreWhoms (principals c.whole.now) (list_of c.other.now) c.other_whoms.items
   pub here_rights : AreRightsOf (list_of c.list.now) c.rights.bits
   pub there_rights : AreRightsOf (list_of c.other.now) c.rights.bits
+
+-- ---- what is asked of two lists that are compared, right by right
+
+-- each row tells of its principal
+abbrev pub AreRowsOf : Compared → ℕ → List Row → Type 0
+AreRowsOf c bit rows = AreRows (principals c.whole.now) (list_of c.list.now) (list_of c.other.now) bit rows
+
+-- the lists grant alike to each principal alone
+abbrev pub IsAlikeAlone : Compared → Type 0
+IsAlikeAlone c = (k : ℕ) → k < length (principals c.whole.now)
+    → OnAll (AlikeAlone (list_of c.list.now) (list_of c.other.now) (principals c.whole.now)) k
+
+-- the number of the first principal to whom alone they don't, or of principals
+abbrev pub IsFirstSingle : Compared → ℕ → Type 0
+IsFirstSingle c least =
+    IsLeast (OnAll (AlikeAlone (list_of c.list.now) (list_of c.other.now) (principals c.whole.now)))
+    (length (principals c.whole.now)) least
+
+-- of the first that is one of a pair to whom they don't
+abbrev pub IsFirstMember : Compared → ℕ → Type 0
+IsFirstMember c least =
+    IsLeast (OnAll (AlikeWithAll (list_of c.list.now) (list_of c.other.now) (principals c.whole.now)))
+    (length (principals c.whole.now)) least
+
+-- behind one principal, of the first with whom it is such a pair, or of those behind it
+abbrev pub IsFirstPartner : Compared → ℕ → ℕ → Type 0
+IsFirstPartner c at least =
+    IsLeast (OnAll (AlikeWith (list_of c.list.now) (list_of c.other.now)
+    (slice_index_or (principals c.whole.now) at everyone) (drop (at + 1) (principals c.whole.now))))
+    (length (drop (at + 1) (principals c.whole.now))) least

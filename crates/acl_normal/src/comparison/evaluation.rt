@@ -41,8 +41,10 @@ pub(crate) fn granted(list: &[AceRef<'_>], set: SmallSet<'_>) -> Mask
 
 /// The rights on which the lists differ there.
 pub(crate) fn differing(list: &[AceRef<'_>], other: &[AceRef<'_>], set: SmallSet<'_>) -> Mask
-    ensures rights { AreDiffering (list_of list.now) (list_of other.now) (set_of set.entry) result.bits }
-    ensures none { result.bits ≡ 0 ↔ GrantAlikeTo (list_of list.now) (list_of other.now) (set_of set.entry) }
+    ensures rights { AreDiffering (list_of list.now) (list_of other.now)
+        (set_of set.entry) result.bits }
+    ensures none { result.bits ≡ 0
+        ↔ GrantAlikeTo (list_of list.now) (list_of other.now) (set_of set.entry) }
 {
     let here = granted(list, set);
     let there = granted(other, set);
@@ -51,8 +53,10 @@ pub(crate) fn differing(list: &[AceRef<'_>], other: &[AceRef<'_>], set: SmallSet
 
 /// Whether the lists grant alike there.
 pub(crate) fn grant_alike(list: &[AceRef<'_>], other: &[AceRef<'_>], set: SmallSet<'_>) -> bool
-    ensures alike { OnTrue result (GrantAlikeTo (list_of list.now) (list_of other.now) (set_of set.entry)) }
-    ensures differ { OnFalse result (GrantAlikeTo (list_of list.now) (list_of other.now) (set_of set.entry) → ⊥) }
+    ensures alike { OnTrue result
+        (GrantAlikeTo (list_of list.now) (list_of other.now) (set_of set.entry)) }
+    ensures differ { OnFalse result
+        (GrantAlikeTo (list_of list.now) (list_of other.now) (set_of set.entry) → ⊥) }
 {
     differing(list, other, set).bits() == 0
 }

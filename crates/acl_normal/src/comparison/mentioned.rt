@@ -14,7 +14,8 @@ use std::alloc::{AllocError, Global};
 
 // Adds the principal of an ACE that takes part, unless that is everyone.
 fn mention_one<'a>(names: &mut Vec<Principal<'a>>, item: &AceRef<'a>) -> Result<(), AllocError>
-    ensures { OnOk result (AreMentioned (principals names.old.items) (ace item.now ∷ []) (principals names.new.items)) }
+    ensures { OnOk result (AreMentioned (principals names.old.items)
+        (ace item.now ∷ []) (principals names.new.items)) }
 {
     let p = item.principal();
     if !item.flags.is_inherit_only() && !is_same(p, Principal::Everyone) {
@@ -25,7 +26,8 @@ fn mention_one<'a>(names: &mut Vec<Principal<'a>>, item: &AceRef<'a>) -> Result<
 
 // Adds the principals that a list mentions, each as often as the list does.
 fn mention<'a>(names: &mut Vec<Principal<'a>>, list: &[AceRef<'a>]) -> Result<(), AllocError>
-    ensures { OnOk result (AreMentioned (principals names.old.items) (list_of list.now) (principals names.new.items)) }
+    ensures { OnOk result (AreMentioned (principals names.old.items)
+        (list_of list.now) (principals names.new.items)) }
 {
     for item in list {
         mention_one(names, item)?;
@@ -36,7 +38,8 @@ fn mention<'a>(names: &mut Vec<Principal<'a>>, list: &[AceRef<'a>]) -> Result<()
 // Puts principals in order, each once.
 fn put_in_order(names: &mut Vec<Principal<'_>>) -> Result<(), AllocError>
     ensures rising { OnOk result (IsRising (principals names.new.items)) }
-    ensures same { OnOk result (AreMentioned (principals names.old.items) [] (principals names.new.items)) }
+    ensures same { OnOk result (AreMentioned (principals names.old.items)
+        [] (principals names.new.items)) }
 {
     names.sort()?;
     names.dedup();
@@ -49,7 +52,8 @@ pub(crate) fn mentioned<'a>(
     list: &[AceRef<'a>],
     other: &[AceRef<'a>],
 ) -> Result<Vec<Principal<'a>>, AllocError>
-    ensures { IfOk result (λ v. principals v.items ≡ in_order (list_of list.now) (list_of other.now)) }
+    ensures { IfOk result (λ v. principals v.items
+        ≡ in_order (list_of list.now) (list_of other.now)) }
 {
     let mut names = Vec::new(alloc);
     mention(&mut names, list)?;

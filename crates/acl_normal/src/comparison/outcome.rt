@@ -29,8 +29,8 @@ fn difference_at(
 ) -> Result<Difference, AllocError>
     requires { GrantAlikeTo (list_of list.now) (list_of other.now) (set_of set) → ⊥ }
     ensures situation { IfOk result (λ d. situation_of d ≡ small_situation n (set_of set.entry)) }
-    ensures bit { IfOk result (λ d. IsLowestDifference (list_of list.now) (list_of other.now) (set_of set.entry)
-        d.bit.bits d.first_grants) }
+    ensures bit { IfOk result (λ d. IsLowestDifference (list_of list.now) (list_of other.now)
+        (set_of set.entry) d.bit.bits d.first_grants) }
 {
     let bit = lowest(differing(list, other, set));
     Ok(Difference {
@@ -53,13 +53,14 @@ pub(crate) fn answer(
 ) -> Result<Option<Difference>, AllocError>
     requires names { HasNames (list_of list.now) × HasNames (list_of other.now) }
     requires whole { principals whole.now ≡ mentioned (list_of list.now) (list_of other.now) }
-    requires found { Finds (list_of list.now) (list_of other.now) (small_sets (principals whole.now))
-        (set_or_none found) }
-    ensures same { IfOk result (λ r. IsNone r ↔ SameGrants all_rights (list_of list.now) (list_of other.now)) }
-    ensures first { IfOk result (λ r. IfSome r (λ d. IsFirstDifference (list_of list.now) (list_of other.now)
-        (situation_of d) d.bit.bits d.first_grants)) }
-    ensures requester { IfOk result (λ r. IfSome r (λ d. TellsApart (list_of list.now) (list_of other.now)
-        (situation_of d) d.bit.bits d.first_grants)) }
+    requires found { Finds (list_of list.now) (list_of other.now)
+        (small_sets (principals whole.now)) (set_or_none found) }
+    ensures same { IfOk result (λ r. IsNone r
+        ↔ SameGrants all_rights (list_of list.now) (list_of other.now)) }
+    ensures first { IfOk result (λ r. IfSome r (λ d. IsFirstDifference
+        (list_of list.now) (list_of other.now) (situation_of d) d.bit.bits d.first_grants)) }
+    ensures requester { IfOk result (λ r. IfSome r (λ d. TellsApart
+        (list_of list.now) (list_of other.now) (situation_of d) d.bit.bits d.first_grants)) }
 {
     match found {
         None => Ok(None),

@@ -4,7 +4,7 @@ ghost use Rattle.acl_perm.specs.Bits.{has_bit};
 ghost use Rattle.acl_perm.specs.Principal.{everyone, principal};
 ghost use Rattle.acl_nfs4.specs.Ace.{ace};
 ghost use Rattle.acl_eval.specs.Grant.{is_allow};
-ghost use Rattle.acl_normal.specs.internal.FirstPlaces.{AreFirstFrom, AreRows, AreWhoms, IsCompared, IsWhom, IsWithin, is_user as is_user_name, no_ace, put, stops, stops_at};
+ghost use Rattle.acl_normal.specs.internal.FirstPlaces.{AreFirstFrom, AreRowsOf, AreWhoms, IsCompared, IsWhom, IsWithin, is_user as is_user_name, no_ace, put, stops, stops_at};
 ghost use Rattle.acl_normal.specs.SmallSituations.{is_among};
 ghost use Rattle.acl_normal.specs.internal.Passes.{list_of};
 ghost use Rattle.acl_normal.specs.internal.SetSearch.{IsRising, principals};
@@ -142,7 +142,8 @@ fn place_of_everyone(list: &[AceRef<'_>], whoms: &[Whom], bit: u32) -> usize
     requires length { length whoms.now ≡ length list.now }
     ensures within { result ≤ length list.now }
     ensures before { (k : ℕ) → k < result → stops_at (list_of list.now) whoms.now bit k ≡ false }
-    ensures at { result < length list.now → stops_at (list_of list.now) whoms.now bit result ≡ true }
+    ensures at { result < length list.now
+        → stops_at (list_of list.now) whoms.now bit result ≡ true }
 {
     for i in 0..list.len() {
         if is_end(&list[i], whoms[i], bit) {
@@ -199,7 +200,8 @@ fn firsts(
 ) -> Result<Vec<First>, AllocError>
     requires bit { bit < 32 }
     requires whoms { AreWhoms (principals whole.now) (list_of list.now) whoms.now }
-    ensures { IfOk result (λ v. AreFirstFrom (principals whole.now) (list_of list.now) bit 0 v.items) }
+    ensures { IfOk result (λ v. AreFirstFrom (principals whole.now)
+        (list_of list.now) bit 0 v.items) }
 {
     let end = place_of_everyone(list, whoms, bit);
     let allows = allows_at(list, end);
@@ -227,8 +229,7 @@ impl Compared<'_> {
     pub(crate) fn rows(&self, alloc: Global, bit: u32) -> Result<Vec<Row>, AllocError>
         requires bit { bit < 32 }
         requires whoms { IsCompared self.now }
-        ensures { IfOk result (λ v. AreRows (principals self.now.whole.now) (list_of self.now.list.now)
-            (list_of self.now.other.now) bit v.items) }
+        ensures { IfOk result (λ v. AreRowsOf self.now bit v.items) }
     {
         let whole = self.whole;
         let here = firsts(alloc, whole, self.list, &self.list_whoms, bit)?;

@@ -1,7 +1,6 @@
 //! The search for the first small set at which two lists grant otherwise, without going over all pairs.
-ghost use Rattle.std.specs.Prelude.{◌≡◌, ◌+◌, ◌<◌, ℕ, IfOk, drop, length, slice_index_or};
-ghost use Rattle.acl_perm.specs.Principal.{everyone};
-ghost use Rattle.acl_normal.specs.internal.FirstPlaces.{AlikeAlone, AlikeWith, AlikeWithAll, IsCompared, IsLeast, OnAll};
+ghost use Rattle.std.specs.Prelude.{◌<◌, IfOk, length};
+ghost use Rattle.acl_normal.specs.internal.FirstPlaces.{IsAlikeAlone, IsCompared, IsFirstMember, IsFirstPartner, IsFirstSingle};
 ghost use Rattle.acl_normal.specs.SmallSets.{small_sets};
 ghost use Rattle.acl_normal.specs.internal.CodeSets.{set_or_none};
 ghost use Rattle.acl_normal.specs.internal.Passes.{list_of};
@@ -19,8 +18,7 @@ impl Compared<'_> {
     // The first principal at which alone the lists differ, or the number of principals.
     fn least_single(&self, alloc: Global) -> Result<usize, AllocError>
         requires { IsCompared self.now }
-        ensures { IfOk result (λ v. IsLeast (OnAll (AlikeAlone (list_of self.now.list.now) (list_of self.now.other.now)
-            (principals self.now.whole.now))) (length (principals self.now.whole.now)) v) }
+        ensures { IfOk result (λ v. IsFirstSingle self.now v) }
     {
         let mut least = self.whole.len();
         for bit in 0..21u32 {
@@ -35,10 +33,8 @@ impl Compared<'_> {
     // The first principal that is one of a pair at which the lists differ, or the number of principals.
     fn least_member(&self, alloc: Global) -> Result<usize, AllocError>
         requires compared { IsCompared self.now }
-        requires alone { (k : ℕ) → k < length (principals self.now.whole.now) → OnAll (AlikeAlone
-            (list_of self.now.list.now) (list_of self.now.other.now) (principals self.now.whole.now)) k }
-        ensures { IfOk result (λ v. IsLeast (OnAll (AlikeWithAll (list_of self.now.list.now) (list_of self.now.other.now)
-            (principals self.now.whole.now))) (length (principals self.now.whole.now)) v) }
+        requires alone { IsAlikeAlone self.now }
+        ensures { IfOk result (λ v. IsFirstMember self.now v) }
     {
         let size = self.list.len().max(self.other.len());
         let mut least = self.whole.len();
@@ -55,11 +51,8 @@ impl Compared<'_> {
     fn least_partner(&self, alloc: Global, at: usize) -> Result<usize, AllocError>
         requires at { at < length self.now.whole.now }
         requires compared { IsCompared self.now }
-        requires alone { (k : ℕ) → k < length (principals self.now.whole.now) → OnAll (AlikeAlone
-            (list_of self.now.list.now) (list_of self.now.other.now) (principals self.now.whole.now)) k }
-        ensures { IfOk result (λ v. IsLeast (OnAll (AlikeWith (list_of self.now.list.now) (list_of self.now.other.now)
-            (slice_index_or (principals self.now.whole.now) at everyone) (drop (at + 1) (principals self.now.whole.now))))
-            (length (drop (at + 1) (principals self.now.whole.now))) v) }
+        requires alone { IsAlikeAlone self.now }
+        ensures { IfOk result (λ v. IsFirstPartner self.now at v) }
     {
         let mut least = self.whole.len() - at - 1;
         for bit in 0..21u32 {

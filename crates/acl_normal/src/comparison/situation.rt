@@ -86,7 +86,8 @@ pub(crate) fn groups_in(
     set: SmallSet<'_>,
     n: usize,
 ) -> Result<Vec<Vec<u8>>, AllocError>
-    ensures { IfOk result (λ v. map (λ g. g.items) v.items ≡ (small_situation n (set_of set.entry)).groups) }
+    ensures { IfOk result (λ v. map (λ g. g.items) v.items
+        ≡ (small_situation n (set_of set.entry)).groups) }
 {
     let mut groups = groups_of(alloc, set)?;
     if set.has(Principal::Group) && groups.is_empty() {
