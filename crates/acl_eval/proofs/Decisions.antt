@@ -23,7 +23,8 @@ place_from i test [] = refl
 place_from i test (a ∷ list) = by (place_from (i + 1) test list) (test a) refl
   where
     by : option_map (λ (d : Decision). d.place) (decision_from (i + 1) test list) ≡ position_from test (i + 1) list
-        → (t : Bool) → test a ≡ t → option_map (λ (d : Decision). d.place) (decision_from i test (a ∷ list)) ≡ position_from test i (a ∷ list)
+        → (t : Bool) → test a ≡ t
+        → option_map (λ (d : Decision). d.place) (decision_from i test (a ∷ list)) ≡ position_from test i (a ∷ list)
     by rest true e = rw e refl
     by rest false e = rw e rest
 

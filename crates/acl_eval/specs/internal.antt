@@ -1,3 +1,3 @@
--- words of the code and its proofs, which no public clause cites
+-- The code's words (this library's own): no clause of a public call cites them.
 -- going over a list for the ACE that decides
 pub mod DecidingBody

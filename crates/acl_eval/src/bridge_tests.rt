@@ -1,3 +1,4 @@
+//! Bridged lists, row by row, and how many entries a list takes.
 use super::*;
 use acl_nfs4::{AceRef, Acl};
 use acl_perm::{Flags, Kind, Mask, Perm};

@@ -1,3 +1,4 @@
+//! What a new file or directory inherits, row by row and over all flags.
 use super::*;
 use acl_nfs4::{AceRef, Acl, AclView, Flags, Kind, PushFault};
 use acl_perm::Mask;

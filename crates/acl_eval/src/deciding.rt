@@ -19,8 +19,8 @@ pub struct Decision {
 }
 
 /// The ACE that decides the right for the requester of the object: the first of those without INHERIT_ONLY that has it
-/// and speaks of the requester; none where no ACE does, which denies the right. It goes over the list once, ends at that
-/// ACE, and takes no memory.
+/// and speaks of the requester; none where no ACE does, which denies the right. It goes over the list once, ends at
+/// that ACE, and takes no memory.
 #[tactic(auto, using(crate::proofs::Decisions::decisions))]
 pub fn deciding_ace(
     aces: Aces<'_>,

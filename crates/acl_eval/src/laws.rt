@@ -57,8 +57,10 @@ pub fn allows_decide_what_is_granted()
 /// The flags of an ACE in a new file: none of inheritance, where the ACE has FILE_INHERIT, and else the ACE is absent.
 #[tactic(auto, using(crate::proofs::Children::table))]
 pub fn files_inherit()
-    ensures inherited { (flags : ℕ) → has_bit flags file_inherit ≡ true → child_flags File flags ≡ Some (ends flags) }
-    ensures absent { (flags : ℕ) → (child_flags File flags ≡ None) ↔ (has_bit flags file_inherit ≡ false) }
+    ensures inherited { (flags : ℕ) → has_bit flags file_inherit ≡ true
+        → child_flags File flags ≡ Some (ends flags) }
+    ensures absent { (flags : ℕ)
+        → (child_flags File flags ≡ None) ↔ (has_bit flags file_inherit ≡ false) }
 {}
 
 /// The flags of an ACE in a new directory, by whether it has NO_PROPAGATE_INHERIT, DIRECTORY_INHERIT and FILE_INHERIT.
@@ -93,7 +95,8 @@ pub fn names_have_no_mode()
 
 /// The child of an accepted list is accepted, under each profile with INHERIT_ONLY.
 pub fn children_are_accepted()
-    ensures { (p : Profile) (kind : ChildKind) (list : List Ace) → IsTrue (has_bit p.flags inherit_only)
+    ensures { (p : Profile) (kind : ChildKind) (list : List Ace)
+        → IsTrue (has_bit p.flags inherit_only)
         → IsAccepted p list → IsAccepted p (children kind list) }
 {}
 

@@ -37,7 +37,8 @@ fn last_byte(name: &[u8]) -> u8
 
 impl<'a> Standing<'a> {
     pub(crate) fn new(object: Object<'a>, requester: Requester<'a>) -> Self
-        ensures { situation result.object result.requester ≡ situation object.entry requester.entry }
+        ensures { situation result.object result.requester
+            ≡ situation object.entry requester.entry }
     {
         Standing {
             object,
@@ -62,7 +63,8 @@ impl<'a> Standing<'a> {
     }
 
     fn is_match(&self, whom: Principal<'_>) -> bool
-        ensures { result ≡ matches (situation self.now.object self.now.requester) (principal whom.entry) }
+        ensures { result
+            ≡ matches (situation self.now.object self.now.requester) (principal whom.entry) }
     {
         match whom {
             Principal::Owner => self.is_owner,

@@ -19,7 +19,7 @@ use std::alloc::{AllocError, Global};
 
 /// An ACE of the normal form: its type, its who, whether that is the name of a group, and the place in the given list,
 /// from 0, of the first ACE without INHERIT_ONLY that has the right and names the same.
-#[derive(Drop)]
+#[derive(Debug, Drop)]
 pub struct Row {
     /// Whether it denies or allows.
     pub kind: Kind,

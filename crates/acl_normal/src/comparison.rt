@@ -24,7 +24,7 @@ use std::alloc::{AllocError, Global};
 
 /// A requester and an object whom two lists answer otherwise: the names, the groups in order of bytes, and the lowest
 /// right that one of the lists grants and the other denies.
-#[derive(Drop)]
+#[derive(Debug, Drop)]
 pub struct Difference {
     /// The object's owner.
     pub owner: Vec<u8>,

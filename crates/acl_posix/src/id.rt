@@ -6,7 +6,7 @@ ghost use Rattle.acl_posix.specs.Id.{IsId};
 pub(crate) const GREATEST: u32 = u32::MAX - 1;
 
 /// The id of a user or a group, from 0 to 4294967294: the qualifier of a USER or GROUP entry (acl(5), "ACL ENTRIES").
-#[derive(Clone, Copy, Debug, PartialEq, Eq)]
+#[derive(Clone, Copy, Debug, PartialEq, Eq, PartialOrd, Ord, Hash)]
 pub struct Id {
     /// Its number.
     pub value: u32,

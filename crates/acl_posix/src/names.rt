@@ -46,7 +46,7 @@ impl<T: Drop> From<AllocFailed<T>> for NameFault {
 }
 
 /// The names of users and of groups with their ids, by which a text may call them. Clauses see it as two finite maps.
-#[derive(Drop)]
+#[derive(Debug, Drop)]
 pub struct Names {
     alloc: Global,
     users: BTreeMap<Vec<u8>, Id>,

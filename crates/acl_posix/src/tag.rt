@@ -12,7 +12,7 @@ use std::cmp::Ordering;
 
 /// Whom an entry speaks of: a tag type, and the qualifier of a user or a group. Tags are in canonical order: USER_OBJ,
 /// USER by id, GROUP_OBJ, GROUP by id, MASK, OTHER (POSIX.1e draft 17, section 23.1.2).
-#[derive(Clone, Copy, Debug, PartialEq, Eq)]
+#[derive(Clone, Copy, Debug, PartialEq, Eq, Hash)]
 pub enum Tag {
     /// The owner of the file.
     UserObj,

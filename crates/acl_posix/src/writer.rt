@@ -181,7 +181,7 @@ impl PosixAcl {
             fault.written < length (canonical_text self.now None)) }
         ensures failed { OnErr result (S.failure_count sink.new ≡ one_more (S.failure_count sink.old)) }
     {
-        self.write(sink, Form::Canonical)
+        PosixAcl::write(self, sink, Form::Canonical)
     }
 
     /// Writes the canonical text with a comment behind each entry that the mask cuts: its effective permissions. The
@@ -196,7 +196,7 @@ impl PosixAcl {
             fault.written < length (shown_text self.now None)) }
         ensures failed { OnErr result (S.failure_count sink.new ≡ one_more (S.failure_count sink.old)) }
     {
-        self.write(sink, Form::Shown)
+        PosixAcl::write(self, sink, Form::Shown)
     }
 
     /// Writes the short text: the entries in canonical order with commas between them, and no line feed. The first put
@@ -211,6 +211,6 @@ impl PosixAcl {
             fault.written < length (short_text self.now None)) }
         ensures failed { OnErr result (S.failure_count sink.new ≡ one_more (S.failure_count sink.old)) }
     {
-        self.write(sink, Form::Short)
+        PosixAcl::write(self, sink, Form::Short)
     }
 }

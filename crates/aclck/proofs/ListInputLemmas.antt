@@ -428,7 +428,8 @@ regroup a b c d = simp append_assoc
 
 -- a beginning that is refused, or all of an input that is cut short
 pub still_has : (p : Profile) (given left : List ℕ) (f : Fault) (end : ℕ)
-    (h : IsFirstFault p given f.offset end f.reason) → Breaks p h.stage h.rest h.more f.reason → (f.reason ≡ Truncated → left ≡ [])
+    (h : IsFirstFault p given f.offset end f.reason) → Breaks p h.stage h.rest h.more f.reason
+    → (f.reason ≡ Truncated → left ≡ [])
     → IsFault p (given ++ left) f.offset f.reason
 still_has p given left f end h (inl b) all =
     subst (λ (x : List ℕ). IsFault p x f.offset f.reason)

@@ -161,7 +161,8 @@ pub(crate) fn first_inverting(
     requires places { AllByRecursion (HasPlaces size) rows.now }
     requires size { size < 2 ^ 63 }
     ensures within { IfOk result (λ v. v ≤ limit) }
-    ensures before { IfOk result (λ v. (k : ℕ) → k < v → inverts_any (slice_index_or rows.now k no_row) rows.now ≡ false) }
+    ensures before { IfOk result (λ v. (k : ℕ) → k < v
+        → inverts_any (slice_index_or rows.now k no_row) rows.now ≡ false) }
     ensures at { IfOk result (λ v. v < limit → inverts_any (slice_index_or rows.now v no_row) rows.now ≡ true) }
 {
     let allowed_users = first_of(alloc, rows, size, limit, true, true)?;

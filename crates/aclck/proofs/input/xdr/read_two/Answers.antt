@@ -79,7 +79,8 @@ pub returns-in-Err-clause-not_read : goal.returns-in-Err-clause-not_read
 returns-in-Err-clause-not_read g c =
     let v = rw c.new-pulled.ensures at c.in_ok-first.ensures.value in
     rw (c.from.ensures, c.behind.ensures)
-    (second_not_read (profile_of c.args.profile) _ v.text _ v.given _ _ _ _ c.in-Err.fault v.spelled v.parts v.taken v.is_len c.in-Err.ensures.none)
+    (second_not_read (profile_of c.args.profile) _ v.text _ v.given _ _ _ _ c.in-Err.fault v.spelled v.parts v.taken
+    v.is_len c.in-Err.ensures.none)
 
 pub returns-in-Err-clause-bound : goal.returns-in-Err-clause-bound
 returns-in-Err-clause-bound g c =
@@ -91,4 +92,5 @@ pub returns-in-Err-clause-stopped : goal.returns-in-Err-clause-stopped
 returns-in-Err-clause-stopped g c =
     let v = rw c.new-pulled.ensures at c.in_ok-first.ensures.value in
     rw (c.from.ensures, c.behind.ensures)
-    (second_open (profile_of c.args.profile) _ v.text _ v.given _ _ _ c.in_ok-first.first.len c.in-Err.fault v.spelled v.parts v.taken c.in-Err.ensures.none)
+    (second_open (profile_of c.args.profile) _ v.text _ v.given _ _ _ c.in_ok-first.first.len c.in-Err.fault v.spelled
+    v.parts v.taken c.in-Err.ensures.none)

@@ -16,7 +16,7 @@ returns g c =
         means = (
           refl,
           written_form c.args.profile (omega arith) c.in_ok-list.list c.in_ok-form.form found.input found.holds
-              c.in_ok-form.ensures,
+              c.in_ok-form.ensures.form,
         );
         written = c.in_ok-encode.ensures.ok;
       };
@@ -42,7 +42,7 @@ returns-in_err-encode g c =
         means = (
           refl,
           written_form c.args.profile (omega arith) c.in_ok-list.list c.in_ok-form.form found.input found.holds
-              c.in_ok-form.ensures,
+              c.in_ok-form.ensures.form,
         );
         short = c.in_err-encode.ensures.short;
         written = c.in_err-encode.ensures.err;
