@@ -33,10 +33,10 @@ quick:
 test:
 	.ci/run
 
-# The time and memory of a check, over lists that the script makes. It wants python3 and cc, and counts instructions
-# where valgrind is there.
+# Time, memory and instructions of the commands, over inputs that the script makes. It wants python3 and cc, and counts
+# instructions where valgrind is there.
 bench:
-	bench/run
+	bench/commands
 
 # Puts the program that `run` or `test` left, its manual and its completion for bash in place.
 install: crates/aclck/out/aclck
