@@ -1,5 +1,6 @@
 -- What a clause sees of a `Fused` (this library's own).
-use Rattle.std.specs.Prelude.{ℕ}
+use Rattle.std.specs.Prelude.{◌≡◌, ◌-◌, ◌≤◌, ℕ, List, Option, Result, IfOk, IsErr}
+use Rattle.acl_perm.specs.Devices.{fused_remaining}
 use Rattle.acl_perm.specs.declared.fused.Fused.{Fused}
 
 -- the reader or writer
@@ -13,3 +14,18 @@ fused_calls f = f.calls
 -- how many bytes a call passes at most
 abbrev pub fused_step : {T : Type 0} → Fused T → ℕ
 fused_step f = f.step
+
+-- what is left of the reader, of which these bytes are left
+abbrev pub left_through : {T : Type 0} → (T → Option (List ℕ)) → Fused T → Option (List ℕ)
+left_through left f = fused_remaining (fused_step f) (left (fused_inner f))
+
+-- what a call of a device does to it, as it was and as it is after it
+pub record TakesCall {T E : Type 0} (device device_after : Fused T) (r : Result ℕ E) : Type 0 where
+  -- where no call is left it fails, and changes nothing
+  pub spent : fused_calls device ≡ 0 → IsErr r × (device_after ≡ device)
+  -- the call is counted
+  pub counted : fused_calls device_after ≡ fused_calls device - 1
+  -- it passes at most a step's bytes
+  pub short : IfOk r (λ n. n ≤ fused_step device)
+  -- which stays as it was
+  pub step : fused_step device_after ≡ fused_step device

@@ -1,7 +1,23 @@
--- A text that goes out in several pieces: this library's own.
-use Rattle.std.specs.Prelude.{◌≡◌, ◌+◌, ◌-◌, ◌<◌, ◌≤◌, ℕ, List, length, take, Option, Result, Ok, Err}
+-- A text that goes out whole, or in several pieces: this library's own.
+use Rattle.std.specs.Prelude.{◌≡◌, ◌+◌, ◌-◌, ◌<◌, ◌≤◌, ℕ, List, length, take, Option, Result, Ok, Err, OnOk, OnErr, IfErr}
 use Rattle.std.specs.Io.KnownBytes.{Appends}
+use Rattle.acl_perm.specs.Devices.{one_more}
 use Rattle.acl_perm.specs.declared.whole.WriteFault.{WriteFault}
+
+-- a call that writes a text to a sink, as it was and as it is after it: by the bytes that it holds, and by how many puts
+-- failed
+pub record Writes {K : Type 0} (holds : K → Option (List ℕ)) (failures : K → ℕ) (sink sink_after : K)
+    (text : List ℕ) (r : Result (Unit {0}) WriteFault) : Type 0 where
+  -- all of the text went out
+  pub ok : OnOk r (Appends (holds sink) (holds sink_after) text)
+  -- no put failed
+  pub none_failed : OnOk r (failures sink_after ≡ failures sink)
+  -- a beginning of the text went out, and its length is told
+  pub err : IfErr r (λ fault. Appends (holds sink) (holds sink_after) (take fault.written text))
+  -- that was not all of it
+  pub short : IfErr r (λ fault. fault.written < length text)
+  -- one put failed
+  pub failed : OnErr r (failures sink_after ≡ one_more (failures sink))
 
 -- the answer of a call that writes a part of a text, of which `done` bytes are out before: how many are out after it,
 -- or a fault with the number of the bytes that went out

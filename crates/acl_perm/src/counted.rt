@@ -42,7 +42,8 @@ impl<T> Counted<T> {
     // A call failed or not.
     fn count(&mut self, has_failed: bool)
         ensures inner { counted_inner self.new ≡ counted_inner self.old }
-        ensures failures { counted_failures self.new ≡ failures_after (counted_failures self.old) has_failed }
+        ensures failures { counted_failures self.new
+            ≡ failures_after (counted_failures self.old) has_failed }
     {
         if has_failed {
             self.failures = self.failures.saturating_add(1);

@@ -1,5 +1,5 @@
 //! A device for tests, which fails after some calls.
-ghost use Rattle.std.specs.Prelude.{◌≡◌, ◌-◌, ◌≤◌, ℕ, IfOk, IsErr};
+ghost use Rattle.std.specs.Prelude.{◌≡◌};
 ghost use Rattle.std.specs.Io.{ReadsAtMost, WritesAtMost};
 ghost use Rattle.std.specs.Io.KnownBytes.{Keeps, ReadConsumes, WriteAppends};
 ghost use Rattle.acl_perm.specs.Devices.{GivesOn, fused_remaining};
@@ -42,20 +42,17 @@ impl<T> Fused<T> {
 }
 
 impl<R: Read> Read for Fused<R> {
-    ghost use Rattle.acl_perm.specs.Fused.{fused_calls, fused_inner, fused_step};
+    ghost use Rattle.acl_perm.specs.Fused.{fused_inner, left_through, TakesCall};
 
     ghost remaining = { λ f. fused_remaining f.step (R.remaining f.inner) };
 
     fn read(&mut self, buf: &mut [u8]) -> io::Result<usize>
         ensures bound { ReadsAtMost result buf.new }
-        ensures bytes { ReadConsumes (fused_remaining (fused_step self.old) (R.remaining (fused_inner self.old)))
-            (fused_remaining (fused_step self.new) (R.remaining (fused_inner self.new))) result buf.new }
-        ensures passed { GivesOn (R.remaining (fused_inner self.old)) (R.remaining (fused_inner self.new))
-            result buf.new }
-        ensures spent { fused_calls self.old ≡ 0 → IsErr result × (self.new ≡ self.old) }
-        ensures counted { fused_calls self.new ≡ fused_calls self.old - 1 }
-        ensures short { IfOk result (λ n. n ≤ fused_step self.old) }
-        ensures step { fused_step self.new ≡ fused_step self.old }
+        ensures bytes { ReadConsumes (left_through R.remaining self.old)
+            (left_through R.remaining self.new) result buf.new }
+        ensures passed { GivesOn (R.remaining (fused_inner self.old))
+            (R.remaining (fused_inner self.new)) result buf.new }
+        ensures call { TakesCall self.old self.new result }
     {
         if self.calls == 0 {
             return Err(io::Error::other("the device is spent"));
@@ -67,7 +64,7 @@ impl<R: Read> Read for Fused<R> {
 }
 
 impl<W: Write> Write for Fused<W> {
-    ghost use Rattle.acl_perm.specs.Fused.{fused_calls, fused_inner, fused_step};
+    ghost use Rattle.acl_perm.specs.Fused.{fused_calls, fused_inner, fused_step, TakesCall};
 
     ghost contents = { λ f. W.contents f.inner };
 
@@ -75,10 +72,7 @@ impl<W: Write> Write for Fused<W> {
         ensures bound { WritesAtMost result bytes.now }
         ensures bytes { WriteAppends (W.contents (fused_inner self.old))
             (W.contents (fused_inner self.new)) result bytes.now }
-        ensures spent { fused_calls self.old ≡ 0 → IsErr result × (self.new ≡ self.old) }
-        ensures counted { fused_calls self.new ≡ fused_calls self.old - 1 }
-        ensures short { IfOk result (λ n. n ≤ fused_step self.old) }
-        ensures step { fused_step self.new ≡ fused_step self.old }
+        ensures call { TakesCall self.old self.new result }
     {
         if self.calls == 0 {
             return Err(io::Error::other("the device is spent"));
@@ -89,7 +83,8 @@ impl<W: Write> Write for Fused<W> {
     }
 
     fn flush(&mut self) -> io::Result<()>
-        ensures bytes { Keeps (W.contents (fused_inner self.old)) (W.contents (fused_inner self.new)) }
+        ensures bytes { Keeps (W.contents (fused_inner self.old))
+            (W.contents (fused_inner self.new)) }
         ensures calls { fused_calls self.new ≡ fused_calls self.old }
         ensures step { fused_step self.new ≡ fused_step self.old }
     {

@@ -77,7 +77,8 @@ impl<'a> PartialEq for Principal<'a> {
 
     #[tactic(auto, using(crate::proofs::Orders::principal_tied, crate::proofs::Orders::principals_same))]
     fn eq(&self, other: &Principal<'a>) -> bool
-        ensures value { result ≡ eq_by_cmp principal_cmp (principal self.now) (principal other.now) }
+        ensures value { result
+            ≡ eq_by_cmp principal_cmp (principal self.now) (principal other.now) }
         ensures exact { IsTrue result ↔ (principal self.now ≡ principal other.now) }
     {
         self.rank() == other.rank() && self.name() == other.name()

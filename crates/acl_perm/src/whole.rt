@@ -2,6 +2,7 @@
 ghost use Rattle.std.specs.Prelude.{◌≡◌, ◌<◌, ◌≤◌, IfErr, IfNone, IfOk, IfSome, OnErr, OnOk, OnSome, length, take};
 ghost use Rattle.std.specs.Io.KnownBytes.{Appends, IsAtEnd, Keeps};
 ghost use Rattle.acl_perm.specs.Devices.{one_more};
+ghost use Rattle.acl_perm.specs.Pieces.{Writes};
 
 use crate::devices::{Sink, Source};
 use std::alloc::Global;
@@ -25,14 +26,7 @@ pub enum ReadFault {
 
 /// Writes all of `bytes`. The first put that fails, or takes no byte, ends it; nothing is tried again.
 pub fn put_all<S: Sink>(sink: &mut S, bytes: &[u8]) -> Result<(), WriteFault>
-    ensures ok { OnOk result (Appends (S.contents sink.old) (S.contents sink.new) bytes.now) }
-    ensures none_failed { OnOk result (S.failure_count sink.new ≡ S.failure_count sink.old) }
-
-    ensures err { IfErr result (λ fault. Appends (S.contents sink.old) (S.contents sink.new)
-        (take fault.written bytes.now)) }
-    ensures short { IfErr result (λ fault. fault.written < length bytes.now) }
-    ensures failed { OnErr result
-        (S.failure_count sink.new ≡ one_more (S.failure_count sink.old)) }
+    ensures { Writes S.contents S.failure_count sink.old sink.new bytes.now result }
 {
     let mut written = 0usize;
     while written < bytes.len() {
@@ -73,7 +67,8 @@ const PIECE: usize = 16384;
 /// Reads to the end. The first pull that fails ends it; nothing is tried again. Over a source that never ends it
 /// answers `Memory` when what was read can't grow.
 pub fn read_all<S: Source>(alloc: Global, source: &mut S) -> Result<Vec<u8>, ReadFault>
-    ensures ok { IfOk result (λ bytes. IfSome (S.remaining source.old) (λ input. bytes.items ≡ input)) }
+    ensures ok { IfOk result (λ bytes.
+        IfSome (S.remaining source.old) (λ input. bytes.items ≡ input)) }
     ensures end { OnOk result (IsAtEnd (S.remaining source.new)) }
     ensures none_failed { OnOk result (S.failure_count source.new ≡ S.failure_count source.old) }
 

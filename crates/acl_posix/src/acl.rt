@@ -53,10 +53,13 @@ impl PosixAcl {
         ensures valid { OnOk result (IsValidList (pairs entries.items)) }
         ensures entries { IfOk result (λ acl. acl ≡ as_set (pairs entries.items)) }
         ensures fault { IfErr result (IsFaultOf (pairs entries.items)) }
-        ensures accepts { IsValidList (pairs entries.items) → IfErr result (λ fault. fault ≡ Memory) }
-        ensures refused { (fault : Fault) → IsTrue (is_refusal fault) → IsFaultOf (pairs entries.items) fault
+        ensures accepts { IsValidList (pairs entries.items)
+            → IfErr result (λ fault. fault ≡ Memory) }
+        ensures refused { (fault : Fault)
+            → IsTrue (is_refusal fault) → IsFaultOf (pairs entries.items) fault
             → MatchResult result (λ _. ⊥) (λ found. IsTrue (is_refusal found) → found ≡ fault) }
-        ensures no_memory { IsSorted (pairs entries.items) → IfErr result (λ fault. IsTrue (is_refusal fault)) }
+        ensures no_memory { IsSorted (pairs entries.items)
+            → IfErr result (λ fault. IsTrue (is_refusal fault)) }
     {
         let entries = SortedEntries::from_entries(alloc, entries)?;
         match entries.missing() {

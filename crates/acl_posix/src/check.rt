@@ -30,7 +30,8 @@ impl SortedEntries {
     /// Whether the entries that match by a group of the requester grant the request: MASK and one of them, and without
     /// MASK the owning group's.
     pub(crate) fn class_contains(&self, owning_group: Id, groups: &[Id], request: Perm) -> bool
-        ensures { result ≡ class_contains self.now owning_group.value (ids groups.now) request.bits }
+        ensures { result
+            ≡ class_contains self.now owning_group.value (ids groups.now) request.bits }
     {
         match self.get(Tag::Mask) {
             Some(mask) => mask.contains(request)

@@ -50,7 +50,8 @@ fn inherit(
     dir: bool,
 ) -> Result<PosixFile, AllocError>
     ensures access { IfOk result (λ file. file.access ≡ cut inherited.now mode.bits) }
-    ensures default { IfOk result (λ file. file.default ≡ created_default (Some inherited.now) dir) }
+    ensures default { IfOk result (λ file.
+        file.default ≡ created_default (Some inherited.now) dir) }
 {
     let mut access = inherited.copy(alloc.clone()?)?;
     access.chmod(inherited.mode().intersection(mode));

@@ -1,9 +1,9 @@
 //! What a tag has in a list that is in order.
-ghost use Rattle.std.specs.Prelude.{◌≡◌, MatchResult, option_map};
+ghost use Rattle.std.specs.Prelude.{◌≡◌, option_map};
 ghost use Rattle.std.specs.FinMap as set;
 ghost use Rattle.acl_posix.specs.Tag.{tag_of};
 ghost use Rattle.acl_posix.specs.Mode.{group_class, perm_at};
-ghost use Rattle.acl_posix.specs.internal.Search.{IsAt, IsGap};
+ghost use Rattle.acl_posix.specs.internal.Search.{IsPlaceOf};
 
 use crate::sorted::SortedEntries;
 use crate::tag::Tag;
@@ -12,7 +12,7 @@ use acl_perm::Perm;
 impl SortedEntries {
     /// The place of the entry of a tag, or the place where it would go.
     pub(crate) fn place_of(&self, tag: Tag) -> Result<usize, usize>
-        ensures { MatchResult result (IsAt (set.keys self.now) (tag_of tag)) (IsGap (set.keys self.now) (tag_of tag)) }
+        ensures { IsPlaceOf (set.keys self.now) (tag_of tag) result }
     {
         self.as_slice()
             .binary_search_by_key(&tag, |entry| entry.tag)

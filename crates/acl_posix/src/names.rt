@@ -124,7 +124,8 @@ fn contains(ids: &BTreeMap<Vec<u8>, Id>, name: &[u8]) -> bool
 
 /// Adds a name to one half of the table.
 fn add(alloc: Global, ids: &mut BTreeMap<Vec<u8>, Id>, name: &[u8], id: Id) -> Result<(), NameFault>
-    ensures added { OnOk result (ids_of ids.new.entries ≡ fin.insert (ids_of ids.old.entries) name.now id.value) }
+    ensures added { OnOk result (ids_of ids.new.entries
+        ≡ fin.insert (ids_of ids.old.entries) name.now id.value) }
     ensures free { OnOk result (name_fault (ids_of ids.old.entries) name.now ≡ None) }
     ensures fault { IfErr result (IsNameFault (ids_of ids.old.entries) name.now) }
     ensures kept { OnErr result (ids.new.entries ≡ ids.old.entries) }

@@ -1,7 +1,7 @@
 //! The entry that a piece of a text spells.
 ghost use Rattle.std.specs.Prelude.{◌≡◌, ◌+◌, ◌<◌, ◌^◌, length, option_map, IfSome};
 ghost use Rattle.acl_perm.specs.Lines.{cut_at, span_of};
-ghost use Rattle.acl_posix.specs.Grammar.{fields_of, three_of};
+ghost use Rattle.acl_posix.specs.Grammar.{colon, fields_of, three_of};
 ghost use Rattle.acl_posix.specs.internal.Reading.{mapped, read_permissions, read_piece, read_tag, read_word, view_entry, view_fields, FieldsFit};
 ghost use Rattle.acl_posix.specs.Tag.{tag_of};
 
@@ -83,7 +83,8 @@ fn tag_at(field: Piece, line: usize, word: TagWord, names: &Names) -> Result<Tag
 /// The three fields that a piece has from here on, and no more.
 fn three<'a>(part: Part, piece: Piece<'a>) -> Option<EntryPieces<'a>>
     requires { piece.column + length piece.bytes.now < 2 ^ 64 }
-    ensures value { option_map view_fields result ≡ three_of part (cut_at 58 (span_of piece.entry)) }
+    ensures value { option_map view_fields result
+        ≡ three_of part (cut_at colon (span_of piece.entry)) }
     ensures fits { IfSome result (λ fields. FieldsFit fields piece.entry) }
 {
     let (tag, rest) = piece.cut(b':');
@@ -104,7 +105,7 @@ fn three<'a>(part: Part, piece: Piece<'a>) -> Option<EntryPieces<'a>>
 #[tactic(auto, unfolding(crate::specs::Grammar::fields_of))]
 fn fields<'a>(piece: Piece<'a>) -> Option<EntryPieces<'a>>
     requires { piece.column + length piece.bytes.now < 2 ^ 64 }
-    ensures value { option_map view_fields result ≡ fields_of (cut_at 58 (span_of piece.entry)) }
+    ensures value { option_map view_fields result ≡ fields_of (cut_at colon (span_of piece.entry)) }
     ensures fits { IfSome result (λ fields. FieldsFit fields piece.entry) }
 {
     let (first, rest) = piece.cut(b':');

@@ -26,7 +26,8 @@ impl SortedEntries {
         ensures set { IfOk result (λ sorted. sorted ≡ as_set (pairs entries.items)) }
         ensures distinct { OnOk result (IsDistinct (pairs entries.items)) }
         ensures fault { IfErr result (IsFaultOf (pairs entries.items)) }
-        ensures accepts { IsDistinct (pairs entries.items) → IfErr result (λ fault. fault ≡ Memory) }
+        ensures accepts { IsDistinct (pairs entries.items)
+            → IfErr result (λ fault. fault ≡ Memory) }
         ensures no_memory { IsSorted (pairs entries.items) → IsOk result }
     {
         if is_in_order(&entries) {

@@ -1,9 +1,8 @@
 //! The texts of ACLs, to a sink.
-ghost use Rattle.std.specs.Prelude.{◌≡◌, ◌+◌, ◌^◌, ◌<◌, IfErr, OnErr, OnOk, None, length, option_map, take};
+ghost use Rattle.std.specs.Prelude.{◌≡◌, ◌+◌, ◌^◌, ◌<◌, OnErr, OnOk, None, length, option_map};
 ghost use Rattle.std.specs.FinMap as set;
-ghost use Rattle.std.specs.Io.KnownBytes.{Appends};
 ghost use Rattle.acl_perm.specs.Devices.{one_more};
-ghost use Rattle.acl_perm.specs.Pieces.{WritesFrom};
+ghost use Rattle.acl_perm.specs.Pieces.{Writes, WritesFrom};
 ghost use Rattle.acl_posix.specs.Texts.{canonical_text, form_text, short_text, shown_text};
 ghost use Rattle.acl_posix.specs.Entries.{pairs};
 ghost use Rattle.acl_posix.specs.internal.Writing.{default_out, part_out};
@@ -90,14 +89,8 @@ fn put_file<S: Sink>(
 impl PosixFile {
     /// Writes the text in a form. The first put that fails ends it; nothing is tried again. No memory; time n log n.
     pub fn write<S: Sink>(&self, sink: &mut S, form: Form) -> Result<(), WriteFault>
-        ensures ok { OnOk result (Appends (S.contents sink.old) (S.contents sink.new)
-            (form_text form self.now.access self.now.default)) }
-        ensures none_failed { OnOk result (S.failure_count sink.new ≡ S.failure_count sink.old) }
-        ensures err { IfErr result (λ fault. Appends (S.contents sink.old) (S.contents sink.new)
-            (take fault.written (form_text form self.now.access self.now.default))) }
-        ensures short { IfErr result (λ fault.
-            fault.written < length (form_text form self.now.access self.now.default)) }
-        ensures failed { OnErr result (S.failure_count sink.new ≡ one_more (S.failure_count sink.old)) }
+        ensures { Writes S.contents S.failure_count sink.old sink.new
+            (form_text form self.now.access self.now.default) result }
     {
         match put_file(sink, form, &self.access, self.default.as_ref()) {
             Ok(_) => Ok(()),
@@ -108,14 +101,8 @@ impl PosixFile {
     /// Writes the canonical text: a line an entry in canonical order, and the default ACL behind the access ACL. The
     /// first put that fails ends it; nothing is tried again. No memory; time n log n.
     pub fn write_canonical<S: Sink>(&self, sink: &mut S) -> Result<(), WriteFault>
-        ensures ok { OnOk result (Appends (S.contents sink.old) (S.contents sink.new)
-            (canonical_text self.now.access self.now.default)) }
-        ensures none_failed { OnOk result (S.failure_count sink.new ≡ S.failure_count sink.old) }
-        ensures err { IfErr result (λ fault. Appends (S.contents sink.old) (S.contents sink.new)
-            (take fault.written (canonical_text self.now.access self.now.default))) }
-        ensures short { IfErr result (λ fault.
-            fault.written < length (canonical_text self.now.access self.now.default)) }
-        ensures failed { OnErr result (S.failure_count sink.new ≡ one_more (S.failure_count sink.old)) }
+        ensures { Writes S.contents S.failure_count sink.old sink.new
+            (canonical_text self.now.access self.now.default) result }
     {
         self.write(sink, Form::Canonical)
     }
@@ -123,14 +110,8 @@ impl PosixFile {
     /// Writes the canonical text with a comment behind each entry that the mask cuts: its effective permissions. The
     /// first put that fails ends it; nothing is tried again. No memory; time n log n.
     pub fn write_shown<S: Sink>(&self, sink: &mut S) -> Result<(), WriteFault>
-        ensures ok { OnOk result (Appends (S.contents sink.old) (S.contents sink.new)
-            (shown_text self.now.access self.now.default)) }
-        ensures none_failed { OnOk result (S.failure_count sink.new ≡ S.failure_count sink.old) }
-        ensures err { IfErr result (λ fault. Appends (S.contents sink.old) (S.contents sink.new)
-            (take fault.written (shown_text self.now.access self.now.default))) }
-        ensures short { IfErr result (λ fault.
-            fault.written < length (shown_text self.now.access self.now.default)) }
-        ensures failed { OnErr result (S.failure_count sink.new ≡ one_more (S.failure_count sink.old)) }
+        ensures { Writes S.contents S.failure_count sink.old sink.new
+            (shown_text self.now.access self.now.default) result }
     {
         self.write(sink, Form::Shown)
     }
@@ -138,14 +119,8 @@ impl PosixFile {
     /// Writes the short text: the entries in canonical order with commas between them, and no line feed. The first put
     /// that fails ends it; nothing is tried again. No memory; time n log n.
     pub fn write_short<S: Sink>(&self, sink: &mut S) -> Result<(), WriteFault>
-        ensures ok { OnOk result (Appends (S.contents sink.old) (S.contents sink.new)
-            (short_text self.now.access self.now.default)) }
-        ensures none_failed { OnOk result (S.failure_count sink.new ≡ S.failure_count sink.old) }
-        ensures err { IfErr result (λ fault. Appends (S.contents sink.old) (S.contents sink.new)
-            (take fault.written (short_text self.now.access self.now.default))) }
-        ensures short { IfErr result (λ fault.
-            fault.written < length (short_text self.now.access self.now.default)) }
-        ensures failed { OnErr result (S.failure_count sink.new ≡ one_more (S.failure_count sink.old)) }
+        ensures { Writes S.contents S.failure_count sink.old sink.new
+            (short_text self.now.access self.now.default) result }
     {
         self.write(sink, Form::Short)
     }
@@ -154,14 +129,8 @@ impl PosixFile {
 impl PosixAcl {
     /// Writes the text in a form. The first put that fails ends it; nothing is tried again. No memory; time n log n.
     pub fn write<S: Sink>(&self, sink: &mut S, form: Form) -> Result<(), WriteFault>
-        ensures ok { OnOk result (Appends (S.contents sink.old) (S.contents sink.new)
-            (form_text form self.now None)) }
-        ensures none_failed { OnOk result (S.failure_count sink.new ≡ S.failure_count sink.old) }
-        ensures err { IfErr result (λ fault. Appends (S.contents sink.old) (S.contents sink.new)
-            (take fault.written (form_text form self.now None))) }
-        ensures short { IfErr result (λ fault.
-            fault.written < length (form_text form self.now None)) }
-        ensures failed { OnErr result (S.failure_count sink.new ≡ one_more (S.failure_count sink.old)) }
+        ensures { Writes S.contents S.failure_count sink.old sink.new
+            (form_text form self.now None) result }
     {
         match put_file(sink, form, self, None) {
             Ok(_) => Ok(()),
@@ -172,14 +141,8 @@ impl PosixAcl {
     /// Writes the canonical text: a line an entry in canonical order, and the default ACL behind the access ACL. The
     /// first put that fails ends it; nothing is tried again. No memory; time n log n.
     pub fn write_canonical<S: Sink>(&self, sink: &mut S) -> Result<(), WriteFault>
-        ensures ok { OnOk result (Appends (S.contents sink.old) (S.contents sink.new)
-            (canonical_text self.now None)) }
-        ensures none_failed { OnOk result (S.failure_count sink.new ≡ S.failure_count sink.old) }
-        ensures err { IfErr result (λ fault. Appends (S.contents sink.old) (S.contents sink.new)
-            (take fault.written (canonical_text self.now None))) }
-        ensures short { IfErr result (λ fault.
-            fault.written < length (canonical_text self.now None)) }
-        ensures failed { OnErr result (S.failure_count sink.new ≡ one_more (S.failure_count sink.old)) }
+        ensures { Writes S.contents S.failure_count sink.old sink.new
+            (canonical_text self.now None) result }
     {
         PosixAcl::write(self, sink, Form::Canonical)
     }
@@ -187,14 +150,8 @@ impl PosixAcl {
     /// Writes the canonical text with a comment behind each entry that the mask cuts: its effective permissions. The
     /// first put that fails ends it; nothing is tried again. No memory; time n log n.
     pub fn write_shown<S: Sink>(&self, sink: &mut S) -> Result<(), WriteFault>
-        ensures ok { OnOk result (Appends (S.contents sink.old) (S.contents sink.new)
-            (shown_text self.now None)) }
-        ensures none_failed { OnOk result (S.failure_count sink.new ≡ S.failure_count sink.old) }
-        ensures err { IfErr result (λ fault. Appends (S.contents sink.old) (S.contents sink.new)
-            (take fault.written (shown_text self.now None))) }
-        ensures short { IfErr result (λ fault.
-            fault.written < length (shown_text self.now None)) }
-        ensures failed { OnErr result (S.failure_count sink.new ≡ one_more (S.failure_count sink.old)) }
+        ensures { Writes S.contents S.failure_count sink.old sink.new
+            (shown_text self.now None) result }
     {
         PosixAcl::write(self, sink, Form::Shown)
     }
@@ -202,14 +159,8 @@ impl PosixAcl {
     /// Writes the short text: the entries in canonical order with commas between them, and no line feed. The first put
     /// that fails ends it; nothing is tried again. No memory; time n log n.
     pub fn write_short<S: Sink>(&self, sink: &mut S) -> Result<(), WriteFault>
-        ensures ok { OnOk result (Appends (S.contents sink.old) (S.contents sink.new)
-            (short_text self.now None)) }
-        ensures none_failed { OnOk result (S.failure_count sink.new ≡ S.failure_count sink.old) }
-        ensures err { IfErr result (λ fault. Appends (S.contents sink.old) (S.contents sink.new)
-            (take fault.written (short_text self.now None))) }
-        ensures short { IfErr result (λ fault.
-            fault.written < length (short_text self.now None)) }
-        ensures failed { OnErr result (S.failure_count sink.new ≡ one_more (S.failure_count sink.old)) }
+        ensures { Writes S.contents S.failure_count sink.old sink.new
+            (short_text self.now None) result }
     {
         PosixAcl::write(self, sink, Form::Short)
     }

@@ -1,6 +1,6 @@
 -- What a search of the code answers, and no contract of a public call cites (this library's own): the place of a tag in
 -- a list in canonical order, or the place where it would go.
-use Rattle.std.specs.Prelude.{ℕ, ◌≡◌, ◌<◌, ◌≤◌, List, length, get_or}
+use Rattle.std.specs.Prelude.{ℕ, ◌≡◌, ◌<◌, ◌≤◌, List, length, get_or, Result, MatchResult}
 use Rattle.std.specs.declared.cmp.Ordering.TheVariants.{Less, Greater}
 use Rattle.acl_posix.specs.Tag.{Tag, tag_cmp}
 
@@ -14,3 +14,7 @@ pub record IsGap (tags : List Tag) (tag : Tag) (place : ℕ) : Type 0 where
   pub in_range : place ≤ length tags
   pub before : (at : ℕ) → at < place → tag_cmp (get_or tags at tag) tag ≡ Less
   pub after : (at : ℕ) → place ≤ at → at < length tags → tag_cmp (get_or tags at tag) tag ≡ Greater
+
+-- the place of a tag, or else the place where it would go
+abbrev pub IsPlaceOf : List Tag → Tag → Result ℕ ℕ → Type 0
+IsPlaceOf tags tag answer = MatchResult answer (IsAt tags tag) (IsGap tags tag)
