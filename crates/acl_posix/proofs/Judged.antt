@@ -12,7 +12,7 @@ use Rattle.acl_posix.specs.Tag.{Tag, user_obj, user, group_obj, group, mask, oth
 use Rattle.acl_posix.specs.Names.{Table, Ids, is_number}
 use Rattle.acl_posix.specs.Fields.{word_of, id_of, id_in, permissions_of}
 use Rattle.acl_posix.specs.Grammar.{TextPiece, EntryFields, fields_of, PartEntry, HasFields, HasTag, Spells, colon}
-use Rattle.acl_posix.specs.TextFault.{names_of, IsPieceFault, IsPlace}
+use Rattle.acl_posix.specs.TextFault.{names_of, IsPieceFault, IsPlace, MayName}
 use Rattle.acl_posix.specs.internal.Reading.{◌>>=◌, read_word, read_tag, read_permissions, read_named, read_unnamed, read_three, read_fields, read_piece}
 
 -- what an answer says of a piece
@@ -102,6 +102,10 @@ named_say : (names : Table) (piece : TextPiece) (fields : EntryFields) (w : TagW
     → After names piece fields (read_named alone of_id ids piece.line fields.qualifier)
 named_say names piece fields w alone of_id ids has is some_names spelled spelled_id =
     let q = trimmed fields.qualifier.bytes in
+    let named : MayName names piece.span fields ids =
+    record { has = has; word = w; is_word = is; has_names = some_names } in
+    let place : IsPlace piece.line fields.qualifier piece.line (start_of fields.qualifier) =
+    here piece.line fields.qualifier in
     elim (eqb (length q) 0)
     as (λ b. eqb (length q) 0 ≡ b → After names piece fields
     (cond b (Ok alone)
@@ -119,18 +123,7 @@ named_say names piece fields w alone of_id ids has is some_names spelled spelled
                 as (λ o. id_of q ≡ o → After names piece fields
                 (ok_or (option_map of_id o) (faults.Id piece.line (start_of fields.qualifier)))) [
                   | None ↦ λ none.
-                      record {
-                        fields = fields;
-                        has = has;
-                        word = w;
-                        is_word = is;
-                        ids = ids;
-                        has_names =
-                            some_names;
-                        digits = digits;
-                        no_id = none;
-                        place = here piece.line fields.qualifier;
-                      }
+                      record { fields = fields; ids = ids; named = named; digits = digits; no_id = none; place = place }
                   | Some id ↦ λ found. permissions_say names piece fields (of_id id) has
                       (spelled_id id (filled _ some) (rw digits found))
                 ] refl
@@ -141,17 +134,12 @@ named_say names piece fields w alone of_id ids has is some_names spelled spelled
                   | None ↦ λ none.
                       record {
                         fields = fields;
-                        has = has;
-                        word = w;
-                        is_word = is;
                         ids = ids;
-                        has_names =
-                            some_names;
+                        named = named;
                         some_byte = filled _ some;
                         no_digits = name;
                         unknown = none;
-                        place =
-                            here piece.line fields.qualifier;
+                        place = place;
                       }
                   | Some id ↦ λ found. permissions_say names piece fields (of_id id) has
                       (spelled_id id (filled _ some) (rw name found))
@@ -327,12 +315,12 @@ fault_read names piece (faults.Qualifier line column) h =
     rw (h.has.filled, h.has.cut, h.is_word, h.place.same_line, h.place.same_column)
     (unnamed_fault names piece.line h.fields h.word h.no_names h.qualifier)
 fault_read names piece (faults.Id line column) h =
-    rw (h.has.filled, h.has.cut, h.is_word, h.place.same_line, h.place.same_column)
-    (named_fault names piece.line h.fields h.word h.ids h.has_names (number_some _ h.digits)
+    rw (h.named.has.filled, h.named.has.cut, h.named.is_word, h.place.same_line, h.place.same_column)
+    (named_fault names piece.line h.fields h.named.word h.ids h.named.has_names (number_some _ h.digits)
     (faults.Id piece.line (start_of h.fields.qualifier)) (λ of_id. rw (h.digits, h.no_id) refl))
 fault_read names piece (faults.UnknownName line column) h =
-    rw (h.has.filled, h.has.cut, h.is_word, h.place.same_line, h.place.same_column)
-    (named_fault names piece.line h.fields h.word h.ids h.has_names h.some_byte
+    rw (h.named.has.filled, h.named.has.cut, h.named.is_word, h.place.same_line, h.place.same_column)
+    (named_fault names piece.line h.fields h.named.word h.ids h.named.has_names h.some_byte
     (faults.UnknownName piece.line (start_of h.fields.qualifier)) (λ of_id. rw (h.no_digits, h.unknown) refl))
 fault_read names piece (faults.Permission line column) h =
     let start = has_read names piece.line piece.span h.fields h.has ∙ regroup names piece.line h.fields in

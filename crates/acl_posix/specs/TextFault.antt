@@ -64,14 +64,18 @@ pub record IsQualified (names : Table) (piece : TextPiece) (line column : ℕ) :
   pub qualifier : 0 < length (trimmed fields.qualifier.bytes)
   pub place : IsPlace piece.line fields.qualifier line column
 
+-- a piece has these fields, and the first is a tag word whose qualifier may be one of these names
+pub record MayName (names : Table) (piece : Span) (fields : EntryFields) (ids : Ids) : Type 0 where
+  pub has : HasFields piece fields
+  pub word : TagWord
+  pub is_word : word_of (trimmed fields.tag.bytes) ≡ Some word
+  pub has_names : names_of names word ≡ Some ids
+
 -- the qualifier is digits alone, and no id
 pub record IsNoId (names : Table) (piece : TextPiece) (line column : ℕ) : Type 0 where
   pub fields : EntryFields
-  pub has : HasFields piece.span fields
-  pub word : TagWord
-  pub is_word : word_of (trimmed fields.tag.bytes) ≡ Some word
   pub ids : Ids
-  pub has_names : names_of names word ≡ Some ids
+  pub named : MayName names piece.span fields ids
   pub digits : IsTrue (is_number (trimmed fields.qualifier.bytes))
   pub no_id : id_of (trimmed fields.qualifier.bytes) ≡ None
   pub place : IsPlace piece.line fields.qualifier line column
@@ -79,11 +83,8 @@ pub record IsNoId (names : Table) (piece : TextPiece) (line column : ℕ) : Type
 -- the qualifier is a name, and none of the table
 pub record IsUnknownName (names : Table) (piece : TextPiece) (line column : ℕ) : Type 0 where
   pub fields : EntryFields
-  pub has : HasFields piece.span fields
-  pub word : TagWord
-  pub is_word : word_of (trimmed fields.tag.bytes) ≡ Some word
   pub ids : Ids
-  pub has_names : names_of names word ≡ Some ids
+  pub named : MayName names piece.span fields ids
   pub some_byte : 0 < length (trimmed fields.qualifier.bytes)
   pub no_digits : IsFalse (is_number (trimmed fields.qualifier.bytes))
   pub unknown : fin.get ids (trimmed fields.qualifier.bytes) ≡ None
