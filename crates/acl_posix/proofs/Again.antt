@@ -238,17 +238,27 @@ colon_next : (bs rest : List ℕ) → Plain bs → slice_split (λ b. eqb b 58) 
     ≡ bs ∷ slice_split (λ b. eqb b 58) rest
 colon_next bs rest h = slice_split_at (λ b. eqb b 58) bs 58 rest (no_colon bs h) refl
 
--- three fields
-abbrev pub fields_text : List ℕ → Tag → List ℕ → List ℕ
-fields_text w t ps = w ++ 58 ∷ (qualifier_text t ++ 58 ∷ ps)
+-- a qualifier that spells a tag behind the word of the tag
+pub record IsQualifierOf (t : Tag) (q : List ℕ) : Type 0 where
+  pub plain : Plain q
+  pub spells : (names : Table) (w : List ℕ) → word_of w ≡ Some (tag_word t) → SpellsTag names w q t
 
-three_split : (w : List ℕ) (t : Tag) (p : ℕ) (ps : List ℕ) → IsTag t → IsWordOf t w → IsPermText p ps
-    → slice_split (λ b. eqb b 58) (fields_text w t ps) ≡ w ∷ qualifier_text t ∷ ps ∷ []
-three_split w t p ps ht hw hp =
-    colon_next w (qualifier_text t ++ 58 ∷ ps) hw.plain
+-- a qualifier as it is written is one
+pub written_qualifier : (t : Tag) → IsTag t → IsQualifierOf t (qualifier_text t)
+written_qualifier t h =
+    record { plain = qualifier_plain t h; spells = λ names w means. tag_spelled names w t h means }
+
+-- three fields
+abbrev pub fields_text : List ℕ → List ℕ → List ℕ → List ℕ
+fields_text w q ps = w ++ 58 ∷ (q ++ 58 ∷ ps)
+
+three_split : (w : List ℕ) (t : Tag) (q : List ℕ) (p : ℕ) (ps : List ℕ) → IsQualifierOf t q → IsWordOf t w
+    → IsPermText p ps → slice_split (λ b. eqb b 58) (fields_text w q ps) ≡ w ∷ q ∷ ps ∷ []
+three_split w t q p ps hq hw hp =
+    colon_next w (q ++ 58 ∷ ps) hw.plain
     ∙ ap (λ (xs : List (List ℕ)). w ∷ xs)
-    (colon_next (qualifier_text t) ps (qualifier_plain t ht)
-    ∙ ap (λ (xs : List (List ℕ)). qualifier_text t ∷ xs) (slice_split_none (λ b. eqb b 58) ps hp.no_colon))
+    (colon_next q ps hq.plain
+    ∙ ap (λ (xs : List (List ℕ)). q ∷ xs) (slice_split_none (λ b. eqb b 58) ps hp.no_colon))
 
 -- a text that begins with a plain byte is not blank
 pub starts_filled : (w rest : List ℕ) → Plain w → 0 < length w → is_all_blank (w ++ rest) ≡ false
@@ -256,65 +266,66 @@ starts_filled [] rest h some = absurd (omega (arith, some))
 starts_filled (b ∷ bs) rest h some = ap (λ t. t && is_all_blank (bs ++ rest)) (plain_not b (and_both _ _ h).0).0
 
 -- where the fields stand
-abbrev fields_at : ℕ → Part → List ℕ → Tag → List ℕ → EntryFields
-fields_at column part w t ps = record {
+abbrev fields_at : ℕ → Part → List ℕ → List ℕ → List ℕ → EntryFields
+fields_at column part w q ps = record {
   part = part;
   tag = record { column = column; bytes = w };
-  qualifier = record { column = column + length w + 1; bytes = qualifier_text t };
-  permissions = record { column = column + length w + 1 + length (qualifier_text t) + 1; bytes = ps };
+  qualifier = record { column = column + length w + 1; bytes = q };
+  permissions = record { column = column + length w + 1 + length q + 1; bytes = ps };
 }
 
-access_fields : (column : ℕ) (w : List ℕ) (t : Tag) (p : ℕ) (ps : List ℕ) → IsTag t → IsWordOf t w → IsPermText p ps
-    → HasFields (record { column = column; bytes = fields_text w t ps }) (fields_at column parts.Access w t ps)
+access_fields : (column : ℕ) (w : List ℕ) (t : Tag) (q : List ℕ) (p : ℕ) (ps : List ℕ) → IsQualifierOf t q
+    → IsWordOf t w → IsPermText p ps
+    → HasFields (record { column = column; bytes = fields_text w q ps }) (fields_at column parts.Access w q ps)
 unfolding cut_at fields_of
-access_fields column w t p ps ht hw hp = record {
-  filled = starts_filled w (58 ∷ (qualifier_text t ++ 58 ∷ ps)) hw.plain hw.some_byte;
-  cut = rw (three_split w t p ps ht hw hp, trimmed_plain w hw.plain, hw.no_default) refl;
+access_fields column w t q p ps hq hw hp = record {
+  filled = starts_filled w (58 ∷ (q ++ 58 ∷ ps)) hw.plain hw.some_byte;
+  cut = rw (three_split w t q p ps hq hw hp, trimmed_plain w hw.plain, hw.no_default) refl;
 }
 
-default_fields : (column : ℕ) (d w : List ℕ) (t : Tag) (p : ℕ) (ps : List ℕ) → IsMark d → IsTag t → IsWordOf t w
-    → IsPermText p ps → HasFields (record { column = column; bytes = d ++ 58 ∷ fields_text w t ps })
-    (fields_at (column + length d + 1) parts.Default w t ps)
+default_fields : (column : ℕ) (d w : List ℕ) (t : Tag) (q : List ℕ) (p : ℕ) (ps : List ℕ) → IsMark d
+    → IsQualifierOf t q → IsWordOf t w → IsPermText p ps
+    → HasFields (record { column = column; bytes = d ++ 58 ∷ fields_text w q ps })
+    (fields_at (column + length d + 1) parts.Default w q ps)
 unfolding cut_at fields_of
-default_fields column d w t p ps hd ht hw hp = record {
-  filled = starts_filled d (58 ∷ fields_text w t ps) hd.plain hd.some_byte;
+default_fields column d w t q p ps hd hq hw hp = record {
+  filled = starts_filled d (58 ∷ fields_text w q ps) hd.plain hd.some_byte;
   cut = rw (
-    colon_next d (fields_text w t ps) hd.plain,
-    three_split w t p ps ht hw hp,
+    colon_next d (fields_text w q ps) hd.plain,
+    three_split w t q p ps hq hw hp,
     trimmed_plain d hd.plain,
     hd.means,
   ) refl;
 }
 
-fields_tag : (names : Table) (column : ℕ) (part : Part) (w : List ℕ) (t : Tag) (ps : List ℕ) → IsTag t → IsWordOf t w
-    → HasTag names (fields_at column part w t ps) t
-fields_tag names column part w t ps ht hw =
+fields_tag : (names : Table) (column : ℕ) (part : Part) (w : List ℕ) (t : Tag) (q ps : List ℕ) → IsQualifierOf t q
+    → IsWordOf t w → HasTag names (fields_at column part w q ps) t
+fields_tag names column part w t q ps hq hw =
     let word : trimmed w ≡ w = trimmed_plain w hw.plain in
-    let qualifier : trimmed (qualifier_text t) ≡ qualifier_text t =
-    trimmed_plain (qualifier_text t) (qualifier_plain t ht) in
-    subst (λ (x : List ℕ). SpellsTag names x (trimmed (qualifier_text t)) t) (sym word)
-    (subst (λ (x : List ℕ). SpellsTag names w x t) (sym qualifier) (tag_spelled names w t ht hw.means))
+    let qualifier : trimmed q ≡ q = trimmed_plain q hq.plain in
+    subst (λ (x : List ℕ). SpellsTag names x (trimmed q) t) (sym word)
+    (subst (λ (x : List ℕ). SpellsTag names w x t) (sym qualifier) (hq.spells names w hw.means))
 
 -- three written fields spell their entry of the access part
-pub access_spelled : (names : Table) (column : ℕ) (w : List ℕ) (t : Tag) (p : ℕ) (ps : List ℕ) → IsTag t → p < 8
-    → IsWordOf t w → IsPermText p ps
-    → Spells names (record { column = column; bytes = fields_text w t ps }) (parts.Access, (t, p))
-access_spelled names column w t p ps ht lt hw hp = record {
-  fields = fields_at column parts.Access w t ps;
-  has = access_fields column w t p ps ht hw hp;
+pub access_spelled : (names : Table) (column : ℕ) (w : List ℕ) (t : Tag) (q : List ℕ) (p : ℕ) (ps : List ℕ)
+    → IsQualifierOf t q → p < 8 → IsWordOf t w → IsPermText p ps
+    → Spells names (record { column = column; bytes = fields_text w q ps }) (parts.Access, (t, p))
+access_spelled names column w t q p ps hq lt hw hp = record {
+  fields = fields_at column parts.Access w q ps;
+  has = access_fields column w t q p ps hq hw hp;
   part = refl;
-  tag = fields_tag names column parts.Access w t ps ht hw;
+  tag = fields_tag names column parts.Access w t q ps hq hw;
   permissions = ap permissions_of hp.trims ∙ perm_again p lt;
 }
 
 -- and with a mark their entry of the default part
-pub default_spelled : (names : Table) (column : ℕ) (d w : List ℕ) (t : Tag) (p : ℕ) (ps : List ℕ) → IsMark d → IsTag t
-    → p < 8 → IsWordOf t w → IsPermText p ps
-    → Spells names (record { column = column; bytes = d ++ 58 ∷ fields_text w t ps }) (parts.Default, (t, p))
-default_spelled names column d w t p ps hd ht lt hw hp = record {
-  fields = fields_at (column + length d + 1) parts.Default w t ps;
-  has = default_fields column d w t p ps hd ht hw hp;
+pub default_spelled : (names : Table) (column : ℕ) (d w : List ℕ) (t : Tag) (q : List ℕ) (p : ℕ) (ps : List ℕ)
+    → IsMark d → IsQualifierOf t q → p < 8 → IsWordOf t w → IsPermText p ps
+    → Spells names (record { column = column; bytes = d ++ 58 ∷ fields_text w q ps }) (parts.Default, (t, p))
+default_spelled names column d w t q p ps hd hq lt hw hp = record {
+  fields = fields_at (column + length d + 1) parts.Default w q ps;
+  has = default_fields column d w t q p ps hd hq hw hp;
   part = refl;
-  tag = fields_tag names (column + length d + 1) parts.Default w t ps ht hw;
+  tag = fields_tag names (column + length d + 1) parts.Default w t q ps hq hw;
   permissions = ap permissions_of hp.trims ∙ perm_again p lt;
 }

@@ -35,10 +35,15 @@ digits_all bs h =
     ] h
 
 -- one digit more: ten times the value and the digit
+pub digit_more : (bs : List ℕ) (i : ℕ) → i < length bs → is_ascii_digit (get_or bs i 0) ≡ true
+    → digits_value 10 (take (i + 1) bs) ≡ digits_value 10 (take i bs) * 10 + (get_or bs i 0 - 48)
+digit_more bs i lt h = digits_value_more 10 bs i lt
+    ∙ ap (λ (d : ℕ). digits_value 10 (take i bs) * 10 + d) (digit_is _ h)
+
+-- the same of a number
 pub value_more : (bs : List ℕ) (i : ℕ) → i < length bs → is_number bs ≡ true
     → digits_value 10 (take (i + 1) bs) ≡ digits_value 10 (take i bs) * 10 + (get_or bs i 0 - 48)
-value_more bs i lt h = digits_value_more 10 bs i lt
-    ∙ ap (λ (d : ℕ). digits_value 10 (take i bs) * 10 + d) (digit_is _ (all_at bs i lt (digits_all bs h)))
+value_more bs i lt h = digit_more bs i lt (all_at bs i lt (digits_all bs h))
 
 grows : (n : ℕ) (bs : List ℕ) → n ≤ digits_value_after 10 n bs
 grows n [] = omega arith

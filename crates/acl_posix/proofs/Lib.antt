@@ -15,6 +15,7 @@ pub mod Settled
 pub mod ModeAndMask
 pub mod Again
 pub mod Whole
+pub mod FirstLines
 pub mod Written
 pub mod Bounds
 pub mod Forms

@@ -1,12 +1,17 @@
 -- Reading pieces and lines one after the other.
-use Rattle.std.proofs.Common.{◌≡◌, ℕ, suc, ◌+◌, ◌^◌, ◌<◌, true, false, List, [], ◌∷◌, ◌++◌, length, Option, Some, None, Result, Ok, Err, refl, sym, ap, ◌∙◌, subst, arith}
+use Rattle.std.proofs.Common.{◌≡◌, ℕ, suc, ◌+◌, ◌^◌, ◌<◌, ◌≤◌, true, false, List, [], ◌∷◌, ◌++◌, length, Option, Some, None, Result, Ok, Err, refl, sym, ap, ◌∙◌, subst, arith, Bor}
 use Rattle.acl_perm.specs.declared.lines.Piece.{Piece}
-use Rattle.acl_perm.specs.Lines.{Span, span_of, cut_at, IsCut, is_all_blank, before_mark}
+use Rattle.acl_perm.specs.Lines.{Span, span_of, cut_at, IsCut, IsLineCut, lines_of, is_all_blank, before_mark}
+use Rattle.acl_perm.proofs.LineLemmas.{lines_left, text_left, NumberFits}
+use Rattle.acl_posix.specs.declared.text_fault.Part.{Part}
 use Rattle.acl_posix.specs.declared.text_fault.TextFault.{TextFault}
 use Rattle.acl_posix.specs.declared.text_fault.TextFault.TheVariants as faults
+use Rattle.acl_posix.specs.Tag.{Tag}
 use Rattle.acl_posix.specs.Names.{Table}
 use Rattle.acl_posix.specs.Grammar.{TextPiece, PartEntry, numbered, line_pieces, pieces_from}
-use Rattle.acl_posix.specs.internal.Reading.{◌>>=◌, Lists, added, Fails, read_piece, read_pieces}
+use Rattle.acl_posix.specs.internal.Reading.{◌>>=◌, Lists, added, Fails, ReadsOn, read_piece, read_pieces}
+use Rattle.acl_posix.specs.internal.WrittenLine.{IsFirstLine}
+use Rattle.acl_posix.proofs.Judged.{spelled_read}
 
 -- the pieces that are still to be cut
 abbrev pub pieces_left : Option Piece → List Span
@@ -107,6 +112,52 @@ read_append_fault table so_far (p ∷ ps) qs f h =
     ] h
 
 -- ---- lines of a text
+
+-- a line that is cut off and read
+pub reads_on : (table : Table) (n : ℕ) (text : List ℕ) (so_far next : Lists) (cut : Bor (List ℕ) × Option (Bor (List ℕ)))
+    → IsLineCut text cut → read_pieces table so_far (numbered n (line_pieces cut.0.now)) ≡ Ok next
+    → ReadsOn table n text so_far next cut.1
+reads_on table n text so_far next (first, None) is read =
+    ap (λ (ls : List (List ℕ)). read_pieces table so_far (pieces_from n ls)) is
+    ∙ read_append table so_far (numbered n (line_pieces first.now)) [] next read ∙ read_none table next
+reads_on table n text so_far next (first, Some rest) is read = (
+  ap (λ (ls : List (List ℕ)). read_pieces table so_far (pieces_from n ls)) is.0
+      ∙ read_append table so_far (numbered n (line_pieces first.now)) (pieces_from (n + 1) (lines_of rest.now)) next read,
+  is.1,
+)
+
+-- a line that is read at one go
+pub reads_first : (table : Table) (n : ℕ) (text : List ℕ) (so_far : Lists) (part : Part) (entry : Tag × ℕ)
+    (rest : Bor (List ℕ)) → IsFirstLine text part entry rest.now
+    → ReadsOn table n text so_far (added so_far (part, entry)) (Some rest)
+reads_first table n text so_far part entry rest h = (
+  ap (λ (ls : List (List ℕ)). read_pieces table so_far (pieces_from n ls)) h.lines
+      ∙ ap (λ (ss : List Span). read_pieces table so_far (numbered n ss ++ pieces_from (n + 1) (lines_of rest.now))) h.one
+      ∙ read_next table so_far (record { line = n; span = record { column = 1; bytes = h.bytes } })
+      (pieces_from (n + 1) (lines_of rest.now)) (part, entry)
+      (spelled_read table n (record { column = 1; bytes = h.bytes }) (part, entry) (h.spells table)),
+  h.shorter,
+)
+
+-- what is left of a text after its first line gives what the text gives
+pub on_told : (table : Table) (n : ℕ) (text : List ℕ) (so_far next : Lists) (rest : Option (Bor (List ℕ)))
+    → ReadsOn table n text so_far next rest
+    → read_pieces table next (pieces_from (n + 1) (lines_left rest))
+    ≡ read_pieces table so_far (pieces_from n (lines_of text))
+on_told table n text so_far next None h = read_none table next ∙ sym h
+on_told table n text so_far next (Some rest) h = sym h.0
+
+-- and its number fits, and it is shorter
+pub on_fits : (table : Table) (n : ℕ) (whole : List ℕ) (text : List ℕ) (so_far next : Lists) (rest : Option (Bor (List ℕ)))
+    → ReadsOn table n text so_far next rest → n + length text ≤ length whole + 1 → NumberFits (n + 1) whole rest
+on_fits table n whole text so_far next None h fits = tt
+on_fits table n whole text so_far next (Some rest) h fits = omega (arith, h.1, fits)
+
+-- what is left is shorter
+pub on_smaller : (table : Table) (n : ℕ) (text : List ℕ) (so_far next : Lists) (rest : Option (Bor (List ℕ)))
+    → ReadsOn table n text so_far next rest → text_left rest < suc (length text)
+on_smaller table n text so_far next None h = omega arith
+on_smaller table n text so_far next (Some rest) h = omega (arith, h.1)
 
 -- a line that is read, and then others
 pub read_lines_next : (table : Table) (n : ℕ) (so_far next : Lists) (l : List ℕ) (ls : List (List ℕ))

@@ -13,7 +13,7 @@ use Rattle.acl_perm.specs.Lines.{Span, spans, cut_at, is_all_blank, before_mark,
 use Rattle.acl_posix.specs.declared.file.PosixFile.{PosixFile}
 use Rattle.acl_posix.specs.declared.text_fault.Part.{Part}
 use Rattle.acl_posix.specs.declared.text_fault.Part.TheVariants as parts
-use Rattle.acl_posix.specs.Tag.{Tag, user_obj, tag_cmp, IsTag}
+use Rattle.acl_posix.specs.Tag.{Tag, user_obj, tag_cmp}
 use Rattle.acl_posix.specs.Entries.{Entries, IsEntry, as_set}
 use Rattle.acl_posix.specs.Valid.{missing}
 use Rattle.acl_posix.specs.Mask.{effective_of}
@@ -25,7 +25,7 @@ use Rattle.acl_posix.proofs.Tags.{exact_tags}
 use Rattle.acl_posix.proofs.Repeats.{sorted_distinct}
 use Rattle.acl_posix.proofs.Lookups.{entries_sorted}
 use Rattle.acl_posix.proofs.Settled.{one_file}
-use Rattle.acl_posix.proofs.Again.{is_plain, Plain, qualifier_plain, perm_plain, IsWordOf, long_is, short_is, IsMark, long_mark, short_mark, perm_alone, perm_tab, fields_text, starts_filled, access_spelled, default_spelled}
+use Rattle.acl_posix.proofs.Again.{is_plain, Plain, qualifier_plain, perm_plain, IsWordOf, long_is, short_is, IsMark, long_mark, short_mark, perm_alone, perm_tab, written_qualifier, fields_text, starts_filled, access_spelled, default_spelled}
 
 -- ---- bytes of entries
 
@@ -37,10 +37,12 @@ is_text b = is_plain b || eqb b 58
 abbrev pub Text : List ℕ → Type 0
 Text bs = list_all is_text bs ≡ true
 
-text_not : (b : ℕ) → is_text b ≡ true → (eqb b 10 ≡ false) × (eqb b 35 ≡ false) × (eqb b 44 ≡ false)
+-- none of them is a line feed, a mark or a comma
+pub text_not : (b : ℕ) → is_text b ≡ true → (eqb b 10 ≡ false) × (eqb b 35 ≡ false) × (eqb b 44 ≡ false)
 text_not b h = (grind (arith, nat_tests), grind (arith, nat_tests), grind (arith, nat_tests))
 
-text_from_plain : (bs : List ℕ) → Plain bs → Text bs
+-- plain bytes are
+pub text_from_plain : (bs : List ℕ) → Plain bs → Text bs
 text_from_plain [] h = refl
 text_from_plain (b ∷ bs) h =
     elim (is_plain b)
@@ -49,15 +51,17 @@ text_from_plain (b ∷ bs) h =
       | false ↦ λ e. absurd cc
     ] h
 
-text_append : (xs ys : List ℕ) → Text xs → Text ys → Text (xs ++ ys)
+-- one text behind the other
+pub text_append : (xs ys : List ℕ) → Text xs → Text ys → Text (xs ++ ys)
 text_append xs ys hx hy = list_all-append is_text xs ys ∙ ap (λ t. t && list_all is_text ys) hx ∙ hy
 
-fields_are_text : (w : List ℕ) (t : Tag) (p : ℕ) → Plain w → IsTag t → p < 8 → Text (fields_text w t (perm_text p))
-fields_are_text w t p hw ht hp = text_append w (58 ∷ (qualifier_text t ++ 58 ∷ perm_text p)) (text_from_plain w hw)
-    (text_append (qualifier_text t) (58 ∷ perm_text p) (text_from_plain (qualifier_text t) (qualifier_plain t ht))
-    (text_from_plain (perm_text p) (perm_plain p hp)))
+-- three written fields are plain bytes and colons
+pub fields_are_text : (w q : List ℕ) (p : ℕ) → Plain w → Plain q → p < 8 → Text (fields_text w q (perm_text p))
+fields_are_text w q p hw hq hp = text_append w (58 ∷ (q ++ 58 ∷ perm_text p)) (text_from_plain w hw)
+    (text_append q (58 ∷ perm_text p) (text_from_plain q hq) (text_from_plain (perm_text p) (perm_plain p hp)))
 
-nowhere : (c : ℕ) (bs : List ℕ) → ((b : ℕ) → is_text b ≡ true → eqb b c ≡ false) → Text bs
+-- a byte that is none of these stands nowhere
+pub nowhere : (c : ℕ) (bs : List ℕ) → ((b : ℕ) → is_text b ≡ true → eqb b c ≡ false) → Text bs
     → All (λ b. eqb b c ≡ false) bs
 nowhere c bs each h = All-weaker (λ b. is_text b ≡ true) (λ b. eqb b c ≡ false) each bs
     (AllPass-from_list_all is_text bs h)
@@ -74,42 +78,46 @@ pub record IsWritten (part : Part) (f : Tag × ℕ → List ℕ) : Type 0 where
       → Spells names (record { column = column; bytes = f e ++ 9 ∷ [] }) (part, e)
 
 -- a tab behind the last field
-tab_behind : (w : List ℕ) (t : Tag) (p : ℕ) → fields_text w t (perm_text p ++ 9 ∷ [])
-    ≡ fields_text w t (perm_text p) ++ 9 ∷ []
-tab_behind w t p =
-    sym (append_assoc w (58 ∷ (qualifier_text t ++ 58 ∷ perm_text p)) (9 ∷ [])
-    ∙ ap (λ (xs : List ℕ). w ++ 58 ∷ xs) (append_assoc (qualifier_text t) (58 ∷ perm_text p) (9 ∷ [])))
+tab_behind : (w q : List ℕ) (p : ℕ) → fields_text w q (perm_text p ++ 9 ∷ [])
+    ≡ fields_text w q (perm_text p) ++ 9 ∷ []
+tab_behind w q p =
+    sym (append_assoc w (58 ∷ (q ++ 58 ∷ perm_text p)) (9 ∷ [])
+    ∙ ap (λ (xs : List ℕ). w ++ 58 ∷ xs) (append_assoc q (58 ∷ perm_text p) (9 ∷ [])))
 
 access_written : (f : Tag → List ℕ) → ((t : Tag) → IsWordOf t (f t))
-    → IsWritten parts.Access (λ e. fields_text (f e.0) e.0 (perm_text e.1))
+    → IsWritten parts.Access (λ e. fields_text (f e.0) (qualifier_text e.0) (perm_text e.1))
 access_written f is = record {
-  text = λ e h. fields_are_text (f e.0) e.0 e.1 (is e.0).plain h.0 h.1;
+  text = λ e h. fields_are_text (f e.0) (qualifier_text e.0) e.1 (is e.0).plain (qualifier_plain e.0 h.0) h.1;
   filled = λ e rest. ap is_all_blank (append_assoc (f e.0) (58 ∷ (qualifier_text e.0 ++ 58 ∷ perm_text e.1)) rest)
       ∙ starts_filled (f e.0) ((58 ∷ (qualifier_text e.0 ++ 58 ∷ perm_text e.1)) ++ rest) (is e.0).plain
       (is e.0).some_byte;
-  spells = λ names column e h. access_spelled names column (f e.0) e.0 e.1 (perm_text e.1) h.0 h.1 (is e.0)
-      (perm_alone e.1 h.1);
+  spells = λ names column e h. access_spelled names column (f e.0) e.0 (qualifier_text e.0) e.1 (perm_text e.1)
+      (written_qualifier e.0 h.0) h.1 (is e.0) (perm_alone e.1 h.1);
   with_tab = λ names column e h.
       subst (λ (bs : List ℕ). Spells names (record { column = column; bytes = bs }) (parts.Access, e))
-      (tab_behind (f e.0) e.0 e.1)
-      (access_spelled names column (f e.0) e.0 e.1 (perm_text e.1 ++ 9 ∷ []) h.0 h.1 (is e.0) (perm_tab e.1 h.1));
+      (tab_behind (f e.0) (qualifier_text e.0) e.1)
+      (access_spelled names column (f e.0) e.0 (qualifier_text e.0) e.1 (perm_text e.1 ++ 9 ∷ [])
+      (written_qualifier e.0 h.0) h.1 (is e.0) (perm_tab e.1 h.1));
 }
 
 default_written : (d : List ℕ) (f : Tag → List ℕ) → IsMark d → ((t : Tag) → IsWordOf t (f t))
-    → IsWritten parts.Default (λ e. d ++ 58 ∷ fields_text (f e.0) e.0 (perm_text e.1))
+    → IsWritten parts.Default (λ e. d ++ 58 ∷ fields_text (f e.0) (qualifier_text e.0) (perm_text e.1))
 default_written d f mark is = record {
-  text = λ e h. text_append d (58 ∷ fields_text (f e.0) e.0 (perm_text e.1)) (text_from_plain d mark.plain)
-      (fields_are_text (f e.0) e.0 e.1 (is e.0).plain h.0 h.1);
-  filled = λ e rest. ap is_all_blank (append_assoc d (58 ∷ fields_text (f e.0) e.0 (perm_text e.1)) rest)
-      ∙ starts_filled d ((58 ∷ fields_text (f e.0) e.0 (perm_text e.1)) ++ rest) mark.plain mark.some_byte;
-  spells = λ names column e h. default_spelled names column d (f e.0) e.0 e.1 (perm_text e.1) mark h.0 h.1 (is e.0)
-      (perm_alone e.1 h.1);
+  text = λ e h. text_append d (58 ∷ fields_text (f e.0) (qualifier_text e.0) (perm_text e.1))
+      (text_from_plain d mark.plain)
+      (fields_are_text (f e.0) (qualifier_text e.0) e.1 (is e.0).plain (qualifier_plain e.0 h.0) h.1);
+  filled = λ e rest. ap is_all_blank
+      (append_assoc d (58 ∷ fields_text (f e.0) (qualifier_text e.0) (perm_text e.1)) rest)
+      ∙ starts_filled d ((58 ∷ fields_text (f e.0) (qualifier_text e.0) (perm_text e.1)) ++ rest) mark.plain
+      mark.some_byte;
+  spells = λ names column e h. default_spelled names column d (f e.0) e.0 (qualifier_text e.0) e.1 (perm_text e.1) mark
+      (written_qualifier e.0 h.0) h.1 (is e.0) (perm_alone e.1 h.1);
   with_tab = λ names column e h.
       subst (λ (bs : List ℕ). Spells names (record { column = column; bytes = bs }) (parts.Default, e))
-      (ap (λ (bs : List ℕ). d ++ 58 ∷ bs) (tab_behind (f e.0) e.0 e.1)
-      ∙ sym (append_assoc d (58 ∷ fields_text (f e.0) e.0 (perm_text e.1)) (9 ∷ [])))
-      (default_spelled names column d (f e.0) e.0 e.1 (perm_text e.1 ++ 9 ∷ []) mark h.0 h.1 (is e.0)
-      (perm_tab e.1 h.1));
+      (ap (λ (bs : List ℕ). d ++ 58 ∷ bs) (tab_behind (f e.0) (qualifier_text e.0) e.1)
+      ∙ sym (append_assoc d (58 ∷ fields_text (f e.0) (qualifier_text e.0) (perm_text e.1)) (9 ∷ [])))
+      (default_spelled names column d (f e.0) e.0 (qualifier_text e.0) e.1 (perm_text e.1 ++ 9 ∷ []) mark
+      (written_qualifier e.0 h.0) h.1 (is e.0) (perm_tab e.1 h.1));
 }
 
 -- a long access entry reads back
@@ -165,17 +173,20 @@ one_piece : (bytes content : List ℕ) → before_mark 35 bytes ≡ content → 
 unfolding line_pieces cut_at
 one_piece bytes content is no_comma some = rw (is, some, slice_split_none (λ b. eqb b 44) content no_comma) refl
 
+-- plain bytes and colons are the one piece of their line
+pub text_piece : (bytes : List ℕ) → Text bytes → is_all_blank bytes ≡ false
+    → line_pieces bytes ≡ record { column = 1; bytes = bytes } ∷ []
+text_piece bytes text some =
+    one_piece bytes bytes (no_comment bytes (nowhere 35 bytes (λ b is. (text_not b is).1) text))
+    (nowhere 44 bytes (λ b is. (text_not b is).2) text) some
+
 plain_line : (names : Table) (part : Part) (f : Tag × ℕ → List ℕ) (e : Tag × ℕ) → IsWritten part f → IsEntry e
     → IsLineOf names (f e) (part, e)
-plain_line names part f e w h =
-    let text = w.text e h in
-    record {
-      piece = f e;
-      one = one_piece (f e) (f e) (no_comment (f e) (nowhere 35 (f e) (λ b is. (text_not b is).1) text))
-          (nowhere 44 (f e) (λ b is. (text_not b is).2) text)
-          (ap is_all_blank (sym (append-nil (f e))) ∙ w.filled e []);
-      spells = w.spells names 1 e h;
-    }
+plain_line names part f e w h = record {
+  piece = f e;
+  one = text_piece (f e) (w.text e h) (ap is_all_blank (sym (append-nil (f e))) ∙ w.filled e []);
+  spells = w.spells names 1 e h;
+}
 
 -- a tab and a comment behind an entry
 all_push : (c : ℕ) (bs : List ℕ) → eqb 9 c ≡ false → All (λ b. eqb b c ≡ false) bs

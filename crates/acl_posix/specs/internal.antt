@@ -10,6 +10,8 @@ pub mod Search
 pub mod GroupSearch
 -- the table that the maps of names stand for
 pub mod NameMaps
+-- lines that are read at one go
+pub mod WrittenLine
 -- what the reader of a text computes
 pub mod Reading
 -- how a text goes out, an entry after the other

@@ -23,6 +23,7 @@ mod tag;
 mod text_fault;
 mod validity;
 mod writer;
+mod written_line;
 
 pub use acl::PosixAcl;
 pub use entry::Entry;

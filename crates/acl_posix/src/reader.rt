@@ -2,13 +2,14 @@
 ghost use Rattle.std.specs.Prelude.{◌≡◌, MatchResult, OnOk, Ok};
 ghost use Rattle.acl_perm.specs.Lines.{lines_of};
 ghost use Rattle.acl_posix.specs.Entries.{pair_of};
-ghost use Rattle.acl_posix.specs.Grammar.{line_pieces, numbered, pieces_of};
-ghost use Rattle.acl_posix.specs.internal.Reading.{added, lists_of, no_lists, read_pieces, view_entry, Fails};
+ghost use Rattle.acl_posix.specs.Grammar.{line_pieces, numbered, pieces_from, pieces_of};
+ghost use Rattle.acl_posix.specs.internal.Reading.{added, lists_of, no_lists, read_pieces, view_entry, Fails, ReadsOn};
 
 use crate::entry::Entry;
 use crate::names::Names;
 use crate::piece::read_piece;
 use crate::text_fault::{Part, TextFault};
+use crate::written_line::written_line;
 use acl_perm::{Piece, before_mark, cut_line, is_all_blank};
 use std::alloc::{AllocError, Global};
 
@@ -57,6 +58,29 @@ fn read_line(
     Ok(())
 }
 
+/// Reads the entries of the first line of a text, and answers what stands behind the line.
+fn read_first<'a>(
+    text: &'a [u8],
+    number: usize,
+    names: &Names,
+    lists: &mut EntryLists,
+) -> Result<Option<&'a [u8]>, TextFault>
+    ensures { MatchResult result
+        (ReadsOn names.now number text.now (lists_of lists.old) (lists_of lists.new))
+        (λ fault. Fails fault
+        (read_pieces names.now (lists_of lists.old) (pieces_from number (lines_of text.now)))) }
+{
+    if let Some(line) = written_line(text) {
+        return match push(lists, line.part, line.entry) {
+            Ok(()) => Ok(Some(line.rest)),
+            Err(_) => Err(TextFault::Memory),
+        };
+    }
+    let (line, rest) = cut_line(text);
+    read_line(line, number, names, lists)?;
+    Ok(rest)
+}
+
 /// Reads the entries of a text.
 pub(crate) fn read_text(alloc: Global, text: &[u8], names: &Names) -> Result<EntryLists, TextFault>
     ensures { MatchResult result
@@ -70,10 +94,8 @@ pub(crate) fn read_text(alloc: Global, text: &[u8], names: &Names) -> Result<Ent
     let mut number = 1;
     let mut rest = Some(text);
     while let Some(left) = rest {
-        let (line, after) = cut_line(left);
-        read_line(line, number, names, &mut lists)?;
+        rest = read_first(left, number, names, &mut lists)?;
         number += 1;
-        rest = after;
     }
     Ok(lists)
 }

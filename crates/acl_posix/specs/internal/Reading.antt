@@ -1,9 +1,10 @@
 -- How the code reads pieces one after the other, as functions: this library's own words, which only
 -- code needs. What public clauses say of texts stands in Grammar and TextFault.
 use Rattle.std.specs.Prelude.{ℕ, ◌≡◌, ◌+◌, ◌<◌, ◌≤◌, ◌==◌, List, [], ◌∷◌, ◌++◌, length, Option, Some, None, Result, Ok, Err, option_map, ok_or, if◌then◌else◌}
+use Rattle.std.specs.Borrow.{Bor}
 use Rattle.std.specs.FinMap as fin
 use Rattle.acl_perm.specs.declared.lines.Piece.{Piece}
-use Rattle.acl_perm.specs.Lines.{Span, span_of, cut_at, start_of, trimmed, is_all_blank}
+use Rattle.acl_perm.specs.Lines.{Span, span_of, cut_at, lines_of, start_of, trimmed, is_all_blank}
 use Rattle.acl_posix.specs.declared.field.TagWord.{TagWord}
 use Rattle.acl_posix.specs.declared.field.TagWord.TheVariants as word
 use Rattle.acl_posix.specs.declared.entry.Entry.{Entry}
@@ -18,7 +19,7 @@ use Rattle.acl_posix.specs.Entries.{pair_of, pairs}
 use Rattle.acl_posix.specs.Valid.{IsFaultOf}
 use Rattle.acl_posix.specs.Names.{Table, Ids, is_number}
 use Rattle.acl_posix.specs.Fields.{word_of, id_of, permissions_of}
-use Rattle.acl_posix.specs.Grammar.{TextPiece, EntryFields, fields_of, PartEntry, colon}
+use Rattle.acl_posix.specs.Grammar.{TextPiece, EntryFields, fields_of, PartEntry, pieces_from, colon}
 use Rattle.acl_posix.specs.TextFault.{acl_fault}
 
 infixl 10 ◌>>=◌
@@ -130,6 +131,15 @@ read_pieces names lists (piece ∷ pieces) = do
 abbrev pub Fails : {Y : Type 0} → TextFault → Result Y TextFault → Type 0
 Fails faults.Memory read = Unit {0}
 Fails fault read = read ≡ Err fault
+
+-- after the first line of a text, which has this number, reading goes on with the rest as with the whole
+abbrev pub ReadsOn : Table → ℕ → List ℕ → Lists → Lists → Option (Bor (List ℕ)) → Type 0
+ReadsOn names number text lists next None =
+    read_pieces names lists (pieces_from number (lines_of text)) ≡ Ok next
+ReadsOn names number text lists next (Some rest) =
+    (read_pieces names lists (pieces_from number (lines_of text))
+    ≡ read_pieces names next (pieces_from (number + 1) (lines_of rest.now)))
+    × (length rest.now < length text)
 
 -- what a fault says of the entries of a part
 abbrev pub IsPartFault : Part → List (Tag × ℕ) → TextFault → Type 0

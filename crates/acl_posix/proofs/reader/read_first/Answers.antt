@@ -1,0 +1,31 @@
+use Rattle.std.proofs.Common.{List, ℕ, Some, sym, ap, subst}
+use Rattle.std.proofs.lemmas.Result.{err_from_is_err_and}
+use Rattle.acl_posix.specs.Entries.{pair_of}
+use Rattle.acl_posix.specs.Grammar.{pieces_from}
+use Rattle.acl_posix.specs.internal.Reading.{lists_of, read_pieces, Lists, ReadsOn}
+use Rattle.acl_perm.proofs.LineLemmas.{lines_left, lines_next}
+use Rattle.acl_posix.proofs.Lines.{read_lines_fault, reads_first, reads_on}
+use Rattle.acl_posix.proofs.reader.read_first.Goals as goal
+
+pub returns-in-Ok : goal.returns-in-Ok
+returns-in-Ok c =
+    let line = c.in-Some.line in
+    let lists = lists_of c.args.lists.now in
+    subst (λ (next : Lists). ReadsOn c.args.names.now c.args.number c.args.text.now lists next (Some line.rest))
+    (sym c.in-Ok.ensures)
+    (reads_first c.args.names.now c.args.number c.args.text.now lists line.part (pair_of line.entry) line.rest
+    c.in-Some.ensures)
+
+pub returns-in_err-read_line : goal.returns-in_err-read_line
+returns-in_err-read_line c =
+    let p = err_from_is_err_and c.from_residual.result c.from_residual.ensures.1 in
+    let lists = lists_of c.args.lists.now in
+    rw (p.1, p.2)
+    (read_lines_fault c.args.names.now c.args.number lists c.cut_line.result.0.now (lines_left c.cut_line.result.1) _
+    c.in_err-read_line.ensures _
+    (sym (ap (λ (ls : List (List ℕ)). read_pieces c.args.names.now lists (pieces_from c.args.number ls))
+    (lines_next c.args.text.now c.cut_line.result c.cut_line.ensures.parts))))
+
+pub returns : goal.returns
+returns c = reads_on c.args.names.now c.args.number c.args.text.now (lists_of c.args.lists.now)
+    (lists_of c.read_line.new.lists) c.cut_line.result c.cut_line.ensures.parts c.in_ok-read_line.ensures

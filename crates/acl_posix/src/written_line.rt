@@ -1,0 +1,176 @@
+//! Lines as the canonical text has them, at one go. `reader` takes every other line apart.
+ghost use Rattle.std.specs.Prelude.{◌≡◌, [], ◌∷◌, ◌++◌, IfSome};
+ghost use Rattle.acl_posix.specs.Entries.{pair_of};
+ghost use Rattle.acl_posix.specs.Texts.{perm_text};
+ghost use Rattle.acl_posix.specs.internal.WrittenLine.{
+  letter_of,
+  AreFieldsBefore,
+  IsEntryBefore,
+  IsFirstLine,
+  IsIdBefore,
+  IsPermBefore,
+};
+
+use crate::entry::Entry;
+use crate::id::{GREATEST, Id};
+use crate::tag::Tag;
+use crate::text_fault::Part;
+use acl_perm::Perm;
+
+/// The entry of a line, its part, and the text behind the line.
+#[derive(Clone, Copy)]
+pub(crate) struct WrittenLine<'a> {
+    pub part: Part,
+    pub entry: Entry,
+    pub rest: &'a [u8],
+}
+
+/// An entry, and the text behind its line.
+#[derive(Clone, Copy)]
+struct EntryBefore<'a> {
+    entry: Entry,
+    rest: &'a [u8],
+}
+
+/// An id and permissions, and the text behind their line.
+#[derive(Clone, Copy)]
+struct FieldsBefore<'a> {
+    id: Id,
+    perm: Perm,
+    rest: &'a [u8],
+}
+
+/// An id, and the bytes behind its colon.
+#[derive(Clone, Copy)]
+struct IdBefore<'a> {
+    id: Id,
+    rest: &'a [u8],
+}
+
+/// Permissions, and the text behind their line feed.
+#[derive(Clone, Copy)]
+struct PermBefore<'a> {
+    perm: Perm,
+    rest: &'a [u8],
+}
+
+/// What the first line of a text spells, where it is the line of a user or a group by id as the canonical text has it,
+/// but for zeros before the id.
+pub(crate) fn written_line(text: &[u8]) -> Option<WrittenLine<'_>>
+    ensures { IfSome result (λ line.
+        IsFirstLine text.now line.part (pair_of line.entry) line.rest.now) }
+{
+    match behind(text, b"default:") {
+        Some(bytes) => {
+            let EntryBefore { entry, rest } = entry_before(bytes)?;
+            let part = Part::Default;
+            Some(WrittenLine { part, entry, rest })
+        }
+        None => {
+            let EntryBefore { entry, rest } = entry_before(text)?;
+            let part = Part::Access;
+            Some(WrittenLine { part, entry, rest })
+        }
+    }
+}
+
+fn entry_before(bytes: &[u8]) -> Option<EntryBefore<'_>>
+    ensures { IfSome result (λ line.
+        IsEntryBefore bytes.now (pair_of line.entry) line.rest.now) }
+{
+    if let Some(fields) = behind(bytes, b"user:") {
+        let FieldsBefore { id, perm, rest } = fields_before(fields)?;
+        let tag = Tag::User(id);
+        let entry = Entry { tag, perm };
+        return Some(EntryBefore { entry, rest });
+    }
+    let fields = behind(bytes, b"group:")?;
+    let FieldsBefore { id, perm, rest } = fields_before(fields)?;
+    let tag = Tag::Group(id);
+    let entry = Entry { tag, perm };
+    Some(EntryBefore { entry, rest })
+}
+
+/// What stands behind a beginning, where the bytes have it.
+fn behind<'a>(bytes: &'a [u8], beginning: &[u8]) -> Option<&'a [u8]>
+    ensures { IfSome result (λ rest. bytes.now ≡ beginning.now ++ rest.now) }
+{
+    bytes.strip_prefix(beginning)
+}
+
+fn fields_before(bytes: &[u8]) -> Option<FieldsBefore<'_>>
+    ensures { IfSome result (λ fields.
+        AreFieldsBefore bytes.now fields.id.value fields.perm.bits fields.rest.now) }
+{
+    let IdBefore { id, rest } = id_before(bytes)?;
+    let PermBefore { perm, rest } = perm_before(rest)?;
+    Some(FieldsBefore { id, perm, rest })
+}
+
+fn id_before(bytes: &[u8]) -> Option<IdBefore<'_>>
+    ensures { IfSome result (λ found. IsIdBefore bytes.now found.id.value found.rest.now) }
+{
+    let mut value = 0u64;
+    let mut place = 0;
+    while place < bytes.len() {
+        let b = bytes[place];
+        if b == b':' {
+            if place == 0 {
+                return None;
+            }
+            let id = Id::new(value as u32)?;
+            let rest = &bytes[place + 1..];
+            return Some(IdBefore { id, rest });
+        }
+        if !b.is_ascii_digit() {
+            return None;
+        }
+        value = value * 10 + u64::from(b - b'0');
+        if value > u64::from(GREATEST) {
+            return None;
+        }
+        place += 1;
+    }
+    None
+}
+
+fn perm_before(bytes: &[u8]) -> Option<PermBefore<'_>>
+    ensures { IfSome result (λ found. IsPermBefore bytes.now found.perm.bits found.rest.now) }
+{
+    let [read, write, execute, feed, rest @ ..] = bytes else {
+        return None;
+    };
+    if *feed != b'\n' {
+        return None;
+    }
+    let read = is_shown(*read, b'r')?;
+    let write = is_shown(*write, b'w')?;
+    let execute = is_shown(*execute, b'x')?;
+    let perm = perm_of(read, write, execute);
+    Some(PermBefore { perm, rest })
+}
+
+fn perm_of(read: bool, write: bool, execute: bool) -> Perm
+    ensures { perm_text result.bits
+        ≡ letter_of read 114 ∷ letter_of write 119 ∷ letter_of execute 120 ∷ [] }
+{
+    let read = if read { 4 } else { 0 };
+    let write = if write { 2 } else { 0 };
+    let execute = if execute { 1 } else { 0 };
+    Perm {
+        bits: read + write + execute,
+    }
+}
+
+/// Whether a byte is a letter, where it is that or `-`.
+fn is_shown(byte: u8, letter: u8) -> Option<bool>
+    ensures { IfSome result (λ is. byte ≡ letter_of is letter) }
+{
+    if byte == letter {
+        Some(true)
+    } else if byte == b'-' {
+        Some(false)
+    } else {
+        None
+    }
+}
