@@ -17,8 +17,8 @@ use Rattle.acl_perm.specs.Profile.{full}
 use Rattle.acl_nfs4.specs.Ace.{Ace}
 use Rattle.acl_nfs4.specs.Spelling.{weight, IsAccepted}
 use Rattle.acl_nfs4.proofs.Lists.{weight-cons}
-use Rattle.acl_eval.specs.declared.from_posix.BridgeFault.{BridgeFault}
-use Rattle.acl_eval.specs.declared.from_posix.BridgeFault.TheVariants.{Limits, Memory}
+use Rattle.acl_eval.specs.declared.bridging.BridgeFault.{BridgeFault}
+use Rattle.acl_eval.specs.declared.bridging.BridgeFault.TheVariants.{Limits, Memory}
 use Rattle.acl_eval.specs.Bridge.{image, who_of, flags_of, ace_of, allow_of, deny_of, decide_of, each, is_user, is_group, is_other, bridge_list, IsBridgeFault}
 use Rattle.acl_eval.specs.BridgeBody.{cost_of, Refuses}
 use Rattle.acl_eval.proofs.Images.{four_bits, image_none}

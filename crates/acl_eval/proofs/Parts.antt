@@ -17,10 +17,10 @@ use Rattle.acl_nfs4.specs.Spelling.{IsAce, IsAccepted}
 use Rattle.acl_nfs4.specs.Push.{push_refusal, PushAnswers}
 use Rattle.acl_nfs4.specs.declared.list.push_fault.PushFault.{PushFault}
 use Rattle.acl_nfs4.specs.declared.list.push_fault.PushFault.TheVariants as refused
-use Rattle.acl_eval.specs.declared.from_posix.Part.{Part}
-use Rattle.acl_eval.specs.declared.from_posix.Part.TheVariants.{Users, GroupAllows, GroupDenies, Others}
-use Rattle.acl_eval.specs.declared.from_posix.BridgeFault.{BridgeFault}
-use Rattle.acl_eval.specs.declared.from_posix.BridgeFault.TheVariants.{Limits, Memory}
+use Rattle.acl_eval.specs.declared.bridging.Part.{Part}
+use Rattle.acl_eval.specs.declared.bridging.Part.TheVariants.{Users, GroupAllows, GroupDenies, Others}
+use Rattle.acl_eval.specs.declared.bridging.BridgeFault.{BridgeFault}
+use Rattle.acl_eval.specs.declared.bridging.BridgeFault.TheVariants.{Limits, Memory}
 use Rattle.acl_eval.specs.Bridge.{image, who_of, flags_of, ace_of, each, is_user, is_group, is_other, allow_of, deny_of, decide_of, bridge_list}
 use Rattle.acl_eval.specs.BridgeBody.{part_of, Refuses, fault_of}
 use Rattle.acl_eval.proofs.Children.{front_accepted}

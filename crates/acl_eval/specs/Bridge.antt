@@ -14,8 +14,8 @@ use Rattle.acl_posix.specs.Mask.{effective_of}
 use Rattle.acl_nfs4.specs.Ace.{Ace}
 use Rattle.acl_nfs4.specs.Spelling.{IsAccepted}
 use Rattle.acl_nfs4.specs.Who.{owner_name, group_name, everyone_name}
-use Rattle.acl_eval.specs.declared.from_posix.BridgeFault.{BridgeFault}
-use Rattle.acl_eval.specs.declared.from_posix.BridgeFault.TheVariants.{Limits, Memory}
+use Rattle.acl_eval.specs.declared.bridging.BridgeFault.{BridgeFault}
+use Rattle.acl_eval.specs.declared.bridging.BridgeFault.TheVariants.{Limits, Memory}
 
 -- the rights that permissions stand for: read is READ_DATA (0x1), write is WRITE_DATA (0x2) and APPEND_DATA (0x4),
 -- execute is EXECUTE (0x20)

@@ -8,10 +8,10 @@ use Rattle.acl_nfs4.specs.Ace.{Ace}
 use Rattle.acl_nfs4.specs.Spelling.{IsAccepted}
 use Rattle.acl_nfs4.specs.declared.list.push_fault.PushFault.{PushFault}
 use Rattle.acl_nfs4.specs.declared.list.push_fault.PushFault.TheVariants as refused
-use Rattle.acl_eval.specs.declared.from_posix.Part.{Part}
-use Rattle.acl_eval.specs.declared.from_posix.Part.TheVariants.{Users, GroupAllows, GroupDenies, Others}
-use Rattle.acl_eval.specs.declared.from_posix.BridgeFault.{BridgeFault}
-use Rattle.acl_eval.specs.declared.from_posix.BridgeFault.TheVariants.{Limits, Memory}
+use Rattle.acl_eval.specs.declared.bridging.Part.{Part}
+use Rattle.acl_eval.specs.declared.bridging.Part.TheVariants.{Users, GroupAllows, GroupDenies, Others}
+use Rattle.acl_eval.specs.declared.bridging.BridgeFault.{BridgeFault}
+use Rattle.acl_eval.specs.declared.bridging.BridgeFault.TheVariants.{Limits, Memory}
 use Rattle.acl_eval.specs.Bridge.{image, each, is_user, is_group, is_other, allow_of, deny_of, decide_of}
 
 -- the four parts of the list

@@ -59,12 +59,11 @@ fn inherited(kind: ChildKind, flags: Flags) -> Option<Flags>
     let for_files = (bits & FILE_INHERIT) != 0;
     let for_directories = (bits & DIRECTORY_INHERIT) != 0;
     let ends = (bits & NO_PROPAGATE_INHERIT) != 0;
-    let bits = match (kind, for_directories, ends) {
-        (ChildKind::File, _, _) if for_files => bits & KEPT_AT_THE_END,
-        (ChildKind::Directory, true, true) => bits & KEPT_AT_THE_END,
-        (ChildKind::Directory, true, false) => bits & KEPT_ON_THE_WAY,
-        (ChildKind::Directory, false, false) if for_files => (bits & KEPT_ON_THE_WAY)
-            | INHERIT_ONLY,
+    let bits = match kind {
+        ChildKind::File if for_files => bits & KEPT_AT_THE_END,
+        ChildKind::Directory if for_directories && ends => bits & KEPT_AT_THE_END,
+        ChildKind::Directory if for_directories => bits & KEPT_ON_THE_WAY,
+        ChildKind::Directory if for_files && !ends => (bits & KEPT_ON_THE_WAY) | INHERIT_ONLY,
         _ => return None,
     };
     Some(Flags { bits })

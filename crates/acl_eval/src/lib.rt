@@ -3,12 +3,12 @@
 
 #[cfg(test)]
 mod bridge_tests;
+mod bridging;
 #[cfg(test)]
 mod child_tests;
 mod deciding;
 #[cfg(test)]
 mod example;
-mod from_posix;
 mod grant;
 mod inherit;
 pub mod laws;
@@ -20,8 +20,8 @@ mod standing;
 #[cfg(test)]
 mod tests;
 
+pub use bridging::{BridgeFault, bridge};
 pub use deciding::{Decision, deciding_ace};
-pub use from_posix::{BridgeFault, bridge};
 pub use grant::grants;
 pub use inherit::{ChildKind, child};
 pub use mode::mode_of;

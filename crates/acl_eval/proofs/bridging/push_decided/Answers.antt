@@ -2,7 +2,7 @@ use Rattle.std.proofs.lemmas.Result.{err_from_is_err_and}
 use Rattle.acl_posix.specs.Entries.{pair_of}
 use Rattle.acl_eval.specs.Bridge.{allow_of, deny_of}
 use Rattle.acl_eval.proofs.Parts.{refuses_then}
-use Rattle.acl_eval.proofs.from_posix.push_decided.Goals as goal
+use Rattle.acl_eval.proofs.bridging.push_decided.Goals as goal
 
 pub returns-in_err-push_allowed : goal.returns-in_err-push_allowed
 returns-in_err-push_allowed c =

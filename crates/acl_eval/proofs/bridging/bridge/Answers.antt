@@ -7,7 +7,7 @@ use Rattle.acl_eval.proofs.BridgeWeight.{then_memory}
 use Rattle.acl_eval.proofs.Accepted.{owned_accepted}
 use Rattle.std.proofs.lemmas.Result.{err_from_is_err_and}
 use Rattle.acl_eval.proofs.Parts.{whole, refused_at_users, refused_at_allows, refused_at_denies, refused_at_others}
-use Rattle.acl_eval.proofs.from_posix.bridge.Goals as goal
+use Rattle.acl_eval.proofs.bridging.bridge.Goals as goal
 
 pub returns-in_err-push_part-clause-fault : goal.returns-in_err-push_part-clause-fault
 returns-in_err-push_part-clause-fault c =

@@ -1,6 +1,6 @@
 use Rattle.std.proofs.lemmas.Result.{err_from_is_err_and}
 use Rattle.acl_eval.proofs.Parts.{part_refused}
-use Rattle.acl_eval.proofs.from_posix.push_part.Goals as goal
+use Rattle.acl_eval.proofs.bridging.push_part.Goals as goal
 
 pub returns-in_err-push_entry : goal.returns-in_err-push_entry
 returns-in_err-push_entry c =

@@ -1,6 +1,6 @@
 use Rattle.std.proofs.Common.{ℕ, ◌+◌, ◌<◌, subst}
 use Rattle.acl_eval.proofs.BridgeWeight.{too_heavy, light_enough}
-use Rattle.acl_eval.proofs.from_posix.is_within.Goals as goal
+use Rattle.acl_eval.proofs.bridging.is_within.Goals as goal
 
 pub returns-then-weight-gt-MOST_WEIGHT : goal.returns-then-weight-gt-MOST_WEIGHT
 returns-then-weight-gt-MOST_WEIGHT c =

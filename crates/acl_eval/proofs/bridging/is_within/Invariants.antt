@@ -2,7 +2,7 @@ use Rattle.std.proofs.Common.{◌≡◌, ◌≤◌, take}
 use Rattle.std.specs.Prelude.{sum_by}
 use Rattle.acl_posix.specs.Entries.{pair_of}
 use Rattle.acl_eval.proofs.BridgeWeight.{cost}
-use Rattle.acl_eval.proofs.from_posix.is_within.Given as goal
+use Rattle.acl_eval.proofs.bridging.is_within.Given as goal
 
 -- the entries so far cost so many bits
 abbrev pub invariant-loop-entry : goal.invariant-loop-entry

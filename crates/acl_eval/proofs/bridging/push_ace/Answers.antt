@@ -3,7 +3,7 @@ use Rattle.acl_nfs4.specs.Ace.{Ace}
 use Rattle.acl_posix.specs.Tag.{tag_of}
 use Rattle.acl_eval.specs.Bridge.{ace_of}
 use Rattle.acl_eval.proofs.Parts.{none_of, one_of, push_refused}
-use Rattle.acl_eval.proofs.from_posix.push_ace.Goals as goal
+use Rattle.acl_eval.proofs.bridging.push_ace.Goals as goal
 
 pub returns-then-perm-eq0 : goal.returns-then-perm-eq0
 returns-then-perm-eq0 c = none_of c.args.kind (tag_of c.args.tag) c.args.perm.bits c.args.list.now c.if-perm-eq0.true
