@@ -1,3 +1,4 @@
+pub mod PlainLanes
 pub mod PlainText
 pub mod Within
 pub mod Loop

@@ -2,10 +2,11 @@
 ghost use Rattle.std.specs.Prelude.{◌≡◌, ◌≤◌, length, false};
 ghost use Rattle.std.specs.Str.{is_utf8};
 ghost use Rattle.std.specs.List.{list_all};
-ghost use Rattle.acl_nfs4.specs.internal.Reading.{Judges, is_plain_ascii, text_fault};
+ghost use Rattle.acl_nfs4.specs.internal.Reading.{Judges, text_fault};
 ghost use Rattle.acl_nfs4.specs.Who.{ends_in_at, is_plain, is_special, is_no_who_len, who_fault};
 
 use crate::limits::LONGEST_WHO;
+use crate::plain_ascii::is_plain_ascii;
 
 /// What keeps bytes from being a who, in the order in which it is judged.
 #[derive(Clone, Copy)]
@@ -36,13 +37,6 @@ fn is_plain_text(bytes: &[u8]) -> bool
     ensures { result ≡ list_all is_plain bytes.now }
 {
     bytes.iter().all(|byte| is_plain_byte(*byte))
-}
-
-#[inline(always)]
-fn is_plain_ascii(bytes: &[u8]) -> bool
-    ensures { result ≡ list_all is_plain_ascii bytes.now }
-{
-    bytes.iter().all(|byte| *byte >= 0x20 && *byte < 0x7f)
 }
 
 #[inline(always)]
@@ -99,7 +93,7 @@ pub(crate) fn judge_text(who: &[u8]) -> Result<(), WhoFault>
     requires { is_no_who_len (length who.now) ≡ false }
     ensures { Judges result (who_fault who.now) }
 {
-    // Most names are plain ASCII, which one pass tells.
+    // Most names are plain ASCII, which is told many bytes at once.
     if !is_plain_ascii(who) {
         judge_bytes(who)?;
     }

@@ -1,12 +1,12 @@
 -- Reading from left to right, with the first fault that is met: what this library's readers compute. No public
 -- clause cites it.
-use Rattle.std.specs.Prelude.{◌≡◌, ℕ, zero, suc, ◌+◌, List, [], ◌∷◌, length, take, drop, Result, Ok, Err, Option, None, Some, nat_le, nat_lt, ◌&&◌, not, ◌==◌, Bool, if◌then◌else◌, count_ones}
+use Rattle.std.specs.Prelude.{◌≡◌, ℕ, zero, suc, ◌+◌, List, [], ◌∷◌, length, take, drop, Result, Ok, Err, Option, None, Some, nat_le, nat_lt, ◌&&◌, not, ◌==◌, Bool, true, if◌then◌else◌, count_ones}
 use Rattle.acl_perm.specs.Profile.{Profile}
 use Rattle.acl_perm.specs.declared.kind.Kind.{Kind}
 use Rattle.acl_perm.specs.declared.kind.Kind.TheVariants.{Deny, Allow}
 use Rattle.acl_nfs4.specs.Ace.{Ace}
 use Rattle.acl_nfs4.specs.Fields.{number, count_of, kind_of, flags_of, mask_of, who_len_of, who_of, padding_of}
-use Rattle.std.specs.List.{list_all}
+use Rattle.std.specs.List.{AllWithin, list_all}
 use Rattle.std.specs.Str.{is_utf8}
 use Rattle.acl_nfs4.specs.Spelling.{pad_len}
 use Rattle.acl_nfs4.specs.Who.{is_plain}
@@ -35,6 +35,10 @@ Judges (Err e) fault = fault ≡ Some e
 -- an ASCII byte that is no control byte
 abbrev pub is_plain_ascii : ℕ → Bool
 is_plain_ascii b = nat_le 0x20 b && nat_lt b 0x7f
+
+-- each byte from one place up to another is plain ASCII
+abbrev pub ArePlain : List ℕ → ℕ → ℕ → Type 0
+ArePlain bytes from to = AllWithin (λ b. is_plain_ascii b ≡ true) bytes from to
 
 -- the first that bytes break of the conditions on their encoding
 abbrev pub text_fault : List ℕ → Option WhoFault
