@@ -1,10 +1,12 @@
 -- Tables that name bits: the rows that words name, and the sets of them.
-use Rattle.std.proofs.Common.{◌≡◌, ℕ, zero, suc, ◌*◌, ◌^◌, ◌<◌, Bool, true, false, cond, eqb, List, [], ◌∷◌, Option, Some, None, refl, sym, ap, ◌∙◌, subst, arith, inl, inr, Bor}
+use Rattle.std.proofs.Common.{◌≡◌, ℕ, zero, suc, ◌*◌, ◌^◌, ◌<◌, Bool, true, false, cond, eqb, ltb, List, [], ◌∷◌, length, get_or, drop, Option, Some, None, refl, sym, ap, ◌∙◌, subst, arith, inl, inr, ⊎_elim, Bor}
 use Rattle.std.specs.Prelude.{◌&&◌, ◌||◌, ◌↔◌, bit_and, bit_or, find, option_map, IfSome, IsSome}
 use Rattle.std.specs.List.{list_all, slice_split, join_with_byte, AllByRecursion}
 use Rattle.std.specs.Option.{option_map_or}
 use Rattle.std.specs.Str.{bytes_eq}
-use Rattle.std.proofs.lemmas.Bool.{eqb-true, eq-eqb}
+use Rattle.std.proofs.lemmas.Bool.{eqb-true, eq-eqb, ltb-true}
+use Rattle.std.proofs.lemmas.Bool.Decides.{eqb_tells}
+use Rattle.std.proofs.lemmas.Nat.{and_le_l}
 use Rattle.std.proofs.lemmas.Option.{option_and_then_some}
 use Rattle.std.proofs.Math.Bool.{and-or_distrib_left}
 use Rattle.std.proofs.lemmas.Nat.Bits.{and_pow, bit_at-lt}
@@ -14,7 +16,7 @@ use Rattle.acl_perm.specs.declared.mask.Mask.{Mask}
 use Rattle.acl_perm.proofs.Bools.{and_true}
 use Rattle.acl_perm.proofs.Sets.{IsMask-union, has_bit-and, has_bit-or, same_set, no_bit}
 use Rattle.acl_nfs4.specs.BitNames.{BitName, is_name_of, bit_in, bits_in, names_of, no_names, set_named, set_text, first_name, bar, SpellsSet}
-use Rattle.acl_nfs4.specs.internal.NameTable.{part_of, row_of, set_within, table_of}
+use Rattle.acl_nfs4.specs.internal.NameTable.{is_rising, part_of, row_of, set_within, table_of}
 use Rattle.acl_nfs4.specs.FlagNames.{flag_names}
 use Rattle.acl_nfs4.specs.Rights.{rights, SpellsMask, mask_named}
 use Rattle.acl_nfs4.specs.Within.{IsWithin, is_within}
@@ -34,6 +36,32 @@ row_found (r ∷ rows) word =
       | true ↦ refl
       | false ↦ row_found rows word
     ]
+
+-- ---- the names behind a row
+
+above_all : (bits bit : ℕ) → bits < bit → eqb (bit_and bits bit) bit ≡ false
+above_all bits bit lt = ⊎_elim (λ h. absurd (omega (arith, lt, h.1, and_le_l bits bit))) (λ h. h.0)
+    (eqb_tells (bit_and bits bit) bit)
+
+-- a set has none of bits that are greater than it
+none_above : (rows : List Row) (set bit : ℕ) → set < bit → list_all (λ next. ltb bit next.bit) rows ≡ true
+    → names_of (table_of rows) set ≡ []
+none_above [] set bit lt h = refl
+none_above (r ∷ rows) set bit lt h =
+    let both = and_true (ltb bit r.bit) (list_all (λ next. ltb bit next.bit) rows) h in
+    let less : set < r.bit = omega (arith, lt, ltb-true bit r.bit both.0) in
+    rw (above_all set r.bit less) (none_above rows set bit lt both.1)
+
+-- and where rows rise, none of those from such a row on
+pub none_from : (table : List Row) (set i : ℕ) (d : Row) → is_rising table ≡ true → i < length table
+    → set < (get_or table i d).bit → names_of (table_of (drop i table)) set ≡ []
+none_from [] set i d rising inside lt = absurd (omega (arith, inside))
+none_from (r ∷ rows) set zero d rising inside lt =
+    let both = and_true (list_all (λ next. ltb r.bit next.bit) rows) (is_rising rows) rising in
+    rw (above_all set r.bit lt) (none_above rows set r.bit lt both.0)
+none_from (r ∷ rows) set (suc i) d rising inside lt =
+    let both = and_true (list_all (λ next. ltb r.bit next.bit) rows) (is_rising rows) rising in
+    none_from rows set i d both.1 (omega (arith, inside)) lt
 
 -- the name of the row of a bit
 pub row_of_bit_found : (table : List Row) (bit : ℕ)

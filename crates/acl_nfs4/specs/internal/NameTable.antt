@@ -1,6 +1,6 @@
 -- A table of names as this library's code holds it, and how it cuts a field that names some. No public clause cites it.
-use Rattle.std.specs.Prelude.{◌≡◌, ◌+◌, ◌<◌, ◌==◌, ℕ, List, [], ◌∷◌, length, map, nat_le, Bool, ◌++◌, if◌then◌else◌, Option, None, Some, option_map}
-use Rattle.std.specs.List.{slice_split, join_with_byte}
+use Rattle.std.specs.Prelude.{◌≡◌, ◌+◌, ◌<◌, ◌==◌, ◌&&◌, ℕ, List, [], ◌∷◌, length, map, nat_le, nat_lt, Bool, true, ◌++◌, if◌then◌else◌, Option, None, Some, option_map}
+use Rattle.std.specs.List.{slice_split, join_with_byte, list_all}
 use Rattle.acl_nfs4.specs.BitNames.{BitName, bar, set_named}
 use Rattle.acl_nfs4.specs.Within.{is_within}
 use Rattle.acl_nfs4.specs.declared.names.bit_names.BitName.{BitName as Row}
@@ -16,6 +16,11 @@ table_of rows = map row_of rows
 -- a row whose first name has at most 20 bytes
 abbrev pub is_short : Row → Bool
 is_short r = nat_le (length r.name.now) 20
+
+-- the bits of the rows rise
+abbrev pub is_rising : List Row → Bool
+is_rising [] = true
+is_rising (r ∷ rows) = list_all (λ next. nat_lt r.bit next.bit) rows && is_rising rows
 
 -- what stands before a name of a field that is written
 abbrev pub lead : Bool → List ℕ

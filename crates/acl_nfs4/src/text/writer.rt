@@ -10,7 +10,7 @@ ghost use Rattle.acl_nfs4.specs.Ace.{Ace, ace};
 ghost use Rattle.acl_nfs4.specs.AceText.{IsAceText, ace_line, ace_text, kind_name};
 ghost use Rattle.acl_nfs4.specs.BitNames.{bar, names_of, set_text};
 ghost use Rattle.acl_nfs4.specs.Limits.{longest_who, most_aces};
-ghost use Rattle.acl_nfs4.specs.internal.NameTable.{is_short, lead, table_of};
+ghost use Rattle.acl_nfs4.specs.internal.NameTable.{is_rising, is_short, lead, table_of};
 
 use crate::ace::AceRef;
 use crate::list::aces::Aces;
@@ -44,6 +44,7 @@ fn kind_name(kind: Kind) -> &'static [u8]
 // Adds the names of a set that is not empty, with `|` between them.
 fn add_names(line: &mut Line, table: &[BitName], set: u32)
     requires short { list_all is_short table.now ≡ true }
+    requires rising { is_rising table.now ≡ true }
     requires room { array_vec_len line.old + 21 * length table.now ≤ 1600 }
     ensures text { line.new.items ≡ line.old.items ++ join_with_byte bar
         (names_of (table_of table.now) set) }
@@ -51,6 +52,10 @@ fn add_names(line: &mut Line, table: &[BitName], set: u32)
 {
     let mut is_first = true;
     for row in table {
+        // The bits of the rows behind this one are greater still.
+        if row.bit > set {
+            break;
+        }
         if set & row.bit == row.bit {
             add_name(line, row.name.as_bytes(), is_first);
             is_first = false;
@@ -74,6 +79,7 @@ fn add_name(line: &mut Line, name: &[u8], is_first: bool)
 #[tactic(auto, unfolding(crate::specs::BitNames::set_text))]
 fn add_set(line: &mut Line, table: &[BitName], set: u32)
     requires short { list_all is_short table.now ≡ true }
+    requires rising { is_rising table.now ≡ true }
     requires room { array_vec_len line.old + 21 * length table.now + 1 ≤ 1600 }
     ensures text { line.new.items ≡ line.old.items ++ set_text (table_of table.now) set }
     ensures len { array_vec_len line.new ≤ array_vec_len line.old + 21 * length table.now + 1 }
