@@ -146,13 +146,8 @@ fn lists(rt: &impl Abort, alloc: Global) -> Result<(), BridgeFault> {
 }
 
 #[test]
-fn a_list_for_each_acl(rt: HostRuntime) {
+fn each_acl_has_its_list(rt: HostRuntime) {
     assert!(rt; matches!(lists(&rt, rt.alloc()), Ok(()) | Err(BridgeFault::Memory)));
-}
-
-#[test]
-fn ample_lists_for_acls(rt: HostRuntime) {
-    assert!(rt; lists(&rt, rt.alloc()).is_ok());
 }
 
 // Whether user 3, in the groups 50 and 60, passes the check of an object of user 1 and group 2.
@@ -176,24 +171,6 @@ static REQUESTS: [(u8, u32, bool, bool); 4] = [
     (2, 0x06, true, true),
     (1, 0x20, false, false),
 ];
-
-// Two groups that have read and write apart are denied both at once by the check, and granted them by the list.
-#[test]
-fn ample_more_at_once(rt: HostRuntime) -> Result<(), Fail> {
-    let acl = acl_of(rt.alloc(), &TWO_GROUPS)?;
-    let list = bridge(rt.alloc(), &acl)?;
-    for (want, mask, checked, granted) in REQUESTS {
-        assert!(rt;
-            is_checked(&acl, want) == Some(checked),
-            "the check of {want}"
-        );
-        assert!(rt;
-            is_listed(&list, mask) == Some(granted),
-            "the list at {want}"
-        );
-    }
-    Ok(())
-}
 
 fn push_row(entries: &mut Vec<Entry>, row: Row) -> Result<(), Fail> {
     let entry = entry_of(row).ok_or("an entry")?;
@@ -225,13 +202,44 @@ fn judge_limit(rt: &impl Abort, alloc: Global, acl: &PosixAcl, is_within: bool) 
     }
 }
 
-// USER_OBJ, GROUP_OBJ and each USER cost four bits: 16,382 users fill a list.
-#[test]
-fn ample_limits(rt: HostRuntime) -> Result<(), Fail> {
-    for (users, other, is_within) in [(16382u32, 0, true), (16382, 4, false), (16383, 0, false)] {
-        let entries = crowd(rt.alloc(), users, other)?;
-        let acl = PosixAcl::from_entries(rt.alloc(), entries)?;
-        judge_limit(&rt, rt.alloc(), &acl, is_within);
+mod ample {
+    use super::*;
+
+    #[test]
+    fn each_acl_has_its_list(rt: HostRuntime) {
+        assert!(rt; lists(&rt, rt.alloc()).is_ok());
     }
-    Ok(())
+
+    // Two groups that have read and write apart are denied both at once by the check, and granted them by the list.
+    #[test]
+    fn a_list_grants_at_once_what_two_groups_have(rt: HostRuntime) -> Result<(), Fail> {
+        let acl = acl_of(rt.alloc(), &TWO_GROUPS)?;
+        let list = bridge(rt.alloc(), &acl)?;
+        for (want, mask, checked, granted) in REQUESTS {
+            assert!(rt;
+                is_checked(&acl, want) == Some(checked),
+                "the check of {want}"
+            );
+            assert!(rt;
+                is_listed(&list, mask) == Some(granted),
+                "the list at {want}"
+            );
+        }
+        Ok(())
+    }
+
+    // USER_OBJ, GROUP_OBJ and each USER cost four bits: 16,382 users fill a list.
+    #[test]
+    fn a_bridge_ends_at_the_limits_of_lists(rt: HostRuntime) -> Result<(), Fail> {
+        for (users, other, is_within) in [
+            (16382u32, 0, true),
+            (16382, 4, false),
+            (16383, 0, false),
+        ] {
+            let entries = crowd(rt.alloc(), users, other)?;
+            let acl = PosixAcl::from_entries(rt.alloc(), entries)?;
+            judge_limit(&rt, rt.alloc(), &acl, is_within);
+        }
+        Ok(())
+    }
 }

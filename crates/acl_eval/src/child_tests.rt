@@ -122,13 +122,8 @@ fn created(rt: &impl Abort, alloc: Global) -> Result<(), PushFault> {
 }
 
 #[test]
-fn a_child_inherits(rt: HostRuntime) {
+fn a_child_inherits_by_its_kind(rt: HostRuntime) {
     assert!(rt; matches!(created(&rt, rt.alloc()), Ok(()) | Err(PushFault::Memory)));
-}
-
-#[test]
-fn ample_children(rt: HostRuntime) {
-    assert!(rt; created(&rt, rt.alloc()).is_ok());
 }
 
 // The flags of RFC 8881, section 6.2.1.4.1.
@@ -217,45 +212,10 @@ fn creates_many(alloc: Global, count: usize, kind: ChildKind) -> Result<bool, Pu
     Ok(list.len() == count)
 }
 
-#[test]
-fn ample_children_of_many_entries(rt: HostRuntime) {
-    for count in [65, 4_097, 65_536usize] {
-        for kind in [ChildKind::File, ChildKind::Directory] {
-            assert!(rt;
-                creates_many(rt.alloc(), count, kind) == Ok(true),
-                "{count}"
-            );
-        }
-    }
-}
-
-#[test]
-fn ample_children_of_every_set_of_flags(rt: HostRuntime) {
-    for flags in 0..256u32 {
-        for kind in [ChildKind::File, ChildKind::Directory] {
-            assert!(rt;
-                creates_by_the_rules(rt.alloc(), kind, flags) == Ok(true),
-                "{flags}"
-            );
-        }
-    }
-}
-
 fn may_alice_read(list: &Acl) -> Option<bool> {
     let object = Object::new(b"bob", b"staff")?;
     let requester = Requester::new(b"alice", &[])?;
     Some(grants(list.aces(), &object, &requester, Mask::new(1)?))
-}
-
-// An ACE that only files inherit waits in a new directory for the files in it.
-#[test]
-fn ample_directories_wait_for_files(rt: HostRuntime) -> Result<(), PushFault> {
-    let parent = built(rt.alloc(), &[(Kind::Allow, 0x01, 1, b"alice")])?;
-    let directory = child_of(rt.alloc(), &parent, ChildKind::Directory)?;
-    let file = child_of(rt.alloc(), &directory, ChildKind::File)?;
-    assert!(rt; may_alice_read(&directory) == Some(false), "the directory");
-    assert!(rt; may_alice_read(&file) == Some(true), "the file");
-    Ok(())
 }
 
 // DENY WRITE_DATA OWNER@, ALLOW READ_DATA, WRITE_DATA and APPEND_DATA EVERYONE@.
@@ -295,7 +255,7 @@ static MODES: [(&[Row], u16); 14] = [
 ];
 
 #[test]
-fn the_mode_of_a_view(rt: HostRuntime) {
+fn a_view_has_its_mode(rt: HostRuntime) {
     let mode = match AclView::parse_whole(NO_WRITE) {
         Ok(list) => Some(mode_of(list.aces()).bits()),
         Err(_) => None,
@@ -312,11 +272,55 @@ fn modes(rt: &impl Abort, alloc: Global) -> Result<(), PushFault> {
 }
 
 #[test]
-fn the_mode_of_a_list(rt: HostRuntime) {
+fn a_list_has_its_mode(rt: HostRuntime) {
     assert!(rt; matches!(modes(&rt, rt.alloc()), Ok(()) | Err(PushFault::Memory)));
 }
 
-#[test]
-fn ample_modes(rt: HostRuntime) {
-    assert!(rt; modes(&rt, rt.alloc()).is_ok());
+mod ample {
+    use super::*;
+
+    #[test]
+    fn a_child_inherits_by_its_kind(rt: HostRuntime) {
+        assert!(rt; created(&rt, rt.alloc()).is_ok());
+    }
+
+    #[test]
+    fn many_aces_are_inherited(rt: HostRuntime) {
+        for count in [65, 4_097, 65_536usize] {
+            for kind in [ChildKind::File, ChildKind::Directory] {
+                assert!(rt;
+                    creates_many(rt.alloc(), count, kind) == Ok(true),
+                    "{count}"
+                );
+            }
+        }
+    }
+
+    #[test]
+    fn every_set_of_flags_is_inherited_by_the_rules(rt: HostRuntime) {
+        for flags in 0..256u32 {
+            for kind in [ChildKind::File, ChildKind::Directory] {
+                assert!(rt;
+                    creates_by_the_rules(rt.alloc(), kind, flags) == Ok(true),
+                    "{flags}"
+                );
+            }
+        }
+    }
+
+    // An ACE that only files inherit waits in a new directory for the files in it.
+    #[test]
+    fn a_directory_hands_on_what_is_for_files(rt: HostRuntime) -> Result<(), PushFault> {
+        let parent = built(rt.alloc(), &[(Kind::Allow, 0x01, 1, b"alice")])?;
+        let directory = child_of(rt.alloc(), &parent, ChildKind::Directory)?;
+        let file = child_of(rt.alloc(), &directory, ChildKind::File)?;
+        assert!(rt; may_alice_read(&directory) == Some(false), "the directory");
+        assert!(rt; may_alice_read(&file) == Some(true), "the file");
+        Ok(())
+    }
+
+    #[test]
+    fn a_list_has_its_mode(rt: HostRuntime) {
+        assert!(rt; modes(&rt, rt.alloc()).is_ok());
+    }
 }

@@ -12,7 +12,7 @@ ghost use Rattle.acl_nfs4.specs.declared.xdr.fault.Reason.TheVariants.{Truncated
 ghost use Rattle.acl_nfs4.specs.internal.Progress.{IsFeed, IsProgress, Judged, standing};
 
 use crate::feed::fed::Fed;
-use crate::feed::scan::{Progress, scan};
+use crate::feed::scan::{Progress, Reach, scan};
 use crate::feed::stream::Text;
 use crate::limits::MOST_ACES;
 use crate::list::acl::Acl;
@@ -54,10 +54,10 @@ impl Model for Feed {
 }
 
 // Where a text ends, from where it was judged to.
-fn judge(text: &Text, from: Progress, profile: Profile) -> (Progress, Option<Fault>)
+fn judge(text: &Text, from: Progress, profile: Profile) -> Reach
     requires { IsProgress (profile_of profile) text.now from }
-    ensures progress { IsProgress (profile_of profile) text.now result.0 }
-    ensures judged { Judged (profile_of profile) text.now result.0 result.1 }
+    ensures progress { IsProgress (profile_of profile) text.now result.progress }
+    ensures judged { Judged (profile_of profile) text.now result.progress result.fault }
     ensures fits { length text.now < 2 ^ 64 }
 {
     match text.count() {
@@ -66,7 +66,10 @@ fn judge(text: &Text, from: Progress, profile: Profile) -> (Progress, Option<Fau
                 offset: 0,
                 reason: Reason::Truncated,
             };
-            (from, Some(fault))
+            Reach {
+                progress: from,
+                fault: Some(fault),
+            }
         }
         Some(count) => {
             if count > MOST_ACES {
@@ -74,25 +77,31 @@ fn judge(text: &Text, from: Progress, profile: Profile) -> (Progress, Option<Fau
                     offset: 0,
                     reason: Reason::TooManyAces,
                 };
-                return (from, Some(fault));
+                return Reach {
+                    progress: from,
+                    fault: Some(fault),
+                };
             }
             scan(text.body(), count, from, profile)
         }
     }
 }
 
+// What a piece makes of a feed, and the answer to it.
+#[derive(Clone, Copy)]
+struct Step {
+    stage: Stage,
+    progress: Progress,
+    fed: Fed,
+}
+
 // One more piece of a text that is cut short.
-fn advance(
-    text: &mut Text,
-    piece: &[u8],
-    from: Progress,
-    profile: Profile,
-) -> (Stage, Progress, Fed)
+fn advance(text: &mut Text, piece: &[u8], from: Progress, profile: Profile) -> Step
     requires progress { IsProgress (profile_of profile) text.old from }
     requires cut { IsCut (profile_of profile) text.old }
-    ensures feed { IsFeed (profile_of profile) result.0 result.1 text.new }
-    ensures feeds { Feeds (more (profile_of profile) text.old) piece.now result.2
-        (standing (profile_of profile) result.0 result.1 text.new) }
+    ensures feed { IsFeed (profile_of profile) result.stage result.progress text.new }
+    ensures feeds { Feeds (more (profile_of profile) text.old) piece.now result.fed
+        (standing (profile_of profile) result.stage result.progress text.new) }
 {
     let before = text.len();
     match text.extend(piece) {
@@ -101,21 +110,38 @@ fn advance(
                 offset: 0,
                 reason: Reason::Memory,
             };
-            (Stage::Refused(fault), from, Fed::Refused(fault))
+            Step {
+                stage: Stage::Refused(fault),
+                progress: from,
+                fed: Fed::Refused(fault),
+            }
         }
         Ok(()) => {
-            let (progress, end) = judge(text, from, profile);
-            match end {
+            let reach = judge(text, from, profile);
+            let progress = reach.progress;
+            match reach.fault {
                 None => {
                     text.cut(progress.used);
                     let fed = Fed::Done {
                         taken: 4 + progress.used - before,
                     };
-                    (Stage::Done, progress, fed)
+                    Step {
+                        stage: Stage::Done,
+                        progress,
+                        fed,
+                    }
                 }
                 Some(fault) => match fault.reason {
-                    Reason::Truncated => (Stage::Open(fault), progress, Fed::More),
-                    _ => (Stage::Refused(fault), progress, Fed::Refused(fault)),
+                    Reason::Truncated => Step {
+                        stage: Stage::Open(fault),
+                        progress,
+                        fed: Fed::More,
+                    },
+                    _ => Step {
+                        stage: Stage::Refused(fault),
+                        progress,
+                        fed: Fed::Refused(fault),
+                    },
                 },
             }
         }
@@ -158,15 +184,10 @@ impl Feed {
             Stage::Done => Fed::Done { taken: 0 },
             Stage::Refused(fault) => Fed::Refused(fault),
             Stage::Open(_) => {
-                let (stage, progress, fed) = advance(
-                    &mut self.text,
-                    piece,
-                    self.progress,
-                    self.profile,
-                );
-                self.stage = stage;
-                self.progress = progress;
-                fed
+                let step = advance(&mut self.text, piece, self.progress, self.profile);
+                self.stage = step.stage;
+                self.progress = step.progress;
+                step.fed
             }
         }
     }

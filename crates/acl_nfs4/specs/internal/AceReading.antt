@@ -20,6 +20,7 @@ use Rattle.acl_nfs4.specs.declared.who.WhoFault.{WhoFault}
 use Rattle.acl_nfs4.specs.declared.who.WhoFault.TheVariants as who
 use Rattle.acl_nfs4.specs.declared.text.fault.AceTextFault.{AceTextFault}
 use Rattle.acl_nfs4.specs.declared.text.fault.AceTextFault.TheVariants as faults
+use Rattle.acl_nfs4.specs.declared.text.line.FirstField.{FirstField}
 use Rattle.acl_nfs4.specs.declared.text.line.LineFields.{LineFields as HeldFields}
 
 -- ---- fields
@@ -29,6 +30,10 @@ abbrev pub cut_space : List ℕ → Option (List ℕ × List ℕ)
 cut_space [] = None
 cut_space (b ∷ bytes) =
     if b == 0x20 then Some ([], bytes) else option_map (λ parts. (b ∷ parts.0, parts.1)) (cut_space bytes)
+
+-- the same parts in code
+abbrev pub view_first : FirstField → List ℕ × List ℕ
+view_first parts = (parts.field.now, parts.rest.now)
 
 -- the last two fields, behind these two
 abbrev pub last_fields : List ℕ → List ℕ → Option (List ℕ × List ℕ) → Option LineFields

@@ -16,18 +16,20 @@ pub(crate) struct Progress {
     pub weight: u32,
 }
 
+/// Where judging ended: the ACEs that are whole, and the fault behind them, where there is one.
+#[derive(Clone, Copy)]
+pub(crate) struct Reach {
+    pub progress: Progress,
+    pub fault: Option<Fault>,
+}
+
 /// Judges the ACEs from there on, up to the first that isn't whole or is refused.
-pub(crate) fn scan(
-    body: &[u8],
-    count: u32,
-    from: Progress,
-    profile: Profile,
-) -> (Progress, Option<Fault>)
+pub(crate) fn scan(body: &[u8], count: u32, from: Progress, profile: Profile) -> Reach
     requires scanned { IsScanned (profile_of profile) body.now from }
     requires seen { from.seen ≤ count }
     requires fits { 4 + length body.now < 2 ^ 64 }
-    ensures scanned { IsScanned (profile_of profile) body.now result.0 }
-    ensures ends { Ends (profile_of profile) count body.now result.0 result.1 }
+    ensures scanned { IsScanned (profile_of profile) body.now result.progress }
+    ensures ends { Ends (profile_of profile) count body.now result.progress result.fault }
 {
     let (_, rest) = body.split_at(from.used);
     let mut cursor = Cursor {
@@ -44,8 +46,16 @@ pub(crate) fn scan(
                     weight: progress.weight + ace.mask.bits().count_ones(),
                 };
             }
-            Err(fault) => return (progress, Some(fault)),
+            Err(fault) => {
+                return Reach {
+                    progress,
+                    fault: Some(fault),
+                };
+            }
         }
     }
-    (progress, None)
+    Reach {
+        progress,
+        fault: None,
+    }
 }

@@ -42,13 +42,25 @@ fn bit_in(table: &[BitName], word: &[u8]) -> Option<u32>
     }
 }
 
-// The part before the first `|`, and what stands after it.
-fn cut(field: &[u8]) -> (&[u8], Option<&[u8]>)
-    ensures { IsCut field.now result.0.now (option_copied result.1) }
+// The part of a field before the first `|`, and what stands after it.
+#[derive(Clone, Copy)]
+struct FirstWord<'a> {
+    word: &'a [u8],
+    after: Option<&'a [u8]>,
+}
+
+fn cut(field: &[u8]) -> FirstWord<'_>
+    ensures { IsCut field.now result.word.now (option_copied result.after) }
 {
     match bar_in(field) {
-        Some(place) => (&field[..place], Some(&field[place + 1..])),
-        None => (field, None),
+        Some(place) => FirstWord {
+            word: &field[..place],
+            after: Some(&field[place + 1..]),
+        },
+        None => FirstWord {
+            word: field,
+            after: None,
+        },
     }
 }
 
@@ -64,9 +76,9 @@ fn bits_in(table: &[BitName], field: &[u8]) -> Option<u32>
     let mut bits = 0;
     let mut rest = Some(field);
     while let Some(text) = rest {
-        let (word, after) = cut(text);
-        bits |= bit_in(table, word)?;
-        rest = after;
+        let first = cut(text);
+        bits |= bit_in(table, first.word)?;
+        rest = first.after;
     }
     Some(bits)
 }

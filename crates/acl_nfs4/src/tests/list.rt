@@ -105,7 +105,7 @@ fn shows(aces: Aces<'_>, rows: &[Row]) -> bool {
 }
 
 // Tables answer Memory where they meet it. Each runs twice: once with Memory for an answer, and in a test named
-// `ample..` without.
+// `ample` without.
 fn passes(answer: Result<(), PushFault>) -> bool {
     matches!(answer, Ok(()) | Err(PushFault::Memory))
 }
@@ -141,11 +141,6 @@ fn a_copy_is_the_same_list(rt: HostRuntime) {
     assert!(rt; passes(copies(&rt, rt.alloc())));
 }
 
-#[test]
-fn ample_copies(rt: HostRuntime) {
-    assert!(rt; copies(&rt, rt.alloc()).is_ok());
-}
-
 fn viewed(
     rt: &impl Abort,
     alloc: Global,
@@ -179,11 +174,6 @@ fn views(rt: &impl Abort, alloc: Global) -> Result<(), PushFault> {
 #[test]
 fn a_list_from_a_view_is_what_the_view_shows(rt: HostRuntime) {
     assert!(rt; passes(views(&rt, rt.alloc())));
-}
-
-#[test]
-fn ample_views(rt: HostRuntime) {
-    assert!(rt; views(&rt, rt.alloc()).is_ok());
 }
 
 // What is answered where an ACE with this mask and who is pushed, and what the list then shows.
@@ -234,11 +224,6 @@ fn a_push_is_judged_by_its_who(rt: HostRuntime) {
 }
 
 #[test]
-fn ample_pushes(rt: HostRuntime) {
-    assert!(rt; pushes(&rt, rt.alloc()).is_ok());
-}
-
-#[test]
 fn a_name_that_begins_like_the_owner_is_a_user(rt: HostRuntime) {
     let Some(ace) = item((Kind::Allow, 0, 1, b"OWNER@x")) else {
         return;
@@ -285,11 +270,6 @@ fn a_list_fits_the_profile_of_its_bits(rt: HostRuntime) {
     assert!(rt; passes(fitting(&rt, rt.alloc())));
 }
 
-#[test]
-fn ample_profiles(rt: HostRuntime) {
-    assert!(rt; fitting(&rt, rt.alloc()).is_ok());
-}
-
 // A list with so many of the same ACE.
 fn repeated(alloc: Global, count: u32, row: Row) -> Result<Acl, PushFault> {
     let mut list = Acl::new(alloc);
@@ -311,17 +291,6 @@ fn copied(rt: &impl Abort, alloc: Global, list: &Acl) -> Result<(), AllocError> 
     let copy = list.copy(alloc)?;
     assert!(rt; copy == *list);
     Ok(())
-}
-
-// What is judged before the who: the number of ACEs, and then the weight.
-#[test]
-fn ample_memory_for_full_lists(rt: HostRuntime) -> Result<(), PushFault> {
-    let mut list = repeated(rt.alloc(), 65_536, (Kind::Allow, 0, 0, b"a"))?;
-    assert!(rt; pushed_nameless(&mut list, 1) == Some(Err(PushFault::TooManyAces)));
-    assert!(rt; list.len() == 65_536);
-    assert!(rt; list.weight() == 0);
-    assert!(rt; copied(&rt, rt.alloc(), &list).is_ok());
-    heavy_list(&rt, rt.alloc())
 }
 
 fn heavy_list(rt: &impl Abort, alloc: Global) -> Result<(), PushFault> {
@@ -346,25 +315,6 @@ fn full_from_view(alloc: Global, bytes: &[u8]) -> Result<Acl, Fail> {
     Ok(Acl::from_view(alloc, &AclView::parse_whole(bytes)?)?)
 }
 
-#[test]
-fn ample_memory_for_the_view_of_a_full_list(rt: HostRuntime) -> Result<(), Fail> {
-    let row = (Kind::Deny, 0x40, 1, b"staff".as_slice());
-    let bytes = full_spelled(rt.alloc(), row)?;
-    let list = full_from_view(rt.alloc(), &bytes)?;
-    assert!(rt; list.len() == 65_536);
-    assert!(rt; list.weight() == 65_536);
-    assert!(rt; list == repeated(rt.alloc(), 65_536, row)?);
-    Ok(())
-}
-
-#[test]
-fn ample_memory_past_a_megabyte(rt: HostRuntime) -> Result<(), PushFault> {
-    let list = repeated(rt.alloc(), 1_100, (Kind::Allow, 0, 0, &[b'a'; 1024]))?;
-    assert!(rt; list.len() == 1_100);
-    assert!(rt; copied(&rt, rt.alloc(), &list).is_ok());
-    Ok(())
-}
-
 static LINES: [(PushFault, &str); 7] = [
     (PushFault::TooManyAces, "TooManyAces"),
     (PushFault::TooHeavy, "TooHeavy"),
@@ -381,9 +331,63 @@ fn is_line(alloc: Global, fault: PushFault, line: &str) -> bool {
         .is_ok_and(|text| text.as_str() == line)
 }
 
-#[test]
-fn ample_memory_for_the_line_of_each_refusal(rt: HostRuntime) {
-    for (fault, line) in LINES {
-        assert!(rt; is_line(rt.alloc(), fault, line), "{line}");
+mod ample {
+    use super::*;
+
+    #[test]
+    fn a_copy_is_the_same_list(rt: HostRuntime) {
+        assert!(rt; copies(&rt, rt.alloc()).is_ok());
+    }
+
+    #[test]
+    fn a_list_from_a_view_is_what_the_view_shows(rt: HostRuntime) {
+        assert!(rt; views(&rt, rt.alloc()).is_ok());
+    }
+
+    #[test]
+    fn a_push_is_judged_by_its_who(rt: HostRuntime) {
+        assert!(rt; pushes(&rt, rt.alloc()).is_ok());
+    }
+
+    #[test]
+    fn a_list_fits_the_profile_of_its_bits(rt: HostRuntime) {
+        assert!(rt; fitting(&rt, rt.alloc()).is_ok());
+    }
+
+    // What is judged before the who: the number of ACEs, and then the weight.
+    #[test]
+    fn a_full_list_takes_no_more(rt: HostRuntime) -> Result<(), PushFault> {
+        let mut list = repeated(rt.alloc(), 65_536, (Kind::Allow, 0, 0, b"a"))?;
+        assert!(rt; pushed_nameless(&mut list, 1) == Some(Err(PushFault::TooManyAces)));
+        assert!(rt; list.len() == 65_536);
+        assert!(rt; list.weight() == 0);
+        assert!(rt; copied(&rt, rt.alloc(), &list).is_ok());
+        heavy_list(&rt, rt.alloc())
+    }
+
+    #[test]
+    fn a_full_list_is_made_from_its_view(rt: HostRuntime) -> Result<(), Fail> {
+        let row = (Kind::Deny, 0x40, 1, b"staff".as_slice());
+        let bytes = full_spelled(rt.alloc(), row)?;
+        let list = full_from_view(rt.alloc(), &bytes)?;
+        assert!(rt; list.len() == 65_536);
+        assert!(rt; list.weight() == 65_536);
+        assert!(rt; list == repeated(rt.alloc(), 65_536, row)?);
+        Ok(())
+    }
+
+    #[test]
+    fn a_list_grows_past_a_megabyte(rt: HostRuntime) -> Result<(), PushFault> {
+        let list = repeated(rt.alloc(), 1_100, (Kind::Allow, 0, 0, &[b'a'; 1024]))?;
+        assert!(rt; list.len() == 1_100);
+        assert!(rt; copied(&rt, rt.alloc(), &list).is_ok());
+        Ok(())
+    }
+
+    #[test]
+    fn each_refusal_has_its_line(rt: HostRuntime) {
+        for (fault, line) in LINES {
+            assert!(rt; is_line(rt.alloc(), fault, line), "{line}");
+        }
     }
 }

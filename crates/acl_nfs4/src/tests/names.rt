@@ -83,16 +83,6 @@ fn is_line_of_flags(alloc: Global, line: &str, flags: u8) -> Result<bool, AceTex
     }
 }
 
-#[test]
-fn ample_memory_for_the_name_of_each_flag(rt: HostRuntime) {
-    for (flags, line) in FLAGS {
-        assert!(rt;
-            is_line_of_flags(rt.alloc(), line, flags) == Ok(true),
-            "{line}"
-        );
-    }
-}
-
 // A who with no flag and with IDENTIFIER_GROUP, and whom it names (RFC 8881, section 6.2.1.5).
 static WHOS: [(&[u8], Principal<'static>, Principal<'static>); 6] = [
     (b"OWNER@", Principal::Owner, Principal::Owner),
@@ -209,5 +199,19 @@ fn is_judged(who: &[u8], reason: Option<Reason>) -> bool {
 fn whos_are_plain_text_and_no_other_special_identifier(rt: HostRuntime) {
     for (who, reason) in JUDGED {
         assert!(rt; is_judged(who, reason), "{who:?}");
+    }
+}
+
+mod ample {
+    use super::*;
+
+    #[test]
+    fn each_flag_has_its_name(rt: HostRuntime) {
+        for (flags, line) in FLAGS {
+            assert!(rt;
+                is_line_of_flags(rt.alloc(), line, flags) == Ok(true),
+                "{line}"
+            );
+        }
     }
 }

@@ -161,11 +161,6 @@ fn the_weight_of_a_list_is_limited(rt: HostRuntime) {
     let _ = weights(&rt, rt.alloc());
 }
 
-#[test]
-fn ample_memory_for_weights(rt: HostRuntime) {
-    assert!(rt; weights(&rt, rt.alloc()).is_ok());
-}
-
 // Whether a list is judged so under the narrow profile, and is one under the full one.
 fn is_narrowed(whole: &[u8], narrow: Option<Fault>) -> bool {
     AclView::parse_with(whole, Profile::NARROW).err() == narrow
@@ -216,14 +211,6 @@ fn is_line(alloc: Global, fault: Fault, line: &str) -> bool {
         .is_ok_and(|text| text.as_str() == line)
 }
 
-#[test]
-fn ample_memory_for_the_line_of_each_fault(rt: HostRuntime) {
-    for (reason, line) in LINES {
-        let fault = Fault { offset: 7, reason };
-        assert!(rt; is_line(rt.alloc(), fault, line), "{line}");
-    }
-}
-
 static MASKS: [(&str, Option<u32>); 10] = [
     ("-", Some(0)),
     ("READ_DATA", Some(1)),
@@ -242,5 +229,22 @@ fn masks_are_read_by_their_names(rt: HostRuntime) {
     for (field, bits) in MASKS {
         let found = read_mask(field.as_bytes()).map(|mask| mask.bits());
         assert!(rt; found == bits, "{field}");
+    }
+}
+
+mod ample {
+    use super::*;
+
+    #[test]
+    fn the_weight_of_a_list_is_limited(rt: HostRuntime) {
+        assert!(rt; weights(&rt, rt.alloc()).is_ok());
+    }
+
+    #[test]
+    fn each_fault_has_its_line(rt: HostRuntime) {
+        for (reason, line) in LINES {
+            let fault = Fault { offset: 7, reason };
+            assert!(rt; is_line(rt.alloc(), fault, line), "{line}");
+        }
     }
 }

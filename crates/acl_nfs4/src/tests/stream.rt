@@ -66,23 +66,6 @@ fn is_cut_alike(alloc: Global, len: usize) -> bool {
         && same(alloc, alice, 3)
 }
 
-// Each beginning of a list, and a list with each byte damaged in each way.
-#[test]
-fn ample_reading_decoding_and_feeding_agree(rt: HostRuntime) {
-    for len in 0..72usize {
-        assert!(rt; is_cut_alike(rt.alloc(), len), "{len} bytes");
-    }
-    for place in 0..72usize {
-        for byte in 0..=255u8 {
-            let mut damaged = THREE;
-            if let Some(at) = damaged.get_mut(place) {
-                *at = byte;
-            }
-            assert!(rt; same(rt.alloc(), &damaged, place), "{byte} at {place}");
-        }
-    }
-}
-
 // A place, the bytes from there on, and the fault of the list with them.
 static REFUSED: [(usize, &[u8], u64, Reason); 9] = [
     (0, &[0xff; 4], 0, Reason::TooManyAces),
@@ -114,18 +97,6 @@ fn longest(alloc: Global) -> Result<Vec<u8>, AllocError> {
     Ok(longest)
 }
 
-// Words and names that are refused, by each reader at the same place, and the longest name.
-#[test]
-fn ample_refusals_are_told_alike(rt: HostRuntime) -> Result<(), AllocError> {
-    for (at, bytes, offset, reason) in REFUSED {
-        told_alike(&rt, rt.alloc(), at, bytes, fault(offset, reason));
-    }
-    let longest = longest(rt.alloc())?;
-    assert!(rt; parsed(rt.alloc(), &longest).is_ok_and(|list| list.len() == 1));
-    assert!(rt; same(rt.alloc(), &longest, 1000));
-    Ok(())
-}
-
 fn in_two_pieces(rt: &impl Abort, alloc: Global, first: usize, list: &Acl) {
     let mut feed = Feed::new(alloc);
     let (front, back) = THREE.split_at(first.min(72));
@@ -143,17 +114,6 @@ fn byte_by_byte(rt: &impl Abort, alloc: Global, list: &Acl) {
         assert!(rt; feed.feed(byte) == (if place < 71 { Fed::More } else { last }));
     }
     assert!(rt; feed.finish().is_ok_and(|fed| fed == *list));
-}
-
-// However a list is cut, the bytes that belong to it are told, and later pieces change nothing.
-#[test]
-fn ample_lists_are_fed_in_any_two_pieces(rt: HostRuntime) -> Result<(), Fault> {
-    let list = parsed(rt.alloc(), &THREE)?;
-    for first in 0..72usize {
-        in_two_pieces(&rt, rt.alloc(), first, &list);
-    }
-    byte_by_byte(&rt, rt.alloc(), &list);
-    Ok(())
 }
 
 fn done_within_a_piece(rt: &impl Abort, alloc: Global) {
@@ -174,20 +134,6 @@ fn fed_to_padding(rt: &impl Abort, alloc: Global) -> Feed {
     feed
 }
 
-#[test]
-fn ample_pieces_are_answered(rt: HostRuntime) {
-    done_within_a_piece(&rt, rt.alloc());
-    let told = fed_to_padding(&rt, rt.alloc()).finish().err();
-    assert!(rt; told == Some(fault(29, Reason::Truncated)));
-    let mut feed = fed_to_padding(&rt, rt.alloc());
-    let padding = fault(29, Reason::Padding);
-    assert!(rt; feed.feed(&[0, 0]) == Fed::Refused(padding));
-    assert!(rt; feed.feed(&[0, 0]) == Fed::Refused(padding));
-    assert!(rt; feed.finish().err() == Some(padding));
-    let mut feed = Feed::new(rt.alloc());
-    assert!(rt; feed.feed(&[0, 0, 0, 0]) == Fed::Done { taken: 4 });
-}
-
 // In two pieces under the narrow profile, of which the first is so long.
 fn fed_narrowly(alloc: Global, bytes: &[u8], first: usize) -> Result<Acl, Fault> {
     let mut feed = Feed::with_profile(alloc, Profile::NARROW);
@@ -195,14 +141,6 @@ fn fed_narrowly(alloc: Global, bytes: &[u8], first: usize) -> Result<Acl, Fault>
     let _ = feed.feed(front);
     let _ = feed.feed(back);
     feed.finish()
-}
-
-#[test]
-fn ample_lists_are_fed_narrowly_in_any_two_pieces(rt: HostRuntime) {
-    for first in 0..=72usize {
-        let fed = fed_narrowly(rt.alloc(), &THREE, first);
-        assert!(rt; same_list(fed, parsed(rt.alloc(), &THREE)), "{first}");
-    }
 }
 
 // So many times ALLOW READ_DATA for alice, as a list, and zeros behind it.
@@ -227,27 +165,6 @@ fn fed_in_pieces(alloc: Global, bytes: &[u8], size: usize) -> Result<Acl, Fault>
     feed.finish()
 }
 
-// Pieces about as long as what is taken at once.
-#[test]
-fn ample_lists_are_fed_in_large_pieces(rt: HostRuntime) -> Result<(), AllocError> {
-    let bytes = many(rt.alloc(), 600, 0)?;
-    for size in [4_095, 4_096, 4_097, 8_192, 16_000usize] {
-        let fed = fed_in_pieces(rt.alloc(), &bytes, size);
-        assert!(rt; same_list(fed, parsed(rt.alloc(), &bytes)), "{size}");
-    }
-    Ok(())
-}
-
-// Of a piece that goes on behind the list little more than the list is kept: what this asks for is counted.
-#[test]
-fn ample_large_pieces_are_not_kept(rt: HostRuntime) -> Result<(), AllocError> {
-    let bytes = many(rt.alloc(), 200, 1_000)?;
-    let mut feed = Feed::new(rt.alloc());
-    assert!(rt; feed.feed(&bytes) == Fed::Done { taken: 4_804 });
-    assert!(rt; feed.finish().is_ok_and(|list| list.len() == 200));
-    Ok(())
-}
-
 // Whether both ways give the same list.
 fn same_list(decoded: Result<Acl, Fault>, parsed: Result<Acl, Fault>) -> bool {
     match (decoded, parsed) {
@@ -265,29 +182,6 @@ fn read_both(rt: &impl Abort, alloc: Global, both: &[u8], step: usize) {
     assert!(rt; told == Some(fault(0, Reason::Truncated)));
 }
 
-#[test]
-fn ample_sources_are_read_no_further_than_the_list(rt: HostRuntime) -> Result<(), AllocError> {
-    let mut both = Vec::new(rt.alloc());
-    both.extend_from_slice(&ONE)?;
-    both.extend_from_slice(&THREE)?;
-    for step in [1, 3, 4096usize] {
-        read_both(&rt, rt.alloc(), &both, step);
-    }
-    Ok(())
-}
-
-// A read that fails is told at the field that was being read, as the end of the input there would be.
-#[test]
-fn ample_failed_reads_are_told_where_they_came(rt: HostRuntime) {
-    for calls in 0..72usize {
-        let (front, _) = THREE.split_at(calls.min(72));
-        let cut = parsed(rt.alloc(), front).err();
-        let told = decoded(rt.alloc(), &THREE, calls as u64, 1).err();
-        assert!(rt; told.map(|fault| fault.reason) == Some(Reason::Read));
-        assert!(rt; told.map(|fault| fault.offset) == cut.map(|fault| fault.offset));
-    }
-}
-
 // A sink that takes so many bytes and then fails holds just these.
 fn written_so_far(rt: &impl Abort, list: &Acl, calls: u64) {
     let mut room = [0xffu8; 72];
@@ -296,15 +190,6 @@ fn written_so_far(rt: &impl Abort, list: &Acl, calls: u64) {
     assert!(rt; written == (calls < 72).then_some(calls));
     let (front, back) = room.split_at((calls as usize).min(72));
     assert!(rt; THREE.starts_with(front) && back.iter().all(|byte| *byte == 0xff));
-}
-
-#[test]
-fn ample_lists_are_written_up_to_the_failure(rt: HostRuntime) -> Result<(), Fault> {
-    let list = parsed(rt.alloc(), &THREE)?;
-    for calls in 0..=72u64 {
-        written_so_far(&rt, &list, calls);
-    }
-    Ok(())
 }
 
 // No count makes a call ask for memory: with the first request refused, this is still answered by what the bytes are.
@@ -328,5 +213,124 @@ fn a_feed_keeps_its_want_of_memory(rt: HostRuntime) {
             assert!(rt; feed.finish().err() == Some(told));
         }
         Fed::More => assert!(rt; false),
+    }
+}
+
+mod ample {
+    use super::*;
+
+    // Each beginning of a list, and a list with each byte damaged in each way.
+    #[test]
+    fn reading_decoding_and_feeding_agree(rt: HostRuntime) {
+        for len in 0..72usize {
+            assert!(rt; is_cut_alike(rt.alloc(), len), "{len} bytes");
+        }
+        for place in 0..72usize {
+            for byte in 0..=255u8 {
+                let mut damaged = THREE;
+                if let Some(at) = damaged.get_mut(place) {
+                    *at = byte;
+                }
+                assert!(rt; same(rt.alloc(), &damaged, place), "{byte} at {place}");
+            }
+        }
+    }
+
+    // Words and names that are refused, by each reader at the same place, and the longest name.
+    #[test]
+    fn refusals_are_told_alike(rt: HostRuntime) -> Result<(), AllocError> {
+        for (at, bytes, offset, reason) in REFUSED {
+            told_alike(&rt, rt.alloc(), at, bytes, fault(offset, reason));
+        }
+        let longest = longest(rt.alloc())?;
+        assert!(rt; parsed(rt.alloc(), &longest).is_ok_and(|list| list.len() == 1));
+        assert!(rt; same(rt.alloc(), &longest, 1000));
+        Ok(())
+    }
+
+    // However a list is cut, the bytes that belong to it are told, and later pieces change nothing.
+    #[test]
+    fn lists_are_fed_in_any_two_pieces(rt: HostRuntime) -> Result<(), Fault> {
+        let list = parsed(rt.alloc(), &THREE)?;
+        for first in 0..72usize {
+            in_two_pieces(&rt, rt.alloc(), first, &list);
+        }
+        byte_by_byte(&rt, rt.alloc(), &list);
+        Ok(())
+    }
+
+    #[test]
+    fn pieces_are_answered(rt: HostRuntime) {
+        done_within_a_piece(&rt, rt.alloc());
+        let told = fed_to_padding(&rt, rt.alloc()).finish().err();
+        assert!(rt; told == Some(fault(29, Reason::Truncated)));
+        let mut feed = fed_to_padding(&rt, rt.alloc());
+        let padding = fault(29, Reason::Padding);
+        assert!(rt; feed.feed(&[0, 0]) == Fed::Refused(padding));
+        assert!(rt; feed.feed(&[0, 0]) == Fed::Refused(padding));
+        assert!(rt; feed.finish().err() == Some(padding));
+        let mut feed = Feed::new(rt.alloc());
+        assert!(rt; feed.feed(&[0, 0, 0, 0]) == Fed::Done { taken: 4 });
+    }
+
+    #[test]
+    fn lists_are_fed_narrowly_in_any_two_pieces(rt: HostRuntime) {
+        for first in 0..=72usize {
+            let fed = fed_narrowly(rt.alloc(), &THREE, first);
+            assert!(rt; same_list(fed, parsed(rt.alloc(), &THREE)), "{first}");
+        }
+    }
+
+    // Pieces about as long as what is taken at once.
+    #[test]
+    fn lists_are_fed_in_large_pieces(rt: HostRuntime) -> Result<(), AllocError> {
+        let bytes = many(rt.alloc(), 600, 0)?;
+        for size in [4_095, 4_096, 4_097, 8_192, 16_000usize] {
+            let fed = fed_in_pieces(rt.alloc(), &bytes, size);
+            assert!(rt; same_list(fed, parsed(rt.alloc(), &bytes)), "{size}");
+        }
+        Ok(())
+    }
+
+    // Of a piece that goes on behind the list little more than the list is kept: what this asks for is counted.
+    #[test]
+    fn large_pieces_are_not_kept(rt: HostRuntime) -> Result<(), AllocError> {
+        let bytes = many(rt.alloc(), 200, 1_000)?;
+        let mut feed = Feed::new(rt.alloc());
+        assert!(rt; feed.feed(&bytes) == Fed::Done { taken: 4_804 });
+        assert!(rt; feed.finish().is_ok_and(|list| list.len() == 200));
+        Ok(())
+    }
+
+    #[test]
+    fn sources_are_read_no_further_than_the_list(rt: HostRuntime) -> Result<(), AllocError> {
+        let mut both = Vec::new(rt.alloc());
+        both.extend_from_slice(&ONE)?;
+        both.extend_from_slice(&THREE)?;
+        for step in [1, 3, 4096usize] {
+            read_both(&rt, rt.alloc(), &both, step);
+        }
+        Ok(())
+    }
+
+    // A read that fails is told at the field that was being read, as the end of the input there would be.
+    #[test]
+    fn failed_reads_are_told_where_they_came(rt: HostRuntime) {
+        for calls in 0..72usize {
+            let (front, _) = THREE.split_at(calls.min(72));
+            let cut = parsed(rt.alloc(), front).err();
+            let told = decoded(rt.alloc(), &THREE, calls as u64, 1).err();
+            assert!(rt; told.map(|fault| fault.reason) == Some(Reason::Read));
+            assert!(rt; told.map(|fault| fault.offset) == cut.map(|fault| fault.offset));
+        }
+    }
+
+    #[test]
+    fn lists_are_written_up_to_the_failure(rt: HostRuntime) -> Result<(), Fault> {
+        let list = parsed(rt.alloc(), &THREE)?;
+        for calls in 0..=72u64 {
+            written_so_far(&rt, &list, calls);
+        }
+        Ok(())
     }
 }

@@ -126,13 +126,7 @@ fn read_all_refused(rt: &impl Abort, alloc: Global, is_ample: bool) {
 }
 
 #[test]
-fn ample_texts(rt: HostRuntime) {
-    read_all_spelled(&rt, rt.alloc(), true);
-    read_all_refused(&rt, rt.alloc(), true);
-}
-
-#[test]
-fn texts_where_memory_may_be_wanting(rt: HostRuntime) {
+fn texts_spell_their_lists_or_are_refused(rt: HostRuntime) {
     read_all_spelled(&rt, rt.alloc(), false);
     read_all_refused(&rt, rt.alloc(), false);
 }
@@ -140,20 +134,6 @@ fn texts_where_memory_may_be_wanting(rt: HostRuntime) {
 // How many ACEs a text spells within a profile.
 fn spelled_within(alloc: Global, text: &[u8], profile: Profile) -> Result<usize, AceTextFault> {
     Ok(parse_text_with(alloc, text, profile)?.len())
-}
-
-// A name outside the profile is no name there.
-#[test]
-fn ample_profiles_of_texts(rt: HostRuntime) {
-    let inherited = b"ALLOW INHERITED READ_DATA bob".as_slice();
-    let retention = b"ALLOW - WRITE_RETENTION bob".as_slice();
-    for text in [inherited, retention] {
-        assert!(rt; spelled_within(rt.alloc(), text, Profile::FULL) == Ok(1));
-    }
-    let flag = AceTextFault::Flag { line: 1, column: 7 };
-    assert!(rt; spelled_within(rt.alloc(), inherited, Profile::NARROW) == Err(flag));
-    let mask = AceTextFault::Mask { line: 1, column: 9 };
-    assert!(rt; spelled_within(rt.alloc(), retention, Profile::NARROW) == Err(mask));
 }
 
 // A room of n bytes: the fault tells n, and the room holds the first n bytes of the text.
@@ -203,13 +183,6 @@ fn too_heavy(rt: &impl Abort, alloc: Global) -> Result<(), AllocError> {
     Ok(())
 }
 
-// The limits of a list, at the line that passes them.
-#[test]
-fn ample_memory_for_texts_past_the_limits(rt: HostRuntime) {
-    assert!(rt; too_many(&rt, rt.alloc()).is_ok());
-    assert!(rt; too_heavy(&rt, rt.alloc()).is_ok());
-}
-
 fn long_lines(rt: &impl Abort, alloc: Global) -> Result<(), AllocError> {
     let mut text = repeated(alloc, 500, b"# comment ")?;
     text.extend_from_slice(b"\nALLOW - ")?;
@@ -222,11 +195,6 @@ fn long_lines(rt: &impl Abort, alloc: Global) -> Result<(), AllocError> {
     let (line, column) = (2, 5_017);
     assert!(rt; size_of(alloc, &text) == Err(AceTextFault::SpecialWho { line, column }));
     Ok(())
-}
-
-#[test]
-fn ample_memory_for_lines_past_4096_bytes(rt: HostRuntime) {
-    assert!(rt; long_lines(&rt, rt.alloc()).is_ok());
 }
 
 #[test]
@@ -245,5 +213,41 @@ fn the_name_of_a_bit_is_its_first(rt: HostRuntime) {
             return;
         };
         assert!(rt; bit_name(mask) == name);
+    }
+}
+
+mod ample {
+    use super::*;
+
+    #[test]
+    fn texts_spell_their_lists_or_are_refused(rt: HostRuntime) {
+        read_all_spelled(&rt, rt.alloc(), true);
+        read_all_refused(&rt, rt.alloc(), true);
+    }
+
+    // A name outside the profile is no name there.
+    #[test]
+    fn a_profile_refuses_the_names_that_it_lacks(rt: HostRuntime) {
+        let inherited = b"ALLOW INHERITED READ_DATA bob".as_slice();
+        let retention = b"ALLOW - WRITE_RETENTION bob".as_slice();
+        for text in [inherited, retention] {
+            assert!(rt; spelled_within(rt.alloc(), text, Profile::FULL) == Ok(1));
+        }
+        let flag = AceTextFault::Flag { line: 1, column: 7 };
+        assert!(rt; spelled_within(rt.alloc(), inherited, Profile::NARROW) == Err(flag));
+        let mask = AceTextFault::Mask { line: 1, column: 9 };
+        assert!(rt; spelled_within(rt.alloc(), retention, Profile::NARROW) == Err(mask));
+    }
+
+    // The limits of a list, at the line that passes them.
+    #[test]
+    fn texts_past_the_limits_are_refused(rt: HostRuntime) {
+        assert!(rt; too_many(&rt, rt.alloc()).is_ok());
+        assert!(rt; too_heavy(&rt, rt.alloc()).is_ok());
+    }
+
+    #[test]
+    fn lines_pass_4096_bytes(rt: HostRuntime) {
+        assert!(rt; long_lines(&rt, rt.alloc()).is_ok());
     }
 }

@@ -3,7 +3,7 @@ ghost use Rattle.std.specs.Prelude.{◌≡◌, ◌==◌, ◌+◌, ◌<◌, ◌�
 ghost use Rattle.acl_perm.specs.Profile.{profile_of};
 ghost use Rattle.acl_nfs4.specs.Ace.{ace};
 ghost use Rattle.acl_nfs4.specs.AceText.{is_skipped};
-ghost use Rattle.acl_nfs4.specs.internal.AceReading.{cut_space, fields_of, kind_named, read_ace, read_flags, read_mask_field, read_who, view_fields, who_fault_at, FieldsFit};
+ghost use Rattle.acl_nfs4.specs.internal.AceReading.{cut_space, fields_of, kind_named, read_ace, read_flags, read_mask_field, read_who, view_fields, view_first, who_fault_at, FieldsFit};
 ghost use Rattle.acl_nfs4.specs.Limits.{most_aces, most_weight};
 ghost use Rattle.acl_nfs4.specs.internal.Reading.{Gives};
 ghost use Rattle.acl_nfs4.specs.Who.{IsWho};
@@ -42,12 +42,21 @@ fn space_in(bytes: &[u8]) -> Option<usize>
     bytes.iter().position(|b| *b == b' ')
 }
 
-// What stands before the first space, and what behind it.
-fn cut(bytes: &[u8]) -> Option<(&[u8], &[u8])>
-    ensures { option_map (λ parts. (parts.0.now, parts.1.now)) result ≡ cut_space bytes.now }
+/// What stands before the first space, and what behind it.
+#[derive(Clone, Copy)]
+pub(crate) struct FirstField<'a> {
+    pub field: &'a [u8],
+    pub rest: &'a [u8],
+}
+
+fn cut(bytes: &[u8]) -> Option<FirstField<'_>>
+    ensures { option_map view_first result ≡ cut_space bytes.now }
 {
     let place = space_in(bytes)?;
-    Some((&bytes[..place], &bytes[place + 1..]))
+    Some(FirstField {
+        field: &bytes[..place],
+        rest: &bytes[place + 1..],
+    })
 }
 
 // The fields of a line, where it has four.
@@ -56,14 +65,14 @@ fn fields(line: &[u8]) -> Option<LineFields<'_>>
     ensures value { option_map view_fields result ≡ fields_of line.now }
     ensures fits { IfSome result (λ f. FieldsFit (view_fields f) line.now) }
 {
-    let (kind, rest) = cut(line)?;
-    let (flags, rest) = cut(rest)?;
-    let (mask, who) = cut(rest)?;
+    let kind = cut(line)?;
+    let flags = cut(kind.rest)?;
+    let mask = cut(flags.rest)?;
     Some(LineFields {
-        kind,
-        flags,
-        mask,
-        who,
+        kind: kind.field,
+        flags: flags.field,
+        mask: mask.field,
+        who: mask.rest,
     })
 }
 

@@ -133,7 +133,7 @@ impl<'a> AclView<'a> {
 // The list at the front, as reading gives it.
 #[inline(always)]
 fn view_of(bytes: &[u8], profile: Profile) -> Result<(AclView<'_>, usize), Fault>
-    ensures { Gives (λ x. (x.0, x.1)) result (value_at (profile_of profile) bytes.now) }
+    ensures { Gives (λ x. x) result (value_at (profile_of profile) bytes.now) }
 {
     let mut cursor = Cursor {
         len: bytes.len(),

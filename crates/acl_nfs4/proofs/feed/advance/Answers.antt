@@ -9,46 +9,46 @@ use Rattle.acl_nfs4.proofs.Streaming.{progress_grows, ended}
 use Rattle.acl_nfs4.proofs.Within.{code_profile}
 use Rattle.acl_nfs4.proofs.feed.advance.Goals as goal
 
-pub judge-end-requires : goal.judge-end-requires
-judge-end-requires c = rw c.in-Ok.ensures
+pub judge-reach-requires : goal.judge-reach-requires
+judge-reach-requires c = rw c.in-Ok.ensures
     (progress_grows (profile_of c.args.profile) c.args.text.now c.args.piece.now c.args.from c.requires.progress)
 
 pub overflow_sub-fed : goal.overflow_sub-fed
 overflow_sub-fed c =
-    let whole : IsWhole (profile_of c.args.profile) c.extend.new.self c.judge-end.result.0 = rw c.in-None.is at
-    c.judge-end.ensures.judged in
-    let e = ended (profile_of c.args.profile) c.args.text.now c.args.piece.now c.extend.new.self c.judge-end.result.0
+    let whole : IsWhole (profile_of c.args.profile) c.extend.new.self c.judge-reach.result.progress = rw c.in-None.is at
+    c.judge-reach.ensures.judged in
+    let e = ended (profile_of c.args.profile) c.args.text.now c.args.piece.now c.extend.new.self c.judge-reach.result.progress
     (code_profile c.args.profile (omega arith)) c.in-Ok.ensures whole c.requires.cut in
-    subst (λ (k : ℕ). k ≤ 4 + c.judge-end.result.0.used) (sym c.len-before.ensures) e.after
+    subst (λ (k : ℕ). k ≤ 4 + c.judge-reach.result.progress.used) (sym c.len-before.ensures) e.after
 
 pub returns-in-None-clause-feeds : goal.returns-in-None-clause-feeds
 returns-in-None-clause-feeds c =
-    let whole : IsWhole (profile_of c.args.profile) c.extend.new.self c.judge-end.result.0 = rw c.in-None.is at
-    c.judge-end.ensures.judged in
-    let e = ended (profile_of c.args.profile) c.args.text.now c.args.piece.now c.extend.new.self c.judge-end.result.0
+    let whole : IsWhole (profile_of c.args.profile) c.extend.new.self c.judge-reach.result.progress = rw c.in-None.is at
+    c.judge-reach.ensures.judged in
+    let e = ended (profile_of c.args.profile) c.args.text.now c.args.piece.now c.extend.new.self c.judge-reach.result.progress
     (code_profile c.args.profile (omega arith)) c.in-Ok.ensures whole c.requires.cut in
     let n : length c.args.text.now ≡ c.len-before.result = sym c.len-before.ensures in
-    let list : List Ace = aces_of c.judge-end.result.0.seen (body_in c.extend.new.self c.judge-end.result.0) in (
+    let list : List Ace = aces_of c.judge-reach.result.progress.seen (body_in c.extend.new.self c.judge-reach.result.progress) in (
       list,
-      ap (λ (t : List ℕ). done (aces_of c.judge-end.result.0.seen t)) c.cut.ensures,
-      subst (λ (k : ℕ). 4 + c.judge-end.result.0.used - k ≤ length c.args.piece.now) n e.within,
+      ap (λ (t : List ℕ). done (aces_of c.judge-reach.result.progress.seen t)) c.cut.ensures,
+      subst (λ (k : ℕ). 4 + c.judge-reach.result.progress.used - k ≤ length c.args.piece.now) n e.within,
       subst (λ (k : ℕ). Xdr (profile_of c.args.profile) list
-          (c.args.text.now ++ take (4 + c.judge-end.result.0.used - k) c.args.piece.now)) n e.xdr,
+          (c.args.text.now ++ take (4 + c.judge-reach.result.progress.used - k) c.args.piece.now)) n e.xdr,
     )
 
 pub returns-in-Truncated-clause-feed : goal.returns-in-Truncated-clause-feed
 returns-in-Truncated-clause-feed c =
-    let j : Judged (profile_of c.args.profile) c.extend.new.self c.judge-end.result.0 (Some c.in-Some.fault) = rw
-    c.in-Some.is at c.judge-end.ensures.judged in
+    let j : Judged (profile_of c.args.profile) c.extend.new.self c.judge-reach.result.progress (Some c.in-Some.fault) = rw
+    c.in-Some.is at c.judge-reach.ensures.judged in
     record {
       profile = code_profile c.args.profile (omega arith);
       cut = j;
       why = c.in-Truncated.is;
-      progress = c.judge-end.ensures.progress;
+      progress = c.judge-reach.ensures.progress;
     }
 
 pub overflow_add-fed : goal.overflow_add-fed
 overflow_add-fed c =
-    let whole : IsWhole (profile_of c.args.profile) c.extend.new.self c.judge-end.result.0 = rw c.in-None.is at
-    c.judge-end.ensures.judged in
-    omega (arith, whole.inside, c.judge-end.ensures.fits)
+    let whole : IsWhole (profile_of c.args.profile) c.extend.new.self c.judge-reach.result.progress = rw c.in-None.is at
+    c.judge-reach.ensures.judged in
+    omega (arith, whole.inside, c.judge-reach.ensures.fits)

@@ -28,12 +28,12 @@ pub returns-else-count-gt-MOST_ACES-clause-judged : goal.returns-else-count-gt-M
 returns-else-count-gt-MOST_ACES-clause-judged c =
     let n : c.in-Some.count ≡ number (take 4 c.args.text.now) = c.in-Some.ensures.value in
     let long : 4 ≤ length c.args.text.now = c.in-Some.ensures.whole.0 refl in
-    let scanned = subst (λ (b : List ℕ). IsScanned (profile_of c.args.profile) b c.scan.result.0) c.body.ensures
+    let scanned = subst (λ (b : List ℕ). IsScanned (profile_of c.args.profile) b c.scan.result.progress) c.body.ensures
     c.scan.ensures.scanned in
-    let ends = subst (λ (b : List ℕ). Ends (profile_of c.args.profile) c.in-Some.count b c.scan.result.0
-    c.scan.result.1) c.body.ensures c.scan.ensures.ends in
-    judged_is (profile_of c.args.profile) c.args.text.now c.scan.result.0 c.scan.result.1
+    let ends = subst (λ (b : List ℕ). Ends (profile_of c.args.profile) c.in-Some.count b c.scan.result.progress
+    c.scan.result.fault) c.body.ensures c.scan.ensures.ends in
+    judged_is (profile_of c.args.profile) c.args.text.now c.scan.result.progress c.scan.result.fault
     (code_profile c.args.profile (omega arith)) c.in-Some.ensures.bytes long
     (subst (λ (k : ℕ). k ≤ most_aces) n c.if-count-gt-MOST_ACES.false)
-    scanned (subst (λ (k : ℕ). Ends (profile_of c.args.profile) k (drop 4 c.args.text.now) c.scan.result.0
-    c.scan.result.1) n ends)
+    scanned (subst (λ (k : ℕ). Ends (profile_of c.args.profile) k (drop 4 c.args.text.now) c.scan.result.progress
+    c.scan.result.fault) n ends)
