@@ -13,7 +13,8 @@ use Rattle.acl_normal.specs.internal.Emissions.{IsOnce}
 use Rattle.acl_normal.specs.internal.Emitted.{emitted_ace, emitted_aces}
 use Rattle.acl_normal.specs.Left.{KeepsFirsts}
 use Rattle.acl_normal.specs.Keys.{plain_key}
-use Rattle.acl_normal.specs.Places.{counts, first_at}
+use Rattle.acl_normal.specs.Places.{first_at}
+use Rattle.acl_normal.specs.Normal.{counts}
 use Rattle.acl_normal.specs.Tables.{AddsRow, AreRows, HasKey, IsRow, with_bit}
 use Rattle.acl_normal.specs.declared.bit_table.Row.{Row}
 use Rattle.acl_normal.specs.declared.emit.emission.Emitted.{Emitted}

@@ -1,25 +1,17 @@
 -- ACEs by their places in a list (RFC 8881, section 6.2.1): which wait at a bit, by type and class, and which stands
 -- first.
 use Rattle.std.specs.Prelude.{ℕ, ◌+◌, ◌*◌, zero, suc, Bool, true, false, cond, not, ◌&&◌, ◌||◌, List, [], ◌∷◌, Option, Some, None, option_map, map}
-use Rattle.acl_perm.specs.Principal.{Principal, owner, user, group, group_named, everyone}
+use Rattle.acl_perm.specs.Kind.{other_kind}
+use Rattle.acl_perm.specs.Principal.{Principal, owner, user, group, group_named, everyone, is_user}
 use Rattle.acl_perm.specs.declared.kind.Kind.{Kind}
 use Rattle.acl_perm.specs.declared.kind.Kind.TheVariants.{Deny, Allow}
 use Rattle.std.specs.Prelude.{if◌then◌else◌}
 use Rattle.std.specs.Str.{bytes_eq}
-use Rattle.acl_perm.specs.Bits.{has_bit}
 use Rattle.acl_nfs4.specs.Ace.{Ace}
 use Rattle.acl_nfs4.specs.Who.{principal_of, owner_name, group_name, everyone_name}
 use Rattle.acl_eval.specs.Scan.{without}
 use Rattle.acl_normal.specs.Keys.{principal_eq, Key, ace_key, kind_eq}
-use Rattle.acl_normal.specs.Normal.{is_inherit_only}
-
--- a user name
-abbrev pub is_user : Principal → Bool
-is_user owner = false
-is_user (user name) = true
-is_user group = false
-is_user (group_named name) = false
-is_user everyone = false
+use Rattle.acl_normal.specs.Normal.{counts, is_inherit_only}
 
 -- whom a who names, with IDENTIFIER_GROUP or without it
 abbrev pub principal_named : List ℕ → Bool → Principal
@@ -27,15 +19,6 @@ principal_named who is_group = if bytes_eq who owner_name then owner
     else (if bytes_eq who group_name then group
     else (if bytes_eq who everyone_name then everyone
     else (if is_group then group_named who else user who)))
-
--- the other type
-abbrev pub other_kind : Kind → Kind
-other_kind Deny = Allow
-other_kind Allow = Deny
-
--- the key has the bit, and takes part
-abbrev pub counts : ℕ → Ace → Bool
-counts b a = has_bit a.mask b && not (is_inherit_only a)
 
 -- both are users, or both are not
 abbrev pub same_class : Bool → Bool → Bool
@@ -102,5 +85,4 @@ mask_here (a ∷ xs) (suc i) = mask_here xs i
 
 -- the keys with no bits
 abbrev pub nothing_left : List Ace → List Ace
-nothing_left [] = []
-nothing_left (a ∷ xs) = record a { mask = 0 } ∷ nothing_left xs
+nothing_left = map (λ (a : Ace). record a { mask = 0 })

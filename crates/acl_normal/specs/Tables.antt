@@ -7,7 +7,8 @@ use Rattle.acl_nfs4.specs.Who.{principal_of}
 use Rattle.acl_eval.specs.Column.{column, first_kind}
 use Rattle.acl_normal.specs.internal.Alike.{is_either}
 use Rattle.acl_normal.specs.NormalForm.{IsNormalFormOf}
-use Rattle.acl_normal.specs.Places.{counts, first_at}
+use Rattle.acl_normal.specs.Places.{first_at}
+use Rattle.acl_normal.specs.Normal.{counts}
 use Rattle.acl_normal.specs.declared.bit_table.Row.{Row}
 
 -- the ACEs that have the bit, in order

@@ -12,6 +12,8 @@ pub mod Counts
 pub mod Passes
 -- what lists of the code's ACEs show
 pub mod Shown
+-- the two classes of principals
+pub mod Classes
 -- where each right of a principal stands
 pub mod Cells
 -- how the rows of principals are numbered

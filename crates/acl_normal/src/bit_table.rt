@@ -14,7 +14,7 @@ use crate::normal_form::{ace_of, form_of};
 use crate::reduce::reduced_rows;
 use crate::rows::merged::{MergedRows, lowest};
 use acl_nfs4::Acl;
-use acl_perm::{Kind, Mask};
+use acl_perm::{Kind, Mask, Right};
 use std::alloc::{AllocError, Global};
 
 /// An ACE of the normal form: its type, its who, whether that is the name of a group, and the place in the given list,
@@ -43,51 +43,49 @@ pub fn table(alloc: Global, list: &Acl, bit: Mask) -> Result<Vec<Row>, AllocErro
     };
     let rows = reduced_rows(alloc, list)?;
     let form = form_of(alloc, list)?;
-    let table = rows_of(alloc, &rows, &form, right.bit)?;
+    let table = rows_of(alloc, &rows, &form, right)?;
     Ok(table)
 }
 
-// The rows of the ACEs that have the bit.
+// The rows of the ACEs that have the right.
 fn rows_of<'a>(
     alloc: Global,
     rows: &MergedRows<'a>,
     form: &[Emitted<'a>],
-    bit: usize,
+    right: Right,
 ) -> Result<Vec<Row>, AllocError>
-    requires bit { bit < 21 }
     requires masks { (i : ℕ) (d : Emission) → i < length form.now
         → IsMask (slice_index_or form.now i d).bits }
     requires keys { (i : ℕ) (d : Emission) → i < length form.now
-        → HasKey bit rows.now (emitted_ace (slice_index_or form.now i d)) }
+        → HasKey right.bit rows.now (emitted_ace (slice_index_or form.now i d)) }
     ensures { IfOk result (λ table.
-        AreRows bit rows.now (with_bit bit (emitted_aces form.now)) table.items) }
+        AreRows right.bit rows.now (with_bit right.bit (emitted_aces form.now)) table.items) }
 {
     let mut table = Vec::new(alloc);
     for item in form {
-        add_row(alloc, rows, *item, bit, &mut table)?;
+        add_row(alloc, rows, *item, right, &mut table)?;
     }
     Ok(table)
 }
 
-// The row of an ACE, where that has the bit.
+// The row of an ACE, where that has the right.
 fn add_row<'a>(
     alloc: Global,
     rows: &MergedRows<'a>,
     item: Emitted<'a>,
-    bit: usize,
+    right: Right,
     table: &mut Vec<Row>,
 ) -> Result<(), AllocError>
-    requires bit { bit < 21 }
     requires mask { IsMask item.bits }
-    requires key { HasKey bit rows.now (emitted_ace item) }
-    ensures { OnOk result (AddsRow bit rows.now (emitted_ace item.entry)
+    requires key { HasKey right.bit rows.now (emitted_ace item) }
+    ensures { OnOk result (AddsRow right.bit rows.now (emitted_ace item.entry)
         table.old.items table.new.items) }
 {
-    if !has(item.bits, bit) {
+    if !has(item.bits, right) {
         return Ok(());
     }
     let shown = ace_of(item);
-    if let Some((_kind, source)) = rows.source(shown.principal(), bit) {
+    if let Some((_kind, source)) = rows.source(shown.principal(), right) {
         let who = Vec::from_slice(alloc, shown.who)?;
         table.push(Row {
             kind: shown.kind,

@@ -3,6 +3,7 @@
 
 mod bit_table;
 mod bits;
+mod class;
 mod comparison;
 mod emit;
 mod five_forms;
@@ -13,7 +14,6 @@ mod reduce;
 mod rows;
 #[cfg(test)]
 mod tests;
-mod words;
 
 pub use bit_table::{Row, table};
 pub use comparison::{Difference, compare};

@@ -15,7 +15,7 @@ ghost use Rattle.acl_normal.specs.internal.Ready.{who_for};
 
 use crate::emit::emission::{Emitted, normalize_left};
 use crate::reduce::reduced_rows;
-use acl_nfs4::{AceRef, Acl, AclView, Fault, PushFault, Reason};
+use acl_nfs4::{AceRef, Acl, AclView, Fault, Reason};
 use acl_perm::{Counted, Flags, Mask, Principal, Profile};
 use std::alloc::{AllocError, Global};
 
@@ -113,23 +113,12 @@ fn written(alloc: Global, form: &[Emitted<'_>]) -> Result<Acl, AllocError>
 {
     let mut list = Acl::new(alloc);
     for item in form {
-        push(&mut list, ace_of(*item))?;
+        list.push_accepted(ace_of(*item))?;
     }
     Ok(list)
 }
 
-/// One more ACE, where the list stays accepted.
-pub(crate) fn push(list: &mut Acl, item: AceRef<'_>) -> Result<(), AllocError>
-    requires { IsAccepted full (list.now ++ ace item ∷ []) }
-    ensures { OnOk result (list.new ≡ list.old ++ ace item.entry ∷ []) }
-{
-    match list.push(item) {
-        Ok(()) => Ok(()),
-        Err(PushFault::Memory) => Err(AllocError),
-        Err(_) => unreachable!(),
-    }
-}
-
+/// The ACE of a normal form.
 pub(crate) fn ace_of<'a>(item: Emitted<'a>) -> AceRef<'a>
     requires { IsMask item.bits }
     ensures { ace result ≡ emitted_ace item.entry }

@@ -5,7 +5,7 @@ use Rattle.std.specs.Str.{bytes_eq}
 use Rattle.std.proofs.Common.{sym, ◌∙◌, ap, subst, arith, inl, inr, ⊎_elim}
 use Rattle.std.proofs.lemmas.Bool.{cases_eq, cases_lt, or_cases, and_parts, or_left, or_right, and_from, false_from_ne_true}
 use Rattle.std.proofs.lemmas.Nat.Bits.{bit_at-zero}
-use Rattle.acl_perm.specs.Principal.{Principal, user}
+use Rattle.acl_perm.specs.Principal.{Principal, user, is_user}
 use Rattle.acl_perm.specs.Overlap.{may_overlap}
 use Rattle.acl_perm.specs.declared.kind.Kind.{Kind}
 use Rattle.acl_perm.specs.declared.kind.Kind.TheVariants.{Deny, Allow}
@@ -15,7 +15,8 @@ use Rattle.acl_nfs4.specs.Who.{principal_of, owner_name, group_name, everyone_na
 use Rattle.acl_normal.specs.declared.emit.emission.Emitted.{Emitted}
 use Rattle.acl_eval.specs.Column.{Column, first_kind, column}
 use Rattle.acl_normal.specs.Keys.{principal_eq, Key, compare_keys, ace_key, conflicts, kind_eq}
-use Rattle.acl_normal.specs.Places.{is_user, principal_named, other_kind, take_out, key_here, nothing_left}
+use Rattle.acl_normal.specs.Places.{principal_named, take_out, key_here, nothing_left}
+use Rattle.acl_perm.specs.Kind.{other_kind}
 use Rattle.acl_normal.specs.internal.Alike.{is_either}
 use Rattle.acl_normal.specs.Normal.{is_free, flags_for}
 use Rattle.acl_normal.specs.internal.Plain.{without_principal}

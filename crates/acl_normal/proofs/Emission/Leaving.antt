@@ -11,7 +11,7 @@ use Rattle.acl_eval.specs.Column.{Column, first_kind, column}
 use Rattle.acl_eval.specs.Grant.{SameGrants}
 use Rattle.acl_normal.specs.Keys.{principal_eq, ace_key}
 use Rattle.acl_normal.specs.internal.Alike.{is_either, IsAlike}
-use Rattle.acl_normal.specs.Normal.{IsIrreducibleList, IsNormal, HasNormalFlags, HasMasks}
+use Rattle.acl_normal.specs.Normal.{IsIrreducibleList, IsNormal, HasNormalFlags, HasMasks, counts}
 use Rattle.acl_normal.specs.internal.Emissions.{IsOnce, IsEmission}
 use Rattle.acl_normal.specs.internal.Plain.{without_principal}
 use Rattle.acl_normal.specs.Left.{left}
@@ -23,7 +23,6 @@ use Rattle.acl_normal.proofs.Unique.Normal.{emission_of_irreducible}
 use Rattle.acl_normal.proofs.Unique.Invariant.{without_absent, alike_without}
 use Rattle.acl_normal.proofs.Unique.FirstAndRest.{once_without}
 use Rattle.acl_normal.proofs.Unique.Columns.{column_first}
-use Rattle.acl_normal.specs.Places.{counts}
 
 -- empty ACEs have no key
 pub column_left : (b : ℕ) (xs : List Ace) → column (left xs) b ≡ column xs b

@@ -2,11 +2,11 @@
 use Rattle.std.specs.Prelude.{◌≡◌, ℕ, ◌+◌, ◌/◌, ◌^◌, ◌<◌, ◌≤◌, Bool, true, false, ◌&&◌, ◌⊎◌, List, refl}
 use Rattle.std.proofs.Common.{sym, ◌∙◌, ap, subst, arith, inl, inr, ⊎_elim}
 use Rattle.std.proofs.lemmas.Bool.{cases_eq, cases_lt}
-use Rattle.acl_perm.specs.Principal.{Principal}
+use Rattle.acl_perm.specs.Principal.{Principal, is_user}
 use Rattle.acl_perm.specs.Bits.{has_bit}
 use Rattle.acl_nfs4.specs.Ace.{Ace}
 use Rattle.acl_eval.specs.Column.{column}
-use Rattle.acl_normal.specs.Places.{is_user, other_kind}
+use Rattle.acl_perm.specs.Kind.{other_kind}
 use Rattle.acl_normal.specs.Keys.{Key}
 use Rattle.acl_normal.specs.Normal.{is_free}
 use Rattle.acl_normal.proofs.Unique.Bits.{no_more_bits}

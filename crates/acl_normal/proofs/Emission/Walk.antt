@@ -8,7 +8,7 @@ use Rattle.std.specs.List.Sorted.{IsStrictlySortedBy}
 use Rattle.std.proofs.Common.{sym, ◌∙◌, ap, subst, arith, inl, inr, ⊎_elim}
 use Rattle.std.proofs.lemmas.Bool.{and_parts, and_from, or_cases, or_left, or_right, eqb-true, eq-eqb, cases_eq, false_from_ne_true}
 use Rattle.std.proofs.lemmas.Map.Keys.{sorted_head, sorted_tail, le_from_is_le}
-use Rattle.acl_perm.specs.Principal.{Principal}
+use Rattle.acl_perm.specs.Principal.{Principal, is_user}
 use Rattle.acl_perm.specs.declared.kind.Kind.{Kind}
 use Rattle.acl_perm.specs.declared.kind.Kind.TheVariants.{Deny, Allow}
 use Rattle.acl_perm.specs.Bits.{has_bit}
@@ -16,8 +16,9 @@ use Rattle.acl_nfs4.specs.Ace.{Ace}
 use Rattle.acl_nfs4.specs.Who.{principal_of}
 use Rattle.acl_eval.specs.Column.{column}
 use Rattle.acl_normal.specs.Keys.{principal_eq, Key, kind_eq}
-use Rattle.acl_normal.specs.Places.{is_user, counts, same_class, is_waiting, waits, waits_before, is_blocked, first_at, key_here, other_kind}
-use Rattle.acl_normal.specs.Normal.{is_free}
+use Rattle.acl_normal.specs.Places.{same_class, is_waiting, waits, waits_before, is_blocked, first_at, key_here}
+use Rattle.acl_perm.specs.Kind.{other_kind}
+use Rattle.acl_normal.specs.Normal.{is_free, counts}
 use Rattle.acl_normal.specs.internal.Emissions.{IsOnce}
 use Rattle.acl_normal.specs.internal.Ready.{Marked, key_eq, Adds, Grows, Enters}
 use Rattle.acl_normal.proofs.Unique.Names.{principal_eq_same, principal_eq_itself}

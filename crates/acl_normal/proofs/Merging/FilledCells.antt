@@ -13,8 +13,8 @@ use Rattle.acl_nfs4.specs.declared.ace.AceRef.{AceRef}
 use Rattle.acl_eval.specs.Column.{column}
 use Rattle.acl_normal.specs.internal.Cells.{cell_at, cell_of, first_place, nowhere, place_at, place_in, place_of}
 use Rattle.acl_normal.specs.Keys.{principal_eq}
-use Rattle.acl_normal.specs.Normal.{IsQuiet, is_inherit_only}
-use Rattle.acl_normal.specs.Places.{counts, key_here, first_at}
+use Rattle.acl_normal.specs.Normal.{IsQuiet, is_inherit_only, counts}
+use Rattle.acl_normal.specs.Places.{key_here, first_at}
 use Rattle.acl_normal.specs.internal.Rows.{AreRowNumbers, IsRow, is_named, row_of}
 use Rattle.acl_normal.specs.internal.Shown.{with_masks}
 use Rattle.acl_normal.specs.internal.FirstPlaces.{no_ace}

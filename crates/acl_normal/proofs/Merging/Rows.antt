@@ -11,8 +11,8 @@ use Rattle.acl_perm.proofs.Orders.{principal_exact, principal_order}
 use Rattle.acl_nfs4.specs.Ace.{Ace}
 use Rattle.acl_nfs4.specs.Who.{principal_of}
 use Rattle.acl_normal.specs.Keys.{principal_eq}
-use Rattle.acl_normal.specs.Normal.{is_inherit_only}
-use Rattle.acl_normal.specs.Places.{counts, key_here, first_at, nothing_left, take_out, without_bits}
+use Rattle.acl_normal.specs.Normal.{is_inherit_only, counts}
+use Rattle.acl_normal.specs.Places.{key_here, first_at, nothing_left, take_out, without_bits}
 use Rattle.acl_normal.specs.internal.Rows.{is_named, row_of}
 use Rattle.acl_normal.proofs.Unique.Names.{principal_eq_same, principal_eq_itself}
 

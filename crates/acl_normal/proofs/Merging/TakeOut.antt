@@ -2,7 +2,7 @@
 use Rattle.std.specs.Prelude.{◌≡◌, ◌≢◌, ℕ, ◌≤◌, ◌^◌, ◌⊎◌, zero, suc, Bool, true, false, cond, not, ◌&&◌, List, [], ◌∷◌, Option, Some, None, slice_set, slice_index_or, refl}
 use Rattle.std.proofs.Common.{sym, ◌∙◌, ap, subst, inl, inr}
 use Rattle.std.proofs.lemmas.Bool.{and_parts}
-use Rattle.acl_perm.specs.Principal.{Principal}
+use Rattle.acl_perm.specs.Principal.{Principal, is_user}
 use Rattle.acl_perm.specs.declared.kind.Kind.{Kind}
 use Rattle.acl_perm.specs.Bits.{has_bit}
 use Rattle.acl_nfs4.specs.Ace.{Ace}
@@ -12,9 +12,9 @@ use Rattle.acl_eval.specs.Column.{Column, first_kind, column}
 use Rattle.acl_eval.specs.Scan.{without}
 use Rattle.acl_eval.proofs.Scans.{has_bit-without}
 use Rattle.acl_normal.specs.Keys.{principal_eq, kind_eq}
-use Rattle.acl_normal.specs.Places.{is_user, counts, same_class, is_waiting, waits, first_at, without_bits, take_out}
+use Rattle.acl_normal.specs.Places.{same_class, is_waiting, waits, first_at, without_bits, take_out}
 use Rattle.acl_normal.specs.internal.Alike.{is_either}
-use Rattle.acl_normal.specs.Normal.{is_inherit_only}
+use Rattle.acl_normal.specs.Normal.{is_inherit_only, counts}
 use Rattle.acl_normal.specs.internal.Emissions.{IsOnce, HasOnceColumns}
 use Rattle.acl_normal.specs.internal.Plain.{without_principal}
 use Rattle.acl_normal.specs.internal.Shown.{with_masks}

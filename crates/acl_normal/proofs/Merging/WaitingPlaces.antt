@@ -1,5 +1,5 @@
 -- Lists of the places that wait, and sets of them.
-use Rattle.std.specs.Prelude.{◌≡◌, ◌==◌, ◌⊎◌, ℕ, ◌+◌, ◌<◌, ◌≤◌, zero, suc, Bool, true, false, cond, ◌&&◌, ◌||◌, nat_lt, List, [], ◌∷◌, ◌++◌, length, map, take, slice_index_or, slice_set, refl}
+use Rattle.std.specs.Prelude.{◌≡◌, ◌⊎◌, ℕ, ◌+◌, ◌<◌, ◌≤◌, zero, suc, Bool, true, false, cond, ◌&&◌, ◌||◌, nat_lt, List, [], ◌∷◌, ◌++◌, length, map, take, slice_index_or, slice_set, refl}
 use Rattle.std.specs.Ordering.{nat_cmp}
 use Rattle.std.specs.BTreeMap.{is_at}
 use Rattle.std.specs.List.{list_any}
@@ -15,8 +15,9 @@ use Rattle.acl_nfs4.specs.Ace.{Ace}
 use Rattle.acl_nfs4.specs.Who.{principal_of}
 use Rattle.acl_nfs4.specs.declared.ace.AceRef.{AceRef}
 use Rattle.acl_normal.specs.Keys.{kind_eq}
-use Rattle.acl_normal.specs.Normal.{IsQuiet, is_inherit_only}
-use Rattle.acl_normal.specs.Places.{counts, is_user, is_waiting, same_class, slot_of, waits}
+use Rattle.acl_normal.specs.Normal.{IsQuiet, is_inherit_only, counts}
+use Rattle.acl_normal.specs.Places.{is_waiting, same_class, slot_of, waits}
+use Rattle.acl_perm.specs.Principal.{is_user}
 use Rattle.acl_normal.specs.internal.Shown.{with_masks}
 use Rattle.acl_normal.specs.internal.Waiting.{HoldWaiting, Notes, places_of}
 use Rattle.acl_normal.proofs.Merging.BitTaken.{NoKeys, class_same, is_eq_itself, is_eq_same, slot_below, slot_same}

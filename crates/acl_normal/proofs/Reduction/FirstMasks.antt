@@ -1,5 +1,5 @@
 -- The masks of the first ACEs of a list, place by place.
-use Rattle.std.specs.Prelude.{◌≡◌, ℕ, ◌<◌, ◌≤◌, suc, Bool, true, false, cond, not, ◌||◌, ◌&&◌, ◌==◌, List, [], ◌∷◌, ◌++◌, Option, Some, None, is_some, is_none, option_map, length, replicate, take, slice_set, slice_index_or, bit_or, refl}
+use Rattle.std.specs.Prelude.{◌≡◌, ℕ, ◌<◌, ◌≤◌, suc, Bool, true, false, cond, not, ◌||◌, ◌&&◌, List, [], ◌∷◌, ◌++◌, Option, Some, None, is_some, is_none, option_map, length, replicate, take, slice_set, slice_index_or, bit_or, refl}
 use Rattle.std.proofs.Common.{sym, ◌∙◌, ap, subst, arith, add-one}
 use Rattle.std.proofs.lemmas.List.{append-nil, get_or-replicate, get_or-set_same, get_or-set_other, length-replicate, length-set, length-take-le, take_all, take_more}
 use Rattle.acl_perm.specs.Bits.{has_bit}
@@ -18,8 +18,8 @@ use Rattle.acl_normal.specs.internal.Alike.{is_either}
 use Rattle.acl_normal.specs.Keys.{Key, ace_key, principal_eq}
 use Rattle.acl_normal.specs.internal.Emissions.{IsOnce}
 use Rattle.acl_normal.specs.Left.{IsTidy, KeepsFirsts}
-use Rattle.acl_normal.specs.Normal.{IsQuiet, is_inherit_only}
-use Rattle.acl_normal.specs.Places.{counts, first_at, nothing_left}
+use Rattle.acl_normal.specs.Normal.{IsQuiet, is_inherit_only, counts}
+use Rattle.acl_normal.specs.Places.{first_at, nothing_left}
 use Rattle.acl_normal.specs.internal.Plain.{unshadowed}
 use Rattle.acl_normal.specs.internal.Rows.{AreRowNumbers, is_named, row_of}
 use Rattle.acl_normal.specs.internal.Shown.{aces_in, with_masks}

@@ -11,7 +11,8 @@ use Rattle.acl_eval.specs.Column.{Column, first_kind, column}
 use Rattle.acl_normal.specs.Keys.{principal_eq, Key, ace_key}
 use Rattle.acl_normal.specs.internal.Alike.{is_either}
 use Rattle.acl_normal.specs.internal.Plain.{unshadowed}
-use Rattle.acl_normal.specs.Places.{counts, first_at, key_here}
+use Rattle.acl_normal.specs.Places.{first_at, key_here}
+use Rattle.acl_normal.specs.Normal.{counts}
 use Rattle.acl_normal.specs.internal.Shown.{aces_in}
 use Rattle.acl_normal.proofs.Unique.Names.{either_second}
 use Rattle.acl_normal.proofs.Unique.ListColumns.{column-append}

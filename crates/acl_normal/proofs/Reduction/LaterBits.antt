@@ -1,11 +1,11 @@
 -- The masks of what later ACEs have, and of what everyone is allowed.
-use Rattle.std.specs.Prelude.{◌≡◌, ℕ, ◌+◌, ◌<◌, ◌≤◌, zero, suc, Bool, true, false, cond, not, ◌||◌, ◌&&◌, ◌==◌, List, [], ◌∷◌, ◌++◌, take, Option, Some, None, option_map, bit_or, bit_and, length, slice_index_or, refl}
+use Rattle.std.specs.Prelude.{◌≡◌, ℕ, ◌+◌, ◌<◌, ◌≤◌, zero, suc, Bool, true, false, cond, not, ◌||◌, ◌&&◌, List, [], ◌∷◌, ◌++◌, take, Option, Some, None, option_map, bit_or, bit_and, length, slice_index_or, refl}
 use Rattle.std.specs.Int.{bit_at}
 use Rattle.std.proofs.Common.{sym, ◌∙◌, ap, subst, arith}
 use Rattle.std.proofs.lemmas.Bool.{eq-eqb, ne_eqb, eqb-true}
 use Rattle.std.proofs.lemmas.List.{take_all, take_more}
 use Rattle.std.proofs.lemmas.Nat.Bits.{bit_at_and, bit_at-lt}
-use Rattle.acl_perm.specs.Principal.{Principal, everyone}
+use Rattle.acl_perm.specs.Principal.{Principal, everyone, is_user}
 use Rattle.acl_perm.specs.declared.kind.Kind.{Kind}
 use Rattle.acl_perm.specs.declared.kind.Kind.TheVariants.{Deny, Allow}
 use Rattle.acl_perm.specs.Bits.{has_bit}
@@ -17,10 +17,11 @@ use Rattle.acl_eval.specs.Column.{first_kind, column}
 use Rattle.acl_eval.specs.Scan.{without}
 use Rattle.acl_eval.proofs.Scans.{has_bit-without}
 use Rattle.acl_normal.specs.Keys.{principal_eq, Key, kind_eq}
-use Rattle.acl_normal.specs.Places.{is_user, other_kind, same_class, counts, first_at, mask_here}
+use Rattle.acl_normal.specs.Places.{same_class, first_at, mask_here}
+use Rattle.acl_perm.specs.Kind.{other_kind}
 use Rattle.acl_normal.specs.internal.Alike.{is_either}
 use Rattle.acl_normal.specs.internal.Emissions.{HasOnceColumns, IsOnce}
-use Rattle.acl_normal.specs.Normal.{IsQuiet, is_inherit_only}
+use Rattle.acl_normal.specs.Normal.{IsQuiet, is_inherit_only, counts}
 use Rattle.acl_normal.specs.internal.Plain.{default}
 use Rattle.acl_normal.specs.internal.Shown.{with_masks}
 use Rattle.acl_normal.specs.declared.reduce.needless.Later.{Later}

@@ -12,10 +12,10 @@ use Rattle.acl_nfs4.specs.Spelling.{IsAccepted}
 use Rattle.acl_eval.specs.Column.{verdict, column}
 use Rattle.acl_eval.specs.Grant.{SameGrants}
 use Rattle.acl_normal.specs.internal.Alike.{IsIrreducible}
-use Rattle.acl_normal.specs.Normal.{HasNoEmptyMask, IsIrreducibleList, IsNormal, IsQuiet, HasMasks, HasNames}
+use Rattle.acl_normal.specs.Normal.{HasNoEmptyMask, IsIrreducibleList, IsNormal, IsQuiet, HasMasks, HasNames, counts}
 use Rattle.acl_normal.specs.internal.Plain.{unshadowed, default, needed_keys, reduced}
 use Rattle.acl_normal.specs.Left.{IsTidy, left}
-use Rattle.acl_normal.specs.Places.{counts, nothing_left}
+use Rattle.acl_normal.specs.Places.{nothing_left}
 use Rattle.acl_normal.proofs.Unique.Accepted.{accepted_masks, accepted_names}
 use Rattle.acl_normal.proofs.Unique.ListColumns.{names_in_column, same_grants_from_columns}
 use Rattle.acl_normal.proofs.Unique.Normal.{irreducible_list, column_quiet, clique_of}

@@ -3,7 +3,7 @@ use Rattle.std.specs.Prelude.{◌≡◌, ℕ, ◌+◌, ◌<◌, ◌≤◌, zero,
 use Rattle.std.proofs.Common.{sym, ◌∙◌, ap, subst, arith, append_assoc}
 use Rattle.std.proofs.lemmas.Bool.{and_parts}
 use Rattle.std.proofs.lemmas.List.{length-append, append-nil}
-use Rattle.acl_perm.specs.Principal.{Principal, owner, user, group, group_named, everyone}
+use Rattle.acl_perm.specs.Principal.{Principal, owner, user, group, group_named, everyone, is_user}
 use Rattle.acl_perm.specs.Overlap.{may_overlap}
 use Rattle.acl_perm.specs.declared.kind.Kind.{Kind}
 use Rattle.acl_perm.specs.declared.kind.Kind.TheVariants.{Deny, Allow}
@@ -15,9 +15,10 @@ use Rattle.acl_eval.specs.Column.{Column, first_kind, column}
 use Rattle.acl_eval.specs.Scan.{without}
 use Rattle.acl_eval.proofs.Scans.{has_bit-without}
 use Rattle.acl_normal.specs.Keys.{principal_eq, Key, ace_key, kind_eq}
-use Rattle.acl_normal.specs.Places.{is_user, other_kind, same_class, counts, first_at, without_bits, take_out, key_here, mask_here, nothing_left}
+use Rattle.acl_normal.specs.Places.{same_class, first_at, without_bits, take_out, key_here, mask_here, nothing_left}
+use Rattle.acl_perm.specs.Kind.{other_kind}
 use Rattle.acl_normal.specs.internal.Alike.{is_either}
-use Rattle.acl_normal.specs.Normal.{is_inherit_only, IsQuiet}
+use Rattle.acl_normal.specs.Normal.{is_inherit_only, IsQuiet, counts}
 use Rattle.acl_normal.specs.internal.Emissions.{IsOnce, HasOnceColumns}
 use Rattle.acl_normal.specs.internal.Plain.{default, has_opposite, is_needed, needed_keys}
 use Rattle.acl_normal.specs.Left.{IsTidy, KeepsFirsts}

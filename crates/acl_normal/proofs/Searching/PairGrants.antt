@@ -12,13 +12,13 @@ use Rattle.acl_normal.proofs.Unique.Names.{bytes_eq_same}
 use Rattle.acl_normal.proofs.Searching.SetEvaluation.{granted_to-cons}
 use Rattle.acl_normal.proofs.Searching.SetSearchLemmas.{found_right}
 use Rattle.acl_normal.specs.Keys.{principal_eq}
-use Rattle.acl_normal.specs.internal.FirstPlaces.{Agrees, AgreesAt, IsRow, SameAlone, first_place, inverts, inverts_any, is_user}
+use Rattle.acl_normal.specs.internal.FirstPlaces.{Agrees, AgreesAt, IsRow, SameAlone, first_place, inverts, inverts_any}
 use Rattle.acl_normal.specs.internal.SetSearch.{FindsFirst, differ, is_granted_to}
 use Rattle.acl_normal.specs.SmallSets.{pairs, partners}
 use Rattle.acl_normal.specs.declared.comparison.rows.Row.{Row}
 use Rattle.acl_perm.specs.Bits.{has_bit}
 use Rattle.acl_perm.specs.Overlap.{may_overlap}
-use Rattle.acl_perm.specs.Principal.{Principal, everyone, user}
+use Rattle.acl_perm.specs.Principal.{Principal, everyone, user, is_user}
 
 -- one more on both sides leaves the order
 shift : (x y : ℕ) → nat_lt (x + 1) (y + 1) ≡ nat_lt x y

@@ -13,12 +13,12 @@ use Rattle.acl_normal.proofs.Searching.FirstPlaceLemmas.{zip_length}
 use Rattle.acl_normal.proofs.Searching.Numbers.{principal_at, zip_push}
 use Rattle.acl_normal.proofs.Searching.PairGrants.{agrees_from_rows, inverted, not_agrees_from_rows, not_inverted}
 use Rattle.acl_normal.proofs.Searching.SetEvaluation.{unused_denied}
-use Rattle.acl_normal.specs.internal.FirstPlaces.{AgreesAt, AlikeAlone, AlikeWith, AlikeWithAll, AreFirstFrom, AreRows, IsFirst, IsFirstFrom, IsLeast, IsRow, OnAll, SameAlone, inverts, inverts_any, is_user, no_first, no_row}
+use Rattle.acl_normal.specs.internal.FirstPlaces.{AgreesAt, AlikeAlone, AlikeWith, AlikeWithAll, AreFirstFrom, AreRows, IsFirst, IsFirstFrom, IsLeast, IsRow, OnAll, SameAlone, inverts, inverts_any, no_first, no_row}
 use Rattle.acl_normal.specs.internal.SetSearch.{AreRightsOf, is_granted_to, principals}
 use Rattle.acl_normal.specs.declared.comparison.rows.First.{First}
 use Rattle.acl_normal.specs.declared.comparison.rows.Row.{Row}
 use Rattle.acl_perm.specs.Bits.{all_rights, has_bit}
-use Rattle.acl_perm.specs.Principal.{Principal, everyone, principal}
+use Rattle.acl_perm.specs.Principal.{Principal, everyone, principal, is_user}
 
 -- what all ACEs say first
 pub first_of_all : (xs : List Ace) (b : ℕ) (p : Principal) (f : First) → IsFirstFrom xs b 0 p f → IsFirst xs b p f

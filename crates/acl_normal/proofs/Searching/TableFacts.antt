@@ -14,34 +14,39 @@ use Rattle.acl_nfs4.specs.Who.{principal_of}
 use Rattle.acl_nfs4.specs.declared.ace.AceRef.{AceRef}
 use Rattle.acl_normal.specs.internal.FirstPlaces.{AreRows, IsRow, first_place, inverts, inverts_any, no_row}
 use Rattle.acl_normal.specs.internal.Passes.{list_of}
-use Rattle.acl_normal.specs.internal.PlaceTables.{HasPlaces, IsFirstOf, IsScattered, IsTable, Raises, is_counted, is_kind, is_told, most_at, most_before, other_place, place_of}
+use Rattle.acl_normal.specs.internal.PlaceTables.{HasPlaces, IsFirstOf, IsScattered, IsTable, Raises, is_counted, is_of_sort, is_told, most_at, most_before, other_place, place_of}
 use Rattle.acl_normal.specs.internal.SetSearch.{differ}
 use Rattle.acl_normal.specs.SmallSituations.{is_among}
+use Rattle.acl_normal.specs.declared.comparison.inversions.Sort.{Sort}
 use Rattle.acl_normal.specs.declared.comparison.rows.Row.{Row}
 use Rattle.acl_perm.specs.Bits.{has_bit}
 use Rattle.acl_perm.specs.Principal.{Principal, everyone}
 
+-- the sort of a row
+abbrev pub sort_of : Row → Sort
+sort_of r = record { allows = r.here.allows; user = r.user }
+
 -- the greatest of two parts is the greater of theirs
-pub most_at-append : (a u w : Bool) (k : ℕ) (xs ys : List Row)
-    → most_at a u w k (xs ++ ys) ≡ max (most_at a u w k xs) (most_at a u w k ys)
-most_at-append a u w k [] ys = omega arith
-most_at-append a u w k (r ∷ xs) ys = let ih = most_at-append a u w k xs ys in omega arith
+pub most_at-append : (q : Sort) (w : Bool) (k : ℕ) (xs ys : List Row)
+    → most_at q w k (xs ++ ys) ≡ max (most_at q w k xs) (most_at q w k ys)
+most_at-append q w k [] ys = omega arith
+most_at-append q w k (r ∷ xs) ys = let ih = most_at-append q w k xs ys in omega arith
 
 -- nothing stands just before place 0
-pub at_zero : (a u w : Bool) (rows : List Row) → most_at a u w 0 rows ≡ 0
-at_zero a u w [] = refl
-at_zero a u w (r ∷ rows) = rw (ne_eqb (place_of w r + 1) 0 (λ e. absurd (omega arith)), at_zero a u w rows)
-    (none (is_counted a u r))
+pub at_zero : (q : Sort) (w : Bool) (rows : List Row) → most_at q w 0 rows ≡ 0
+at_zero q w [] = refl
+at_zero q w (r ∷ rows) = rw (ne_eqb (place_of w r + 1) 0 (λ e. absurd (omega arith)), at_zero q w rows)
+    (none (is_counted q r))
   where
     none : (t : Bool) → max (cond (t && false) (other_place w r + 1) 0) 0 ≡ 0
     none true = refl
     none false = refl
 
 -- nothing stands before place 0
-pub before_zero : (a u w : Bool) (rows : List Row) → most_before a u w 0 rows ≡ 0
-before_zero a u w [] = refl
-before_zero a u w (r ∷ rows) =
-    rw (le-ltb (place_of w r) 0 (omega arith), before_zero a u w rows) (none (is_counted a u r))
+pub before_zero : (q : Sort) (w : Bool) (rows : List Row) → most_before q w 0 rows ≡ 0
+before_zero q w [] = refl
+before_zero q w (r ∷ rows) =
+    rw (le-ltb (place_of w r) 0 (omega arith), before_zero q w rows) (none (is_counted q r))
   where
     none : (t : Bool) → max (cond (t && false) (other_place w r + 1) 0) 0 ≡ 0
     none true = refl
@@ -71,19 +76,19 @@ one_more true k j v = go (cases_order j k)
     ) refl
 
 -- one place on, those just before it are added
-pub before_more : (a u w : Bool) (k : ℕ) (rows : List Row)
-    → most_before a u w (k + 1) rows ≡ max (most_at a u w (k + 1) rows) (most_before a u w k rows)
-before_more a u w k [] = refl
-before_more a u w k (r ∷ rows) =
-    let head = one_more (is_counted a u r) k (place_of w r) (other_place w r + 1) in
-    let ih = before_more a u w k rows in
+pub before_more : (q : Sort) (w : Bool) (k : ℕ) (rows : List Row)
+    → most_before q w (k + 1) rows ≡ max (most_at q w (k + 1) rows) (most_before q w k rows)
+before_more q w k [] = refl
+before_more q w k (r ∷ rows) =
+    let head = one_more (is_counted q r) k (place_of w r) (other_place w r + 1) in
+    let ih = before_more q w k rows in
     omega arith
 
 -- some row is_counted, stands before k, and isn't before v in the other list
-abbrev pub any_over : Bool → Bool → Bool → ℕ → ℕ → List Row → Bool
-any_over a u w k v [] = false
-any_over a u w k v (r ∷ rows) =
-    (is_counted a u r && (nat_lt (place_of w r) k && not (nat_lt (other_place w r) v))) || any_over a u w k v rows
+abbrev pub any_over : Sort → Bool → ℕ → ℕ → List Row → Bool
+any_over q w k v [] = false
+any_over q w k v (r ∷ rows) =
+    (is_counted q r && (nat_lt (place_of w r) k && not (nat_lt (other_place w r) v))) || any_over q w k v rows
 
 -- one row, and the others
 over_head : (t l : Bool) (v x m : ℕ)
@@ -93,12 +98,12 @@ over_head true false v x m = grind (arith, nat_tests)
 over_head false l v x m = grind (arith, nat_tests)
 
 -- the greatest is over a number exactly if some row is
-pub over_is : (a u w : Bool) (k v : ℕ) (rows : List Row) → nat_lt v (most_before a u w k rows) ≡ any_over a u w k v rows
-over_is a u w k v [] = le-ltb v 0 (omega arith)
-over_is a u w k v (r ∷ rows) =
-    over_head (is_counted a u r) (nat_lt (place_of w r) k) v (other_place w r) (most_before a u w k rows)
-    ∙ ap (λ t. (is_counted a u r && (nat_lt (place_of w r) k && not (nat_lt (other_place w r) v))) || t)
-    (over_is a u w k v rows)
+pub over_is : (q : Sort) (w : Bool) (k v : ℕ) (rows : List Row) → nat_lt v (most_before q w k rows) ≡ any_over q w k v rows
+over_is q w k v [] = le-ltb v 0 (omega arith)
+over_is q w k v (r ∷ rows) =
+    over_head (is_counted q r) (nat_lt (place_of w r) k) v (other_place w r) (most_before q w k rows)
+    ∙ ap (λ t. (is_counted q r && (nat_lt (place_of w r) k && not (nat_lt (other_place w r) v))) || t)
+    (over_is q w k v rows)
 
 -- one order in one list and the other in the other, either way round
 either_order : (c l m x y : Bool)
@@ -112,34 +117,34 @@ either_order false l m x y = refl
 
 -- a row inverts another just where the tables, in one direction or in the other, say so
 pub inverts_is : (r : Row) (rows : List Row)
-    → inverts_any r rows ≡ (any_over r.here.allows r.user false r.here.place r.there.place rows || any_over
-    r.here.allows r.user true r.there.place r.here.place rows)
+    → inverts_any r rows ≡ (any_over (sort_of r) false r.here.place r.there.place rows || any_over
+    (sort_of r) true r.there.place r.here.place rows)
 inverts_is r [] = refl
 inverts_is r (s ∷ rows) =
     ap (λ t. inverts r s || t) (inverts_is r rows)
-    ∙ either_order (is_counted r.here.allows r.user s) (nat_lt s.here.place r.here.place)
-    (nat_lt s.there.place r.there.place) (any_over r.here.allows r.user false r.here.place r.there.place rows)
-    (any_over r.here.allows r.user true r.there.place r.here.place rows)
+    ∙ either_order (is_counted (sort_of r) s) (nat_lt s.here.place r.here.place)
+    (nat_lt s.there.place r.there.place) (any_over (sort_of r) false r.here.place r.there.place rows)
+    (any_over (sort_of r) true r.there.place r.here.place rows)
 
 -- the same, by what the tables hold
 pub inverts_by_tables : (r : Row) (rows : List Row) (f s : ℕ)
-    → f ≡ most_before r.here.allows r.user false r.here.place rows
-    → s ≡ most_before r.here.allows r.user true r.there.place rows
+    → f ≡ most_before (sort_of r) false r.here.place rows
+    → s ≡ most_before (sort_of r) true r.there.place rows
     → inverts_any r rows ≡ (nat_lt r.there.place f || nat_lt r.here.place s)
 inverts_by_tables r rows f s h i =
     inverts_is r rows ∙ rw (
       h,
       i,
-      over_is r.here.allows r.user false r.here.place r.there.place rows,
+      over_is (sort_of r) false r.here.place r.there.place rows,
       over_is
-          r.here.allows r.user true r.there.place r.here.place rows,
+          (sort_of r) true r.there.place r.here.place rows,
     ) refl
 
 -- a row that counts raises what stands behind its place
-pub raises_set : (a u w : Bool) (r : Row) (old new : List ℕ) (j v : ℕ) → j < length old → is_counted a u r ≡ true
+pub raises_set : (q : Sort) (w : Bool) (r : Row) (old new : List ℕ) (j v : ℕ) → j < length old → is_counted q r ≡ true
     → j ≡ place_of w r + 1 → v ≡ other_place w r + 1 → new ≡ slice_set old j (max (slice_index_or old j 0) v)
-    → Raises a u w r old new
-raises_set a u w r old new j v lt c jk vk is =
+    → Raises q w r old new
+raises_set q w r old new j v lt c jk vk is =
     record {
       count = ap length is ∙ length-set old j (max (slice_index_or old j 0) v);
       each =
@@ -148,7 +153,7 @@ raises_set a u w r old new j v lt c jk vk is =
   where
     at : (k : ℕ) → (k ≡ j) ⊎ (k ≡ j → ⊥)
         → slice_index_or (slice_set old j (max (slice_index_or old j 0) v)) k 0
-        ≡ max (slice_index_or old k 0) (cond (is_counted a u r && (place_of w r + 1 == k)) (other_place w r + 1) 0)
+        ≡ max (slice_index_or old k 0) (cond (is_counted q r && (place_of w r + 1 == k)) (other_place w r + 1) 0)
     at k (inl e) = ap (λ i. slice_index_or (slice_set old j (max (slice_index_or old j 0) v)) i 0) e
         ∙ get_or-set_same old j (max (slice_index_or old j 0) v) 0 lt
         ∙ rw (c, eq-eqb (place_of w r + 1) k (sym jk ∙ sym e))
@@ -157,13 +162,13 @@ raises_set a u w r old new j v lt c jk vk is =
         ∙ rw (c, ne_eqb (place_of w r + 1) k (λ e. n (sym e ∙ sym jk))) (omega arith)
 
 -- one that doesn't leaves it
-pub raises_none : (a u w : Bool) (r : Row) (old : List ℕ) → is_counted a u r ≡ false → Raises a u w r old old
-raises_none a u w r old c = record { count = refl; each = λ k lk. rw c (omega arith) }
+pub raises_none : (q : Sort) (w : Bool) (r : Row) (old : List ℕ) → is_counted q r ≡ false → Raises q w r old old
+raises_none q w r old c = record { count = refl; each = λ k lk. rw c (omega arith) }
 
 -- before the first row all is zero
-pub scatter_start : (a u w : Bool) (size n : ℕ) (table : List ℕ) → table ≡ replicate n 0 → n ≡ size + 2
-    → IsScattered a u w size [] table
-scatter_start a u w size n table is e =
+pub scatter_start : (q : Sort) (w : Bool) (size n : ℕ) (table : List ℕ) → table ≡ replicate n 0 → n ≡ size + 2
+    → IsScattered q w size [] table
+scatter_start q w size n table is e =
     record {
       count = ap length is ∙ length-replicate n 0 ∙ e;
       each = λ k lt. ap (λ l. slice_index_or l k 0) is
@@ -171,82 +176,82 @@ scatter_start a u w size n table is e =
     }
 
 -- one more row
-pub scatter_more : (a u w : Bool) (size i : ℕ) (rows : List Row) (d : Row) (old new : List ℕ) → i < length rows
-    → Raises a u w (slice_index_or rows i d) old new → IsScattered a u w size (take i rows) old
-    → IsScattered a u w size (take (i + 1) rows) new
-scatter_more a u w size i rows d old new lt up h = record {
+pub scatter_more : (q : Sort) (w : Bool) (size i : ℕ) (rows : List Row) (d : Row) (old new : List ℕ) → i < length rows
+    → Raises q w (slice_index_or rows i d) old new → IsScattered q w size (take i rows) old
+    → IsScattered q w size (take (i + 1) rows) new
+scatter_more q w size i rows d old new lt up h = record {
   count = up.count ∙ h.count;
   each = λ k lk. up.each k (omega (arith, h.count)) ∙ whole k (h.each k lk)
-      ∙ sym (ap (most_at a u w k) (take_more rows i d lt)
-      ∙ most_at-append a u w k (take i rows) (slice_index_or rows i d ∷ []));
+      ∙ sym (ap (most_at q w k) (take_more rows i d lt)
+      ∙ most_at-append q w k (take i rows) (slice_index_or rows i d ∷ []));
 }
   where
-    whole : (k : ℕ) → slice_index_or old k 0 ≡ most_at a u w k (take i rows)
+    whole : (k : ℕ) → slice_index_or old k 0 ≡ most_at q w k (take i rows)
         → max (slice_index_or old k 0)
-        (cond (is_counted a u (slice_index_or rows i d) && (place_of w (slice_index_or rows i d) + 1 == k))
+        (cond (is_counted q (slice_index_or rows i d) && (place_of w (slice_index_or rows i d) + 1 == k))
         (other_place w (slice_index_or rows i d) + 1) 0)
-        ≡ max (most_at a u w k (take i rows))
-        (max (cond (is_counted a u (slice_index_or rows i d) && (place_of w (slice_index_or rows i d) + 1 == k))
+        ≡ max (most_at q w k (take i rows))
+        (max (cond (is_counted q (slice_index_or rows i d) && (place_of w (slice_index_or rows i d) + 1 == k))
         (other_place w (slice_index_or rows i d) + 1) 0) 0)
     whole k e = omega arith
 
 -- the places below k are finished
-pub record IsSummed (a u w : Bool) (size k : ℕ) (rows : List Row) (table : List ℕ) : Type 0 where
+pub record IsSummed (q : Sort) (w : Bool) (size k : ℕ) (rows : List Row) (table : List ℕ) : Type 0 where
   pub count : length table ≡ size + 2
-  pub done : (j : ℕ) → j < k → slice_index_or table j 0 ≡ most_before a u w j rows
-  pub left : (j : ℕ) → k ≤ j → j < size + 2 → slice_index_or table j 0 ≡ most_at a u w j rows
+  pub done : (j : ℕ) → j < k → slice_index_or table j 0 ≡ most_before q w j rows
+  pub left : (j : ℕ) → k ≤ j → j < size + 2 → slice_index_or table j 0 ≡ most_at q w j rows
 
 -- after all rows
-pub scatter_all : (a u w : Bool) (size i : ℕ) (rows : List Row) (table : List ℕ) → length rows ≤ i
-    → IsScattered a u w size (take i rows) table → IsScattered a u w size rows table
-scatter_all a u w size i rows table le h =
-    record { count = h.count; each = λ k lt. h.each k lt ∙ ap (most_at a u w k) (take_all i rows le) }
+pub scatter_all : (q : Sort) (w : Bool) (size i : ℕ) (rows : List Row) (table : List ℕ) → length rows ≤ i
+    → IsScattered q w size (take i rows) table → IsScattered q w size rows table
+scatter_all q w size i rows table le h =
+    record { count = h.count; each = λ k lt. h.each k lt ∙ ap (most_at q w k) (take_all i rows le) }
 
 -- nothing stands before place 0
-pub summed_start : (a u w : Bool) (size : ℕ) (rows : List Row) (table : List ℕ) → IsScattered a u w size rows table
-    → IsSummed a u w size 1 rows table
-summed_start a u w size rows table h = record {
+pub summed_start : (q : Sort) (w : Bool) (size : ℕ) (rows : List Row) (table : List ℕ) → IsScattered q w size rows table
+    → IsSummed q w size 1 rows table
+summed_start q w size rows table h = record {
   count = h.count;
   done = λ j lt. let e : j ≡ 0 = omega arith in
-      subst (λ v. slice_index_or table v 0 ≡ most_before a u w v rows) (sym e)
-      (h.each 0 (omega arith) ∙ at_zero a u w rows ∙ sym (before_zero a u w rows));
+      subst (λ v. slice_index_or table v 0 ≡ most_before q w v rows) (sym e)
+      (h.each 0 (omega arith) ∙ at_zero q w rows ∙ sym (before_zero q w rows));
   left = λ j lo lt. h.each j lt;
 }
 
 -- one more place
-pub summed_more : (a u w : Bool) (size k x y : ℕ) (rows : List Row) (old new : List ℕ) → 0 < k → k < size + 2
+pub summed_more : (q : Sort) (w : Bool) (size k x y : ℕ) (rows : List Row) (old new : List ℕ) → 0 < k → k < size + 2
     → x ≡ slice_index_or old k x → y ≡ slice_index_or old (k - 1) y → new ≡ slice_set old k (max x y)
-    → IsSummed a u w size k rows old → IsSummed a u w size (k + 1) rows new
-summed_more a u w size k x y rows old new pos lt xi yi is h = record {
+    → IsSummed q w size k rows old → IsSummed q w size (k + 1) rows new
+summed_more q w size k x y rows old new pos lt xi yi is h = record {
   count = ap length is ∙ length-set old k (max x y) ∙ h.count;
   done = λ j l. ap (λ v. slice_index_or v j 0) is ∙ at j l (cases_eq j k);
   left = λ j lo l. ap (λ v. slice_index_or v j 0) is
       ∙ get_or-set_other old k j (max x y) 0 (λ e. absurd (omega arith)) ∙ h.left j (omega arith) l;
 }
   where
-    value : max x y ≡ most_before a u w k rows
+    value : max x y ≡ most_before q w k rows
     value =
         let i : ℕ = k - 1 in
         let next : k ≡ i + 1 = omega arith in
-        let here : x ≡ most_at a u w k rows = get_or_read old k x (omega (arith, h.count)) xi 0
+        let here : x ≡ most_at q w k rows = get_or_read old k x (omega (arith, h.count)) xi 0
         ∙ h.left k (omega arith) lt in
-        let before : y ≡ most_before a u w i rows = get_or_read old (k - 1) y (omega (arith, h.count)) yi 0
+        let before : y ≡ most_before q w i rows = get_or_read old (k - 1) y (omega (arith, h.count)) yi 0
         ∙ h.done i (omega arith) in
-        let whole : most_before a u w k rows ≡ max (most_at a u w k rows) (most_before a u w i rows) =
-        subst (λ v. most_before a u w v rows ≡ max (most_at a u w v rows) (most_before a u w i rows)) (sym next)
-        (before_more a u w i rows) in
+        let whole : most_before q w k rows ≡ max (most_at q w k rows) (most_before q w i rows) =
+        subst (λ v. most_before q w v rows ≡ max (most_at q w v rows) (most_before q w i rows)) (sym next)
+        (before_more q w i rows) in
         omega arith
 
     at : (j : ℕ) → j < k + 1 → (j ≡ k) ⊎ (j ≡ k → ⊥)
-        → slice_index_or (slice_set old k (max x y)) j 0 ≡ most_before a u w j rows
-    at j l (inl e) = subst (λ v. slice_index_or (slice_set old k (max x y)) v 0 ≡ most_before a u w v rows) (sym e)
+        → slice_index_or (slice_set old k (max x y)) j 0 ≡ most_before q w j rows
+    at j l (inl e) = subst (λ v. slice_index_or (slice_set old k (max x y)) v 0 ≡ most_before q w v rows) (sym e)
         (get_or-set_same old k (max x y) 0 (omega (arith, h.count)) ∙ value)
     at j l (inr n) = get_or-set_other old k j (max x y) 0 n ∙ h.done j (omega arith)
 
 -- after the last place the table is done
-pub summed_done : (a u w : Bool) (size k : ℕ) (rows : List Row) (table : List ℕ) → size + 2 ≤ k
-    → IsSummed a u w size k rows table → IsTable a u w size rows table
-summed_done a u w size k rows table le h = record { count = h.count; each = λ j lt. h.done j (omega arith) }
+pub summed_done : (q : Sort) (w : Bool) (size k : ℕ) (rows : List Row) (table : List ℕ) → size + 2 ≤ k
+    → IsSummed q w size k rows table → IsTable q w size rows table
+summed_done q w size k rows table le h = record { count = h.count; each = λ j lt. h.done j (omega arith) }
 
 -- the places of one of the rows
 pub places_at : (size i : ℕ) (rows : List Row) (d : Row) → i < length rows → AllByRecursion (HasPlaces size) rows
@@ -267,42 +272,41 @@ not_differ false false h = refl
 not_differ true false h = cc
 not_differ false true h = cc
 
--- a row of a kind has its type, and is a user or not
-pub kind_is : (a u : Bool) (r : Row) → is_kind a u r ≡ true → (a ≡ r.here.allows) × (u ≡ r.user)
-kind_is a u r h = let p = and_parts (not (differ a r.here.allows)) (not (differ u r.user)) h in
-    (not_differ a r.here.allows p.0, not_differ u r.user p.1)
+-- a row of a sort has that sort
+pub kind_is : (q : Sort) (r : Row) → is_of_sort q r ≡ true → q ≡ sort_of r
+kind_is q r h = let p = and_parts (not (differ q.allows r.here.allows)) (not (differ q.user r.user)) h in
+    ap (λ v. record { allows = v; user = q.user }) (not_differ q.allows r.here.allows p.0)
+    ∙ ap (λ v. record { allows = r.here.allows; user = v }) (not_differ q.user r.user p.1)
 
--- what the two tables say of a row of their kind
-pub by_kind : (a u : Bool) (size : ℕ) (rows : List Row) (r : Row) (forward back : List ℕ) → is_kind a u r ≡ true
-    → HasPlaces size r → IsTable a u false size rows forward → IsTable a u true size rows back
+-- what the two tables say of a row of their sort
+pub by_kind : (q : Sort) (size : ℕ) (rows : List Row) (r : Row) (forward back : List ℕ) → is_of_sort q r ≡ true
+    → HasPlaces size r → IsTable q false size rows forward → IsTable q true size rows back
     → inverts_any r rows ≡ (nat_lt r.there.place (slice_index_or forward r.here.place 0) || nat_lt r.here.place
     (slice_index_or back r.there.place 0))
-by_kind a u size rows r forward back k p f b =
-    let own = kind_is a u r k in
+by_kind q size rows r forward back k p f b =
+    let own = kind_is q r k in
     let here_in = p.here in
     let there_in = p.there in
     inverts_by_tables r rows (slice_index_or forward r.here.place 0) (slice_index_or back r.there.place 0)
-    (f.each r.here.place (omega arith) ∙ ap (λ v. most_before v u false r.here.place rows) own.0
-    ∙ ap (λ v. most_before r.here.allows v false r.here.place rows) own.1)
-    (b.each r.there.place (omega arith) ∙ ap (λ v. most_before v u true r.there.place rows) own.0
-    ∙ ap (λ v. most_before r.here.allows v true r.there.place rows) own.1)
+    (f.each r.here.place (omega arith) ∙ ap (λ v. most_before v false r.here.place rows) own)
+    (b.each r.there.place (omega arith) ∙ ap (λ v. most_before v true r.there.place rows) own)
 
 -- a row that is told inverts another
-pub found_true : (a u : Bool) (size : ℕ) (rows : List Row) (r : Row) (forward back : List ℕ) (t : Bool)
-    → t ≡ is_told a u r forward back → t ≡ true → HasPlaces size r → IsTable a u false size rows forward
-    → IsTable a u true size rows back → inverts_any r rows ≡ true
-found_true a u size rows r forward back t h e p f b =
-    let parts = and_parts (is_kind a u r)
+pub found_true : (q : Sort) (size : ℕ) (rows : List Row) (r : Row) (forward back : List ℕ) (t : Bool)
+    → t ≡ is_told q r forward back → t ≡ true → HasPlaces size r → IsTable q false size rows forward
+    → IsTable q true size rows back → inverts_any r rows ≡ true
+found_true q size rows r forward back t h e p f b =
+    let parts = and_parts (is_of_sort q r)
     (nat_lt r.there.place (slice_index_or forward r.here.place 0) || nat_lt r.here.place
     (slice_index_or back r.there.place 0)) (sym h ∙ e) in
-    by_kind a u size rows r forward back parts.0 p f b ∙ parts.1
+    by_kind q size rows r forward back parts.0 p f b ∙ parts.1
 
--- one of the kind that is not told inverts none
-pub found_false : (a u : Bool) (size : ℕ) (rows : List Row) (r : Row) (forward back : List ℕ) (t : Bool)
-    → t ≡ is_told a u r forward back → t ≡ false → HasPlaces size r → IsTable a u false size rows forward
-    → IsTable a u true size rows back → is_kind a u r ≡ true → inverts_any r rows ≡ false
-found_false a u size rows r forward back t h e p f b k =
-    by_kind a u size rows r forward back k p f b
+-- one of the sort that is not told inverts none
+pub found_false : (q : Sort) (size : ℕ) (rows : List Row) (r : Row) (forward back : List ℕ) (t : Bool)
+    → t ≡ is_told q r forward back → t ≡ false → HasPlaces size r → IsTable q false size rows forward
+    → IsTable q true size rows back → is_of_sort q r ≡ true → inverts_any r rows ≡ false
+found_false q size rows r forward back t h e p f b k =
+    by_kind q size rows r forward back k p f b
     ∙ sym (ap (λ v. v && (nat_lt r.there.place (slice_index_or forward r.here.place 0) || nat_lt r.here.place
     (slice_index_or back r.there.place 0))) k)
     ∙ sym h ∙ e
@@ -340,27 +344,27 @@ slice_within ps first second b size items slice is lx ly h =
     (rows_within ps (list_of first) (list_of second) b size items (omega (arith, length-map first ace))
     (omega (arith, length-map second ace)) h.each)
 
--- the first row of a kind that is told
-pub first_of_kind : (a u : Bool) (size limit k : ℕ) (rows : List Row) (forward back fs bs : List ℕ) (t : Bool)
+-- the first row of a sort that is told
+pub first_of_kind : (q : Sort) (size limit k : ℕ) (rows : List Row) (forward back fs bs : List ℕ) (t : Bool)
     → k < limit → limit ≤ length rows
-    → ((j : ℕ) → j < k → is_kind a u (slice_index_or rows j no_row) ≡ true
+    → ((j : ℕ) → j < k → is_of_sort q (slice_index_or rows j no_row) ≡ true
     → inverts_any (slice_index_or rows j no_row) rows ≡ false) → AllByRecursion (HasPlaces size) rows
-    → IsTable a u false size rows forward → IsTable a u true size rows back → fs ≡ forward → bs ≡ back
-    → t ≡ is_told a u (slice_index_or rows k no_row) fs bs → t ≡ true → IsFirstOf a u rows limit k
-first_of_kind a u size limit k rows forward back fs bs t lt le before places f b fe be h e = record {
+    → IsTable q false size rows forward → IsTable q true size rows back → fs ≡ forward → bs ≡ back
+    → t ≡ is_told q (slice_index_or rows k no_row) fs bs → t ≡ true → IsFirstOf q rows limit k
+first_of_kind q size limit k rows forward back fs bs t lt le before places f b fe be h e = record {
   within = omega arith;
   before = before;
-  at = λ _. found_true a u size rows (slice_index_or rows k no_row) fs bs t h e
-      (places_at size k rows no_row (omega arith) places) (subst (λ v. IsTable a u false size rows v) (sym fe) f)
-      (subst (λ v. IsTable a u true size rows v) (sym be) b);
+  at = λ _. found_true q size rows (slice_index_or rows k no_row) fs bs t h e
+      (places_at size k rows no_row (omega arith) places) (subst (λ v. IsTable q false size rows v) (sym fe) f)
+      (subst (λ v. IsTable q true size rows v) (sym be) b);
 }
 
 -- one more row of which none is told
-pub not_of_kind : (a u : Bool) (size k : ℕ) (rows : List Row) (forward back fs bs : List ℕ) (t : Bool)
-    → k < length rows → AllByRecursion (HasPlaces size) rows → IsTable a u false size rows forward
-    → IsTable a u true size rows back → fs ≡ forward → bs ≡ back
-    → t ≡ is_told a u (slice_index_or rows k no_row) fs bs → t ≡ false
-    → is_kind a u (slice_index_or rows k no_row) ≡ true → inverts_any (slice_index_or rows k no_row) rows ≡ false
-not_of_kind a u size k rows forward back fs bs t lt places f b fe be h e =
-    found_false a u size rows (slice_index_or rows k no_row) fs bs t h e (places_at size k rows no_row lt places)
-    (subst (λ v. IsTable a u false size rows v) (sym fe) f) (subst (λ v. IsTable a u true size rows v) (sym be) b)
+pub not_of_kind : (q : Sort) (size k : ℕ) (rows : List Row) (forward back fs bs : List ℕ) (t : Bool)
+    → k < length rows → AllByRecursion (HasPlaces size) rows → IsTable q false size rows forward
+    → IsTable q true size rows back → fs ≡ forward → bs ≡ back
+    → t ≡ is_told q (slice_index_or rows k no_row) fs bs → t ≡ false
+    → is_of_sort q (slice_index_or rows k no_row) ≡ true → inverts_any (slice_index_or rows k no_row) rows ≡ false
+not_of_kind q size k rows forward back fs bs t lt places f b fe be h e =
+    found_false q size rows (slice_index_or rows k no_row) fs bs t h e (places_at size k rows no_row lt places)
+    (subst (λ v. IsTable q false size rows v) (sym fe) f) (subst (λ v. IsTable q true size rows v) (sym be) b)

@@ -20,9 +20,8 @@ use Rattle.acl_eval.specs.Column.{Column, column}
 use Rattle.acl_eval.specs.Grant.{SameGrants}
 use Rattle.acl_normal.specs.Keys.{Key, ace_key}
 use Rattle.acl_normal.specs.Laws.{Has}
-use Rattle.acl_normal.specs.Normal.{IsNormal, HasNoEmptyMask, HasNormalFlags, HasMasks, flags_for, is_inherit_only}
+use Rattle.acl_normal.specs.Normal.{IsNormal, HasNoEmptyMask, HasNormalFlags, HasMasks, flags_for, is_inherit_only, counts}
 use Rattle.acl_normal.specs.NormalForm.{IsNormalFormOf}
-use Rattle.acl_normal.specs.Places.{counts}
 use Rattle.acl_normal.proofs.Unique.Bits.{no_bits, power_has}
 use Rattle.acl_normal.proofs.Unique.Columns.{column_has, column_lacks}
 use Rattle.acl_normal.proofs.Emission.Drained.{some_below}

@@ -6,11 +6,27 @@ use Rattle.std.proofs.lemmas.Slice.Eq.{bytes_eq-Decides}
 use Rattle.std.proofs.lemmas.Bool.{or_cases, or_left, or_right}
 use Rattle.acl_perm.proofs.Meetings.{overlap_is}
 use Rattle.acl_perm.proofs.Bools.{same_answers}
-use Rattle.acl_perm.specs.Principal.{Principal, owner, user, group, group_named, everyone}
+use Rattle.acl_perm.specs.Kind.{is_allow}
+use Rattle.acl_perm.specs.declared.kind.Kind.{Kind}
+use Rattle.acl_perm.specs.declared.kind.Kind.TheVariants.{Deny, Allow}
+use Rattle.acl_perm.specs.Principal.{Principal, owner, user, group, group_named, everyone, is_everyone}
 use Rattle.acl_perm.specs.Overlap.{may_overlap}
 use Rattle.acl_perm.specs.Situation.{Situation, matches}
-use Rattle.acl_normal.specs.Keys.{principal_eq}
+use Rattle.acl_normal.specs.Keys.{kind_eq, principal_eq}
 use Rattle.acl_normal.specs.internal.Alike.{is_either, is_either_or_everyone}
+
+-- the test for everyone is that for the same principal
+pub everyone_test : (p : Principal) → is_everyone p ≡ principal_eq p everyone
+everyone_test owner = refl
+everyone_test (user name) = refl
+everyone_test group = refl
+everyone_test (group_named name) = refl
+everyone_test everyone = refl
+
+-- the test for ALLOW is that for the same type
+pub allow_test : (k : Kind) → is_allow k ≡ kind_eq k Allow
+allow_test Deny = refl
+allow_test Allow = refl
 
 -- a name is the same as itself
 pub bytes_eq_itself : (a : List ℕ) → bytes_eq a a ≡ true

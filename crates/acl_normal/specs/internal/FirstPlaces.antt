@@ -1,6 +1,6 @@
 -- Where two lists first speak of each principal, and what they say there (this library's own): words that only code
 -- needs.
-use Rattle.std.specs.Prelude.{◌≡◌, ℕ, ◌<◌, ◌≤◌, ◌+◌, Bool, true, false, not, ◌&&◌, ◌||◌, if◌then◌else◌, nat_lt, ◌==◌, drop, slice_index_or, slice_set, List, [], ◌∷◌, length}
+use Rattle.std.specs.Prelude.{◌≡◌, ℕ, ◌<◌, ◌≤◌, ◌+◌, Bool, true, false, not, ◌&&◌, if◌then◌else◌, nat_lt, ◌==◌, drop, slice_index_or, slice_set, List, [], ◌∷◌, length}
 use Rattle.std.specs.List.{AllByRecursion, AllZip, list_any}
 use Rattle.acl_eval.specs.Column.{takes_part}
 use Rattle.acl_eval.specs.Grant.{is_allow}
@@ -16,7 +16,7 @@ use Rattle.acl_normal.specs.declared.comparison.rows.Whom.{Whom}
 use Rattle.acl_normal.specs.declared.comparison.rows.Whom.TheVariants.{Everyone, Nobody, One}
 use Rattle.acl_perm.specs.Bits.{all_rights, has_bit}
 use Rattle.acl_perm.specs.Overlap.{may_overlap}
-use Rattle.acl_perm.specs.Principal.{Principal, everyone, group, group_named, owner, user}
+use Rattle.acl_perm.specs.Principal.{Principal, everyone, is_user}
 use Rattle.acl_perm.specs.declared.kind.Kind.TheVariants.{Deny}
 
 -- the place of the first ACE that has the bit, takes part, and is of the set or everyone; the length of the list where
@@ -31,14 +31,6 @@ first_place set bit (a ∷ list) =
 pub record IsFirst (list : List Ace) (bit : ℕ) (p : Principal) (f : First) : Type 0 where
   pub place : f.place ≡ first_place (p ∷ []) bit list
   pub allows : f.allows ≡ is_granted_to list (p ∷ []) bit
-
--- the principal is a user
-abbrev pub is_user : Principal → Bool
-is_user owner = false
-is_user (user name) = true
-is_user group = false
-is_user (group_named name) = false
-is_user everyone = false
 
 -- what both lists say first of a principal
 pub record IsRow (list other : List Ace) (bit : ℕ) (p : Principal) (r : Row) : Type 0 where

@@ -1,13 +1,13 @@
 -- The keys that have a free bit (this library's own).
 use Rattle.std.specs.Prelude.{◌≡◌, ◌≢◌, ℕ, ◌*◌, ◌<◌, ◌≤◌, zero, suc, Bool, true, false, cond, ◌||◌, ◌&&◌, ◌==◌, ◌⊎◌, ◌^◌, List, length, slice_index_or, bit_or}
-use Rattle.acl_perm.specs.Principal.{Principal, owner, user, group, group_named, everyone}
+use Rattle.acl_perm.specs.Principal.{Principal, owner, user, group, group_named, everyone, is_user}
 use Rattle.acl_perm.specs.declared.kind.Kind.{Kind}
 use Rattle.acl_perm.specs.Bits.{has_bit}
 use Rattle.acl_nfs4.specs.Ace.{Ace}
 use Rattle.acl_nfs4.specs.Who.{owner_name, group_name, everyone_name}
 use Rattle.acl_eval.specs.Column.{column}
 use Rattle.acl_normal.specs.Keys.{principal_eq, Key, kind_eq}
-use Rattle.acl_normal.specs.Places.{is_user, other_kind}
+use Rattle.acl_perm.specs.Kind.{other_kind}
 use Rattle.acl_normal.specs.Normal.{is_free, flags_for}
 use Rattle.acl_normal.specs.internal.Rows.{is_named, key_number}
 

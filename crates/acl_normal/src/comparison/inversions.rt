@@ -31,11 +31,40 @@ fn is_inverted(row: Row, other: Row) -> bool
         && (other.here.place < row.here.place) != (other.there.place < row.there.place)
 }
 
-// Whether a row is of the other type than a principal, and may overlap with it.
-fn is_counted(allows: bool, user: bool, row: Row) -> bool
-    ensures { result ≡ is_counted allows user row }
+/// A sort of rows: of a type, and of users or of others.
+#[derive(Clone, Copy)]
+pub(crate) struct Sort {
+    pub allows: bool,
+    pub user: bool,
+}
+
+impl Sort {
+    const ALLOWED_USERS: Sort = Sort {
+        allows: true,
+        user: true,
+    };
+
+    const ALLOWED_OTHERS: Sort = Sort {
+        allows: true,
+        user: false,
+    };
+
+    const DENIED_USERS: Sort = Sort {
+        allows: false,
+        user: true,
+    };
+
+    const DENIED_OTHERS: Sort = Sort {
+        allows: false,
+        user: false,
+    };
+}
+
+// Whether a row is of the other type than a sort, and may overlap with its rows.
+fn is_counted(sort: Sort, row: Row) -> bool
+    ensures { result ≡ is_counted sort row }
 {
-    !(user && row.user) && allows != row.here.allows
+    !(sort.user && row.user) && sort.allows != row.here.allows
 }
 
 // The place of a row's principal in one list.
@@ -60,13 +89,13 @@ fn other_place(row: Row, swapped: bool) -> usize
     }
 }
 
-// Raises what stands behind a row's place in the one list to its place in the other, if the row is_counted.
-fn raise(table: &mut Vec<usize>, row: Row, allows: bool, user: bool, swapped: bool)
+// Raises what stands behind a row's place in the one list to its place in the other, if the row is counted.
+fn raise(table: &mut Vec<usize>, row: Row, sort: Sort, swapped: bool)
     requires within { place_of swapped row + 1 < vec_len table.old }
     requires small { other_place swapped row < 2 ^ 63 }
-    ensures { Raises allows user swapped row table.old.items table.new.items }
+    ensures { Raises sort swapped row table.old.items table.new.items }
 {
-    if is_counted(allows, user, row) {
+    if is_counted(sort, row) {
         let at = place_of(row, swapped) + 1;
         let most = table[at].max(other_place(row, swapped) + 1);
         table[at] = most;
@@ -78,17 +107,16 @@ fn scattered(
     alloc: Global,
     rows: &[Row],
     size: usize,
-    allows: bool,
-    user: bool,
+    sort: Sort,
     swapped: bool,
 ) -> Result<Vec<usize>, AllocError>
     requires places { AllByRecursion (HasPlaces size) rows.now }
     requires size { size < 2 ^ 63 }
-    ensures { IfOk result (λ v. IsScattered allows user swapped size rows.now v.items) }
+    ensures { IfOk result (λ v. IsScattered sort swapped size rows.now v.items) }
 {
     let mut table = vec![in alloc; 0usize; size + 2]?;
     for row in rows {
-        raise(&mut table, *row, allows, user, swapped);
+        raise(&mut table, *row, sort, swapped);
     }
     Ok(table)
 }
@@ -98,15 +126,14 @@ fn table(
     alloc: Global,
     rows: &[Row],
     size: usize,
-    allows: bool,
-    user: bool,
+    sort: Sort,
     swapped: bool,
 ) -> Result<Vec<usize>, AllocError>
     requires places { AllByRecursion (HasPlaces size) rows.now }
     requires size { size < 2 ^ 63 }
-    ensures { IfOk result (λ v. IsTable allows user swapped size rows.now v.items) }
+    ensures { IfOk result (λ v. IsTable sort swapped size rows.now v.items) }
 {
-    let mut table = scattered(alloc, rows, size, allows, user, swapped)?;
+    let mut table = scattered(alloc, rows, size, sort, swapped)?;
     for k in 1..size + 2 {
         let most = table[k].max(table[k - 1]);
         table[k] = most;
@@ -114,43 +141,41 @@ fn table(
     Ok(table)
 }
 
-// Whether a row is of a kind and, by the tables of that kind, inverts another.
-fn is_told(row: Row, allows: bool, user: bool, forward: &[usize], back: &[usize]) -> bool
+// Whether a row is of a sort and, by the tables of that sort, inverts another.
+fn is_told(row: Row, sort: Sort, forward: &[usize], back: &[usize]) -> bool
     requires here { row.here.place < length forward.now }
     requires there { row.there.place < length back.now }
-    ensures { result ≡ is_told allows user row forward.now back.now }
+    ensures { result ≡ is_told sort row forward.now back.now }
 {
-    row.here.allows == allows
-        && row.user == user
+    row.here.allows == sort.allows
+        && row.user == sort.user
         && (row.there.place < forward[row.here.place] || row.here.place < back[row.there.place])
 }
 
-// The first of the rows of a kind, below a limit, that inverts another.
+// The first of the rows of a sort, below a limit, that inverts another.
 fn first_of(
     alloc: Global,
     rows: &[Row],
     size: usize,
     limit: usize,
-    allows: bool,
-    user: bool,
+    sort: Sort,
 ) -> Result<usize, AllocError>
     requires limit { limit ≤ length rows.now }
     requires places { AllByRecursion (HasPlaces size) rows.now }
     requires size { size < 2 ^ 63 }
-    ensures { IfOk result (λ v. IsFirstOf allows user rows.now limit v) }
+    ensures { IfOk result (λ v. IsFirstOf sort rows.now limit v) }
 {
-    let forward = table(alloc, rows, size, allows, user, false)?;
-    let back = table(alloc, rows, size, allows, user, true)?;
+    let forward = table(alloc, rows, size, sort, false)?;
+    let back = table(alloc, rows, size, sort, true)?;
     for k in 0..limit {
-        if is_told(rows[k], allows, user, &forward, &back) {
+        if is_told(rows[k], sort, &forward, &back) {
             return Ok(k);
         }
     }
     Ok(limit)
 }
 
-/// The first of the rows, below a limit, that inverts another. Each table is of the rows that count for a kind: a type,
-/// and users or others.
+/// The first of the rows, below a limit, that inverts another. Each table is of the rows that count for a sort.
 pub(crate) fn first_inverting(
     alloc: Global,
     rows: &[Row],
@@ -163,19 +188,21 @@ pub(crate) fn first_inverting(
     ensures within { IfOk result (λ v. v ≤ limit) }
     ensures before { IfOk result (λ v. (k : ℕ) → k < v
         → inverts_any (slice_index_or rows.now k no_row) rows.now ≡ false) }
-    ensures at { IfOk result (λ v. v < limit → inverts_any (slice_index_or rows.now v no_row) rows.now ≡ true) }
+    ensures at { IfOk result (λ v. v < limit
+        → inverts_any (slice_index_or rows.now v no_row) rows.now ≡ true) }
 {
-    let allowed_users = first_of(alloc, rows, size, limit, true, true)?;
-    let allowed = first_of(alloc, rows, size, allowed_users, true, false)?;
-    let users = first_of(alloc, rows, size, allowed, false, true)?;
-    first_of(alloc, rows, size, users, false, false)
+    let allowed_users = first_of(alloc, rows, size, limit, Sort::ALLOWED_USERS)?;
+    let allowed = first_of(alloc, rows, size, allowed_users, Sort::ALLOWED_OTHERS)?;
+    let users = first_of(alloc, rows, size, allowed, Sort::DENIED_USERS)?;
+    first_of(alloc, rows, size, users, Sort::DENIED_OTHERS)
 }
 
 /// The first of the other rows, below a limit, that the row inverts.
 pub(crate) fn first_inverted(row: Row, others: &[Row], limit: usize) -> usize
     requires { limit ≤ length others.now }
     ensures within { result ≤ limit }
-    ensures before { (k : ℕ) → k < result → inverts row (slice_index_or others.now k no_row) ≡ false }
+    ensures before { (k : ℕ) → k < result
+        → inverts row (slice_index_or others.now k no_row) ≡ false }
     ensures at { result < limit → inverts row (slice_index_or others.now result no_row) ≡ true }
 {
     for k in 0..limit {

@@ -4,14 +4,14 @@ ghost use Rattle.acl_perm.specs.Bits.{has_bit};
 ghost use Rattle.acl_perm.specs.Principal.{everyone, principal};
 ghost use Rattle.acl_nfs4.specs.Ace.{ace};
 ghost use Rattle.acl_eval.specs.Grant.{is_allow};
-ghost use Rattle.acl_normal.specs.internal.FirstPlaces.{AreFirstFrom, AreRowsOf, AreWhoms, IsCompared, IsWhom, IsWithin, is_user as is_user_name, no_ace, put, stops, stops_at};
+ghost use Rattle.acl_normal.specs.internal.FirstPlaces.{AreFirstFrom, AreRowsOf, AreWhoms, IsCompared, IsWhom, IsWithin, no_ace, put, stops, stops_at};
 ghost use Rattle.acl_normal.specs.SmallSituations.{is_among};
 ghost use Rattle.acl_normal.specs.internal.Passes.{list_of};
 ghost use Rattle.acl_normal.specs.internal.SetSearch.{IsRising, principals};
 
 use super::small_set::is_same;
 use acl_nfs4::AceRef;
-use acl_perm::{Kind, Mask, Principal};
+use acl_perm::{Mask, Principal, Right};
 use std::alloc::{AllocError, Global};
 
 /// The place of a principal's first ACE with some right, or that of everyone, and whether it allows.
@@ -117,50 +117,31 @@ pub(crate) fn whoms(
     Ok(out)
 }
 
-/// Whether a set of rights has one.
-pub(crate) fn has_right(rights: Mask, bit: u32) -> bool
-    requires { bit < 32 }
-    ensures { result ≡ has_bit rights.bits bit }
-{
-    (rights.bits() >> bit) & 1 == 1
-}
-
 // Whether the ACE has the right, and is of everyone.
-fn is_end(item: &AceRef<'_>, whom: Whom, bit: u32) -> bool
-    requires { bit < 32 }
-    ensures { result ≡ stops bit (ace item.now) whom }
+fn is_end(item: &AceRef<'_>, whom: Whom, right: Right) -> bool
+    ensures { result ≡ stops right.bit (ace item.now) whom }
 {
     match whom {
-        Whom::Everyone => has_right(item.mask, bit),
+        Whom::Everyone => item.mask.has(right),
         _ => false,
     }
 }
 
 // The place of the first ACE of everyone with the right, or the number of ACEs.
-fn place_of_everyone(list: &[AceRef<'_>], whoms: &[Whom], bit: u32) -> usize
-    requires bit { bit < 32 }
-    requires length { length whoms.now ≡ length list.now }
+fn place_of_everyone(list: &[AceRef<'_>], whoms: &[Whom], right: Right) -> usize
+    requires { length whoms.now ≡ length list.now }
     ensures within { result ≤ length list.now }
-    ensures before { (k : ℕ) → k < result → stops_at (list_of list.now) whoms.now bit k ≡ false }
+    ensures before { (k : ℕ) → k < result
+        → stops_at (list_of list.now) whoms.now right.bit k ≡ false }
     ensures at { result < length list.now
-        → stops_at (list_of list.now) whoms.now bit result ≡ true }
+        → stops_at (list_of list.now) whoms.now right.bit result ≡ true }
 {
     for i in 0..list.len() {
-        if is_end(&list[i], whoms[i], bit) {
+        if is_end(&list[i], whoms[i], right) {
             return i;
         }
     }
     list.len()
-}
-
-// Whether it allows.
-fn is_allow(kind: Kind) -> bool
-    ensures { result ≡ is_allow kind }
-{
-    match kind {
-        Kind::Allow => true,
-        Kind::Deny => false,
-    }
 }
 
 // Whether the ACE at a place is there and allows.
@@ -168,22 +149,21 @@ fn allows_at(list: &[AceRef<'_>], place: usize) -> bool
     ensures { result ≡ is_allow (slice_index_or (list_of list.now) place no_ace).kind }
 {
     match list.get(place) {
-        Some(item) => is_allow(item.kind),
+        Some(item) => item.kind.is_allow(),
         None => false,
     }
 }
 
 // What an ACE of a principal that has the right says comes before what the later ones say.
-fn put_first(out: &mut Vec<First>, item: &AceRef<'_>, whom: Whom, place: usize, bit: u32)
-    requires bit { bit < 32 }
-    requires within { IsWithin whom (vec_len out.old) }
-    ensures { out.new.items ≡ put out.old.items (ace item.now) whom place bit }
+fn put_first(out: &mut Vec<First>, item: &AceRef<'_>, whom: Whom, place: usize, right: Right)
+    requires { IsWithin whom (vec_len out.old) }
+    ensures { out.new.items ≡ put out.old.items (ace item.now) whom place right.bit }
 {
     if let Whom::One(i) = whom {
-        if has_right(item.mask, bit) {
+        if item.mask.has(right) {
             out[i] = First {
                 place,
-                allows: is_allow(item.kind),
+                allows: item.kind.is_allow(),
             };
         }
     }
@@ -196,50 +176,38 @@ fn firsts(
     whole: &[Principal<'_>],
     list: &[AceRef<'_>],
     whoms: &[Whom],
-    bit: u32,
+    right: Right,
 ) -> Result<Vec<First>, AllocError>
-    requires bit { bit < 32 }
-    requires whoms { AreWhoms (principals whole.now) (list_of list.now) whoms.now }
+    requires { AreWhoms (principals whole.now) (list_of list.now) whoms.now }
     ensures { IfOk result (λ v. AreFirstFrom (principals whole.now)
-        (list_of list.now) bit 0 v.items) }
+        (list_of list.now) right.bit 0 v.items) }
 {
-    let end = place_of_everyone(list, whoms, bit);
+    let end = place_of_everyone(list, whoms, right);
     let allows = allows_at(list, end);
     let mut out = vec![in alloc; First { place: end, allows }; whole.len()]?;
     let mut place = end;
     while place > 0 {
         place -= 1;
-        put_first(&mut out, &list[place], whoms[place], place, bit);
+        put_first(&mut out, &list[place], whoms[place], place, right);
     }
     Ok(out)
 }
 
-// Whether the principal is a user.
-fn is_user(p: Principal<'_>) -> bool
-    ensures { result ≡ is_user_name (principal p.entry) }
-{
-    match p {
-        Principal::User(_) => true,
-        _ => false,
-    }
-}
-
 impl Compared<'_> {
     /// What both lists say first, on a right, of each principal.
-    pub(crate) fn rows(&self, alloc: Global, bit: u32) -> Result<Vec<Row>, AllocError>
-        requires bit { bit < 32 }
-        requires whoms { IsCompared self.now }
-        ensures { IfOk result (λ v. AreRowsOf self.now bit v.items) }
+    pub(crate) fn rows(&self, alloc: Global, right: Right) -> Result<Vec<Row>, AllocError>
+        requires { IsCompared self.now }
+        ensures { IfOk result (λ v. AreRowsOf self.now right.bit v.items) }
     {
         let whole = self.whole;
-        let here = firsts(alloc, whole, self.list, &self.list_whoms, bit)?;
-        let there = firsts(alloc, whole, self.other, &self.other_whoms, bit)?;
+        let here = firsts(alloc, whole, self.list, &self.list_whoms, right)?;
+        let there = firsts(alloc, whole, self.other, &self.other_whoms, right)?;
         let mut rows = Vec::new(alloc);
         for i in 0..whole.len() {
             rows.push(Row {
                 here: here[i],
                 there: there[i],
-                user: is_user(whole[i]),
+                user: whole[i].is_user(),
             })?;
         }
         Ok(rows)

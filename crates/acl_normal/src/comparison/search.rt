@@ -8,10 +8,10 @@ ghost use Rattle.acl_normal.specs.internal.SetSearch.{Finds, IsRising, principal
 
 use super::evaluation::{grant_alike, rights_of};
 use super::inversions::{first_inverted, first_inverting, first_unlike};
-use super::rows::{Compared, has_right, whoms};
+use super::rows::{Compared, whoms};
 use super::small_set::SmallSet;
 use acl_nfs4::AceRef;
-use acl_perm::Principal;
+use acl_perm::{Principal, Right};
 use std::alloc::{AllocError, Global};
 
 impl Compared<'_> {
@@ -21,9 +21,10 @@ impl Compared<'_> {
         ensures { IfOk result (λ v. IsFirstSingle self.now v) }
     {
         let mut least = self.whole.len();
-        for bit in 0..21u32 {
-            if has_right(self.rights, bit) {
-                let rows = self.rows(alloc, bit)?;
+        for bit in 0..Right::COUNT {
+            let right = Right { bit };
+            if self.rights.has(right) {
+                let rows = self.rows(alloc, right)?;
                 least = first_unlike(&rows, least);
             }
         }
@@ -38,9 +39,10 @@ impl Compared<'_> {
     {
         let size = self.list.len().max(self.other.len());
         let mut least = self.whole.len();
-        for bit in 0..21u32 {
-            if has_right(self.rights, bit) {
-                let rows = self.rows(alloc, bit)?;
+        for bit in 0..Right::COUNT {
+            let right = Right { bit };
+            if self.rights.has(right) {
+                let rows = self.rows(alloc, right)?;
                 least = first_inverting(alloc, &rows, size, least)?;
             }
         }
@@ -55,9 +57,10 @@ impl Compared<'_> {
         ensures { IfOk result (λ v. IsFirstPartner self.now at v) }
     {
         let mut least = self.whole.len() - at - 1;
-        for bit in 0..21u32 {
-            if has_right(self.rights, bit) {
-                let rows = self.rows(alloc, bit)?;
+        for bit in 0..Right::COUNT {
+            let right = Right { bit };
+            if self.rights.has(right) {
+                let rows = self.rows(alloc, right)?;
                 let (_, others) = rows.as_slice().split_at(at + 1);
                 least = first_inverted(rows[at], others, least);
             }

@@ -3,6 +3,8 @@ ghost use Rattle.std.specs.Prelude.{◌≡◌, ℕ, ◌*◌, ◌<◌, List, leng
 ghost use Rattle.acl_perm.specs.Bits.{all_rights};
 ghost use Rattle.acl_nfs4.specs.Ace.{Ace};
 ghost use Rattle.acl_eval.specs.Grant.{SameGrants};
+ghost use Rattle.acl_perm.specs.Order.{kind_rank};
+ghost use Rattle.acl_normal.specs.internal.Classes.{is_users};
 ghost use Rattle.acl_normal.specs.internal.Emissions.{IsEmission};
 ghost use Rattle.acl_normal.specs.internal.Emitted.{emitted_aces};
 ghost use Rattle.acl_normal.specs.Keys.{plain_key};
@@ -12,11 +14,11 @@ ghost use Rattle.acl_normal.specs.Places.{key_here, nothing_left};
 ghost use Rattle.acl_normal.specs.internal.Ready.{Adds, Enters, FitsKeys, Frees, HoldsFree, marks};
 ghost use Rattle.acl_normal.specs.internal.Counts.{count_left};
 
-use crate::bits::{has, with};
+use crate::bits::has;
+use crate::class::Class;
 use crate::emit::ready::Ready;
 use crate::rows::merged::MergedRows;
-use crate::words::{is_user, other, rank};
-use acl_perm::{Key, Kind};
+use acl_perm::{Key, Kind, Right};
 use std::alloc::{AllocError, Global};
 
 /// An ACE of a normal form: a key and its bits.
@@ -26,43 +28,56 @@ pub(crate) struct Emitted<'a> {
     pub(crate) bits: u32,
 }
 
-/// Marks a bit of the ACE at a place as free.
-fn add(rows: &MergedRows<'_>, place: usize, bit: usize, ready: &mut Ready) -> Result<(), AllocError>
+// The number of a type, in the order of types.
+fn rank(kind: Kind) -> usize
+    ensures { result ≡ kind_rank kind }
+{
+    match kind {
+        Kind::Deny => 0,
+        Kind::Allow => 1,
+    }
+}
+
+/// Marks a right of the ACE at a place as free.
+fn add(
+    rows: &MergedRows<'_>,
+    place: usize,
+    right: Right,
+    ready: &mut Ready,
+) -> Result<(), AllocError>
     requires place { place < length rows.now }
-    requires bit { bit < 21 }
     requires keys { FitsKeys (nothing_left rows.now) ready.old }
     ensures keys { OnOk result (FitsKeys (nothing_left rows.now) ready.new) }
-    ensures marks { OnOk result (Adds (key_here rows.now place) bit
+    ensures marks { OnOk result (Adds (key_here rows.now place) right.bit
         (marks (nothing_left rows.now) ready.old)
         (marks (nothing_left rows.now) ready.new)) }
 {
     let _ = &rows.masks;
     let number = 2 * rows.row_at(place) + rank(rows.kind_at(place));
-    ready.add(number, bit)
+    ready.add(number, right)
 }
 
-/// Marks what is free of the ACEs that wait in a type and a class with a bit: the places before
-/// the first that something blocks.
+/// Marks what is free of the ACEs that wait in a type and a class with a right: the places before the first that
+/// something blocks.
 fn enter(
     rows: &MergedRows<'_>,
     kind: Kind,
-    users: bool,
-    bit: usize,
+    class: Class,
+    right: Right,
     ready: &mut Ready,
 ) -> Result<(), AllocError>
-    requires bit { bit < 21 }
-    requires keys { FitsKeys (nothing_left rows.now) ready.old }
+    requires { FitsKeys (nothing_left rows.now) ready.old }
     ensures keys { OnOk result (FitsKeys (nothing_left rows.now) ready.new) }
-    ensures marks { OnOk result (Enters kind users bit rows.now
+    ensures marks { OnOk result (Enters kind (is_users class) right.bit rows.now
         (marks (nothing_left rows.now) ready.old)
         (marks (nothing_left rows.now) ready.new)) }
 {
     let _ = &rows.masks;
-    for place in rows.waiting_at(kind, users, bit) {
-        if !rows.is_clear(*place, kind, users, bit) {
+    for place in rows.waiting_at(kind, class, right) {
+        if !rows.is_clear(*place, kind, class, right) {
             return Ok(());
         }
-        add(rows, *place, bit, ready)?;
+        add(rows, *place, right, ready)?;
     }
     Ok(())
 }
@@ -80,15 +95,16 @@ fn free_after<'a>(
         (marks (nothing_left rows.now) ready.old)
         (marks (nothing_left rows.now) ready.new)) }
 {
-    let opposite = other(at.kind);
-    for bit in 0..21usize {
+    let opposite = at.kind.other();
+    for bit in 0..Right::COUNT {
         if bits >> bit == 0 {
             return Ok(());
         }
-        if has(bits, bit) {
-            enter(rows, opposite, false, bit, ready)?;
-            if !is_user(at.principal) {
-                enter(rows, opposite, true, bit, ready)?;
+        let right = Right { bit };
+        if has(bits, right) {
+            enter(rows, opposite, Class::Others, right, ready)?;
+            if !at.principal.is_user() {
+                enter(rows, opposite, Class::Users, right, ready)?;
             }
         }
     }
@@ -102,11 +118,12 @@ fn fill(rows: &MergedRows<'_>, ready: &mut Ready) -> Result<(), AllocError>
     ensures marks { OnOk result (HoldsFree (marks (nothing_left rows.now) ready.new) rows.now) }
 {
     let _ = &rows.masks;
-    for bit in 0..21usize {
-        enter(rows, Kind::Deny, false, bit, ready)?;
-        enter(rows, Kind::Deny, true, bit, ready)?;
-        enter(rows, Kind::Allow, false, bit, ready)?;
-        enter(rows, Kind::Allow, true, bit, ready)?;
+    for bit in 0..Right::COUNT {
+        let right = Right { bit };
+        enter(rows, Kind::Deny, Class::Others, right, ready)?;
+        enter(rows, Kind::Deny, Class::Users, right, ready)?;
+        enter(rows, Kind::Allow, Class::Others, right, ready)?;
+        enter(rows, Kind::Allow, Class::Users, right, ready)?;
     }
     Ok(())
 }

@@ -1,8 +1,9 @@
 //! The keys that have a free bit, by number.
-ghost use Rattle.std.specs.Prelude.{◌≡◌, ◌≢◌, ℕ, ◌*◌, ◌^◌, ◌<◌, ◌≤◌, bit_or, length, slice_index_or, slice_set, replicate, IfOk, IfSome, IfNone, OnOk};
+ghost use Rattle.std.specs.Prelude.{◌≡◌, ◌≢◌, ℕ, ◌*◌, ◌^◌, ◌<◌, bit_or, length, slice_index_or, slice_set, replicate, IfOk, IfSome, IfNone, OnOk};
 ghost use Rattle.acl_normal.specs.internal.Ready.{IsLeastReady};
 
 use crate::bits::with;
+use acl_perm::Right;
 use std::alloc::{AllocError, Global};
 use std::cmp::Reverse;
 use std::collections::BinaryHeap;
@@ -39,18 +40,17 @@ impl Ready {
         })
     }
 
-    /// Marks a bit of the key of a number as free.
-    pub(crate) fn add(&mut self, number: usize, bit: usize) -> Result<(), AllocError>
-        requires number { number < length self.old }
-        requires bit { bit < 21 }
-        ensures { OnOk result
-            (self.new ≡ slice_set self.old number (bit_or (slice_index_or self.old number 0) (2 ^ bit))) }
+    /// Marks a right of the key of a number as free.
+    pub(crate) fn add(&mut self, number: usize, right: Right) -> Result<(), AllocError>
+        requires { number < length self.old }
+        ensures { OnOk result (self.new ≡ slice_set self.old number
+            (bit_or (slice_index_or self.old number 0) (2 ^ right.bit))) }
     {
         let bits = self.bits[number];
         if bits == 0 {
             self.numbers.push(Reverse(number))?;
         }
-        self.bits[number] = with(bits, bit);
+        self.bits[number] = with(bits, right);
         Ok(())
     }
 

@@ -19,7 +19,7 @@ ghost use Rattle.acl_normal.specs.internal.Passes.{Best, is_blocked, IsCandidate
 ghost use Rattle.acl_normal.specs.internal.Plain.{without_principal};
 
 use super::reduction::{active, is_same};
-use crate::normal_form::{flags_of, push};
+use crate::normal_form::flags_of;
 use acl_nfs4::{AceRef, Acl, Mask};
 use acl_perm::{Key, overlaps};
 use std::alloc::{AllocError, Global};
@@ -37,7 +37,7 @@ pub(super) fn emit(alloc: Global, aces: Vec<AceRef<'_>>) -> Result<Acl, AllocErr
     let mut list = Acl::new(alloc);
     let mut left = aces;
     while let Some(first) = least(&left) {
-        push(&mut list, first)?;
+        list.push_accepted(first)?;
         left = without(alloc, &left, &first)?;
     }
     Ok(list)

@@ -6,13 +6,13 @@ ghost use Rattle.acl_nfs4.specs.Ace.{ace};
 ghost use Rattle.acl_nfs4.specs.Spelling.{IsAccepted};
 ghost use Rattle.acl_eval.specs.Column.{column};
 ghost use Rattle.acl_normal.specs.Left.{IsTidy, KeepsFirsts};
-ghost use Rattle.acl_normal.specs.Places.{counts, nothing_left};
+ghost use Rattle.acl_normal.specs.Places.{nothing_left};
+ghost use Rattle.acl_normal.specs.Normal.{counts};
 ghost use Rattle.acl_normal.specs.internal.Plain.{unshadowed};
 ghost use Rattle.acl_normal.specs.internal.Rows.{AreRowNumbers};
 ghost use Rattle.acl_normal.specs.internal.Shown.{aces_in, with_masks};
 
 use crate::bits::without;
-use crate::words::is_everyone;
 use acl_nfs4::AceRef;
 use std::alloc::{AllocError, Global};
 
@@ -54,7 +54,7 @@ pub(crate) fn first_masks(
         let fresh = without(active_bits(ace), seen[row] | everyone);
         masks.push(fresh)?;
         seen[row] |= fresh;
-        if is_everyone(ace.principal()) {
+        if ace.principal().is_everyone() {
             everyone |= fresh;
         }
     }

@@ -8,12 +8,12 @@ ghost use Rattle.acl_normal.specs.Left.{IsTidy, KeepsFirsts};
 ghost use Rattle.acl_normal.specs.Keys.{ace_key, kind_eq};
 ghost use Rattle.acl_normal.specs.Keys.{plain_key};
 ghost use Rattle.acl_normal.specs.internal.Needed.{default_at, is_kept, later_mask, opposes};
-ghost use Rattle.acl_normal.specs.Places.{is_user, nothing_left, same_class};
+ghost use Rattle.acl_normal.specs.Places.{nothing_left, same_class};
+ghost use Rattle.acl_perm.specs.Principal.{is_user};
 ghost use Rattle.acl_normal.specs.internal.Plain.{default, needed_keys};
 ghost use Rattle.acl_normal.specs.internal.Shown.{with_masks};
 
 use crate::bits::without;
-use crate::words::{is_allow, is_everyone, is_user};
 use acl_nfs4::AceRef;
 use acl_perm::{Key, Kind};
 
@@ -30,7 +30,7 @@ pub(crate) struct Later {
 fn opposite(later: Later, at: Key<'_>) -> u32
     ensures { (b : ℕ) → has_bit result b ≡ opposes later (plain_key at.entry) b }
 {
-    let user = is_user(at.principal);
+    let user = at.principal.is_user();
     match at.kind {
         Kind::Deny => if user {
             later.allow_others
@@ -52,7 +52,7 @@ fn noted(later: Later, at: Key<'_>, mask: u32) -> Later
         || ((kind_eq (plain_key at.entry).1 k && same_class (is_user (plain_key at.entry).0) users)
         && has_bit mask b)) }
 {
-    let user = is_user(at.principal);
+    let user = at.principal.is_user();
     match at.kind {
         Kind::Deny => if user {
             Later {
@@ -80,11 +80,12 @@ fn noted(later: Later, at: Key<'_>, mask: u32) -> Later
 }
 
 /// The bits of a mask that its ACE doesn't need.
+#[tactic(auto, using(crate::proofs::Unique::Names::everyone_test))]
 fn needless(at: Key<'_>, mask: u32, allowed: u32, opposite: u32) -> u32
     ensures { (b : ℕ) → has_bit result b
         ≡ (has_bit mask b && not (is_kept (default_at allowed b) (plain_key at.entry) (has_bit opposite b))) }
 {
-    if is_everyone(at.principal) {
+    if at.principal.is_everyone() {
         match at.kind {
             Kind::Allow => 0,
             Kind::Deny => mask,
@@ -106,7 +107,7 @@ fn allowed_to_everyone(aces: &[AceRef<'_>], masks: &[u32]) -> u32
     let mut bits = 0u32;
     for place in 0..aces.len() {
         let ace = aces[place];
-        if is_everyone(ace.principal()) && is_allow(ace.kind) {
+        if ace.principal().is_everyone() && ace.kind.is_allow() {
             bits |= masks[place];
         }
     }

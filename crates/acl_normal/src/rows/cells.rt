@@ -10,6 +10,7 @@ ghost use Rattle.acl_normal.specs.internal.Shown.{with_masks};
 
 use crate::bits::has;
 use acl_nfs4::AceRef;
+use acl_perm::Right;
 use std::alloc::{AllocError, Global};
 
 /// For each of the sixteen rights, the place of the principal's ACE that still waits with it, or `NOWHERE`. A cell has
@@ -21,19 +22,18 @@ pub(crate) struct Cells {
 
 const NOWHERE: u32 = 0xffff_ffff;
 
-/// The number of the cell of a bit, if the bit is a right.
-fn cell(bit: usize) -> Option<usize>
-    ensures is { result ≡ cell_of bit }
+/// The number of the cell of a right, unless that is in no mask.
+fn cell(right: Right) -> Option<usize>
+    ensures is { result ≡ cell_of right.bit }
     ensures within { IfSome result (λ n. n < 16) }
 {
+    let bit = right.bit();
     if bit < 11 {
         Some(bit)
     } else if bit < 16 {
         None
-    } else if bit < 21 {
-        Some(bit - 5)
     } else {
-        None
+        Some(bit - 5)
     }
 }
 
@@ -54,23 +54,24 @@ impl Cells {
         places: [0xffff_ffff; 16],
     };
 
-    /// The place that the cell of a bit holds.
-    pub(crate) fn get(&self, bit: usize) -> Option<u32>
-        ensures { result ≡ place_in self.now bit }
+    /// The place that the cell of a right holds.
+    pub(crate) fn get(&self, right: Right) -> Option<u32>
+        ensures { result ≡ place_in self.now right.bit }
     {
-        match cell(bit) {
+        match cell(right) {
             None => None,
             Some(cell) => place_of(self.places[cell]),
         }
     }
 
     /// Writes the cell of a right.
-    pub(crate) fn put(&mut self, bit: usize, place: Option<u32>)
-        requires right { is_some (cell_of bit) ≡ true }
+    pub(crate) fn put(&mut self, right: Right, place: Option<u32>)
+        requires right { is_some (cell_of right.bit) ≡ true }
         requires place { IfSome place (λ p. p < nowhere) }
-        ensures { (b : ℕ) → place_in self.new b ≡ cond (b == bit) place (place_in self.old b) }
+        ensures { (b : ℕ) → place_in self.new b
+            ≡ cond (b == right.bit) place (place_in self.old b) }
     {
-        if let Some(cell) = cell(bit) {
+        if let Some(cell) = cell(right) {
             self.places[cell] = place.unwrap_or(NOWHERE);
         }
     }
@@ -83,12 +84,13 @@ fn put_rights(cells: &mut Cells, rights: u32, place: u32)
     ensures { (b : ℕ) → place_in cells.new b
         ≡ cond (has_bit rights b) (Some place) (place_in cells.old b) }
 {
-    for bit in 0..21usize {
+    for bit in 0..Right::COUNT {
         if rights >> bit == 0 {
             return;
         }
-        if has(rights, bit) {
-            cells.put(bit, Some(place));
+        let right = Right { bit };
+        if has(rights, right) {
+            cells.put(right, Some(place));
         }
     }
 }

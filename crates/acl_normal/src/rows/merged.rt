@@ -8,6 +8,7 @@ ghost use Rattle.acl_perm.specs.declared.kind.Kind.TheVariants.{Deny, Allow};
 ghost use Rattle.acl_eval.specs.Column.{column};
 ghost use Rattle.acl_eval.specs.Grant.{SameGrants};
 ghost use Rattle.acl_normal.specs.internal.Cells.{first_place};
+ghost use Rattle.acl_normal.specs.internal.Classes.{is_users};
 ghost use Rattle.acl_normal.specs.Keys.{Key as PlainKey};
 ghost use Rattle.acl_normal.specs.Left.{HasFree, IsLowest, IsTidy, KeepsFirsts, left};
 ghost use Rattle.acl_normal.specs.Normal.{IsIrreducibleList, is_free};
@@ -17,11 +18,11 @@ ghost use Rattle.acl_normal.specs.internal.Rows.{AreRowNumbers, IsByPrincipal, I
 ghost use Rattle.acl_normal.specs.internal.Shown.{aces_in, with_masks};
 
 use crate::bits::{cleared, has};
+use crate::class::Class;
 use crate::reduce::reduced_rows;
 use crate::rows::cells::{Cells, filled_cells};
 use crate::rows::numbers::{RowNumbers, find_row};
-use crate::rows::waiting::waiting_sets;
-use crate::words::{is_user, other, slot};
+use crate::rows::waiting::{slot, waiting_sets};
 use acl_nfs4::{AceRef, Acl};
 use acl_perm::{Key, Kind, Mask, Principal, Right};
 use std::alloc::{AllocError, Global};
@@ -101,8 +102,9 @@ impl<'a> MergedRows<'a> {
     pub fn is_free(&self, p: Principal<'_>, bits: Mask) -> bool
         ensures { IsTrue result ↔ HasFree self.now (principal p.entry) bits.bits }
     {
-        for bit in 0..21usize {
-            if has(bits.bits(), bit) && self.is_free_at(p, bit) {
+        for bit in 0..Right::COUNT {
+            let right = Right { bit };
+            if bits.has(right) && self.is_free_at(p, right) {
                 return true;
             }
         }
@@ -119,51 +121,49 @@ impl<'a> MergedRows<'a> {
         ensures none { bits.bits ≡ 0 → (place : ℕ) → contains nat_cmp result.now place ≡ false }
     {
         let _ = &self.masks;
+        let class = Class::from_users(users);
         match lowest(bits) {
-            Some(right) => self.waiting_at(kind, users, right.bit),
-            None => self.waiting_at(kind, users, NO_RIGHT.bit),
+            Some(right) => self.waiting_at(kind, class, right),
+            None => self.waiting_at(kind, class, NO_RIGHT),
         }
     }
 
-    /// The places of the ACEs of a type and a class that wait with a bit.
-    pub(crate) fn waiting_at(&self, kind: Kind, users: bool, bit: usize) -> &BTreeSet<usize>
-        requires { bit < 21 }
-        ensures { (i : ℕ) → contains nat_cmp result.now i ≡ waits kind users bit self.now i }
+    /// The places of the ACEs of a type and a class that wait with a right.
+    pub(crate) fn waiting_at(&self, kind: Kind, class: Class, right: Right) -> &BTreeSet<usize>
+        ensures { (i : ℕ) → contains nat_cmp result.now i
+            ≡ waits kind (is_users class) right.bit self.now i }
     {
-        &self.waiting[slot(kind, users, bit)]
+        &self.waiting[slot(kind, class, right)]
     }
 
-    /// Whether no ACE of the type and the class waits with the bit before the place.
-    pub(crate) fn is_before(&self, place: usize, kind: Kind, users: bool, bit: usize) -> bool
-        requires { bit < 21 }
-        ensures { result ≡ not (waits_before kind users bit self.now place) }
+    /// Whether no ACE of the type and the class waits with the right before the place.
+    fn is_before(&self, place: usize, kind: Kind, class: Class, right: Right) -> bool
+        ensures { result ≡ not (waits_before kind (is_users class) right.bit self.now place) }
     {
-        match self.waiting_at(kind, users, bit).first() {
+        match self.waiting_at(kind, class, right).first() {
             None => true,
             Some(first) => place <= *first,
         }
     }
 
     /// Whether nothing that conflicts with the ACE at the place comes before it.
-    pub(crate) fn is_clear(&self, place: usize, kind: Kind, user: bool, bit: usize) -> bool
-        requires { bit < 21 }
-        ensures { result ≡ not (is_blocked kind user bit self.now place) }
+    pub(crate) fn is_clear(&self, place: usize, kind: Kind, class: Class, right: Right) -> bool
+        ensures { result ≡ not (is_blocked kind (is_users class) right.bit self.now place) }
     {
-        let opposite = other(kind);
-        self.is_before(place, opposite, false, bit)
-            && (user || self.is_before(place, opposite, true, bit))
+        let opposite = kind.other();
+        self.is_before(place, opposite, Class::Others, right)
+            && (class.is_users() || self.is_before(place, opposite, Class::Users, right))
     }
 
-    /// Whether the principal has the bit and is free on it.
-    pub(crate) fn is_free_at(&self, p: Principal<'_>, bit: usize) -> bool
-        requires { bit < 21 }
-        ensures { result ≡ (is_free (column self.now bit) (principal p.entry, Deny)
-            || is_free (column self.now bit) (principal p.entry, Allow)) }
+    /// Whether the principal has the right and is free on it.
+    fn is_free_at(&self, p: Principal<'_>, right: Right) -> bool
+        ensures { result ≡ (is_free (column self.now right.bit) (principal p.entry, Deny)
+            || is_free (column self.now right.bit) (principal p.entry, Allow)) }
     {
         let _ = &self.masks;
-        match self.source(p, bit) {
+        match self.source(p, right) {
             None => false,
-            Some((kind, place)) => self.is_clear(place, kind, is_user(p), bit),
+            Some((kind, place)) => self.is_clear(place, kind, Class::of(p), right),
         }
     }
 
@@ -231,24 +231,23 @@ impl<'a> MergedRows<'a> {
         find_row(&self.aces, &self.rows, &self.order, p)
     }
 
-    /// The place of the ACE of a row that still waits with a bit.
-    fn place_in(&self, row: usize, bit: usize) -> Option<usize>
+    /// The place of the ACE of a row that still waits with a right.
+    fn place_in(&self, row: usize, right: Right) -> Option<usize>
         requires { row < length self.now }
-        ensures { (p : Who) → IsRow row p self.now → result ≡ first_place bit p self.now }
+        ensures { (p : Who) → IsRow row p self.now → result ≡ first_place right.bit p self.now }
     {
-        match self.cells[row].get(bit) {
+        match self.cells[row].get(right) {
             None => None,
             Some(place) => Some(place as usize),
         }
     }
 
-    /// The type of the principal's ACE with the bit, and its place.
-    pub(crate) fn source(&self, p: Principal<'_>, bit: usize) -> Option<(Kind, usize)>
-        requires { bit < 21 }
-        ensures { result ≡ first_at bit (principal p.entry) self.now }
+    /// The type of the principal's ACE with the right, and its place.
+    pub(crate) fn source(&self, p: Principal<'_>, right: Right) -> Option<(Kind, usize)>
+        ensures { result ≡ first_at right.bit (principal p.entry) self.now }
     {
         let row = self.row_named(p)?;
-        let place = self.place_in(row, bit)?;
+        let place = self.place_in(row, right)?;
         Some((self.kind_at(place), place))
     }
 
@@ -268,30 +267,30 @@ impl<'a> MergedRows<'a> {
         requires rights { (b : ℕ) → 21 ≤ b → has_bit bits b ≡ false }
         ensures { self.new ≡ take_out (principal p.entry) bits self.old }
     {
-        for bit in 0..21usize {
+        for bit in 0..Right::COUNT {
             if bits >> bit == 0 {
                 return;
             }
-            if has(bits, bit) {
-                self.emit_bit(row, p, bit);
+            let right = Right { bit };
+            if has(bits, right) {
+                self.emit_bit(row, p, right);
             }
         }
     }
 
-    /// Takes one bit of the principal of a row out.
-    fn emit_bit(&mut self, row: usize, p: Principal<'_>, bit: usize)
-        requires bit { bit < 21 }
-        requires row { IsRow row (principal p) self.old }
-        ensures { self.new ≡ take_out (principal p.entry) (2 ^ bit) self.old }
+    /// Takes one right of the principal of a row out.
+    fn emit_bit(&mut self, row: usize, p: Principal<'_>, right: Right)
+        requires { IsRow row (principal p) self.old }
+        ensures { self.new ≡ take_out (principal p.entry) (2 ^ right.bit) self.old }
     {
-        if let Some(place) = self.place_in(row, bit) {
+        if let Some(place) = self.place_in(row, right) {
             let kind = self.kind_at(place);
             let cells = &mut self.cells[row];
-            cells.put(bit, None);
-            let at = slot(kind, is_user(p), bit);
+            cells.put(right, None);
+            let at = slot(kind, Class::of(p), right);
             let set = &mut self.waiting[at];
             set.remove(&place);
-            self.masks[place] = cleared(self.masks[place], bit);
+            self.masks[place] = cleared(self.masks[place], right);
         }
     }
 

@@ -6,13 +6,14 @@ ghost use Rattle.std.specs.Ordering.{nat_cmp};
 ghost use Rattle.acl_perm.specs.declared.kind.Kind.{Kind as Sort};
 ghost use Rattle.acl_normal.specs.Normal.{IsQuiet};
 ghost use Rattle.acl_normal.specs.Places.{slot_of, waits};
+ghost use Rattle.acl_normal.specs.internal.Classes.{is_users};
 ghost use Rattle.acl_normal.specs.internal.Shown.{with_masks};
 ghost use Rattle.acl_normal.specs.internal.Waiting.{HoldWaiting, Notes};
 
 use crate::bits::has;
-use crate::words::{is_user, slot};
+use crate::class::Class;
 use acl_nfs4::AceRef;
-use acl_perm::Kind;
+use acl_perm::{Kind, Right};
 use std::alloc::{AllocError, Global};
 use std::collections::BTreeSet;
 
@@ -27,23 +28,40 @@ fn no_places(alloc: Global) -> Result<Vec<Vec<usize>>, AllocError>
     Ok(lists)
 }
 
-// Puts a place into the lists of the bits of a mask.
+/// Where the places of a type, a class and a right are kept.
+pub(crate) fn slot(kind: Kind, class: Class, right: Right) -> usize
+    ensures { result ≡ slot_of kind (is_users class) right.bit }
+{
+    let kinds = match kind {
+        Kind::Deny => 0,
+        Kind::Allow => 2,
+    };
+    let classes = match class {
+        Class::Others => 0,
+        Class::Users => 1,
+    };
+    4 * right.bit() + kinds + classes
+}
+
+// Puts a place into the lists of the rights of a mask.
 fn note(
     lists: &mut Vec<Vec<usize>>,
     place: usize,
     kind: Kind,
-    user: bool,
+    class: Class,
     mask: u32,
 ) -> Result<(), AllocError>
     requires { vec_len lists.old ≡ 84 }
-    ensures { OnOk result (Notes place kind user mask lists.old.items lists.new.items) }
+    ensures { OnOk result (Notes place kind (is_users class) mask
+        lists.old.items lists.new.items) }
 {
-    for bit in 0..21usize {
+    for bit in 0..Right::COUNT {
         if mask >> bit == 0 {
             return Ok(());
         }
-        if has(mask, bit) {
-            let list = &mut lists[slot(kind, user, bit)];
+        let right = Right { bit };
+        if has(mask, right) {
+            let list = &mut lists[slot(kind, class, right)];
             list.push(place)?;
         }
     }
@@ -67,7 +85,7 @@ fn waiting_places(
             &mut lists,
             place,
             ace.kind,
-            is_user(ace.principal()),
+            Class::of(ace.principal()),
             masks[place],
         )?;
     }

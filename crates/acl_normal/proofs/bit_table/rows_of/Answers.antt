@@ -9,10 +9,10 @@ add_row-requires-clause-key c = c.requires.keys c.loop-item.item-index _ c.loop-
 
 pub loop-item-preserved : goal.loop-item-preserved
 loop-item-preserved c =
-    rows_on c.args.bit c.args.rows.now c.args.form.now c.loop-item.item-index _ c.loop-item.table.items
+    rows_on c.args.right.bit c.args.rows.now c.args.form.now c.loop-item.item-index _ c.loop-item.table.items
     c.add_row.new.table.items c.loop-item-test.true c.loop-item.invariant c.in_ok-add_row.ensures
 
 pub returns : goal.returns
 returns c =
-    rows_all c.args.bit c.args.rows.now c.args.form.now c.loop-item.item-index c.loop-item.table.items
+    rows_all c.args.right.bit c.args.rows.now c.args.form.now c.loop-item.item-index c.loop-item.table.items
     c.loop-item-test.false c.loop-item.invariant

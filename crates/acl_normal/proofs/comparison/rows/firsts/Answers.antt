@@ -6,8 +6,8 @@ use Rattle.acl_normal.proofs.Searching.FirstPlaceLemmas.{firsts_more, firsts_sta
 use Rattle.acl_normal.specs.internal.SetSearch.{principals}
 use Rattle.acl_perm.specs.Principal.{principal}
 
-pub place_of_everyone-end-requires-clause-length : goal.place_of_everyone-end-requires-clause-length
-place_of_everyone-end-requires-clause-length c = whoms_length (principals c.args.whole.now) _ _ c.requires.whoms
+pub place_of_everyone-end-requires : goal.place_of_everyone-end-requires
+place_of_everyone-end-requires c = whoms_length (principals c.args.whole.now) _ _ c.requires
 
 pub loop-place-init : goal.loop-place-init
 loop-place-init c = record {
@@ -16,25 +16,25 @@ loop-place-init c = record {
       firsts_start _ _ _ _ _ _ _ _ (c.in_ok-out.ensures.items_if_clones_equal (λ y e. e))
       (sym (length-map c.args.whole.now principal)) refl c.allows_at-allows.ensures
       (omega (arith, length-map c.args.list.now ace, c.place_of_everyone-end.ensures.within))
-      (λ lt. c.place_of_everyone-end.ensures.at (omega (arith, length-map c.args.list.now ace))) c.requires.whoms;
+      (λ lt. c.place_of_everyone-end.ensures.at (omega (arith, length-map c.args.list.now ace))) c.requires;
 }
 
 pub bounds-whoms-place : goal.bounds-whoms-place
 bounds-whoms-place c = omega (
   arith,
   whoms_length (principals c.args.whole.now) c.args.list.now c.args.whoms.now
-      c.requires.whoms,
+      c.requires,
 )
 
-pub put_first-requires-clause-within : goal.put_first-requires-clause-within
-put_first-requires-clause-within c =
-    whom_within (principals c.args.whole.now) c.args.list.now _ _ _ (omega arith) (omega arith) c.requires.whoms
+pub put_first-requires : goal.put_first-requires
+put_first-requires c =
+    whom_within (principals c.args.whole.now) c.args.list.now _ _ _ (omega arith) (omega arith) c.requires
 
 pub loop-place-preserved : goal.loop-place-preserved
 loop-place-preserved c = record {
   within = omega arith;
   first =
       firsts_more _ _ _ _ _ _ _ _ _ _ (omega arith) c.loop-place.invariant.within c.place_of_everyone-end.ensures.within
-      c.place_of_everyone-end.ensures.before c.requires.whoms c.index-list-place.is c.put_first.ensures
+      c.place_of_everyone-end.ensures.before c.requires c.index-list-place.is c.put_first.ensures
       c.loop-place.invariant.first;
 }

@@ -1,5 +1,6 @@
 use Rattle.std.proofs.Common.{◌∙◌, sym, subst, false, true}
 use Rattle.acl_eval.specs.Column.{column}
+use Rattle.acl_normal.specs.internal.Classes.{is_users}
 use Rattle.acl_normal.specs.internal.Emissions.{IsOnce}
 use Rattle.acl_normal.specs.Places.{nothing_left}
 use Rattle.acl_normal.specs.internal.Ready.{marks}
@@ -10,10 +11,10 @@ pub loop-place-init : goal.loop-place-init
 loop-place-init c = (
   tt,
   tt,
-  walk_starts c.args.kind c.args.users c.args.bit c.args.rows.now c.waiting_at-place-items.result.now.keys
+  walk_starts c.args.kind (is_users c.args.class) c.args.right.bit c.args.rows.now c.waiting_at-place-items.result.now.keys
       _ (marks (nothing_left c.args.rows.now) c.args.ready.now) c.waiting_at-place-items.ensures
       c.into_iter-place-iterator.ensures.into_iter_gives.4 c.into_iter-place-iterator.ensures.into_iter_gives.0,
-  c.requires.keys,
+  c.requires,
 )
 
 pub returns-then-not-is_clear-clause-keys : goal.returns-then-not-is_clear-clause-keys
@@ -21,15 +22,15 @@ returns-then-not-is_clear-clause-keys c = c.loop-place.invariant.3
 
 pub returns-then-not-is_clear-clause-marks : goal.returns-then-not-is_clear-clause-marks
 returns-then-not-is_clear-clause-marks c =
-    let once = subst (λ v. IsOnce (column v c.args.bit)) c.rows.view_is (c.rows.invariant.once c.args.bit) in
+    let once = subst (λ v. IsOnce (column v c.args.right.bit)) c.rows.view_is (c.rows.invariant.once c.args.right.bit) in
     let blocked = not_turns false _ (sym c.if-not-is_clear.true ∙ c.is_clear.ensures) in
-    walk_stops c.args.kind c.args.users c.args.bit c.args.rows.now c.in-Some.place.now _ _ _ _ once
+    walk_stops c.args.kind (is_users c.args.class) c.args.right.bit c.args.rows.now c.in-Some.place.now _ _ _ _ once
     c.loop-place.invariant.2 c.in-Some.ensures.steps blocked
 
 pub add-requires-clause-place : goal.add-requires-clause-place
 add-requires-clause-place c =
-    waits_within c.args.kind c.args.users c.args.bit c.args.rows.now c.in-Some.place.now
-    (head_waits c.args.kind c.args.users c.args.bit c.args.rows.now c.in-Some.place.now _ _ _ _
+    waits_within c.args.kind (is_users c.args.class) c.args.right.bit c.args.rows.now c.in-Some.place.now
+    (head_waits c.args.kind (is_users c.args.class) c.args.right.bit c.args.rows.now c.in-Some.place.now _ _ _ _
     c.loop-place.invariant.2 c.in-Some.ensures.steps)
 
 pub add-requires-clause-keys : goal.add-requires-clause-keys
@@ -37,11 +38,11 @@ add-requires-clause-keys c = c.loop-place.invariant.3
 
 pub loop-place-preserved : goal.loop-place-preserved
 loop-place-preserved c =
-    let once = subst (λ v. IsOnce (column v c.args.bit)) c.rows.view_is (c.rows.invariant.once c.args.bit) in
+    let once = subst (λ v. IsOnce (column v c.args.right.bit)) c.rows.view_is (c.rows.invariant.once c.args.right.bit) in
     let clear = not_turns true _ (sym c.if-not-is_clear.false ∙ c.is_clear.ensures) in (
       tt,
       tt,
-      walk_on c.args.kind c.args.users c.args.bit c.args.rows.now c.in-Some.place.now _ _ _ _ _ once
+      walk_on c.args.kind (is_users c.args.class) c.args.right.bit c.args.rows.now c.in-Some.place.now _ _ _ _ _ once
           c.loop-place.invariant.2 c.in-Some.ensures.steps clear c.in_ok-add.ensures.marks,
       c.in_ok-add.ensures.keys,
     )
@@ -51,6 +52,6 @@ returns-clause-keys c = c.loop-place.invariant.3
 
 pub returns-clause-marks : goal.returns-clause-marks
 returns-clause-marks c =
-    let once = subst (λ v. IsOnce (column v c.args.bit)) c.rows.view_is (c.rows.invariant.once c.args.bit) in
-    walk_done c.args.kind c.args.users c.args.bit c.args.rows.now _ _ _ once c.loop-place.invariant.2
+    let once = subst (λ v. IsOnce (column v c.args.right.bit)) c.rows.view_is (c.rows.invariant.once c.args.right.bit) in
+    walk_done c.args.kind (is_users c.args.class) c.args.right.bit c.args.rows.now _ _ _ once c.loop-place.invariant.2
     c.in-None.ensures.steps.0

@@ -1,3 +1,4 @@
+use Rattle.acl_normal.specs.internal.Classes.{is_users}
 use Rattle.acl_normal.specs.Places.{nothing_left}
 use Rattle.acl_normal.specs.internal.Ready.{FitsKeys, marks}
 use Rattle.acl_normal.proofs.Emission.Walk.{Walks}
@@ -7,6 +8,6 @@ abbrev pub invariant-loop-place : goal.invariant-loop-place
 invariant-loop-place l =
     (goal.iterator-loop-place).can_next l.place-iterator ×
     (goal.iterator-loop-place).is_finite l.place-iterator ×
-    Walks l.kind l.users l.bit l.rows l.place-iterator (marks (nothing_left l.rows) l.fn.ready)
+    Walks l.kind (is_users l.class) l.right.bit l.rows l.place-iterator (marks (nothing_left l.rows) l.fn.ready)
     (marks (nothing_left l.rows) l.ready) ×
     FitsKeys (nothing_left l.rows) l.ready

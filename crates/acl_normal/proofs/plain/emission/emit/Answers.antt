@@ -11,8 +11,8 @@ loop-first-init c =
     subst (λ v. Emitting (list_of c.args.aces.items) v (list_of c.args.aces.items)) (sym c.new-list.ensures)
     (emitting_none (list_of c.args.aces.items) c.requires.once)
 
-pub push-requires : goal.push-requires
-push-requires c =
+pub push_accepted-requires : goal.push_accepted-requires
+push_accepted-requires c =
     let left = list_of c.loop-first.left.items in
     let a = ace c.in-Some.first in
     coming_accepted left a (subst (λ v. IsLeast (list_of v) (list_of v) a) c.deref.ensures.value c.in-Some.ensures)
@@ -38,7 +38,7 @@ loop-first-preserved c =
     let left = list_of c.loop-first.left.items in
     let a = ace c.in-Some.first in
     let rest = list_of c.in_ok-left.left.items in
-    subst (λ v. Emitting whole v rest) (sym c.in_ok-push.ensures)
+    subst (λ v. Emitting whole v rest) (sym c.in_ok-push_accepted.ensures.ok)
     (emitting_more left rest a
     (subst (λ v. IsLeast (list_of v) (list_of v) a) c.deref.ensures.value c.in-Some.ensures)
     (subst (λ v. Taken (list_of v) a rest) c.deref-in-Some.ensures.value (record {

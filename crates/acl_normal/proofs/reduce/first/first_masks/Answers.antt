@@ -10,6 +10,7 @@ use Rattle.acl_normal.specs.internal.Shown.{aces_in, with_masks}
 use Rattle.acl_normal.proofs.Reduction.FirstMasks.{FirstsTo, HoldsSeen, IsFresh, firsts_tidy, firsts_to_all, firsts_to_more, firsts_to_start, fresh_is, masked, masks_none, masks_push, named_there, row_here, row_seen, row_value, seen_more, seen_start}
 use Rattle.acl_normal.proofs.Reduction.FirstRows.{index_is, length_of}
 use Rattle.acl_normal.proofs.Merging.Rows.{row_below}
+use Rattle.acl_normal.proofs.Unique.Names.{everyone_test}
 use Rattle.acl_normal.proofs.reduce.first.first_masks.Goals as goal
 use Rattle.acl_normal.proofs.reduce.first.first_masks.Goals.{then-is_everyone, else-is_everyone}
 
@@ -94,7 +95,8 @@ loop-place-preserved c =
     (c.index-aces-place.is
     ∙ ap (λ n. slice_index_or c.args.aces.now n c.index-aces-place.result) (sym count)) in
     let tested : principal_eq (principal_of (ace c.index-aces-place.result)) everyone ≡ c.is_everyone.result =
-    sym (c.is_everyone.ensures ∙ ap (λ p. principal_eq p everyone) c.principal.ensures) in
+    sym (c.is_everyone.ensures ∙ everyone_test _
+    ∙ ap (λ p. principal_eq p everyone) c.principal.ensures) in
     let everyone_is : c.if-is_everyone.everyone
     ≡ cond (principal_eq (principal_of (ace c.index-aces-place.result)) everyone)
     (bit_or c.loop-place.everyone c.without-fresh.result) c.loop-place.everyone =

@@ -8,6 +8,7 @@ use Rattle.acl_normal.specs.Keys.{kind_eq, principal_eq}
 use Rattle.acl_normal.specs.internal.Shown.{with_masks}
 use Rattle.acl_normal.proofs.Reduction.FirstMasks.{masked}
 use Rattle.acl_normal.proofs.Reduction.LaterBits.{AllowsTo, allows_all, allows_same, allows_start, allows_with, length_masks, masked_at, quiet_index}
+use Rattle.acl_normal.proofs.Unique.Names.{allow_test, everyone_test}
 use Rattle.acl_normal.proofs.reduce.needless.allowed_to_everyone.Goals as goal
 use Rattle.acl_normal.proofs.reduce.needless.allowed_to_everyone.Goals.{then-is_everyone+then-is_allow, else-is_everyone, else-is_everyone-via-then-is_everyone+else-is_allow, else-is_everyone-via-else-is_everyone}
 
@@ -25,17 +26,18 @@ loop-place-preserved c =
     masked_at c.args.aces.now c.args.masks.now c.loop-place.place c.index-aces-place.result c.loop-place-test.true
     c.requires.places c.index-aces-place.is in
     let named : principal_eq (principal_of item) everyone ≡ c.is_everyone.result =
-    sym (c.is_everyone.ensures ∙ ap (λ p. principal_eq p everyone) c.principal.ensures) in
+    sym (c.is_everyone.ensures ∙ everyone_test _
+    ∙ ap (λ p. principal_eq p everyone) c.principal.ensures) in
     elim c.if-is_everyone.branch [
       | then-is_everyone+then-is_allow w ↦ subst (AllowsTo shown (c.loop-place.place + 1)) (sym w.bits-is)
           (allows_with shown c.loop-place.place c.loop-place.bits item c.loop-place.invariant within is
           (quiet_index shown c.loop-place.place item c.requires.tidy.quiet within is)
-          (named ∙ w.if-is_everyone.true) (sym w.is_allow.ensures ∙ w.if-is_allow.true))
+          (named ∙ w.if-is_everyone.true) (sym (w.is_allow.ensures ∙ allow_test _) ∙ w.if-is_allow.true))
       | else-is_everyone w ↦ subst (AllowsTo shown (c.loop-place.place + 1)) (sym w.bits-is)
           (allows_same shown c.loop-place.place c.loop-place.bits item c.loop-place.invariant within is
           (elim w.else-is_everyone.branch [
             | else-is_everyone-via-then-is_everyone+else-is_allow v ↦ and_no (principal_eq (principal_of item) everyone)
-                (kind_eq item.kind Allow) (sym v.is_allow.ensures ∙ v.if-is_allow.false)
+                (kind_eq item.kind Allow) (sym (v.is_allow.ensures ∙ allow_test _) ∙ v.if-is_allow.false)
             | else-is_everyone-via-else-is_everyone v ↦ no_and (principal_eq (principal_of item) everyone)
                 (kind_eq item.kind Allow) (named ∙ v.if-is_everyone.false)
           ]))

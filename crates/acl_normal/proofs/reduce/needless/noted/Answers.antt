@@ -1,7 +1,6 @@
 use Rattle.std.proofs.Common.{◌≡◌, true, false, ◌∙◌, sym}
 use Rattle.acl_perm.specs.declared.kind.Kind.TheVariants.{Deny, Allow}
-use Rattle.acl_perm.specs.Principal.{principal}
-use Rattle.acl_normal.specs.Places.{is_user}
+use Rattle.acl_perm.specs.Principal.{principal, is_user}
 use Rattle.acl_normal.proofs.Reduction.LaterBits.{noted_is}
 use Rattle.acl_normal.proofs.reduce.needless.noted.Goals as goal
 

@@ -1,5 +1,5 @@
-use Rattle.std.proofs.Common.{◌≡◌, Some, ap, subst, arith}
-use Rattle.acl_normal.proofs.Merging.Publics.{LacksBelow, lowest_is, some_lowest}
+use Rattle.std.proofs.Common.{◌≡◌, subst, arith}
+use Rattle.acl_normal.proofs.Merging.Publics.{LacksBelow, some_lowest}
 use Rattle.acl_normal.proofs.rows.merged.lowest.Goals as goal
 
 pub returns-clause-some : goal.returns-clause-some

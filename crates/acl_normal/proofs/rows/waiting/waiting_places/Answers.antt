@@ -1,7 +1,8 @@
 use Rattle.std.proofs.Common.{◌∙◌, ap, subst, arith}
 use Rattle.std.specs.Prelude.{slice_index_or}
 use Rattle.std.proofs.lemmas.List.{take_all}
-use Rattle.acl_normal.specs.Places.{is_user}
+use Rattle.acl_perm.specs.Principal.{is_user}
+use Rattle.acl_normal.specs.internal.Classes.{is_users}
 use Rattle.acl_normal.specs.internal.Shown.{with_masks}
 use Rattle.acl_normal.specs.internal.Waiting.{HoldWaiting}
 use Rattle.acl_normal.proofs.Merging.BitTaken.{same_default}
@@ -20,10 +21,10 @@ loop-place-preserved c =
     let masks = c.args.masks.now in
     let place = c.loop-place.place in
     let mask = slice_index_or masks place 0 in
-    holds_more c.args.aces.now masks place c.index-aces-place.result mask c.is_user.result c.loop-place.lists.items
+    holds_more c.args.aces.now masks place c.index-aces-place.result mask (is_users c.of.result) c.loop-place.lists.items
     c.note.new.lists.items c.loop-place.invariant c.requires.places c.requires.quiet c.loop-place-test.true
     c.index-aces-place.is (same_default masks place 0 mask (omega (arith, c.loop-place-test.true, c.requires.places)))
-    (c.is_user.ensures ∙ ap is_user c.principal.ensures) c.in_ok-note.ensures
+    (c.of.ensures ∙ ap is_user c.principal.ensures) c.in_ok-note.ensures
 
 pub returns : goal.returns
 returns c =

@@ -1,6 +1,6 @@
 use Rattle.std.proofs.Common.{arith, sym, ap, subst, ◌∙◌, length, ◌+◌}
 use Rattle.acl_normal.proofs.comparison.rows.Compared.least_member.Goals as goal
-use Rattle.acl_normal.proofs.comparison.rows.Compared.least_member.Goals.{then-has_right+in_ok-rows+in_ok-least, else-has_right}
+use Rattle.acl_normal.proofs.comparison.rows.Compared.least_member.Goals.{then-has+in_ok-rows+in_ok-least, else-has}
 use Rattle.acl_normal.proofs.Searching.RowFacts.{Least, least_done, least_skip, member_step, rows_length, unused_agree}
 use Rattle.acl_normal.proofs.Searching.TableFacts.{slice_within}
 use Rattle.acl_normal.specs.internal.FirstPlaces.{AlikeWithAll, AreRows}
@@ -25,8 +25,8 @@ first_inverting-requires-clause-places c =
     c.deref.ensures.value (omega (arith, c.max-size.ensures)) (omega (arith, c.max-size.ensures)) c.in_ok-rows.ensures
 
 pub loop-bit-preserved : goal.loop-bit-preserved
-loop-bit-preserved c = elim c.if-has_right.branch [
-  | then-has_right+in_ok-rows+in_ok-least w ↦ subst
+loop-bit-preserved c = elim c.if-has.branch [
+  | then-has+in_ok-rows+in_ok-least w ↦ subst
       (λ v. Least (AlikeWithAll (list_of c.args.self.now.list.now) (list_of c.args.self.now.other.now)
       (principals c.args.self.now.whole.now)) (length (principals c.args.self.now.whole.now)) (c.loop-bit.bit + 1) v)
       (sym w.least-is)
@@ -34,15 +34,15 @@ loop-bit-preserved c = elim c.if-has_right.branch [
       (λ v. AreRows (principals c.args.self.now.whole.now) (list_of c.args.self.now.list.now)
       (list_of c.args.self.now.other.now) c.loop-bit.bit v) (sym w.deref.ensures.value) w.in_ok-rows.ensures)
       c.requires.alone (bits_from_mask _ _ c.args.self.now.rights.within
-      (sym c.has_right.ensures ∙ w.if-has_right.true)) w.in_ok-least.ensures.within w.in_ok-least.ensures.before
+      (sym c.has.ensures ∙ w.if-has.true)) w.in_ok-least.ensures.within w.in_ok-least.ensures.before
       w.in_ok-least.ensures.at c.loop-bit.invariant)
-  | else-has_right w ↦ subst (λ v. Least
+  | else-has w ↦ subst (λ v. Least
       (AlikeWithAll (list_of c.args.self.now.list.now) (list_of c.args.self.now.other.now)
       (principals c.args.self.now.whole.now)) (length (principals c.args.self.now.whole.now)) (c.loop-bit.bit + 1) v)
       (sym w.least-is)
       (least_skip _ _ _ _ (λ k. unused_agree _ _ _ _ _
       (principals c.args.self.now.whole.now) c.requires.compared.here_rights c.requires.compared.there_rights
-      (sym c.has_right.ensures ∙ w.if-has_right.false)) c.loop-bit.invariant)
+      (sym c.has.ensures ∙ w.if-has.false)) c.loop-bit.invariant)
 ]
 
 pub returns : goal.returns

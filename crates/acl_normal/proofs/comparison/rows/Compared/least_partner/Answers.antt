@@ -1,7 +1,7 @@
 use Rattle.std.proofs.Common.{arith, sym, ap, subst, ◌∙◌, length, ◌+◌, drop, slice_index_or}
 use Rattle.std.proofs.lemmas.List.{length-map}
 use Rattle.acl_normal.proofs.comparison.rows.Compared.least_partner.Goals as goal
-use Rattle.acl_normal.proofs.comparison.rows.Compared.least_partner.Goals.{then-has_right+in_ok-rows, else-has_right}
+use Rattle.acl_normal.proofs.comparison.rows.Compared.least_partner.Goals.{then-has+in_ok-rows, else-has}
 use Rattle.acl_normal.proofs.Searching.RowFacts.{Least, least_done, least_skip, others_length, partner_loop, rows_length, unused_with}
 use Rattle.acl_normal.specs.internal.FirstPlaces.{AlikeWith}
 use Rattle.acl_normal.specs.internal.Passes.{list_of}
@@ -31,8 +31,8 @@ first_inverted-least-requires c =
     )
 
 pub loop-bit-preserved : goal.loop-bit-preserved
-loop-bit-preserved c = elim c.if-has_right.branch [
-  | then-has_right+in_ok-rows w ↦ subst
+loop-bit-preserved c = elim c.if-has.branch [
+  | then-has+in_ok-rows w ↦ subst
       (λ v. Least (AlikeWith (list_of c.args.self.now.list.now) (list_of c.args.self.now.other.now)
       (slice_index_or (principals c.args.self.now.whole.now) c.args.at everyone)
       (drop (c.args.at + 1) (principals c.args.self.now.whole.now)))
@@ -40,10 +40,10 @@ loop-bit-preserved c = elim c.if-has_right.branch [
       (partner_loop _ _ _ _ _ _ _ _ _ _ _
       (omega (arith, length-map c.args.self.now.whole.now principal, c.requires.at)) w.in_ok-rows.ensures
       w.as_slice.ensures.value w.split_at.ensures.back w.index.ensures c.requires.alone
-      (bits_from_mask _ _ c.args.self.now.rights.within (sym c.has_right.ensures ∙ w.if-has_right.true))
+      (bits_from_mask _ _ c.args.self.now.rights.within (sym c.has.ensures ∙ w.if-has.true))
       w.first_inverted-least.ensures.within w.first_inverted-least.ensures.before
       w.first_inverted-least.ensures.at c.loop-bit.invariant)
-  | else-has_right w ↦ subst (λ v. Least
+  | else-has w ↦ subst (λ v. Least
       (AlikeWith (list_of c.args.self.now.list.now) (list_of c.args.self.now.other.now)
       (slice_index_or (principals c.args.self.now.whole.now) c.args.at everyone)
       (drop (c.args.at + 1) (principals c.args.self.now.whole.now)))
@@ -51,7 +51,7 @@ loop-bit-preserved c = elim c.if-has_right.branch [
       (least_skip _ _ _ _ (unused_with (list_of c.args.self.now.list.now) (list_of c.args.self.now.other.now)
       (slice_index_or (principals c.args.self.now.whole.now) c.args.at everyone)
       (drop (c.args.at + 1) (principals c.args.self.now.whole.now)) _ _ c.requires.compared.here_rights
-      c.requires.compared.there_rights (sym c.has_right.ensures ∙ w.if-has_right.false)) c.loop-bit.invariant)
+      c.requires.compared.there_rights (sym c.has.ensures ∙ w.if-has.false)) c.loop-bit.invariant)
 ]
 
 pub returns : goal.returns

@@ -1,6 +1,6 @@
 use Rattle.std.proofs.Common.{arith, sym, ap, subst, ◌∙◌, length, ◌+◌}
 use Rattle.acl_normal.proofs.comparison.rows.Compared.least_single.Goals as goal
-use Rattle.acl_normal.proofs.comparison.rows.Compared.least_single.Goals.{then-has_right+in_ok-rows, else-has_right}
+use Rattle.acl_normal.proofs.comparison.rows.Compared.least_single.Goals.{then-has+in_ok-rows, else-has}
 use Rattle.acl_normal.proofs.Searching.RowFacts.{Least, least_done, least_skip, rows_length, single_step, unused_alone}
 use Rattle.acl_normal.specs.internal.FirstPlaces.{AlikeAlone, AreRows}
 use Rattle.acl_normal.specs.internal.Passes.{list_of}
@@ -19,24 +19,24 @@ first_unlike-least-requires c =
     )
 
 pub loop-bit-preserved : goal.loop-bit-preserved
-loop-bit-preserved c = elim c.if-has_right.branch [
-  | then-has_right+in_ok-rows w ↦ subst
+loop-bit-preserved c = elim c.if-has.branch [
+  | then-has+in_ok-rows w ↦ subst
       (λ v. Least (AlikeAlone (list_of c.args.self.now.list.now) (list_of c.args.self.now.other.now)
       (principals c.args.self.now.whole.now)) (length (principals c.args.self.now.whole.now)) (c.loop-bit.bit + 1) v)
       (sym w.least-is)
       (single_step _ _ _ _ _ _ _ (subst
       (λ v. AreRows (principals c.args.self.now.whole.now) (list_of c.args.self.now.list.now)
       (list_of c.args.self.now.other.now) c.loop-bit.bit v) (sym w.deref.ensures.value) w.in_ok-rows.ensures)
-      (bits_from_mask _ _ c.args.self.now.rights.within (sym c.has_right.ensures ∙ w.if-has_right.true))
+      (bits_from_mask _ _ c.args.self.now.rights.within (sym c.has.ensures ∙ w.if-has.true))
       w.first_unlike-least.ensures.within w.first_unlike-least.ensures.before w.first_unlike-least.ensures.at
       c.loop-bit.invariant)
-  | else-has_right w ↦ subst (λ v. Least
+  | else-has w ↦ subst (λ v. Least
       (AlikeAlone (list_of c.args.self.now.list.now) (list_of c.args.self.now.other.now)
       (principals c.args.self.now.whole.now)) (length (principals c.args.self.now.whole.now)) (c.loop-bit.bit + 1) v)
       (sym w.least-is)
       (least_skip _ _ _ _ (unused_alone (list_of c.args.self.now.list.now) (list_of c.args.self.now.other.now)
       (principals c.args.self.now.whole.now) _ _ c.requires.here_rights c.requires.there_rights
-      (sym c.has_right.ensures ∙ w.if-has_right.false)) c.loop-bit.invariant)
+      (sym c.has.ensures ∙ w.if-has.false)) c.loop-bit.invariant)
 ]
 
 pub returns : goal.returns

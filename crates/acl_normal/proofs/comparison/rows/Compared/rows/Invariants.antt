@@ -6,4 +6,4 @@ use Rattle.acl_normal.specs.internal.SetSearch.{principals}
 
 abbrev pub invariant-loop-i : goal.invariant-loop-i
 invariant-loop-i l = AreRows (principals (take l.i l.whole)) (list_of l.self.list.now)
-    (list_of l.self.other.now) l.bit l.rows.items
+    (list_of l.self.other.now) l.fn.right.bit l.rows.items

@@ -8,11 +8,11 @@ use Rattle.acl_normal.proofs.emit.ready.Ready.add.Goals.{then-bits-eq0+in_ok-pus
 pub invariant_of-self-2 : goal.invariant_of-self-2
 invariant_of-self-2 c =
     let within : c.args.number < length c.self.inside.bits.items =
-    subst (λ v. c.args.number < length v) (sym c.self.view_is) c.requires.number in
+    subst (λ v. c.args.number < length v) (sym c.self.view_is) c.requires in
     let was : c.index-bits.result.now ≡ slice_index_or c.self.inside.bits.items c.args.number 0 =
     c.index-bits.ensures ∙ get_or_default_zero c.self.inside.bits.items c.args.number c.index-bits.result.now within in
     let full : c.with.result ≢ 0 =
-    λ none. added_some c.index-bits.result.now c.args.bit (sym c.with.ensures ∙ none) in
+    λ none. added_some c.index-bits.result.now c.args.right.bit (sym c.with.ensures ∙ none) in
     elim c.if-bits-eq0.branch [
       | then-bits-eq0+in_ok-push w ↦ rw w.self-inside-is (heap_pushed c.self.inside.bits.items _
           (heap_items c.self.inside.numbers) (heap_items w.push.new.self) (record { 0 = c.args.number }) c.args.number

@@ -12,8 +12,8 @@ use Rattle.acl_normal.proofs.rows.merged.MergedRows.emit_row.Goals.{then-has, el
 pub loop-bit-init : goal.loop-bit-init
 loop-bit-init c = sym (take_zero (principal c.args.p) c.args.self.now)
 
-pub emit_bit-requires-clause-row : goal.emit_bit-requires-clause-row
-emit_bit-requires-clause-row c =
+pub emit_bit-requires : goal.emit_bit-requires
+emit_bit-requires c =
     is_row_alike c.args.row (principal c.args.p) c.args.self.now c.loop-bit.self
     (sym (ap nothing_left c.loop-bit.invariant
     ∙ outline_taken (principal c.args.p) (low_bits c.args.bits c.loop-bit.bit) c.args.self.now))

@@ -17,9 +17,9 @@ returns-in-Some c p at_row =
     let within : c.args.row < length _ = subst (λ v. c.args.row < length v) (sym c.self.view_is) c.requires in
     let below : c.args.row < length s.cells.items =
     omega (arith, within, length_left s c.self.invariant, c.self.invariant.count, s.cells.ok) in
-    subst (λ v. Some c.in-Some.place ≡ first_place c.args.bit p v) c.self.view_is
-    (cell_is s c.args.row p c.args.bit (Some c.in-Some.place) c.self.invariant
+    subst (λ v. Some c.in-Some.place ≡ first_place c.args.right.bit p v) c.self.view_is
+    (cell_is s c.args.row p c.args.right.bit (Some c.in-Some.place) c.self.invariant
     (subst (IsRow c.args.row p) (sym c.self.view_is) at_row)
     (sym c.in-Some.is ∙ c.get.ensures
-    ∙ ap (λ v. place_in v c.args.bit)
+    ∙ ap (λ v. place_in v c.args.right.bit)
     (c.index.ensures ∙ same_default s.cells.items c.args.row _ NoPlaces below)))

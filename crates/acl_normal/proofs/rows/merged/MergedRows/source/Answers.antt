@@ -7,7 +7,7 @@ use Rattle.acl_normal.proofs.rows.merged.MergedRows.source.Goals as goal
 pub returns-in_err-row : goal.returns-in_err-row
 returns-in_err-row c =
     c.from_residual.ensures
-    ∙ sym (unnamed_first c.args.bit (principal c.args.p) c.args.self.now c.in_err-row.ensures.missing)
+    ∙ sym (unnamed_first c.args.right.bit (principal c.args.p) c.args.self.now c.in_err-row.ensures.missing)
 
 pub place_in-requires : goal.place_in-requires
 place_in-requires c =
@@ -17,19 +17,19 @@ place_in-requires c =
 pub kind_at-requires : goal.kind_at-requires
 kind_at-requires c =
     let first =
-    first_by_place c.args.bit (principal c.args.p) c.args.self.now c.in_ok-place.place
+    first_by_place c.args.right.bit (principal c.args.p) c.args.self.now c.in_ok-place.place
     (sym (c.in_ok-place.ensures (principal c.args.p) c.in_ok-row.ensures.found)) in
-    first_in c.args.bit (principal c.args.p) c.args.self.now _ first
+    first_in c.args.right.bit (principal c.args.p) c.args.self.now _ first
 
 pub returns-in_err-place : goal.returns-in_err-place
 returns-in_err-place c =
     c.from_residual-in_err-place.ensures
-    ∙ sym (first_by_none c.args.bit (principal c.args.p) c.args.self.now
+    ∙ sym (first_by_none c.args.right.bit (principal c.args.p) c.args.self.now
     (sym (c.in_err-place.ensures (principal c.args.p) c.in_ok-row.ensures.found)))
 
 pub returns : goal.returns
 returns c =
     let first =
-    first_by_place c.args.bit (principal c.args.p) c.args.self.now c.in_ok-place.place
+    first_by_place c.args.right.bit (principal c.args.p) c.args.self.now c.in_ok-place.place
     (sym (c.in_ok-place.ensures (principal c.args.p) c.in_ok-row.ensures.found)) in
     ap (λ k. Some (k, c.in_ok-place.place)) c.kind_at.ensures ∙ sym first
