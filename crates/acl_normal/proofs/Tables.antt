@@ -41,13 +41,13 @@ some_kind : (j k : Kind) → ◌≡◌ {A = Option Kind} (Some j) (Some k) → j
 some_kind j k h = cc
 
 -- the ACE of a normal form takes part
-emitted_counts : (b : ℕ) (e : Emitted) → has_bit e.bits b ≡ true → counts b (emitted_ace e) ≡ true
+emitted_counts : (b : ℕ) (e : Emitted) → has_bit e.mask.bits b ≡ true → counts b (emitted_ace e) ≡ true
 emitted_counts b e h = rw (h, no_inherit_only (plain_key e.key).0) refl
 
 -- what the row of an ACE says, where its key is in the list
 pub one_row : (b : ℕ) (xs : List Ace) (e : Emitted) (a : Ace) (p : Principal) (kind : Kind) (old new : List Row)
     (r : Row)
-    → has_bit e.bits b ≡ true → HasKey b xs (emitted_ace e) → a ≡ emitted_ace e → p ≡ principal_of a
+    → has_bit e.mask.bits b ≡ true → HasKey b xs (emitted_ace e) → a ≡ emitted_ace e → p ≡ principal_of a
     → Some (kind, r.source) ≡ first_at b p xs → r.kind ≡ a.kind → r.who.items ≡ a.who
     → r.group ≡ has_bit a.flags identifier_group → new ≡ old ++ r ∷ [] → AddsRow b xs (emitted_ace e) old new
 one_row b xs e a p kind old new r has key is named first own who group more list so =
@@ -70,7 +70,7 @@ one_row b xs e a p kind old new r has key is named first own who group more list
         ∙ key (emitted_counts b e has))
 
 -- an ACE whose key is in the list has a place there
-pub has_place : {A : Type 0} (b : ℕ) (xs : List Ace) (e : Emitted) (a : Ace) (p : Principal) → has_bit e.bits b ≡ true
+pub has_place : {A : Type 0} (b : ℕ) (xs : List Ace) (e : Emitted) (a : Ace) (p : Principal) → has_bit e.mask.bits b ≡ true
     → HasKey b xs (emitted_ace e) → a ≡ emitted_ace e → p ≡ principal_of a → None ≡ first_at b p xs → A
 has_place b xs e a p has key is named first =
     clash (ap kind_in (first ∙ ap (λ v. first_at b v xs) (named ∙ ap principal_of is))

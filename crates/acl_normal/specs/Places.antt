@@ -64,11 +64,19 @@ without_bits p m a =
 abbrev pub take_out : Principal → ℕ → List Ace → List Ace
 take_out p m = map (without_bits p m)
 
--- the key of the key at a place
+-- the key of the ACE at a place
 abbrev pub key_here : List Ace → ℕ → Key
 key_here [] i = (everyone, Deny)
 key_here (a ∷ xs) zero = ace_key a
 key_here (a ∷ xs) (suc i) = key_here xs i
+
+-- its principal
+abbrev pub principal_here : List Ace → ℕ → Principal
+principal_here xs i = (key_here xs i).0
+
+-- its type
+abbrev pub kind_here : List Ace → ℕ → Kind
+kind_here xs i = (key_here xs i).1
 
 -- the set of a type, a class and a bit
 abbrev pub slot_of : Kind → Bool → ℕ → ℕ

@@ -1,6 +1,5 @@
 //! The table of one right: what the normal form says of it, and where that comes from.
 ghost use Rattle.std.specs.Prelude.{◌≡◌, ◌<◌, ℕ, List, [], IfOk, IsOkAnd, OnOk, length, slice_index_or};
-ghost use Rattle.acl_perm.specs.Bits.{IsMask};
 ghost use Rattle.acl_nfs4.specs.Ace.{Ace};
 ghost use Rattle.acl_normal.specs.internal.Emitted.{emitted_ace, emitted_aces};
 ghost use Rattle.acl_normal.specs.Left.{IsLowest};
@@ -8,7 +7,6 @@ ghost use Rattle.acl_normal.specs.NormalForm.{IsNormalFormOf};
 ghost use Rattle.acl_normal.specs.declared.emit.emission.Emitted.{Emitted as Emission};
 ghost use Rattle.acl_normal.specs.Tables.{AddsRow, AreRows, HasKey, IsTable, with_bit};
 
-use crate::bits::has;
 use crate::emit::emission::Emitted;
 use crate::normal_form::{ace_of, form_of};
 use crate::reduce::reduced_rows;
@@ -54,9 +52,7 @@ fn rows_of<'a>(
     form: &[Emitted<'a>],
     right: Right,
 ) -> Result<Vec<Row>, AllocError>
-    requires masks { (i : ℕ) (d : Emission) → i < length form.now
-        → IsMask (slice_index_or form.now i d).bits }
-    requires keys { (i : ℕ) (d : Emission) → i < length form.now
+    requires { (i : ℕ) (d : Emission) → i < length form.now
         → HasKey right.bit rows.now (emitted_ace (slice_index_or form.now i d)) }
     ensures { IfOk result (λ table.
         AreRows right.bit rows.now (with_bit right.bit (emitted_aces form.now)) table.items) }
@@ -76,12 +72,11 @@ fn add_row<'a>(
     right: Right,
     table: &mut Vec<Row>,
 ) -> Result<(), AllocError>
-    requires mask { IsMask item.bits }
-    requires key { HasKey right.bit rows.now (emitted_ace item) }
+    requires { HasKey right.bit rows.now (emitted_ace item) }
     ensures { OnOk result (AddsRow right.bit rows.now (emitted_ace item.entry)
         table.old.items table.new.items) }
 {
-    if !has(item.bits, right) {
+    if !item.mask.has(right) {
         return Ok(());
     }
     let shown = ace_of(item);

@@ -1,6 +1,5 @@
 //! The normal form of a list of ACEs.
 ghost use Rattle.std.specs.Prelude.{◌≡◌, ◌⊎◌, ◌↔◌, ◌∷◌, ◌++◌, [], ℕ, List, Err, IfErr, IfOk, IsOk, IsTrue, OnOk};
-ghost use Rattle.acl_perm.specs.Bits.{IsMask};
 ghost use Rattle.acl_perm.specs.Principal.{principal};
 ghost use Rattle.acl_perm.specs.Profile.{full, profile_of};
 ghost use Rattle.acl_nfs4.specs.Ace.{Ace, ace};
@@ -16,7 +15,7 @@ ghost use Rattle.acl_normal.specs.internal.Ready.{who_for};
 use crate::emit::emission::{Emitted, normalize_left};
 use crate::reduce::reduced_rows;
 use acl_nfs4::{AceRef, Acl, AclView, Fault, Reason};
-use acl_perm::{Counted, Flags, Mask, Principal, Profile};
+use acl_perm::{Counted, Flags, Principal, Profile};
 use std::alloc::{AllocError, Global};
 
 /// The normal form of a list: the one list that grants the same in every situation, in which each bit is needed, and
@@ -120,13 +119,12 @@ fn written(alloc: Global, form: &[Emitted<'_>]) -> Result<Acl, AllocError>
 
 /// The ACE of a normal form.
 pub(crate) fn ace_of<'a>(item: Emitted<'a>) -> AceRef<'a>
-    requires { IsMask item.bits }
     ensures { ace result ≡ emitted_ace item.entry }
 {
     AceRef {
         kind: item.key.kind,
         flags: flags_of(item.key.principal),
-        mask: Mask { bits: item.bits },
+        mask: item.mask,
         who: who_of(item.key.principal),
     }
 }

@@ -9,7 +9,8 @@ use Rattle.acl_perm.specs.Principal.{Principal, user, is_user}
 use Rattle.acl_perm.specs.Overlap.{may_overlap}
 use Rattle.acl_perm.specs.declared.kind.Kind.{Kind}
 use Rattle.acl_perm.specs.declared.kind.Kind.TheVariants.{Deny, Allow}
-use Rattle.acl_perm.specs.Bits.{has_bit}
+use Rattle.acl_perm.specs.Bits.{IsMask, all_rights, has_bit}
+use Rattle.acl_perm.proofs.Sets.{mask_from_bits}
 use Rattle.acl_nfs4.specs.Ace.{Ace}
 use Rattle.acl_nfs4.specs.Who.{principal_of, owner_name, group_name, everyone_name}
 use Rattle.acl_normal.specs.declared.emit.emission.Emitted.{Emitted}
@@ -32,7 +33,7 @@ use Rattle.acl_normal.proofs.Unique.Bits.{no_bits}
 use Rattle.acl_normal.proofs.Unique.Invariant.{without_absent}
 use Rattle.acl_normal.proofs.Unique.FirstAndRest.{lacks_principal}
 use Rattle.acl_normal.proofs.Emission.SoFar.{Completes, completes_more, completes_all}
-use Rattle.acl_normal.proofs.Merging.TakeOut.{column_taken, once_taken, low_taken}
+use Rattle.acl_normal.proofs.Merging.TakeOut.{column_taken, none_taken, once_taken, low_taken}
 use Rattle.acl_normal.proofs.Emission.Marks.{key_eq_same, key_eq_itself, fits_written, mark_named, mark_written, number_order, number_row, number_within, some_bits}
 use Rattle.acl_normal.proofs.Merging.Rows.{named_outline, outline_taken, row_outline}
 use Rattle.acl_normal.proofs.Emission.Walk.{stands_free}
@@ -260,17 +261,23 @@ takes xs old new n m q f l set whose = go (f.sound n (λ none. l.some (l.is ∙ 
 pub outline_left : (p : Principal) (m : ℕ) (xs ys : List Ace) → ys ≡ take_out p m xs → nothing_left ys ≡ nothing_left xs
 outline_left p m xs ys taken = ap nothing_left taken ∙ outline_taken p m xs
 
+-- the columns of bits that are no rights are empty
+abbrev pub HasRights : List Ace → Type 0
+HasRights xs = (b : ℕ) → has_bit all_rights b ≡ false → column xs b ≡ []
+
 -- what the loop keeps
 pub record Drains (whole : List Ace) (out : List Emitted) (ready : Marked) (xs : List Ace) : Type 0 where
   pub once : HasOnceColumns xs
   pub low : (b : ℕ) → 21 ≤ b → column xs b ≡ []
+  pub rights : HasRights xs
   pub free : HoldsFree ready xs
   pub completes : Completes whole out xs
 
 -- before the first turn
 pub drain_starts : (xs : List Ace) (ready : Marked) → HasOnceColumns xs → ((b : ℕ) → 21 ≤ b → column xs b ≡ [])
-    → HoldsFree ready xs → Drains xs [] ready xs
-drain_starts xs ready once low free = record { once = once; low = low; free = free; completes = λ ns e. e }
+    → HasRights xs → HoldsFree ready xs → Drains xs [] ready xs
+drain_starts xs ready once low rights free =
+    record { once = once; low = low; rights = rights; free = free; completes = λ ns e. e }
 
 -- what is marked at the key that was popped is what is free there
 pub popped_bits : (old rest : Marked) (q : Key) (m : ℕ) (xs : List Ace) → HoldsFree old xs → Popped old q m rest
@@ -282,6 +289,19 @@ pub popped_low : (whole : List Ace) (out : List Emitted) (old rest : Marked) (q 
     → Drains whole out old xs → Popped old q m rest → (b : ℕ) → 21 ≤ b → has_bit m b ≡ false
 popped_low whole out old rest q m xs d p b l =
     popped_bits old rest q m xs d.free p b ∙ ap (λ c. is_free c q) (d.low b l)
+
+-- they are rights
+pub popped_mask : (whole : List Ace) (out : List Emitted) (old rest : Marked) (q : Key) (m : ℕ) (xs : List Ace)
+    → Drains whole out old xs → Popped old q m rest → IsMask m
+popped_mask whole out old rest q m xs d p = mask_from_bits m (λ b has. go b has (has_bit all_rights b) refl)
+  where
+    go : (b : ℕ) → has_bit m b ≡ true → (t : Bool) → has_bit all_rights b ≡ t → has_bit all_rights b ≡ true
+    go b has true is = is
+    go b has false is =
+        clash (sym has ∙ popped_bits old rest q m xs d.free p b ∙ ap (λ c. is_free c q) (d.rights b is))
+      where
+        clash : true ≡ false → has_bit all_rights b ≡ true
+        clash h = cc
 
 -- and its principal is named
 pub popped_named : (whole : List Ace) (out : List Emitted) (old rest : Marked) (q : Key) (m : ℕ) (xs : List Ace)
@@ -442,6 +462,7 @@ drain_on whole out more old rest next q m xs a d p is same f =
     record {
       once = once_taken q.0 m xs d.once;
       low = low_taken q.0 m xs d.low;
+      rights = λ b none. none_taken q.0 m xs b (d.rights b none);
       free = holds_on whole out old rest next q m xs d p f;
       completes = completes_more whole out more xs (take_out q.0 m xs) a is d.once step d.completes;
     }

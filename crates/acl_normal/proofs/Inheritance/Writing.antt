@@ -2,14 +2,12 @@
 use Rattle.std.proofs.Common.{◌≡◌, ℕ, ◌+◌, ◌≤◌, ◌<◌, zero, suc, List, [], ◌∷◌, ◌++◌, length, take, drop, refl, sym, ◌∙◌, ap, subst, arith}
 use Rattle.std.specs.Prelude.{slice_index_or}
 use Rattle.std.proofs.lemmas.List.{map-append, take_more, take_all}
-use Rattle.acl_perm.specs.Bits.{IsMask}
 use Rattle.acl_perm.specs.Profile.{full}
 use Rattle.acl_nfs4.specs.Ace.{Ace}
-use Rattle.acl_nfs4.specs.Spelling.{IsAccepted, IsAce}
+use Rattle.acl_nfs4.specs.Spelling.{IsAccepted}
 use Rattle.acl_eval.proofs.Children.{front_accepted, moved}
 use Rattle.acl_normal.specs.internal.Emitted.{emitted_ace, emitted_aces}
 use Rattle.acl_normal.specs.declared.emit.emission.Emitted.{Emitted}
-use Rattle.acl_normal.proofs.Unique.Forming.{each_at}
 
 -- a list, split at a place
 pub split_at : (es : List Emitted) (i : ℕ) (d : Emitted) → i < length es
@@ -17,14 +15,6 @@ pub split_at : (es : List Emitted) (i : ℕ) (d : Emitted) → i < length es
 split_at [] i d l = absurd (omega (arith, l))
 split_at (e ∷ es) zero d l = refl
 split_at (e ∷ es) (suc i) d l = ap (λ v. emitted_ace e ∷ v) (split_at es i d (omega (arith, l)))
-
--- each mask is a set of rights
-pub mask_at : (es : List Emitted) (i : ℕ) (d : Emitted) → IsAccepted full (emitted_aces es) → i < length es
-    → IsMask (slice_index_or es i d).bits
-mask_at es i d ok l =
-    (each_at (IsAce full) (emitted_aces (take i es)) (emitted_ace (slice_index_or es i d))
-    (emitted_aces (drop (suc i) es))
-    (subst (λ v. IsAccepted full v) (split_at es i d l) ok).each).mask
 
 -- the list so far takes one more ACE
 pub next_accepted : (es : List Emitted) (i : ℕ) (d : Emitted) (list : List Ace) (a : Ace)

@@ -5,9 +5,9 @@ use Rattle.acl_normal.specs.Keys.{plain_key}
 use Rattle.acl_normal.specs.internal.Ready.{emitted}
 use Rattle.acl_normal.specs.declared.emit.emission.Emitted.{Emitted}
 
--- the ACE of a key and its bits
+-- the ACE of a key and its rights
 abbrev pub emitted_ace : Emitted → Ace
-emitted_ace e = emitted (plain_key e.key) e.bits
+emitted_ace e = emitted (plain_key e.key) e.mask.bits
 
 -- the list of the ACEs of these
 abbrev pub emitted_aces : List Emitted → List Ace

@@ -22,6 +22,10 @@ row_of p (a ∷ xs) = cond (is_lt (principal_cmp (principal_of a) p)) (suc (row_
 abbrev pub key_number : Key → List Ace → ℕ
 key_number k xs = 2 * row_of k.0 xs + kind_rank k.1
 
+-- if a key of the list has the number, it is this
+abbrev pub IsNumberOf : List Ace → ℕ → Key → Type 0
+IsNumberOf xs number found = (k : Key) → is_named k.0 xs ≡ true → number ≡ key_number k xs → found ≡ k
+
 -- the principal is named, and this is its row
 pub record IsRow (row : ℕ) (p : Principal) (xs : List Ace) : Type 0 where
   pub named : is_named p xs ≡ true

@@ -14,18 +14,17 @@ ghost use Rattle.acl_normal.specs.Places.{key_here, nothing_left};
 ghost use Rattle.acl_normal.specs.internal.Ready.{Adds, Enters, FitsKeys, Frees, HoldsFree, marks};
 ghost use Rattle.acl_normal.specs.internal.Counts.{count_left};
 
-use crate::bits::has;
 use crate::class::Class;
 use crate::emit::ready::Ready;
 use crate::rows::merged::MergedRows;
-use acl_perm::{Key, Kind, Right};
+use acl_perm::{Key, Kind, Mask, Right};
 use std::alloc::{AllocError, Global};
 
-/// An ACE of a normal form: a key and its bits.
+/// An ACE of a normal form: a key and its rights.
 #[derive(Clone, Copy)]
 pub(crate) struct Emitted<'a> {
     pub(crate) key: Key<'a>,
-    pub(crate) bits: u32,
+    pub(crate) mask: Mask,
 }
 
 // The number of a type, in the order of types.
@@ -82,26 +81,26 @@ fn enter(
     Ok(())
 }
 
-/// Marks what became free when bits of a key were taken out.
+/// Marks what became free when rights of a key were taken out.
 fn free_after<'a>(
     rows: &MergedRows<'a>,
     at: Key<'a>,
-    bits: u32,
+    mask: Mask,
     ready: &mut Ready,
 ) -> Result<(), AllocError>
     requires { FitsKeys (nothing_left rows.now) ready.old }
     ensures keys { OnOk result (FitsKeys (nothing_left rows.now) ready.new) }
-    ensures marks { OnOk result (Frees (plain_key at.entry) bits rows.now
+    ensures marks { OnOk result (Frees (plain_key at.entry) mask.bits rows.now
         (marks (nothing_left rows.now) ready.old)
         (marks (nothing_left rows.now) ready.new)) }
 {
     let opposite = at.kind.other();
     for bit in 0..Right::COUNT {
-        if bits >> bit == 0 {
+        if mask.bits >> bit == 0 {
             return Ok(());
         }
         let right = Right { bit };
-        if has(bits, right) {
+        if mask.has(right) {
             enter(rows, opposite, Class::Others, right, ready)?;
             if !at.principal.is_user() {
                 enter(rows, opposite, Class::Users, right, ready)?;
@@ -140,11 +139,12 @@ pub(crate) fn drain<'a>(
     fill(rows, &mut ready)?;
     let mut out = Vec::new(alloc);
     // The label names the loop for its proof.
-    'emitted: while let Some((number, bits)) = ready.pop() {
-        let key = rows.key_of(number);
-        out.push(Emitted { key, bits })?;
-        rows.emit_row(number / 2, key.principal, bits);
-        free_after(rows, key, bits, &mut ready)?;
+    'emitted: while let Some(next) = ready.pop() {
+        let key = rows.key_of(next.number);
+        let mask = Mask { bits: next.bits };
+        out.push(Emitted { key, mask })?;
+        rows.emit_row(next.number / 2, key.principal, mask);
+        free_after(rows, key, mask, &mut ready)?;
     }
     Ok(out)
 }

@@ -16,6 +16,13 @@ pub(crate) struct Ready {
     numbers: BinaryHeap<Reverse<usize>>,
 }
 
+/// The number of a key, and its free bits.
+#[derive(Clone, Copy)]
+pub(crate) struct Numbered {
+    pub(crate) number: usize,
+    pub(crate) bits: u32,
+}
+
 impl Model for Ready {
     ghost use Rattle.std.specs.Prelude.{List, ℕ};
 
@@ -55,14 +62,14 @@ impl Ready {
     }
 
     /// The least number that has free bits, with them. It has none afterwards.
-    pub(crate) fn pop(&mut self) -> Option<(usize, u32)>
-        ensures least { IfSome result (λ p. IsLeastReady self.old p.0 p.1) }
-        ensures taken { IfSome result (λ p. self.new ≡ slice_set self.old p.0 0) }
+    pub(crate) fn pop(&mut self) -> Option<Numbered>
+        ensures least { IfSome result (λ key. IsLeastReady self.old key.number key.bits) }
+        ensures taken { IfSome result (λ key. self.new ≡ slice_set self.old key.number 0) }
         ensures none { IfNone result ((n : ℕ) → slice_index_or self.old n 0 ≡ 0) }
     {
         let Reverse(number) = self.numbers.pop()?;
         let bits = self.bits[number];
         self.bits[number] = 0;
-        Some((number, bits))
+        Some(Numbered { number, bits })
     }
 }

@@ -9,15 +9,14 @@ ghost use Rattle.acl_eval.specs.Column.{column};
 ghost use Rattle.acl_eval.specs.Grant.{SameGrants};
 ghost use Rattle.acl_normal.specs.internal.Cells.{first_place};
 ghost use Rattle.acl_normal.specs.internal.Classes.{is_users};
-ghost use Rattle.acl_normal.specs.Keys.{Key as PlainKey};
 ghost use Rattle.acl_normal.specs.Left.{HasFree, IsLowest, IsTidy, KeepsFirsts, left};
 ghost use Rattle.acl_normal.specs.Normal.{IsIrreducibleList, is_free};
 ghost use Rattle.acl_normal.specs.Keys.{plain_key};
-ghost use Rattle.acl_normal.specs.Places.{key_here, first_at, is_blocked, nothing_left, take_out, waits, waits_before};
-ghost use Rattle.acl_normal.specs.internal.Rows.{AreRowNumbers, IsByPrincipal, IsRow, is_named, key_number};
+ghost use Rattle.acl_normal.specs.Places.{first_at, is_blocked, key_here, kind_here, nothing_left, principal_here, take_out, waits, waits_before};
+ghost use Rattle.acl_normal.specs.internal.Rows.{AreRowNumbers, IsByPrincipal, IsNumberOf, IsRow, is_named};
 ghost use Rattle.acl_normal.specs.internal.Shown.{aces_in, with_masks};
 
-use crate::bits::{cleared, has};
+use crate::bits::cleared;
 use crate::class::Class;
 use crate::reduce::reduced_rows;
 use crate::rows::cells::{Cells, filled_cells};
@@ -94,7 +93,9 @@ impl<'a> MergedRows<'a> {
     pub fn emit(&mut self, p: Principal<'_>, bits: Mask)
         ensures { self.new ≡ take_out (principal p.entry) bits.bits self.old }
     {
-        self.emit_bits(p, bits.bits());
+        if let Some(row) = self.row_named(p) {
+            self.emit_row(row, p, bits);
+        }
     }
 
     /// Whether the principal has one of these rights in what is left and is free on it: no ACE before its own
@@ -183,7 +184,7 @@ impl<'a> MergedRows<'a> {
     /// The type of the ACE at a place.
     pub(crate) fn kind_at(&self, place: usize) -> Kind
         requires { place < length self.now }
-        ensures { result ≡ (key_here self.now place).1 }
+        ensures { result ≡ kind_here self.now place }
     {
         let aces = &self.aces;
         aces[place].kind
@@ -192,8 +193,7 @@ impl<'a> MergedRows<'a> {
     /// The key of a number.
     pub(crate) fn key_of(&self, number: usize) -> Key<'a>
         requires { number < 2 * length self.now }
-        ensures { (k : PlainKey) → is_named k.0 self.now ≡ true → number ≡ key_number k self.now
-            → plain_key result ≡ k }
+        ensures { IsNumberOf self.now number (plain_key result) }
     {
         let first = self.key_at(self.order[number / 2]);
         let kind = if number % 2 == 0 {
@@ -218,7 +218,7 @@ impl<'a> MergedRows<'a> {
     /// The row of the principal that the ACE at a place names.
     pub(crate) fn row_at(&self, place: usize) -> usize
         requires { place < length self.now }
-        ensures { IsRow result (key_here self.now place).0 self.now }
+        ensures { IsRow result (principal_here self.now place) self.now }
     {
         self.rows[place]
     }
@@ -251,28 +251,17 @@ impl<'a> MergedRows<'a> {
         Some((self.kind_at(place), place))
     }
 
-    /// Takes bits of a principal out.
-    pub(crate) fn emit_bits(&mut self, p: Principal<'_>, bits: u32)
-        requires { (b : ℕ) → 21 ≤ b → has_bit bits b ≡ false }
-        ensures { self.new ≡ take_out (principal p.entry) bits self.old }
-    {
-        if let Some(row) = self.row_named(p) {
-            self.emit_row(row, p, bits);
-        }
-    }
-
-    /// Takes bits of the principal of a row out.
-    pub(crate) fn emit_row(&mut self, row: usize, p: Principal<'_>, bits: u32)
-        requires row { IsRow row (principal p) self.old }
-        requires rights { (b : ℕ) → 21 ≤ b → has_bit bits b ≡ false }
-        ensures { self.new ≡ take_out (principal p.entry) bits self.old }
+    /// Takes rights of the principal of a row out.
+    pub(crate) fn emit_row(&mut self, row: usize, p: Principal<'_>, mask: Mask)
+        requires { IsRow row (principal p) self.old }
+        ensures { self.new ≡ take_out (principal p.entry) mask.bits self.old }
     {
         for bit in 0..Right::COUNT {
-            if bits >> bit == 0 {
+            if mask.bits >> bit == 0 {
                 return;
             }
             let right = Right { bit };
-            if has(bits, right) {
+            if mask.has(right) {
                 self.emit_bit(row, p, right);
             }
         }

@@ -2,7 +2,7 @@
 ghost use Rattle.std.specs.Prelude.{◌≡◌, false, map, IfNone, IfOk, IfSome};
 ghost use Rattle.acl_perm.specs.Order.{principal_cmp};
 ghost use Rattle.acl_perm.specs.Principal.{principal};
-ghost use Rattle.acl_normal.specs.Places.{key_here};
+ghost use Rattle.acl_normal.specs.Places.{principal_here};
 ghost use Rattle.acl_normal.specs.internal.RowNumbers.{AreSortedNames, named_from, named_of};
 ghost use Rattle.acl_normal.specs.internal.Rows.{AreRowNumbers, IsByPrincipal, IsRow, is_named};
 ghost use Rattle.acl_normal.specs.internal.Shown.{aces_in};
@@ -57,7 +57,7 @@ pub(crate) fn find_row(
 
 // How whom the ACE at a place names stands to a principal. A search may ask of any place: past the last it is everyone.
 fn compared(aces: &[AceRef<'_>], place: usize, p: Principal<'_>) -> Ordering
-    ensures { result ≡ principal_cmp (key_here (aces_in aces.now) place).0 (principal p.entry) }
+    ensures { result ≡ principal_cmp (principal_here (aces_in aces.now) place) (principal p.entry) }
 {
     match aces.get(place) {
         Some(ace) => ace.principal().cmp(&p),

@@ -8,10 +8,10 @@ pub returns-in_ok-push : goal.returns-in_ok-push
 returns-in_ok-push c =
     one_row c.args.right.bit c.args.rows.now c.args.item (ace c.ace_of-shown.result) (principal c.principal.result)
     c.in-Some._kind
-    c.args.table.now.items c.push.new.self.items _ (sym c.if-not-has.ensures) c.requires.key c.ace_of-shown.ensures
+    c.args.table.now.items c.push.new.self.items _ (sym c.if-not-has.ensures) c.requires c.ace_of-shown.ensures
     c.principal.ensures c.in-Some.ensures refl c.in_ok-who.ensures.items c.is_group.ensures c.in_ok-push.ensures.items
 
 pub returns-in_default : goal.returns-in_default
 returns-in_default c =
     has_place c.args.right.bit c.args.rows.now c.args.item (ace c.ace_of-shown.result) (principal c.principal.result)
-    (sym c.if-not-has.ensures) c.requires.key c.ace_of-shown.ensures c.principal.ensures c.in_default.ensures
+    (sym c.if-not-has.ensures) c.requires c.ace_of-shown.ensures c.principal.ensures c.in_default.ensures

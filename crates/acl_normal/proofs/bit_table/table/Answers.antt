@@ -3,16 +3,10 @@ use Rattle.std.specs.Prelude.{unwrap_or}
 use Rattle.acl_normal.specs.internal.Emitted.{emitted_aces}
 use Rattle.acl_normal.proofs.Tables.{key_there, rows_from}
 use Rattle.acl_normal.proofs.Unique.Taken.{normal_alike, normal_once}
-use Rattle.acl_normal.proofs.Inheritance.Writing.{mask_at}
 use Rattle.acl_normal.proofs.bit_table.table.Goals as goal
 
-pub rows_of-requires-clause-masks : goal.rows_of-requires-clause-masks
-rows_of-requires-clause-masks c i d l =
-    rw c.deref.ensures.value (mask_at c.in_ok-form.form.items i d c.in_ok-form.ensures.accepted
-    (rw c.deref.ensures.value at l))
-
-pub rows_of-requires-clause-keys : goal.rows_of-requires-clause-keys
-rows_of-requires-clause-keys c =
+pub rows_of-requires : goal.rows_of-requires
+rows_of-requires c =
     let ns = emitted_aces c.in_ok-form.form.items in
     let f = c.in_ok-form.ensures in
     rw c.deref.ensures.value (key_there c.in-Some.right.bit c.in_ok-rows.rows c.in_ok-form.form.items

@@ -5,7 +5,7 @@ use Rattle.acl_normal.specs.internal.Emissions.{IsOnce}
 use Rattle.acl_normal.specs.Keys.{plain_key}
 use Rattle.acl_normal.specs.Places.{nothing_left}
 use Rattle.acl_normal.specs.internal.Ready.{FitsKeys, marks}
-use Rattle.acl_normal.proofs.Emission.Drained.{drain_starts, drain_turn, drain_ends, drain_falls, outline_left, popped_low, ready_within, takes}
+use Rattle.acl_normal.proofs.Emission.Drained.{drain_starts, drain_turn, drain_ends, drain_falls, outline_left, popped_mask, ready_within, takes}
 use Rattle.acl_normal.proofs.Merging.Few.{rows_few}
 use Rattle.acl_normal.proofs.Emission.Marks.{nothing_marked}
 use Rattle.acl_normal.proofs.emit.emission.drain.Goals as goal
@@ -18,59 +18,64 @@ pub emitted-init : goal.emitted-init
 emitted-init c = rw c.new-out.ensures.items (
   drain_starts c.args.rows.now (marks (nothing_left c.args.rows.now) c.fill.new.ready)
       (λ b. subst (λ v. IsOnce (column v b)) c.rows.view_is (c.rows.invariant.once b))
-      (λ b l. ap (λ v. column v b) (sym c.rows.view_is) ∙ c.rows.invariant.low b l) c.in_ok-fill.ensures.marks,
+      (λ b l. ap (λ v. column v b) (sym c.rows.view_is) ∙ c.rows.invariant.low b l)
+      (λ b none. ap (λ v. column v b) (sym c.rows.view_is) ∙ c.rows.invariant.rights b none)
+      c.in_ok-fill.ensures.marks,
   c.in_ok-fill.ensures.keys,
 )
 
 pub key_of-key-requires : goal.key_of-key-requires
 key_of-key-requires c =
-    ready_within c.emitted.rows c.emitted.ready c.in-Some.number c.in-Some.bits c.emitted.invariant.1
+    ready_within c.emitted.rows c.emitted.ready c.in-Some.next.number c.in-Some.next.bits c.emitted.invariant.1
     c.in-Some.ensures.least
 
-pub emit_row-requires-clause-row : goal.emit_row-requires-clause-row
-emit_row-requires-clause-row c =
-    (takes c.emitted.rows c.emitted.ready c.pop.new.self c.in-Some.number c.in-Some.bits
+pub emit_row-requires : goal.emit_row-requires
+emit_row-requires c =
+    (takes c.emitted.rows c.emitted.ready c.pop.new.self c.in-Some.next.number c.in-Some.next.bits
     (plain_key c.key_of-key.result) c.emitted.invariant.1 c.in-Some.ensures.least c.in-Some.ensures.taken
     c.key_of-key.ensures).row
 
-pub emit_row-requires-clause-rights : goal.emit_row-requires-clause-rights
-emit_row-requires-clause-rights c =
+pub invariant_of-mask : goal.invariant_of-mask
+invariant_of-mask c =
     let t =
-    takes c.emitted.rows c.emitted.ready c.pop.new.self c.in-Some.number c.in-Some.bits
+    takes c.emitted.rows c.emitted.ready c.pop.new.self c.in-Some.next.number c.in-Some.next.bits
     (plain_key c.key_of-key.result) c.emitted.invariant.1 c.in-Some.ensures.least c.in-Some.ensures.taken
     c.key_of-key.ensures in
-    popped_low c.args.rows.now c.emitted.out.items _ _ (plain_key c.key_of-key.result) c.in-Some.bits c.emitted.rows
-    c.emitted.invariant.0 t.popped
+    record {
+      within =
+          popped_mask c.args.rows.now c.emitted.out.items _ _ (plain_key c.key_of-key.result) c.in-Some.next.bits
+          c.emitted.rows c.emitted.invariant.0 t.popped;
+    }
 
 pub free_after-requires : goal.free_after-requires
 free_after-requires c =
     let t =
-    takes c.emitted.rows c.emitted.ready c.pop.new.self c.in-Some.number c.in-Some.bits
+    takes c.emitted.rows c.emitted.ready c.pop.new.self c.in-Some.next.number c.in-Some.next.bits
     (plain_key c.key_of-key.result) c.emitted.invariant.1 c.in-Some.ensures.least c.in-Some.ensures.taken
     c.key_of-key.ensures in
     subst (λ v. FitsKeys v c.pop.new.self)
-    (sym (outline_left (plain_key c.key_of-key.result).0 c.in-Some.bits c.emitted.rows c.emit_row.new.self
+    (sym (outline_left (plain_key c.key_of-key.result).0 c.in-Some.next.bits c.emitted.rows c.emit_row.new.self
     c.emit_row.ensures)) t.fits
 
 pub emitted-smaller : goal.emitted-smaller
 emitted-smaller c =
     let t =
-    takes c.emitted.rows c.emitted.ready c.pop.new.self c.in-Some.number c.in-Some.bits
+    takes c.emitted.rows c.emitted.ready c.pop.new.self c.in-Some.next.number c.in-Some.next.bits
     (plain_key c.key_of-key.result) c.emitted.invariant.1 c.in-Some.ensures.least c.in-Some.ensures.taken
     c.key_of-key.ensures in
     subst (λ v. count_left 21 v < count_left 21 c.emitted.rows) (sym c.emit_row.ensures)
-    (drain_falls c.args.rows.now c.emitted.out.items _ _ (plain_key c.key_of-key.result) c.in-Some.bits
+    (drain_falls c.args.rows.now c.emitted.out.items _ _ (plain_key c.key_of-key.result) c.in-Some.next.bits
     c.emitted.rows c.emitted.invariant.0 t.popped)
 
 pub emitted-preserved : goal.emitted-preserved
 emitted-preserved c =
     let t =
-    takes c.emitted.rows c.emitted.ready c.pop.new.self c.in-Some.number c.in-Some.bits
+    takes c.emitted.rows c.emitted.ready c.pop.new.self c.in-Some.next.number c.in-Some.next.bits
     (plain_key c.key_of-key.result) c.emitted.invariant.1 c.in-Some.ensures.least c.in-Some.ensures.taken
     c.key_of-key.ensures in (
       drain_turn c.args.rows.now c.emitted.out.items c.push.new.self.items c.emitted.ready c.pop.new.self
-          c.free_after.new.ready c.in-Some.number c.in-Some.bits (plain_key c.key_of-key.result) c.emitted.rows
-          c.emit_row.new.self (record { key = c.key_of-key.result; bits = c.in-Some.bits }) c.emitted.invariant.0 t
+          c.free_after.new.ready c.in-Some.next.number c.in-Some.next.bits (plain_key c.key_of-key.result) c.emitted.rows
+          c.emit_row.new.self _ c.emitted.invariant.0 t
           c.in_ok-push.ensures.items refl c.emit_row.ensures c.in_ok-free_after.ensures.marks,
       c.in_ok-free_after.ensures.keys,
     )

@@ -6,10 +6,10 @@ use Rattle.acl_normal.proofs.Emission.NewlyFree.{frees_early, frees_on_absent, f
 use Rattle.acl_normal.proofs.emit.emission.free_after.Goals as goal
 use Rattle.acl_normal.proofs.emit.emission.free_after.Goals.{then-has+in_ok-enter+then-not-is_user+in_ok-enter-2, then-has+in_ok-enter+else-not-is_user, else-has}
 
-pub returns-then-bits-bit-eq0-clause-marks : goal.returns-then-bits-bit-eq0-clause-marks
-returns-then-bits-bit-eq0-clause-marks c =
-    frees_early (plain_key c.args.at) c.args.bits c.args.rows.now _ _ c.loop-bit.bit c.loop-bit.invariant.0
-    c.if-bits-bit-eq0.true
+pub returns-then-mask-bit-eq0-clause-marks : goal.returns-then-mask-bit-eq0-clause-marks
+returns-then-mask-bit-eq0-clause-marks c =
+    frees_early (plain_key c.args.at) c.args.mask.bits c.args.rows.now _ _ c.loop-bit.bit c.loop-bit.invariant.0
+    c.if-mask-bit-eq0.true
 
 pub loop-bit-preserved : goal.loop-bit-preserved
 loop-bit-preserved c =
@@ -19,7 +19,7 @@ loop-bit-preserved c =
     let bit = c.loop-bit.bit in
     elim c.if-has.branch [
       | then-has+in_ok-enter+then-not-is_user+in_ok-enter-2 w ↦ rw w.ready-is (
-        frees_on_other at c.args.bits xs (marks outline c.args.ready.now) (marks outline c.loop-bit.ready)
+        frees_on_other at c.args.mask.bits xs (marks outline c.args.ready.now) (marks outline c.loop-bit.ready)
             (marks outline w.enter.new.ready) (marks outline w.enter-then-not-is_user.new.ready) bit
             c.loop-bit.invariant.0
             (subst (λ k. Enters k false bit xs (marks outline c.loop-bit.ready) (marks outline w.enter.new.ready))
@@ -30,7 +30,7 @@ loop-bit-preserved c =
         w.in_ok-enter-2.ensures.keys,
       )
       | then-has+in_ok-enter+else-not-is_user w ↦ rw w.ready-is (
-        frees_on_user at c.args.bits xs (marks outline c.args.ready.now) (marks outline c.loop-bit.ready)
+        frees_on_user at c.args.mask.bits xs (marks outline c.args.ready.now) (marks outline c.loop-bit.ready)
             (marks outline w.enter.new.ready) bit c.loop-bit.invariant.0
             (sym w.is_user.ensures ∙ w.if-not-is_user.false)
             (subst (λ k. Enters k false bit xs (marks outline c.loop-bit.ready) (marks outline w.enter.new.ready))
@@ -38,7 +38,7 @@ loop-bit-preserved c =
         w.in_ok-enter.ensures.keys,
       )
       | else-has w ↦ rw w.ready-is (
-        frees_on_absent at c.args.bits xs (marks outline c.args.ready.now) (marks outline c.loop-bit.ready) bit
+        frees_on_absent at c.args.mask.bits xs (marks outline c.args.ready.now) (marks outline c.loop-bit.ready) bit
             c.loop-bit.invariant.0 (sym c.has.ensures ∙ w.if-has.false),
         c.loop-bit.invariant.1,
       )

@@ -6,6 +6,6 @@ use Rattle.acl_normal.proofs.emit.emission.free_after.Given as goal
 
 abbrev pub invariant-loop-bit : goal.invariant-loop-bit
 invariant-loop-bit l =
-    FreesBelow (plain_key l.at) l.bits l.rows (marks (nothing_left l.rows) l.fn.ready)
+    FreesBelow (plain_key l.at) l.mask.bits l.rows (marks (nothing_left l.rows) l.fn.ready)
     (marks (nothing_left l.rows) l.ready) l.bit ×
     FitsKeys (nothing_left l.rows) l.ready

@@ -1,5 +1,7 @@
-use Rattle.acl_normal.proofs.Merging.Publics.{no_right_above}
+use Rattle.std.proofs.Common.{sym}
+use Rattle.acl_perm.specs.Principal.{principal}
+use Rattle.acl_normal.proofs.Merging.Rows.{unnamed_taken}
 use Rattle.acl_normal.proofs.rows.merged.MergedRows.emit.Goals as goal
 
-pub emit_bits-requires : goal.emit_bits-requires
-emit_bits-requires c = no_right_above c.bits.result c.bits.ensures.within
+pub returns-in_default : goal.returns-in_default
+returns-in_default c = sym (unnamed_taken (principal c.args.p) c.args.bits.bits c.args.self.now c.in_default.ensures.missing)

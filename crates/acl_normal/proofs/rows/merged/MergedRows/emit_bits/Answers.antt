@@ -1,7 +1,0 @@
-use Rattle.std.proofs.Common.{sym}
-use Rattle.acl_perm.specs.Principal.{principal}
-use Rattle.acl_normal.proofs.Merging.Rows.{unnamed_taken}
-use Rattle.acl_normal.proofs.rows.merged.MergedRows.emit_bits.Goals as goal
-
-pub returns-in_default : goal.returns-in_default
-returns-in_default c = sym (unnamed_taken (principal c.args.p) c.args.bits c.args.self.now c.in_default.ensures.missing)
