@@ -1,10 +1,69 @@
-use Rattle.std.proofs.Common.{◌≡◌, ℕ, Bool, List, [], ◌∷◌, refl, ap}
-use Rattle.std.specs.Prelude.{map, ◌||◌}
+-- Whether a name is one of a list: tests of references, and a search by halves among names in order.
+use Rattle.std.proofs.Common.{◌≡◌, ℕ, ◌+◌, ◌<◌, ◌≤◌, Bool, true, false, List, [], ◌∷◌, refl, sym, ◌∙◌, ap, arith, inl, inr, length}
+use Rattle.std.proofs.lemmas.Bool.{cases_lt}
+use Rattle.std.proofs.lemmas.List.Folds.{list_any_at, list_any_none}
+use Rattle.std.proofs.lemmas.List.Sorted.{searchable_from_sorted}
+use Rattle.std.specs.Prelude.{map, ◌||◌, Result, Ok, Err, Some, is_ok, ◌⊎◌, slice_index_or}
 use Rattle.std.specs.Borrow.{Bor}
-use Rattle.std.specs.List.{list_any}
+use Rattle.std.specs.Cmp.Lexicographic.{lists_agrees, nat_list_cmp_total, nat_list_eq_equiv, slice_cmp, slice_partial_cmp, texts_ties}
+use Rattle.std.specs.List.{IsAllAdjacentAnswer, list_any}
+use Rattle.std.specs.List.Sorted.{IsBinarySearchResult, IsPartitionPoint, IsSearchInRange}
+use Rattle.std.specs.Ordering.{is_eq, is_le, is_lt, is_some_and, nat_cmp, ordering_reverse, partial_le}
+use Rattle.std.specs.Str.{bytes_eq}
+use Rattle.std.specs.declared.cmp.Ordering.{Ordering}
+use Rattle.std.specs.declared.cmp.Ordering.TheVariants.{Less, Equal, Greater}
+use Rattle.acl_eval.specs.internal.GroupOrder.{AreInOrder}
 
 -- a test of what each reference points to
 pub any_now : (p : List ℕ → Bool) (xs : List (Bor (List ℕ)))
     → list_any p (map (λ g. g.now) xs) ≡ list_any (λ g. p g.now) xs
 any_now p [] = refl
 any_now p (x ∷ xs) = ap (λ (b : Bool). p x.now || b) (any_now p xs)
+
+-- two names are equal exactly if neither comes first
+eq_as_cmp : (name group : List ℕ) (o : Ordering) → slice_cmp nat_cmp group name ≡ o → bytes_eq name group ≡ is_eq o
+eq_as_cmp name group o e = nat_list_eq_equiv.symm name group ∙ texts_ties group name ∙ ap is_eq e
+
+-- a name that does not come after another is not above it
+not_above : (name next : List ℕ)
+    → is_some_and is_le (slice_partial_cmp (λ x y. Some (nat_cmp x y)) name next) ≡ true
+    → is_lt (slice_cmp nat_cmp next name) ≡ false
+not_above name next h = by (slice_cmp nat_cmp name next) refl
+    (sym (ap (is_some_and is_le) (lists_agrees (λ x y. refl) name next)) ∙ h)
+  where
+    back : slice_cmp nat_cmp next name ≡ ordering_reverse (slice_cmp nat_cmp name next)
+    back = nat_list_cmp_total.antisymm next name
+
+    by : (o : Ordering) → slice_cmp nat_cmp name next ≡ o → is_le o ≡ true
+        → is_lt (slice_cmp nat_cmp next name) ≡ false
+    by Less e h = ap is_lt (back ∙ ap ordering_reverse e)
+    by Equal e h = ap is_lt (back ∙ ap ordering_reverse e)
+    by Greater e h = absurd cc
+
+-- names of which each does not come after the next are in order
+pub in_order : (names : List (Bor (List ℕ))) (r : Bool)
+    → IsAllAdjacentAnswer (λ (x : Bor (List ℕ)) (y : Bor (List ℕ)) (b : Bool). partial_le
+    (λ (x : Bor (List ℕ)) (y : Bor (List ℕ)). slice_partial_cmp (λ a b. Some (nat_cmp a b)) x.now y.now) x y ≡ b) names r
+    → r ≡ true → AreInOrder names
+in_order names true each e k d low lt =
+    not_above (slice_index_or names k d).now (slice_index_or names (k + 1) d).now (each k d lt)
+in_order names false each e k d low lt = absurd cc
+
+-- what a search by halves finds among names in order is there, and what it does not find is not
+pub halves : (names : List (Bor (List ℕ))) (name : Bor (List ℕ)) (r : Result ℕ ℕ) → AreInOrder names
+    → IsSearchInRange r (length names)
+    → IsBinarySearchResult (λ (y : Bor (List ℕ)). slice_cmp nat_cmp y.now name.now) names r
+    → is_ok r ≡ list_any (λ g. bytes_eq name.now g.now) names
+halves names name (Ok i) order lt at =
+    sym (list_any_at (λ g. bytes_eq name.now g.now) names i name lt (eq_as_cmp name.now _ Equal (at name)))
+halves names name (Err i) order lt at =
+    sym (list_any_none (λ g. bytes_eq name.now g.now) names (λ k d l. apart k d l (cases_lt k i)))
+  where
+    split : IsPartitionPoint (λ (y : Bor (List ℕ)). slice_cmp nat_cmp y.now name.now ≡ Less)
+        (λ (y : Bor (List ℕ)). slice_cmp nat_cmp y.now name.now ≡ Greater) names i
+    split = at (searchable_from_sorted nat_list_cmp_total (λ (y : Bor (List ℕ)). y.now) names name.now order)
+
+    apart : (k : ℕ) (d : Bor (List ℕ)) → k < length names → (k < i) ⊎ (i ≤ k)
+        → bytes_eq name.now (slice_index_or names k d).now ≡ false
+    apart k d l (inl low) = eq_as_cmp name.now _ Less (split.0 k d (omega arith) low)
+    apart k d l (inr high) = eq_as_cmp name.now _ Greater (split.1 k d high l)

@@ -19,7 +19,7 @@ user_of requester = requester.user.now
 
 -- the names of the requester's groups
 abbrev pub groups_of : Requester → List (List ℕ)
-groups_of requester = map (λ g. g.now) requester.groups.now
+groups_of requester = map (λ g. g.now) requester.groups.names.now
 
 -- the requester asks of the object
 abbrev pub situation : Object → Requester → Situation

@@ -10,6 +10,7 @@ mod deciding;
 #[cfg(test)]
 mod example;
 mod grant;
+mod groups;
 mod inherit;
 pub mod laws;
 mod mode;

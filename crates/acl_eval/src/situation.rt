@@ -4,6 +4,8 @@ ghost use Rattle.std.specs.List.{list_any};
 ghost use Rattle.std.specs.Str.{bytes_eq};
 ghost use Rattle.acl_eval.specs.Situation.{groups_of, owner_of, owning_group_of, user_of};
 
+use crate::groups::Groups;
+
 /// What is asked for: an object's owner and its owning group.
 #[derive(Clone, Copy, Debug)]
 pub struct Object<'a> {
@@ -42,12 +44,13 @@ impl<'a> Object<'a> {
 #[derive(Clone, Copy, Debug)]
 pub struct Requester<'a> {
     user: &'a [u8],
-    groups: &'a [&'a [u8]],
+    groups: Groups<'a>,
 }
 
 impl<'a> Requester<'a> {
     /// A requester of these names, which stay where they are. None where one is empty. There may be no group; one
-    /// that is named twice counts once.
+    /// that is named twice counts once. Groups that stand in the order of their bytes are looked up by halves, and others
+    /// one by one.
     pub fn new(user: &'a [u8], groups: &'a [&'a [u8]]) -> Option<Self>
         ensures named { IsSome result
             ↔ ((0 < length user.now) × All (λ g. 0 < length g.now) groups.now) }
@@ -58,11 +61,13 @@ impl<'a> Requester<'a> {
         if user.is_empty() || groups.iter().any(|group| group.is_empty()) {
             None
         } else {
+            let groups = Groups::new(groups);
             Some(Requester { user, groups })
         }
     }
 
-    pub(crate) fn user(&self) -> &'a [u8]
+    /// The name of the user.
+    pub fn user(&self) -> &'a [u8]
         ensures { result.now ≡ user_of self.now }
     {
         self.user
@@ -75,17 +80,18 @@ impl<'a> Requester<'a> {
         self.user == name
     }
 
-    /// Whether the user is in the group. It goes over the groups.
+    /// The names of the groups.
+    pub fn groups(&self) -> &'a [&'a [u8]]
+        ensures { map (λ g. g.now) result.now ≡ groups_of self.now }
+    {
+        self.groups.names()
+    }
+
+    /// Whether the user is in the group.
     #[tactic(auto, using(crate::proofs::Members::any_now))]
     pub(crate) fn is_in(&self, name: &[u8]) -> bool
         ensures { result ≡ list_any (bytes_eq name.now) (groups_of self.now) }
     {
-        is_member(self.groups, name)
+        self.groups.contains(name)
     }
-}
-
-fn is_member(groups: &[&[u8]], name: &[u8]) -> bool
-    ensures { result ≡ list_any (λ g. bytes_eq name.now g.now) groups.now }
-{
-    groups.iter().any(|group| name == *group)
 }
