@@ -1,12 +1,13 @@
 //! `check-nfs`: whether a list grants a request.
-ghost use Rattle.std.specs.Prelude.{◌≡◌, ◌↔◌, map, option_and_then, option_map};
+ghost use Rattle.std.specs.Prelude.{◌≡◌, ◌↔◌, IfOk, map, option_and_then, option_map};
+ghost use Rattle.std.specs.List.Sorted.{IsPermutation};
 ghost use Rattle.clap.specs.Words.{found_of, rows_of};
 ghost use Rattle.acl_perm.specs.Profile.{profile_of};
 ghost use Rattle.aclck.specs.Run.{Runs, of_list};
 ghost use Rattle.aclck.specs.Line.{Reads, term};
 ghost use Rattle.aclck.specs.Values.{mask_within};
 ghost use Rattle.acl_eval.specs.Grant.{Grant};
-ghost use Rattle.acl_eval.specs.Situation.{situation};
+ghost use Rattle.acl_eval.specs.Situation.{groups_of, situation, user_of};
 ghost use Rattle.aclck.specs.CheckNfs.{CheckNfsAnswer, check_nfs_held, check_nfs_in, check_nfs_terms, object_named, object_names, requester_named, requester_names, values_of};
 
 use crate::answer::{Outcome, RunFault, decision_line};
@@ -17,7 +18,12 @@ use acl_eval::{Object, Requester, grants};
 use acl_nfs4::Acl;
 use acl_perm::{Mask, Profile, Sink, Source, put_all};
 use clap::ArgMatches;
-use std::alloc::Global;
+use std::alloc::{AllocError, Global};
+
+// No more groups than these, or of no more ACEs, are looked up as they stand.
+const FEW_GROUPS: usize = 8;
+
+const FEW_ACES: usize = 16;
 
 const ARGUMENTS: [Argument; 6] = [
     Argument::Required("owner"),
@@ -117,13 +123,55 @@ pub fn run_check_nfs<S: Source, K: Sink>(
         K.contents K.failure_count sink.old sink.new result }
 {
     let list = read_list(alloc, source, profile)?;
-    let outcome = decide(&list, object, requester, mask);
+    let outcome = decide(alloc, &list, object, requester, mask)?;
     put_all(sink, decision_line(outcome))?;
     Ok(outcome)
 }
 
+// Whether the list grants the request. The groups are put in order first where that takes less than looking each group
+// of the list up among all of them.
+fn decide(
+    alloc: Global,
+    list: &Acl,
+    object: &Object<'_>,
+    requester: &Requester<'_>,
+    mask: Mask,
+) -> Result<Outcome, AllocError>
+    ensures { IfOk result (λ outcome. (outcome ≡ Outcome.Yes)
+        ↔ Grant list.now (situation object.now requester.now) mask.bits) }
+{
+    let groups = requester.groups();
+    if groups.len() <= FEW_GROUPS || list.len() <= FEW_ACES || groups.is_sorted() {
+        return Ok(outcome_of(list, object, requester, mask));
+    }
+    let sorted = in_order(alloc, groups)?;
+    let same = of_groups(requester, &sorted);
+    Ok(outcome_of(list, object, &same, mask))
+}
+
+// The names in order.
+fn in_order<'a>(alloc: Global, names: &[&'a [u8]]) -> Result<Vec<&'a [u8]>, AllocError>
+    ensures { IfOk result (λ sorted. IsPermutation names.now sorted.items) }
+{
+    let mut sorted = Vec::from_slice(alloc, names)?;
+    sorted.sort()?;
+    Ok(sorted)
+}
+
+// The requester, whose groups are given in another order.
+fn of_groups<'a>(requester: &Requester<'a>, groups: &'a [&'a [u8]]) -> Requester<'a>
+    requires { IsPermutation (groups_of requester.now) (map (λ g. g.now) groups.now) }
+    ensures user { user_of result ≡ user_of requester.now }
+    ensures groups { IsPermutation (groups_of requester.now) (groups_of result) }
+{
+    match Requester::new(requester.user(), groups) {
+        Some(same) => same,
+        None => *requester,
+    }
+}
+
 // Whether the list grants the request.
-fn decide(list: &Acl, object: &Object<'_>, requester: &Requester<'_>, mask: Mask) -> Outcome
+fn outcome_of(list: &Acl, object: &Object<'_>, requester: &Requester<'_>, mask: Mask) -> Outcome
     ensures { (result ≡ Outcome.Yes)
         ↔ Grant list.now (situation object.now requester.now) mask.bits }
 {
