@@ -12,8 +12,9 @@ pub(crate) fn collect(alloc: Global, source: &Acl) -> Result<Vec<AceRef<'_>>, Al
     ensures aces { IfOk result (λ aces. list_of aces.items ≡ source.now) }
     ensures accepted { IsAccepted full source.now }
 {
-    let mut aces = Vec::new(alloc);
-    for ace in source.aces() {
+    let items = source.aces();
+    let mut aces = Vec::with_capacity(alloc, source.len())?;
+    for ace in items {
         aces.push(ace)?;
     }
     Ok(aces)
