@@ -298,10 +298,3 @@ pub walk_done : (k : Kind) (u : Bool) (b : ℕ) (xs : List Ace) (all : List ℕ)
     → Walks k u b xs all old new → all ≡ [] → Enters k u b xs old new
 walk_done k u b xs all old new once before is =
     walk_ends k u b xs [] old new once (subst (λ v. Walks k u b xs v old new) is before) (λ i h. cc)
-
--- a denied test
-pub not_turns : (t x : Bool) → t ≡ not x → x ≡ not t
-not_turns true true h = cc
-not_turns true false h = refl
-not_turns false true h = refl
-not_turns false false h = cc

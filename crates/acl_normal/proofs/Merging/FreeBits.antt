@@ -1,6 +1,6 @@
 -- Whether a principal is free at a bit, by its place.
 use Rattle.std.specs.Prelude.{◌≡◌, ℕ, Bool, true, false, not, ◌||◌, List, Some, None, refl}
-use Rattle.std.proofs.Common.{sym, ◌∙◌}
+use Rattle.std.proofs.Common.{ap, sym, ◌∙◌}
 use Rattle.acl_perm.specs.Principal.{Principal, is_user}
 use Rattle.acl_perm.specs.declared.kind.Kind.{Kind}
 use Rattle.acl_perm.specs.declared.kind.Kind.TheVariants.{Deny, Allow}
@@ -16,6 +16,11 @@ use Rattle.acl_normal.proofs.Merging.FreeByPlaces.{free_at_first, none_free}
 pub free_none : (xs : List Ace) (b : ℕ) (p : Principal) → first_at b p xs ≡ None
     → false ≡ (is_free (column xs b) (p, Deny) || is_free (column xs b) (p, Allow))
 free_none xs b p first = rw (none_free b p Deny xs first, none_free b p Allow xs first) refl
+
+-- a test that answers as the contrary of another
+pub not_from : (t x : Bool) → (t ≡ true → x ≡ false) → (t ≡ false → x ≡ true) → t ≡ not x
+not_from true x up down = sym (ap not (up refl))
+not_from false x up down = sym (ap not (down refl))
 
 -- where one has it, if nothing blocks its place
 pub free_some : (xs : List Ace) (b : ℕ) (p : Principal) (j : Kind) (i : ℕ) (t : Bool) → IsOnce (column xs b)

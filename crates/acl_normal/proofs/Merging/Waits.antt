@@ -1,5 +1,5 @@
 -- Whether places wait before a place, by the least of them.
-use Rattle.std.specs.Prelude.{◌≡◌, ℕ, ◌<◌, ◌≤◌, zero, suc, Bool, true, false, not, List, [], ◌∷◌, length, refl}
+use Rattle.std.specs.Prelude.{◌≡◌, ℕ, ◌<◌, ◌≤◌, zero, suc, Bool, true, false, List, [], ◌∷◌, length, refl}
 use Rattle.std.specs.Ordering.{nat_cmp}
 use Rattle.std.specs.BTreeMap.{is_at}
 use Rattle.std.specs.List.{list_any}
@@ -36,29 +36,19 @@ AreWaiting k u b xs keys = (i : ℕ) → list_any (is_at (nat_cmp i)) keys ≡ w
 
 -- an empty set has none before
 pub none_before : (k : Kind) (u : Bool) (b : ℕ) (xs : List Ace) (keys : List ℕ) (i : ℕ) → AreWaiting k u b xs keys
-    → keys ≡ [] → true ≡ not (waits_before k u b xs i)
-none_before k u b xs keys i w e =
-    let none : waits_before k u b xs i ≡ false =
-    before_none k u b xs i (λ j l. sym (w j) ∙ ap (list_any (is_at (nat_cmp j))) e) in
-    rw none refl
+    → keys ≡ [] → waits_before k u b xs i ≡ false
+none_before k u b xs keys i w e = before_none k u b xs i (λ j l. sym (w j) ∙ ap (list_any (is_at (nat_cmp j))) e)
 
--- the least place tells
-pub first_before : (k : Kind) (u : Bool) (b : ℕ) (xs : List Ace) (keys : List ℕ) (i first : ℕ) (t : Bool)
+-- none waits before the least place
+pub before_first : (k : Kind) (u : Bool) (b : ℕ) (xs : List Ace) (keys : List ℕ) (i first : ℕ)
     → AreWaiting k u b xs keys
-    → list_any (is_at (nat_cmp first)) keys ≡ true
     → ((q : ℕ) → list_any (is_at (nat_cmp q)) keys ≡ true → first ≤ q)
-    → (t ≡ true → i ≤ first) → (t ≡ false → first < i)
-    → t ≡ not (waits_before k u b xs i)
-first_before k u b xs keys i first true w has least up down =
-    let none : waits_before k u b xs i ≡ false =
-    before_none k u b xs i (λ j l. false_from_ne_true _ (λ t. absurd (clash j l (least j (w j ∙ t))))) in
-    rw none refl
+    → i ≤ first → waits_before k u b xs i ≡ false
+before_first k u b xs keys i first w least up =
+    before_none k u b xs i (λ j l. false_from_ne_true _ (λ t. absurd (clash j l (least j (w j ∙ t)))))
   where
     clash : (j : ℕ) → j < i → first ≤ j → ⊥
-    clash j l f = omega (arith, up refl)
-first_before k u b xs keys i first false w has least up down =
-    let some : waits_before k u b xs i ≡ true = before_some k u b xs i first (down refl) (sym (w first) ∙ has) in
-    rw some refl
+    clash j l f = omega (arith, up)
 
 -- a set of no length is empty
 pub empty_keys : (keys : List ℕ) → (0 < length keys → false ≡ true) → keys ≡ []

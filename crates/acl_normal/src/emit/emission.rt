@@ -72,8 +72,9 @@ fn enter(
         (marks (nothing_left rows.now) ready.new)) }
 {
     let _ = &rows.masks;
+    let last = rows.last_clear(kind, class, right);
     for place in rows.waiting_at(kind, class, right) {
-        if !rows.is_clear(*place, kind, class, right) {
+        if *place > last {
             return Ok(());
         }
         add(rows, *place, right, ready)?;

@@ -137,23 +137,34 @@ impl<'a> MergedRows<'a> {
         &self.waiting[slot(kind, class, right)]
     }
 
-    /// Whether no ACE of the type and the class waits with the right before the place.
-    fn is_before(&self, place: usize, kind: Kind, class: Class, right: Right) -> bool
-        ensures { result ≡ not (waits_before kind (is_users class) right.bit self.now place) }
+    /// The first place that waits in a type and a class with a right, or the greatest number where none does.
+    fn first_waiting(&self, kind: Kind, class: Class, right: Right) -> usize
+        ensures before { (place : ℕ) → place ≤ result
+            → waits_before kind (is_users class) right.bit self.now place ≡ false }
+        ensures behind { (place : ℕ) → result < place → place < 2 ^ 64
+            → waits_before kind (is_users class) right.bit self.now place ≡ true }
     {
         match self.waiting_at(kind, class, right).first() {
-            None => true,
-            Some(first) => place <= *first,
+            None => usize::MAX,
+            Some(first) => *first,
         }
     }
 
-    /// Whether nothing that conflicts with the ACE at the place comes before it.
-    pub(crate) fn is_clear(&self, place: usize, kind: Kind, class: Class, right: Right) -> bool
-        ensures { result ≡ not (is_blocked kind (is_users class) right.bit self.now place) }
+    /// The last place where an ACE of a type and a class with a right has nothing before it that conflicts with it.
+    pub(crate) fn last_clear(&self, kind: Kind, class: Class, right: Right) -> usize
+        ensures clear { (place : ℕ) → place ≤ result
+            → is_blocked kind (is_users class) right.bit self.now place ≡ false }
+        ensures blocked { (place : ℕ) → result < place → place < 2 ^ 64
+            → is_blocked kind (is_users class) right.bit self.now place ≡ true }
     {
-        let opposite = kind.other();
-        self.is_before(place, opposite, Class::Others, right)
-            && (class.is_users() || self.is_before(place, opposite, Class::Users, right))
+        let others = self.first_waiting(kind.other(), Class::Others, right);
+        match class {
+            Class::Users => others,
+            Class::Others => {
+                let users = self.first_waiting(kind.other(), Class::Users, right);
+                if users < others { users } else { others }
+            }
+        }
     }
 
     /// Whether the principal has the right and is free on it.
@@ -164,7 +175,7 @@ impl<'a> MergedRows<'a> {
         let _ = &self.masks;
         match self.source(p, right) {
             None => false,
-            Some((kind, place)) => self.is_clear(place, kind, Class::of(p), right),
+            Some((kind, place)) => place <= self.last_clear(kind, Class::of(p), right),
         }
     }
 

@@ -4,7 +4,7 @@ use super::harness::{ALLOW, READ_DATA, built, kept, passes};
 use crate::*;
 use acl_nfs4::{Acl, PushFault};
 use acl_perm::Counted;
-use std::alloc::Global;
+use std::alloc::{AllocError, Global};
 use std::process::Abort;
 
 // The flags of an ACE that lets alice read, and whether it does so here, in a new file, in a new directory, and in a
@@ -61,8 +61,9 @@ fn five_forms_follow_the_flags(rt: HostRuntime) {
     assert!(rt; passes(five_forms(&rt, rt.alloc())));
 }
 
-fn is_same(alloc: Global, forms: &FiveForms, other: &FiveForms) -> Result<bool, PushFault> {
-    Ok(kept(forms.copy(alloc))? == *other)
+fn is_same(alloc: Global, forms: &FiveForms, other: &FiveForms) -> Result<bool, AllocError> {
+    let copy = forms.copy(alloc)?;
+    Ok(copy == *other)
 }
 
 // Copies of the five are equal exactly if the lists let alice read at the same paths.
@@ -71,7 +72,7 @@ fn copies(rt: &impl Abort, alloc: Global) -> Result<(), PushFault> {
         let forms = forms_of(alloc, *flags)?;
         for (other_flags, other_reads) in &INHERITED {
             let other = forms_of(alloc, *other_flags)?;
-            assert!(rt; is_same(alloc, &forms, &other)? == (reads == other_reads));
+            assert!(rt; kept(is_same(alloc, &forms, &other))? == (reads == other_reads));
         }
     }
     Ok(())

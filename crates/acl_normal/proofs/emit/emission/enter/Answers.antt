@@ -1,10 +1,10 @@
-use Rattle.std.proofs.Common.{◌∙◌, sym, subst, false, true}
+use Rattle.std.proofs.Common.{arith, subst}
 use Rattle.acl_eval.specs.Column.{column}
 use Rattle.acl_normal.specs.internal.Classes.{is_users}
 use Rattle.acl_normal.specs.internal.Emissions.{IsOnce}
 use Rattle.acl_normal.specs.Places.{nothing_left}
 use Rattle.acl_normal.specs.internal.Ready.{marks}
-use Rattle.acl_normal.proofs.Emission.Walk.{walk_starts, walk_on, walk_stops, walk_done, waits_within, head_waits, not_turns}
+use Rattle.acl_normal.proofs.Emission.Walk.{walk_starts, walk_on, walk_stops, walk_done, waits_within, head_waits}
 use Rattle.acl_normal.proofs.emit.emission.enter.Goals as goal
 
 pub loop-place-init : goal.loop-place-init
@@ -17,13 +17,13 @@ loop-place-init c = (
   c.requires,
 )
 
-pub returns-then-not-is_clear-clause-keys : goal.returns-then-not-is_clear-clause-keys
-returns-then-not-is_clear-clause-keys c = c.loop-place.invariant.3
+pub returns-then-place-last-clause-keys : goal.returns-then-place-last-clause-keys
+returns-then-place-last-clause-keys c = c.loop-place.invariant.3
 
-pub returns-then-not-is_clear-clause-marks : goal.returns-then-not-is_clear-clause-marks
-returns-then-not-is_clear-clause-marks c =
+pub returns-then-place-last-clause-marks : goal.returns-then-place-last-clause-marks
+returns-then-place-last-clause-marks c =
     let once = subst (λ v. IsOnce (column v c.args.right.bit)) c.rows.view_is (c.rows.invariant.once c.args.right.bit) in
-    let blocked = not_turns false _ (sym c.if-not-is_clear.true ∙ c.is_clear.ensures) in
+    let blocked = c.last_clear-last.ensures.blocked c.in-Some.place.now c.if-place-last.true (omega arith) in
     walk_stops c.args.kind (is_users c.args.class) c.args.right.bit c.args.rows.now c.in-Some.place.now _ _ _ _ once
     c.loop-place.invariant.2 c.in-Some.ensures.steps blocked
 
@@ -39,7 +39,7 @@ add-requires-clause-keys c = c.loop-place.invariant.3
 pub loop-place-preserved : goal.loop-place-preserved
 loop-place-preserved c =
     let once = subst (λ v. IsOnce (column v c.args.right.bit)) c.rows.view_is (c.rows.invariant.once c.args.right.bit) in
-    let clear = not_turns true _ (sym c.if-not-is_clear.false ∙ c.is_clear.ensures) in (
+    let clear = c.last_clear-last.ensures.clear c.in-Some.place.now c.if-place-last.false in (
       tt,
       tt,
       walk_on c.args.kind (is_users c.args.class) c.args.right.bit c.args.rows.now c.in-Some.place.now _ _ _ _ _ once

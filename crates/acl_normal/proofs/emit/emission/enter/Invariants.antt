@@ -8,6 +8,6 @@ abbrev pub invariant-loop-place : goal.invariant-loop-place
 invariant-loop-place l =
     (goal.iterator-loop-place).can_next l.place-iterator ×
     (goal.iterator-loop-place).is_finite l.place-iterator ×
-    Walks l.kind (is_users l.class) l.right.bit l.rows l.place-iterator (marks (nothing_left l.rows) l.fn.ready)
+    Walks l.fn.kind (is_users l.fn.class) l.right.bit l.rows l.place-iterator (marks (nothing_left l.rows) l.fn.ready)
     (marks (nothing_left l.rows) l.ready) ×
     FitsKeys (nothing_left l.rows) l.ready
