@@ -1,401 +1,228 @@
 -- Command lines that are written out, as the definitions compute them.
 use Rattle.std.proofs.Common.{◌≡◌, ◌∷◌, [], ℕ, Bool, List, None, Some, false, true, refl, codes}
+use Rattle.std.specs.Prelude.{◌==◌}
+use Rattle.std.specs.List.{slice_split}
 use Rattle.clap.proofs.OnLiterals.{clap_on_literals}
-use Rattle.clap.specs.Words.{Text, first_of}
+use Rattle.clap.specs.Words.{Row, Text, first_of}
 use Rattle.acl_perm.specs.Profile.{Profile, full, narrow}
 use Rattle.acl_nfs4.specs.BitNames.{set_named}
 use Rattle.acl_posix.specs.Names.{no_names}
+use Rattle.acl_eval.specs.declared.inherit.ChildKind.TheVariants as kind
 use Rattle.aclck.specs.Line.{Term, app_from, default, flag, is_given, is_taken, optional, rows_at}
 use Rattle.aclck.specs.BitTable.{right_named, table_in}
-use Rattle.aclck.specs.CheckNfs.{check_nfs_in}
-use Rattle.aclck.specs.Normalize.{normalize_in}
-use Rattle.aclck.specs.ProfileArgument.{profile_in}
-use Rattle.aclck.specs.ShowPosix.{form_value, show_posix_in}
-use Rattle.aclck.specs.CheckPosix.{check_posix_in}
+use Rattle.aclck.specs.CheckNfs.{CheckNfsValues, check_nfs_in}
+use Rattle.aclck.specs.CheckPosix.{CheckPosixValues, check_posix_in}
+use Rattle.aclck.specs.Child.{child_in, kind_value}
 use Rattle.aclck.specs.Chmod.{chmod_in}
 use Rattle.aclck.specs.Create.{create_in}
 use Rattle.aclck.specs.NameWords.{named_id, names_value}
 use Rattle.aclck.specs.NameWords as words
-use Rattle.aclck.specs.declared.input.posix.Form.TheVariants as form
-use Rattle.acl_eval.specs.declared.inherit.ChildKind.TheVariants as kind
-use Rattle.aclck.specs.Child.{child_in, kind_value}
-use Rattle.aclck.specs.Task.{Task, bridge, calc_mask, check_nfs, check_posix, child, chmod, compare, create, encode, mode, normalize, show_nfs, show_posix, table, task_named, task_of}
+use Rattle.aclck.specs.Normalize.{normalize_in}
+use Rattle.aclck.specs.ProfileArgument.{profile_in}
+use Rattle.aclck.specs.ShowPosix.{form_value, show_posix_in}
+use Rattle.aclck.specs.Task.{definition_of, task_at, task_named, task_of}
 use Rattle.aclck.specs.Values.{id_value, ids_value, mask_value, mode_value, profile_value, want_value}
+use Rattle.aclck.specs.declared.input.posix.Form.TheVariants as form
+use Rattle.aclck.specs.declared.task.Name.{Name}
+use Rattle.aclck.specs.declared.task.Name.TheVariants as name
+
+-- the words of a line, with one space between two
+abbrev words_on : Text → List Text
+words_on line = slice_split (λ b. b == 32) line
+
+-- the line asks for the command at these values
+abbrev Asks : Text → (n : Name) → (definition_of n).Values → Type 0
+Asks line n v = task_of (words_on line) ≡ Some (task_at n v)
+
+-- the line asks for nothing
+abbrev AsksNothing : Text → Type 0
+AsksNothing line = task_of (words_on line) ≡ None
 
 -- ---- `check-nfs`
 
--- the task of an owner o and an owning group g
-abbrev check : Text → Text → List Text → ℕ → Profile → Task
-check owner user groups mask profile = check_nfs (record {
+-- the values of an owner and an owning group g
+abbrev check : Text → Text → List Text → ℕ → Profile → CheckNfsValues
+check owner user groups mask profile = record {
   object = record { owner = owner; group = codes "g" };
   requester = record { user = user; groups = groups };
   mask = mask;
   profile = profile;
-})
+}
 
--- an option and its value in two words
-plain :
-    task_of (codes "check-nfs" ∷ codes "--owner" ∷ codes "o" ∷ codes "--group" ∷ codes "g"
-    ∷ codes "--user" ∷ codes "u" ∷
-    codes "--mask" ∷ codes "READ_DATA" ∷ [])
-    ≡ Some (check (codes "o") (codes "u") [] 1 full)
+check_nfs_lines :
+    -- an option and its value in two words
+    Asks (codes "check-nfs --owner o --group g --user u --mask READ_DATA")
+    name.CheckNfs (check (codes "o") (codes "u") [] 1 full)
+    -- in one word, cut at the first equals sign; groups may stand anywhere
+    × Asks (codes "check-nfs a --owner=o=p b --group=g --user=u --mask=EXECUTE|ADD_FILE c")
+    name.CheckNfs (check (codes "o=p") (codes "u") (codes "a" ∷ codes "b" ∷ codes "c" ∷ []) 34 full)
+    -- `none` is the empty mask
+    × Asks (codes "check-nfs --owner=o --group=g --user=u --mask=none")
+    name.CheckNfs (check (codes "o") (codes "u") [] 0 full)
+    -- a dash alone is no mask here
+    × AsksNothing (codes "check-nfs --owner=o --group=g --user=u --mask=-")
+    -- a name that is no right
+    × AsksNothing (codes "check-nfs --owner=o --group=g --user=u --mask=NOTHING")
+    -- the narrow profile
+    × Asks (codes "check-nfs --owner=o --group=g --user=u --mask=READ_DATA --profile narrow")
+    name.CheckNfs (check (codes "o") (codes "u") [] 1 narrow)
+    -- the full profile, which is also the one where none is given; WRITE_RETENTION is one of its rights
+    × Asks (codes "check-nfs --owner=o --group=g --user=u --profile=full --mask=WRITE_RETENTION")
+    name.CheckNfs (check (codes "o") (codes "u") [] 512 full)
+    -- a right that the profile has not
+    × AsksNothing (codes "check-nfs --owner=o --group=g --user=u --mask=WRITE_RETENTION|READ_DATA --profile=narrow")
+    -- a word that names no profile
+    × AsksNothing (codes "check-nfs --owner=o --group=g --user=u --mask=none --profile=wide")
+    -- an option that has to be there is missing
+    × AsksNothing (codes "check-nfs --group=g --user=u --mask=none")
+    -- an empty name is no name
+    × AsksNothing (codes "check-nfs --owner= --group=g --user=u --mask=none")
+    -- nor is an empty group
+    × AsksNothing (codes "check-nfs --owner=o --group=g --user=u --mask=none ")
+    -- a value that begins with a hyphen is none as a word of its own
+    × AsksNothing (codes "check-nfs --owner -x --group=g --user=u --mask=none")
+    -- and is one behind the equals sign; after two hyphens every word is a group
+    × Asks (codes "check-nfs --owner=-x --group=g --user=u --mask=none -- --help -")
+    name.CheckNfs (check (codes "-x") (codes "u") (codes "--help" ∷ codes "-" ∷ []) 0 full)
+    -- a word that asks for help is an unknown argument
+    × AsksNothing (codes "check-nfs --owner=o --group=g --user=u --mask=none --help")
+    -- a short one too
+    × AsksNothing (codes "check-nfs --owner=o --group=g --user=u --mask=none -h")
+    -- an option that is given twice
+    × AsksNothing (codes "check-nfs --owner=o --owner=o --group=g --user=u --mask=none")
 unfolding clap_on_literals is_taken rows_at app_from task_named check_nfs_in mask_value set_named profile_value
-plain = refl
+check_nfs_lines = (refl, refl, refl, refl, refl, refl, refl, refl, refl, refl, refl, refl, refl, refl, refl, refl, refl)
 
--- in one word, cut at the first equals sign; groups may stand anywhere
-attached :
-    task_of (codes "check-nfs" ∷ codes "a" ∷ codes "--owner=o=p" ∷ codes "b" ∷ codes "--group=g" ∷ codes "--user=u" ∷
-    codes "--mask=EXECUTE|ADD_FILE" ∷ codes "c" ∷ [])
-    ≡ Some (check (codes "o=p") (codes "u") (codes "a" ∷ codes "b" ∷ codes "c" ∷ []) 34 full)
-unfolding clap_on_literals is_taken rows_at app_from task_named check_nfs_in mask_value set_named profile_value
-attached = refl
-
--- `none` is the empty mask
-no_rights :
-    task_of (codes "check-nfs" ∷ codes "--owner=o" ∷ codes "--group=g" ∷ codes "--user=u" ∷ codes "--mask=none" ∷ [])
-    ≡ Some (check (codes "o") (codes "u") [] 0 full)
-unfolding clap_on_literals is_taken rows_at app_from task_named check_nfs_in mask_value set_named profile_value
-no_rights = refl
-
--- a dash alone is no mask here
-dash :
-    task_of (codes "check-nfs" ∷ codes "--owner=o" ∷ codes "--group=g" ∷ codes "--user=u" ∷ codes "--mask=-" ∷ [])
-    ≡ None
-unfolding clap_on_literals is_taken rows_at app_from task_named check_nfs_in mask_value set_named profile_value
-dash = refl
-
--- a name that is no right
-unknown_right :
-    task_of (codes "check-nfs" ∷ codes "--owner=o" ∷ codes "--group=g" ∷ codes "--user=u" ∷ codes "--mask=NOTHING" ∷ [])
-    ≡ None
-unfolding clap_on_literals is_taken rows_at app_from task_named check_nfs_in mask_value set_named profile_value
-unknown_right = refl
-
--- the narrow profile
-narrow_profile :
-    task_of (codes "check-nfs" ∷ codes "--owner=o" ∷ codes "--group=g" ∷ codes "--user=u" ∷ codes "--mask=READ_DATA" ∷
-    codes "--profile" ∷ codes "narrow" ∷ [])
-    ≡ Some (check (codes "o") (codes "u") [] 1 narrow)
-unfolding clap_on_literals is_taken rows_at app_from task_named check_nfs_in mask_value set_named profile_value
-narrow_profile = refl
-
--- the full profile, which is also the one where none is given; WRITE_RETENTION is one of its rights
-full_profile :
-    task_of (codes "check-nfs" ∷ codes "--owner=o" ∷ codes "--group=g" ∷ codes "--user=u" ∷ codes "--profile=full" ∷
-    codes "--mask=WRITE_RETENTION" ∷ [])
-    ≡ Some (check (codes "o") (codes "u") [] 512 full)
-unfolding clap_on_literals is_taken rows_at app_from task_named check_nfs_in mask_value set_named profile_value
-full_profile = refl
-
--- a right that the profile has not
-outside_the_profile :
-    task_of (codes "check-nfs" ∷ codes "--owner=o" ∷ codes "--group=g" ∷ codes "--user=u" ∷
-    codes "--mask=WRITE_RETENTION|READ_DATA" ∷ codes "--profile=narrow" ∷ [])
-    ≡ None
-unfolding clap_on_literals is_taken rows_at app_from task_named check_nfs_in mask_value set_named profile_value
-outside_the_profile = refl
-
--- a word that names no profile
-unknown_profile :
-    task_of (codes "check-nfs" ∷ codes "--owner=o" ∷ codes "--group=g" ∷ codes "--user=u" ∷ codes "--mask=none" ∷
-    codes "--profile=wide" ∷ [])
-    ≡ None
-unfolding clap_on_literals is_taken rows_at app_from task_named check_nfs_in mask_value set_named profile_value
-unknown_profile = refl
-
--- an option that has to be there is missing
-no_owner : task_of (codes "check-nfs" ∷ codes "--group=g" ∷ codes "--user=u" ∷ codes "--mask=none" ∷ []) ≡ None
-unfolding clap_on_literals is_taken rows_at app_from task_named check_nfs_in mask_value set_named profile_value
-no_owner = refl
-
--- an empty name is no name
-empty_name :
-    task_of (codes "check-nfs" ∷ codes "--owner=" ∷ codes "--group=g" ∷ codes "--user=u" ∷ codes "--mask=none" ∷ [])
-    ≡ None
-unfolding clap_on_literals is_taken rows_at app_from task_named check_nfs_in mask_value set_named profile_value
-empty_name = refl
-
--- nor is an empty group
-empty_group :
-    task_of (codes "check-nfs" ∷ codes "--owner=o" ∷ codes "--group=g" ∷ codes "--user=u"
-    ∷ codes "--mask=none" ∷ codes "" ∷ [])
-    ≡ None
-unfolding clap_on_literals is_taken rows_at app_from task_named check_nfs_in mask_value set_named profile_value
-empty_group = refl
-
--- a value that begins with a hyphen is none as a word of its own
-hyphen :
-    task_of (codes "check-nfs" ∷ codes "--owner" ∷ codes "-x" ∷ codes "--group=g"
-    ∷ codes "--user=u" ∷ codes "--mask=none" ∷ [])
-    ≡ None
-unfolding clap_on_literals is_taken rows_at app_from task_named check_nfs_in mask_value set_named profile_value
-hyphen = refl
-
--- and is one behind the equals sign; after two hyphens every word is a group
-hyphen_attached :
-    task_of (codes "check-nfs" ∷ codes "--owner=-x" ∷ codes "--group=g" ∷ codes "--user=u" ∷ codes "--mask=none" ∷
-    codes "--" ∷ codes "--help" ∷ codes "-" ∷ [])
-    ≡ Some (check (codes "-x") (codes "u") (codes "--help" ∷ codes "-" ∷ []) 0 full)
-unfolding clap_on_literals is_taken rows_at app_from task_named check_nfs_in mask_value set_named profile_value
-hyphen_attached = refl
-
--- a word that asks for help is an unknown argument
-help :
-    task_of (codes "check-nfs" ∷ codes "--owner=o" ∷ codes "--group=g" ∷ codes "--user=u" ∷ codes "--mask=none" ∷
-    codes "--help" ∷ [])
-    ≡ None
-unfolding clap_on_literals is_taken rows_at app_from task_named check_nfs_in mask_value set_named profile_value
-help = refl
-
--- a short one too
-short_help :
-    task_of (codes "check-nfs" ∷ codes "--owner=o" ∷ codes "--group=g" ∷ codes "--user=u" ∷ codes "--mask=none" ∷
-    codes "-h" ∷ [])
-    ≡ None
-unfolding clap_on_literals is_taken rows_at app_from task_named check_nfs_in mask_value set_named profile_value
-short_help = refl
-
--- an option that is given twice
-twice :
-    task_of (codes "check-nfs" ∷ codes "--owner=o" ∷ codes "--owner=o" ∷ codes "--group=g" ∷ codes "--user=u" ∷
-    codes "--mask=none" ∷ [])
-    ≡ None
-unfolding clap_on_literals is_taken rows_at app_from task_named check_nfs_in mask_value set_named profile_value
-twice = refl
-
--- a first word that names no command
-other_command : task_of (codes "help" ∷ []) ≡ None
-unfolding clap_on_literals is_taken rows_at app_from task_named check_nfs_in mask_value set_named profile_value
-other_command = refl
-
--- and no word at all
-no_word : task_of [] ≡ None
-unfolding clap_on_literals is_taken rows_at app_from task_named check_nfs_in mask_value set_named profile_value
-no_word = refl
+no_command :
+    -- a first word that names no command
+    AsksNothing (codes "help")
+    -- and no word at all
+    × (task_of [] ≡ None)
+no_command = (refl, refl)
 
 -- ---- `child` and `mode`
 
--- what is created, where no profile is given
-child_file :
-    task_of (codes "child" ∷ codes "--kind" ∷ codes "file" ∷ [])
-    ≡ Some (child (record { created = kind.File; profile = full }))
+child_lines :
+    -- what is created, where no profile is given
+    Asks (codes "child --kind file") name.Child (record { created = kind.File; profile = full })
+    -- a directory, and the narrow profile
+    × Asks (codes "child --profile=narrow --kind=dir")
+    name.Child (record { created = kind.Directory; profile = narrow })
+    -- what is created has to be there
+    × AsksNothing (codes "child --profile full")
+    -- a word that names no kind
+    × AsksNothing (codes "child --kind directory")
 unfolding clap_on_literals is_taken rows_at app_from task_named child_in kind_value profile_value
-child_file = refl
+child_lines = (refl, refl, refl, refl)
 
--- a directory, and the narrow profile
-child_directory :
-    task_of (codes "child" ∷ codes "--profile=narrow" ∷ codes "--kind=dir" ∷ [])
-    ≡ Some (child (record { created = kind.Directory; profile = narrow }))
-unfolding clap_on_literals is_taken rows_at app_from task_named child_in kind_value profile_value
-child_directory = refl
-
--- what is created has to be there
-child_of_no_kind : task_of (codes "child" ∷ codes "--profile" ∷ codes "full" ∷ []) ≡ None
-unfolding clap_on_literals is_taken rows_at app_from task_named child_in kind_value profile_value
-child_of_no_kind = refl
-
--- a word that names no kind
-unknown_kind : task_of (codes "child" ∷ codes "--kind" ∷ codes "directory" ∷ []) ≡ None
-unfolding clap_on_literals is_taken rows_at app_from task_named child_in kind_value profile_value
-unknown_kind = refl
-
--- no word but the command's own
-mode_alone : task_of (codes "mode" ∷ []) ≡ Some (mode full)
+mode_lines :
+    -- no word but the command's own
+    Asks (codes "mode") name.Mode full
+    -- two hyphens with no word behind them
+    × Asks (codes "mode --profile narrow --") name.Mode narrow
+    -- a word that is no option's
+    × AsksNothing (codes "mode 660")
+    -- a flag of `normalize`
+    × AsksNothing (codes "mode --inherit")
 unfolding clap_on_literals is_taken rows_at app_from task_named profile_in profile_value
-mode_alone = refl
-
--- two hyphens with no word behind them
-mode_of_no_words : task_of (codes "mode" ∷ codes "--profile" ∷ codes "narrow" ∷ codes "--" ∷ []) ≡ Some (mode narrow)
-unfolding clap_on_literals is_taken rows_at app_from task_named profile_in profile_value
-mode_of_no_words = refl
-
--- a word that is no option's
-mode_of_a_word : task_of (codes "mode" ∷ codes "660" ∷ []) ≡ None
-unfolding clap_on_literals is_taken rows_at app_from task_named profile_in profile_value
-mode_of_a_word = refl
+mode_lines = (refl, refl, refl, refl)
 
 -- ---- `show-posix`
 
--- the canonical form is the one where none is given
-shown_alone :
-    task_of (codes "show-posix" ∷ [])
-    ≡ Some (show_posix (record { form = form.Canonical; names = no_names }))
+show_posix_lines :
+    -- the canonical form is the one where none is given
+    Asks (codes "show-posix") name.ShowPosix (record { form = form.Canonical; names = no_names })
+    -- digits alone are no name
+    × AsksNothing (codes "show-posix u:12=5")
+    -- nor is the empty word
+    × AsksNothing (codes "show-posix u:=5")
+    -- another form than the one where none is given
+    × Asks (codes "show-posix --form=short")
+    name.ShowPosix (record { form = form.Short; names = no_names })
+    -- a word that names no form
+    × AsksNothing (codes "show-posix --form=long")
 unfolding clap_on_literals is_taken rows_at app_from task_named show_posix_in form_value names_value named_id id_value
-shown_alone = refl
+show_posix_lines = (refl, refl, refl, refl, refl)
 
--- digits alone are no name
-name_of_digits :
-    task_of (codes "show-posix" ∷ codes "u:12=5" ∷ [])
-    ≡ None
-unfolding clap_on_literals is_taken rows_at app_from task_named show_posix_in form_value names_value named_id id_value
-name_of_digits = refl
-
--- nor is the empty word
-no_name :
-    task_of (codes "show-posix" ∷ codes "u:=5" ∷ [])
-    ≡ None
-unfolding clap_on_literals is_taken rows_at app_from task_named show_posix_in form_value names_value named_id id_value
-no_name = refl
-
--- a name is cut at its last equals sign; an id may begin with zeros
-last_equals_sign : named_id (codes "u:a=b=0005") ≡ Some (record { half = words.users; name = codes "a=b"; id = 5 })
+named_words :
+    -- a name is cut at its last equals sign; an id may begin with zeros
+    (named_id (codes "u:a=b=0005") ≡ Some (record { half = words.users; name = codes "a=b"; id = 5 }))
+    -- a group name may have a colon
+    × (named_id (codes "g:a:b=7") ≡ Some (record { half = words.groups; name = codes "a:b"; id = 7 }))
 unfolding named_id id_value
-last_equals_sign = refl
-
--- a group name may have a colon
-colon_in_a_name : named_id (codes "g:a:b=7") ≡ Some (record { half = words.groups; name = codes "a:b"; id = 7 })
-unfolding named_id id_value
-colon_in_a_name = refl
-
--- another form than the one where none is given
-shown_short :
-    task_of (codes "show-posix" ∷ codes "--form=short" ∷ [])
-    ≡ Some (show_posix (record { form = form.Short; names = no_names }))
-unfolding clap_on_literals is_taken rows_at app_from task_named show_posix_in form_value names_value named_id id_value
-shown_short = refl
-
--- a word that names no form
-unknown_form :
-    task_of (codes "show-posix" ∷ codes "--form=long" ∷ [])
-    ≡ None
-unfolding clap_on_literals is_taken rows_at app_from task_named show_posix_in form_value names_value named_id id_value
-unknown_form = refl
+named_words = (refl, refl)
 
 -- ---- `check-posix`
 
--- the task of owner 1, group 2 and user 3 without names
-abbrev check_ids : List ℕ → ℕ → Task
-check_ids groups want = check_posix (record {
+-- the values of owner 1, group 2 and user 3 without names
+abbrev check_ids : List ℕ → ℕ → CheckPosixValues
+check_ids groups want = record {
   object = record { user = 1; group = 2 };
   requester = record { user = 3; groups = groups };
   want = want;
   names = no_names;
-})
+}
 
--- groups stand with commas between them, and letters in any order
-ids :
-    task_of (codes "check-posix" ∷ codes "--owner=1" ∷ codes "--group=2" ∷ codes "--user=3"
-    ∷ codes "--groups=50,060" ∷ codes "--want=xr" ∷ [])
-    ≡ Some (check_ids (50 ∷ 60 ∷ []) 5)
+check_posix_lines :
+    -- groups stand with commas between them, and letters in any order
+    Asks (codes "check-posix --owner=1 --group=2 --user=3 --groups=50,060 --want=xr")
+    name.CheckPosix (check_ids (50 ∷ 60 ∷ []) 5)
+    -- without `--groups` there are none; `none` is the empty request
+    × Asks (codes "check-posix --owner=001 --group=2 --user=3 --want=none")
+    name.CheckPosix (check_ids [] 0)
+    -- an empty item is no id
+    × AsksNothing (codes "check-posix --owner=1 --group=2 --user=3 --groups=50,,60 --want=r")
+    -- a letter that is given twice
+    × AsksNothing (codes "check-posix --owner=1 --group=2 --user=3 --want=rr")
+    -- 4294967295 is no id
+    × AsksNothing (codes "check-posix --owner=4294967295 --group=2 --user=3 --want=r")
 unfolding clap_on_literals is_taken rows_at app_from task_named check_posix_in ids_value want_value
     names_value named_id id_value
-ids = refl
-
--- without `--groups` there are none; `none` is the empty request
-no_groups :
-    task_of (codes "check-posix" ∷ codes "--owner=001" ∷ codes "--group=2" ∷ codes "--user=3"
-    ∷ codes "--want=none" ∷ [])
-    ≡ Some (check_ids [] 0)
-unfolding clap_on_literals is_taken rows_at app_from task_named check_posix_in ids_value want_value
-    names_value named_id id_value
-no_groups = refl
-
--- an empty item is no id
-empty_item :
-    task_of (codes "check-posix" ∷ codes "--owner=1" ∷ codes "--group=2" ∷ codes "--user=3"
-    ∷ codes "--groups=50,,60" ∷ codes "--want=r" ∷ [])
-    ≡ None
-unfolding clap_on_literals is_taken rows_at app_from task_named check_posix_in ids_value want_value
-    names_value named_id id_value
-empty_item = refl
-
--- a letter that is given twice
-letter_twice :
-    task_of (codes "check-posix" ∷ codes "--owner=1" ∷ codes "--group=2" ∷ codes "--user=3" ∷ codes "--want=rr" ∷ [])
-    ≡ None
-unfolding clap_on_literals is_taken rows_at app_from task_named check_posix_in ids_value want_value
-    names_value named_id id_value
-letter_twice = refl
-
--- 4294967295 is no id
-id_too_large :
-    task_of (codes "check-posix" ∷ codes "--owner=4294967295" ∷ codes "--group=2" ∷ codes "--user=3"
-    ∷ codes "--want=r" ∷ [])
-    ≡ None
-unfolding clap_on_literals is_taken rows_at app_from task_named check_posix_in ids_value want_value
-    names_value named_id id_value
-id_too_large = refl
+check_posix_lines = (refl, refl, refl, refl, refl)
 
 -- ---- `calc-mask`, `chmod` and `create`
 
--- no name at all
-masked_alone :
-    task_of (codes "calc-mask" ∷ [])
-    ≡ Some (calc_mask no_names)
+calc_mask_lines :
+    -- no name at all
+    Asks (codes "calc-mask") name.CalcMask no_names
+    -- no option at all is taken
+    × AsksNothing (codes "calc-mask --mode=7")
+    -- a word that is no name
+    × AsksNothing (codes "calc-mask staff=7")
 unfolding clap_on_literals is_taken rows_at app_from task_named names_value named_id id_value
-masked_alone = refl
+calc_mask_lines = (refl, refl, refl)
 
--- no option at all is taken
-masked_with_option :
-    task_of (codes "calc-mask" ∷ codes "--mode=7" ∷ [])
-    ≡ None
-unfolding clap_on_literals is_taken rows_at app_from task_named names_value named_id id_value
-masked_with_option = refl
-
--- a word that is no name
-masked_with_stray :
-    task_of (codes "calc-mask" ∷ codes "staff=7" ∷ [])
-    ≡ None
-unfolding clap_on_literals is_taken rows_at app_from task_named names_value named_id id_value
-masked_with_stray = refl
-
--- a mode may begin with a zero
-octal :
-    task_of (codes "chmod" ∷ codes "--mode=0660" ∷ [])
-    ≡ Some (chmod (record { mode = 432; names = no_names }))
+chmod_lines :
+    -- a mode may begin with a zero
+    Asks (codes "chmod --mode=0660") name.Chmod (record { mode = 432; names = no_names })
+    -- but has at most four digits
+    × AsksNothing (codes "chmod --mode=00660")
+    -- 1000 is above 777
+    × AsksNothing (codes "chmod --mode=1000")
 unfolding clap_on_literals is_taken rows_at app_from task_named chmod_in mode_value names_value named_id id_value
-octal = refl
+chmod_lines = (refl, refl, refl)
 
--- but has at most four digits
-five_digits :
-    task_of (codes "chmod" ∷ codes "--mode=00660" ∷ [])
-    ≡ None
-unfolding clap_on_literals is_taken rows_at app_from task_named chmod_in mode_value names_value named_id id_value
-five_digits = refl
-
--- 1000 is above 777
-mode_too_large :
-    task_of (codes "chmod" ∷ codes "--mode=1000" ∷ [])
-    ≡ None
-unfolding clap_on_literals is_taken rows_at app_from task_named chmod_in mode_value names_value named_id id_value
-mode_too_large = refl
-
--- a directory
-created_directory :
-    task_of (codes "create" ∷ codes "--mode=640" ∷ codes "--umask=077" ∷ codes "--dir" ∷ [])
-    ≡ Some (create (record { mode = 416; umask = 63; is_directory = true; names = no_names }))
+create_lines :
+    -- a directory
+    Asks (codes "create --mode=640 --umask=077 --dir")
+    name.Create (record { mode = 416; umask = 63; is_directory = true; names = no_names })
+    -- a file
+    × Asks (codes "create --umask 22 --mode 666")
+    name.Create (record { mode = 438; umask = 18; is_directory = false; names = no_names })
+    -- the umask has to be there
+    × AsksNothing (codes "create --mode=640")
 unfolding clap_on_literals is_taken rows_at app_from task_named create_in mode_value names_value named_id id_value
-created_directory = refl
-
--- a file
-created_file :
-    task_of (codes "create" ∷ codes "--umask" ∷ codes "22" ∷ codes "--mode" ∷ codes "666" ∷ [])
-    ≡ Some (create (record { mode = 438; umask = 18; is_directory = false; names = no_names }))
-unfolding clap_on_literals is_taken rows_at app_from task_named create_in mode_value names_value named_id id_value
-created_file = refl
-
--- the umask has to be there
-no_umask :
-    task_of (codes "create" ∷ codes "--mode=640" ∷ [])
-    ≡ None
-unfolding clap_on_literals is_taken rows_at app_from task_named create_in mode_value names_value named_id id_value
-no_umask = refl
+create_lines = (refl, refl, refl)
 
 -- ---- `bridge`
 
--- no name at all
-bridged_alone :
-    task_of (codes "bridge" ∷ [])
-    ≡ Some (bridge no_names)
+bridge_lines :
+    -- no name at all
+    Asks (codes "bridge") name.Bridge no_names
+    -- there is no profile to choose
+    × AsksNothing (codes "bridge --profile=full")
 unfolding clap_on_literals is_taken rows_at app_from task_named names_value named_id id_value
-bridged_alone = refl
-
--- there is no profile to choose
-bridged_with_profile :
-    task_of (codes "bridge" ∷ codes "--profile=full" ∷ [])
-    ≡ None
-unfolding clap_on_literals is_taken rows_at app_from task_named names_value named_id id_value
-bridged_with_profile = refl
+bridge_lines = (refl, refl)
 
 -- ---- arguments of other kinds, in a command x that has them
 
@@ -403,147 +230,88 @@ bridged_with_profile = refl
 abbrev terms : List Term
 terms = flag (codes "quiet") ∷ optional (codes "name") ∷ default (codes "unit") (codes "ace") ∷ []
 
--- a flag that is given
-flag_there : is_given (codes "quiet") (rows_at (app_from (codes "x") terms) (codes "x" ∷ codes "--quiet" ∷ []))
-    ≡ true
-unfolding clap_on_literals is_taken rows_at app_from
-flag_there = refl
+-- what the arguments are at a line
+abbrev rows_on : Text → List Row
+rows_on line = rows_at (app_from (codes "x") terms) (words_on line)
 
--- and one that is not
-flag_absent : is_given (codes "quiet") (rows_at (app_from (codes "x") terms) (codes "x" ∷ []))
-    ≡ false
-unfolding clap_on_literals is_taken rows_at app_from
-flag_absent = refl
+-- the command takes a line
+abbrev takes : Text → Bool
+takes line = is_taken (app_from (codes "x") terms) (words_on line)
 
--- an option that is given
-name_there : first_of (codes "name") (rows_at (app_from (codes "x") terms) (codes "x" ∷ codes "--name=n" ∷ []))
-    ≡ Some (codes "n")
+given_arguments :
+    -- a flag that is given
+    (is_given (codes "quiet") (rows_on (codes "x --quiet")) ≡ true)
+    -- and one that is not
+    × (is_given (codes "quiet") (rows_on (codes "x")) ≡ false)
+    -- an option that is given
+    × (first_of (codes "name") (rows_on (codes "x --name=n")) ≡ Some (codes "n"))
+    -- and one that is not
+    × (first_of (codes "name") (rows_on (codes "x")) ≡ None)
+    -- a default that is not used
+    × (first_of (codes "unit") (rows_on (codes "x --unit bit")) ≡ Some (codes "bit"))
+    -- and one that is
+    × (first_of (codes "unit") (rows_on (codes "x")) ≡ Some (codes "ace"))
+    -- a flag takes no value
+    × (takes (codes "x --quiet=true") ≡ false)
+    -- a word that no argument takes
+    × (takes (codes "x y") ≡ false)
 unfolding clap_on_literals is_taken rows_at app_from
-name_there = refl
-
--- and one that is not
-name_absent : first_of (codes "name") (rows_at (app_from (codes "x") terms) (codes "x" ∷ []))
-    ≡ None
-unfolding clap_on_literals is_taken rows_at app_from
-name_absent = refl
-
--- a default that is not used
-unit_there : first_of (codes "unit") (rows_at (app_from (codes "x") terms)
-    (codes "x" ∷ codes "--unit" ∷ codes "bit" ∷ []))
-    ≡ Some (codes "bit")
-unfolding clap_on_literals is_taken rows_at app_from
-unit_there = refl
-
--- and one that is
-unit_absent : first_of (codes "unit") (rows_at (app_from (codes "x") terms) (codes "x" ∷ []))
-    ≡ Some (codes "ace")
-unfolding clap_on_literals is_taken rows_at app_from
-unit_absent = refl
-
--- a flag takes no value
-flag_with_value : is_taken (app_from (codes "x") terms) (codes "x" ∷ codes "--quiet=true" ∷ [])
-    ≡ false
-unfolding clap_on_literals is_taken rows_at app_from
-flag_with_value = refl
-
--- a word that no argument takes
-stray : is_taken (app_from (codes "x") terms) (codes "x" ∷ codes "y" ∷ [])
-    ≡ false
-unfolding clap_on_literals is_taken rows_at app_from
-stray = refl
+given_arguments = (refl, refl, refl, refl, refl, refl, refl, refl)
 
 -- ---- `show-nfs` and `encode`
 
--- without a profile all rights and flags are meant
-shown_in_full : task_of (codes "show-nfs" ∷ []) ≡ Some (show_nfs full)
+show_nfs_lines :
+    -- without a profile all rights and flags are meant
+    Asks (codes "show-nfs") name.ShowNfs full
+    -- no word stands beside the profile
+    × AsksNothing (codes "show-nfs bob")
 unfolding clap_on_literals is_taken rows_at app_from task_named profile_in profile_value
-shown_in_full = refl
+show_nfs_lines = (refl, refl)
 
--- the narrow profile
-encoded_narrow : task_of (codes "encode" ∷ codes "--profile" ∷ codes "narrow" ∷ []) ≡ Some (encode narrow)
+encode_lines :
+    -- the narrow profile
+    Asks (codes "encode --profile narrow") name.Encode narrow
 unfolding clap_on_literals is_taken rows_at app_from task_named profile_in profile_value
-encoded_narrow = refl
-
--- no word stands beside the profile
-shown_with_a_word : task_of (codes "show-nfs" ∷ codes "bob" ∷ []) ≡ None
-unfolding clap_on_literals is_taken rows_at app_from task_named profile_in profile_value
-shown_with_a_word = refl
+encode_lines = refl
 
 -- ---- `normalize`
 
--- what `normalize` is asked for
-abbrev normalized : Bool → Profile → Task
-normalized inherit profile = normalize (record { inherit = inherit; profile = profile })
-
--- without the flag one form is meant
-one_form : task_of (codes "normalize" ∷ []) ≡ Some (normalized false full)
+normalize_lines :
+    -- without the flag one form is meant
+    Asks (codes "normalize") name.Normalize (record { inherit = false; profile = full })
+    -- and with it five, whatever the profile
+    × Asks (codes "normalize --inherit") name.Normalize (record { inherit = true; profile = full })
+    -- in whatever order
+    × Asks (codes "normalize --profile=narrow --inherit")
+    name.Normalize (record { inherit = true; profile = narrow })
+    -- the flag takes no value
+    × AsksNothing (codes "normalize --inherit=yes")
 unfolding clap_on_literals is_taken rows_at app_from task_named normalize_in profile_value
-one_form = refl
-
--- and with it five, whatever the profile
-five_forms : task_of (codes "normalize" ∷ codes "--inherit" ∷ []) ≡ Some (normalized true full)
-unfolding clap_on_literals is_taken rows_at app_from task_named normalize_in profile_value
-five_forms = refl
-
--- in whatever order
-five_narrow_forms : task_of (codes "normalize" ∷ codes "--profile=narrow" ∷ codes "--inherit" ∷ [])
-    ≡ Some (normalized true narrow)
-unfolding clap_on_literals is_taken rows_at app_from task_named normalize_in profile_value
-five_narrow_forms = refl
-
--- the flag takes no value
-inherit_with_value : task_of (codes "normalize" ∷ codes "--inherit=yes" ∷ []) ≡ None
-unfolding clap_on_literals is_taken rows_at app_from task_named normalize_in profile_value
-inherit_with_value = refl
-
--- and no other command takes it
-mode_with_inherit : task_of (codes "mode" ∷ codes "--inherit" ∷ []) ≡ None
-unfolding clap_on_literals is_taken rows_at app_from task_named profile_in profile_value
-mode_with_inherit = refl
+normalize_lines = (refl, refl, refl, refl)
 
 -- ---- `table` and `compare`
 
--- a second name of a right, where no profile is given
-table_of_a_right :
-    task_of (codes "table" ∷ codes "--bit" ∷ codes "ADD_SUBDIRECTORY" ∷ [])
-    ≡ Some (table (record { bit = 4; profile = full }))
+table_lines :
+    -- a second name of a right, where no profile is given
+    Asks (codes "table --bit ADD_SUBDIRECTORY") name.Table (record { bit = 4; profile = full })
+    -- and a first one within the narrow profile
+    × Asks (codes "table --profile narrow --bit=EXECUTE")
+    name.Table (record { bit = 32; profile = narrow })
+    -- a right that the profile has not
+    × AsksNothing (codes "table --bit=WRITE_RETENTION --profile=narrow")
+    -- one right is asked for, and not two
+    × AsksNothing (codes "table --bit=READ_DATA|EXECUTE")
+    -- the right has to be there
+    × AsksNothing (codes "table")
 unfolding clap_on_literals is_taken rows_at app_from task_named table_in right_named set_named profile_value
-table_of_a_right = refl
+table_lines = (refl, refl, refl, refl, refl)
 
--- and a first one within the narrow profile
-narrow_table :
-    task_of (codes "table" ∷ codes "--profile" ∷ codes "narrow" ∷ codes "--bit=EXECUTE" ∷ [])
-    ≡ Some (table (record { bit = 32; profile = narrow }))
-unfolding clap_on_literals is_taken rows_at app_from task_named table_in right_named set_named profile_value
-narrow_table = refl
-
--- a right that the profile has not
-table_outside_the_profile :
-    task_of (codes "table" ∷ codes "--bit=WRITE_RETENTION" ∷ codes "--profile=narrow" ∷ []) ≡ None
-unfolding clap_on_literals is_taken rows_at app_from task_named table_in right_named set_named profile_value
-table_outside_the_profile = refl
-
--- one right is asked for, and not two
-table_of_two_rights : task_of (codes "table" ∷ codes "--bit=READ_DATA|EXECUTE" ∷ []) ≡ None
-unfolding clap_on_literals is_taken rows_at app_from task_named table_in right_named set_named profile_value
-table_of_two_rights = refl
-
--- the right has to be there
-table_of_no_right : task_of (codes "table" ∷ []) ≡ None
-unfolding clap_on_literals is_taken rows_at app_from task_named table_in right_named set_named profile_value
-table_of_no_right = refl
-
--- no word but the command's own
-compared_in_full : task_of (codes "compare" ∷ []) ≡ Some (compare full)
+compare_lines :
+    -- no word but the command's own
+    Asks (codes "compare") name.Compare full
+    -- the narrow profile
+    × Asks (codes "compare --profile=narrow") name.Compare narrow
+    -- both lists stand in the input, and no word names one
+    × AsksNothing (codes "compare other.xdr")
 unfolding clap_on_literals is_taken rows_at app_from task_named profile_in profile_value
-compared_in_full = refl
-
--- the narrow profile
-compared_narrowly : task_of (codes "compare" ∷ codes "--profile=narrow" ∷ []) ≡ Some (compare narrow)
-unfolding clap_on_literals is_taken rows_at app_from task_named profile_in profile_value
-compared_narrowly = refl
-
--- both lists stand in the input, and no word names one
-compared_with_a_word : task_of (codes "compare" ∷ codes "other.xdr" ∷ []) ≡ None
-unfolding clap_on_literals is_taken rows_at app_from task_named profile_in profile_value
-compared_with_a_word = refl
+compare_lines = (refl, refl, refl)

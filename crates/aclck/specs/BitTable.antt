@@ -19,6 +19,8 @@ use Rattle.aclck.specs.Values.{profile_value}
 use Rattle.aclck.specs.Answer.{Answer, IsXdrFault, done, refused}
 use Rattle.aclck.specs.declared.answer.Outcome.TheVariants as outcome
 use Rattle.aclck.specs.declared.task.table.BitTable.{BitTable}
+use Rattle.aclck.specs.Definition.{Definition}
+use Rattle.aclck.specs.Run.{of_list}
 
 -- ---- words
 
@@ -91,3 +93,14 @@ pub record Tabulates (v : TableValues) (input text : List ℕ) : Type 0 where
 abbrev pub TableAnswer : TableValues → List ℕ → Answer → Type 0
 TableAnswer v input (done o text) = (o ≡ outcome.Yes) × Tabulates v input text
 TableAnswer v input (refused f) = IsXdrFault v.profile input f
+
+-- the command
+abbrev pub table : Definition
+table = record {
+  word = codes "table";
+  terms = table_terms;
+  Values = TableValues;
+  read = λ rows words. table_in rows;
+  Answers = TableAnswer;
+  shape = λ v. of_list v.profile;
+}

@@ -18,6 +18,8 @@ use Rattle.aclck.specs.Answer.{Answer, IsXdrFault, decision_line, done, refused}
 use Rattle.aclck.specs.declared.answer.Outcome.{Outcome}
 use Rattle.aclck.specs.declared.answer.Outcome.TheVariants as outcome
 use Rattle.aclck.specs.declared.task.check_nfs.CheckNfs.{CheckNfs}
+use Rattle.aclck.specs.Definition.{Definition}
+use Rattle.aclck.specs.Run.{of_list}
 
 -- ---- words
 
@@ -114,3 +116,14 @@ pub record Decides (values : CheckNfsValues) (input : List ℕ) (o : Outcome) : 
 abbrev pub CheckNfsAnswer : CheckNfsValues → List ℕ → Answer → Type 0
 CheckNfsAnswer values input (done o text) = Decides values input o × (text ≡ decision_line o)
 CheckNfsAnswer values input (refused f) = IsXdrFault values.profile input f
+
+-- the command
+abbrev pub check_nfs : Definition
+check_nfs = record {
+  word = codes "check-nfs";
+  terms = check_nfs_terms;
+  Values = CheckNfsValues;
+  read = check_nfs_in;
+  Answers = CheckNfsAnswer;
+  shape = λ v. of_list v.profile;
+}

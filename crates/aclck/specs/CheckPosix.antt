@@ -16,6 +16,8 @@ use Rattle.aclck.specs.PosixAnswer.{IsPosixFault}
 use Rattle.aclck.specs.declared.answer.Outcome.{Outcome}
 use Rattle.aclck.specs.declared.answer.Outcome.TheVariants as outcome
 use Rattle.aclck.specs.declared.task.check_posix.CheckPosix.{CheckPosix}
+use Rattle.aclck.specs.Definition.{Definition}
+use Rattle.aclck.specs.Run.{of_text}
 
 -- ---- words
 
@@ -86,3 +88,14 @@ pub record Checks (v : CheckPosixValues) (input : List ℕ) (o : Outcome) : Type
 abbrev pub CheckPosixAnswer : CheckPosixValues → List ℕ → Answer → Type 0
 CheckPosixAnswer v input (done o text) = Checks v input o × (text ≡ decision_line o)
 CheckPosixAnswer v input (refused f) = IsPosixFault v.names input f
+
+-- the command
+abbrev pub check_posix : Definition
+check_posix = record {
+  word = codes "check-posix";
+  terms = check_posix_terms;
+  Values = CheckPosixValues;
+  read = λ rows words. check_posix_in rows;
+  Answers = CheckPosixAnswer;
+  shape = λ v. of_text;
+}

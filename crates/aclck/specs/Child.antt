@@ -14,6 +14,8 @@ use Rattle.aclck.specs.Values.{profile_value}
 use Rattle.aclck.specs.Answer.{Answer}
 use Rattle.aclck.specs.XdrAnswer.{MakesAnswer}
 use Rattle.aclck.specs.declared.task.child.Child.{Child}
+use Rattle.aclck.specs.Definition.{Definition}
+use Rattle.aclck.specs.Run.{of_list}
 
 -- ---- words
 
@@ -54,3 +56,14 @@ child_text created list = spelling (children created list)
 -- that text, or a fault that the input has
 abbrev pub ChildAnswer : ChildValues → List ℕ → Answer → Type 0
 ChildAnswer v = MakesAnswer v.profile (child_text v.created)
+
+-- the command
+abbrev pub child : Definition
+child = record {
+  word = codes "child";
+  terms = child_terms;
+  Values = ChildValues;
+  read = λ rows words. child_in rows;
+  Answers = ChildAnswer;
+  shape = λ v. of_list v.profile;
+}

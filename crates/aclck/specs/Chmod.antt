@@ -13,6 +13,8 @@ use Rattle.aclck.specs.Values.{mode_value}
 use Rattle.aclck.specs.Answer.{Answer}
 use Rattle.aclck.specs.PosixAnswer.{WritesAnswer}
 use Rattle.aclck.specs.declared.task.chmod.Chmod.{Chmod}
+use Rattle.aclck.specs.Definition.{Definition}
+use Rattle.aclck.specs.Run.{of_text}
 
 -- ---- words
 
@@ -47,3 +49,14 @@ chmod_text mode file = canonical_text (chmoded file.access mode) file.default
 -- that text, or a fault that the input has
 abbrev pub ChmodAnswer : ChmodValues → List ℕ → Answer → Type 0
 ChmodAnswer v = WritesAnswer v.names (chmod_text v.mode)
+
+-- the command
+abbrev pub chmod : Definition
+chmod = record {
+  word = codes "chmod";
+  terms = chmod_terms;
+  Values = ChmodValues;
+  read = λ rows words. chmod_in rows;
+  Answers = ChmodAnswer;
+  shape = λ v. of_text;
+}

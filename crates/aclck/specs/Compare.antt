@@ -18,6 +18,8 @@ use Rattle.aclck.specs.declared.answer.Outcome.{Outcome}
 use Rattle.aclck.specs.declared.answer.Outcome.TheVariants as outcome
 use Rattle.aclck.specs.declared.answer.RunFault.{RunFault}
 use Rattle.aclck.specs.declared.answer.RunFault.TheVariants as fault
+use Rattle.aclck.specs.Definition.{Definition, of_profile}
+use Rattle.aclck.specs.Run.{of_two}
 
 -- ---- two lists
 
@@ -96,3 +98,7 @@ pub record ComparesInput (p : Profile) (input : List ℕ) (o : Outcome) (text : 
 abbrev pub CompareAnswer : Profile → List ℕ → Answer → Type 0
 CompareAnswer p input (done o text) = ComparesInput p input o text
 CompareAnswer p input (refused f) = IsRefusedTwo p input f
+
+-- the command
+abbrev pub compare : Definition
+compare = of_profile (codes "compare") CompareAnswer of_two

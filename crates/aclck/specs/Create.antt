@@ -13,6 +13,8 @@ use Rattle.aclck.specs.Values.{mode_value}
 use Rattle.aclck.specs.Answer.{Answer}
 use Rattle.aclck.specs.PosixAnswer.{WritesAnswer}
 use Rattle.aclck.specs.declared.task.create.Create.{Create}
+use Rattle.aclck.specs.Definition.{Definition}
+use Rattle.aclck.specs.Run.{of_text}
 
 -- ---- words
 
@@ -52,3 +54,14 @@ created_text mode umask is_directory file =
 -- that text, or a fault that the input has
 abbrev pub CreateAnswer : CreateValues → List ℕ → Answer → Type 0
 CreateAnswer v = WritesAnswer v.names (created_text v.mode v.umask v.is_directory)
+
+-- the command
+abbrev pub create : Definition
+create = record {
+  word = codes "create";
+  terms = create_terms;
+  Values = CreateValues;
+  read = λ rows words. create_in rows;
+  Answers = CreateAnswer;
+  shape = λ v. of_text;
+}

@@ -1,5 +1,5 @@
 -- What `encode [--profile full|narrow]` makes of an input (this library's own, over RFC 8881, section 6.2.1).
-use Rattle.std.specs.Prelude.{◌≡◌, List, ℕ}
+use Rattle.std.specs.Prelude.{◌≡◌, List, ℕ, codes}
 use Rattle.acl_perm.specs.Profile.{Profile}
 use Rattle.acl_nfs4.specs.Ace.{Ace}
 use Rattle.acl_nfs4.specs.AceText.{IsAceText}
@@ -10,6 +10,8 @@ use Rattle.aclck.specs.Answer.{Answer, done, refused}
 use Rattle.aclck.specs.declared.answer.Outcome.TheVariants as outcome
 use Rattle.aclck.specs.declared.answer.RunFault.{RunFault}
 use Rattle.aclck.specs.declared.answer.RunFault.TheVariants as fault
+use Rattle.aclck.specs.Definition.{Definition, of_profile}
+use Rattle.aclck.specs.Run.{of_text}
 
 -- the fault is one that these bytes have as the text of a list of the profile
 pub record IsNfsTextFault (p : Profile) (input : List ℕ) (f : RunFault) : Type 0 where
@@ -27,3 +29,7 @@ pub record Encodes (p : Profile) (input bytes : List ℕ) : Type 0 where
 abbrev pub EncodeAnswer : Profile → List ℕ → Answer → Type 0
 EncodeAnswer p input (done o bytes) = (o ≡ outcome.Yes) × Encodes p input bytes
 EncodeAnswer p input (refused f) = IsNfsTextFault p input f
+
+-- the command
+abbrev pub encode : Definition
+encode = of_profile (codes "encode") EncodeAnswer (λ p. of_text)

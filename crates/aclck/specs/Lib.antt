@@ -3,6 +3,10 @@ pub mod Values
 pub mod NameWords
 pub mod Answer
 pub mod ListInput
+pub mod TwoLists
+pub mod Run
+pub mod ProfileArgument
+pub mod Definition
 pub mod PosixAnswer
 pub mod XdrAnswer
 pub mod ShowPosix
@@ -16,12 +20,9 @@ pub mod BitTable
 pub mod Normalize
 pub mod Child
 pub mod ListMode
-pub mod ProfileArgument
 pub mod ShowNfs
 pub mod Encode
 pub mod Compare
-pub mod TwoLists
-pub mod Run
 pub mod Task
 pub mod Command
 pub mod Laws

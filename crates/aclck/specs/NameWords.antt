@@ -3,10 +3,11 @@ use Rattle.std.specs.Prelude.{ℕ, ◌==◌, ◌≡◌, Option, Some, None, Resu
 use Rattle.std.specs.List.{after_first, before_first, position_or_len}
 use Rattle.std.specs.Option.{is_none, option_and_then, option_map}
 use Rattle.std.specs.Str.{bytes_eq}
-use Rattle.clap.specs.Words.{Text}
+use Rattle.clap.specs.Words.{Row, Text}
 use Rattle.acl_posix.specs.Names.{Table, name_fault, no_names, with_group, with_user}
 use Rattle.acl_posix.specs.declared.names.NameFault.{NameFault}
 use Rattle.acl_posix.specs.declared.names.NameFault.TheVariants as names
+use Rattle.aclck.specs.Line.{Term, any_words, words_of}
 use Rattle.aclck.specs.Values.{id_value}
 use Rattle.aclck.specs.declared.line.LineFault.{LineFault}
 use Rattle.aclck.specs.declared.line.LineFault.TheVariants as line
@@ -95,3 +96,11 @@ abbrev pub Adds : Table → Option NamedId → Table → Result (Unit {0}) LineF
 Adds table named after (Ok done) = Some after ≡ option_and_then (with_name table) named
 Adds table named after (Err line.Usage) = None ≡ option_and_then (with_name table) named
 Adds table named after (Err line.Memory) = Unit {0}
+
+-- `[NAMES..]`
+abbrev pub names_terms : List Term
+names_terms = any_words ∷ []
+
+-- the table of the words that are no option's in the rows of a parse
+abbrev pub names_in : List Row → Option Table
+names_in rows = names_value (words_of rows)

@@ -14,6 +14,8 @@ use Rattle.aclck.specs.Values.{profile_value}
 use Rattle.aclck.specs.Answer.{Answer, IsXdrFault, done, refused}
 use Rattle.aclck.specs.declared.answer.Outcome.TheVariants as outcome
 use Rattle.aclck.specs.declared.task.normalize.Normalize.{Normalize}
+use Rattle.aclck.specs.Definition.{Definition}
+use Rattle.aclck.specs.Run.{of_list}
 
 -- ---- words
 
@@ -63,6 +65,17 @@ NormalizedAnswer v = by v.inherit v.profile
     by : Bool → Profile → List ℕ → Answer → Type 0
     by true p = NormalizeInheritAnswer p
     by false p = NormalizeAnswer p
+
+-- the command
+abbrev pub normalize : Definition
+normalize = record {
+  word = codes "normalize";
+  terms = normalize_terms;
+  Values = NormalizeValues;
+  read = λ rows words. normalize_in rows;
+  Answers = NormalizedAnswer;
+  shape = λ v. of_list v.profile;
+}
 
 -- ---- what the laws say of the five
 

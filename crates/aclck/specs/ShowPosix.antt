@@ -13,6 +13,8 @@ use Rattle.aclck.specs.PosixAnswer.{WritesAnswer}
 use Rattle.aclck.specs.declared.input.posix.Form.{Form}
 use Rattle.aclck.specs.declared.input.posix.Form.TheVariants as form
 use Rattle.aclck.specs.declared.task.show_posix.ShowPosix.{ShowPosix}
+use Rattle.aclck.specs.Definition.{Definition}
+use Rattle.aclck.specs.Run.{of_text}
 
 -- ---- words
 
@@ -56,3 +58,14 @@ form_text form.Short file = short_text file.access file.default ++ 10 ∷ []
 -- the text in the form, or a fault that the input has
 abbrev pub ShowPosixAnswer : ShowPosixValues → List ℕ → Answer → Type 0
 ShowPosixAnswer v = WritesAnswer v.names (form_text v.form)
+
+-- the command
+abbrev pub show_posix : Definition
+show_posix = record {
+  word = codes "show-posix";
+  terms = show_posix_terms;
+  Values = ShowPosixValues;
+  read = λ rows words. show_posix_in rows;
+  Answers = ShowPosixAnswer;
+  shape = λ v. of_text;
+}

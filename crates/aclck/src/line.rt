@@ -24,6 +24,13 @@ pub enum Argument {
     Words,
 }
 
+/// A command: the word that names it, and its arguments.
+#[derive(Clone, Copy, Debug)]
+pub struct Definition {
+    pub word: &'static str,
+    pub arguments: &'static [Argument],
+}
+
 /// Why words ask for nothing.
 #[derive(Clone, Copy, Debug, PartialEq, Eq)]
 pub enum LineFault {

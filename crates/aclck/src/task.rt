@@ -2,9 +2,10 @@
 ghost use Rattle.std.specs.Prelude.{◌≡◌, IfErr, IfOk, OnOk, false, find, map, true};
 ghost use Rattle.std.specs.Str.{bytes_eq};
 ghost use Rattle.clap.specs.Words.{app_of, found_of, rows_of};
+ghost use Rattle.aclck.specs.Definition.{Defines};
 ghost use Rattle.aclck.specs.Run.{Runs};
-ghost use Rattle.aclck.specs.Line.{Reads, is_sound, is_taken, rows_at, term};
-ghost use Rattle.aclck.specs.Task.{Answers, app_named, command_named, shape_of, task_held, task_in, terms_of, word_of};
+ghost use Rattle.aclck.specs.Line.{Reads, is_sound, is_taken, rows_at};
+ghost use Rattle.aclck.specs.Task.{Answers, app_named, command_named, definition_of, shape_of, task_held, task_in, word_of};
 
 pub mod bridge;
 pub mod calc_mask;
@@ -22,7 +23,8 @@ pub mod show_posix;
 pub mod table;
 
 use crate::answer::{Outcome, RunFault};
-use crate::line::{Argument, LineFault, command_from, parse};
+use crate::line::{Definition, LineFault, command_from, parse};
+use crate::words::names::names_in;
 use crate::words::profile;
 use acl_perm::{Profile, Sink, Source};
 use acl_posix::Names;
@@ -87,52 +89,39 @@ impl Name {
         find_name(&NAMES, word)
     }
 
+    // The command that it names.
+    fn definition(self) -> Definition
+        ensures { Defines (definition_of self) result }
+    {
+        match self {
+            Name::ShowPosix => show_posix::definition(),
+            Name::CheckPosix => check_posix::definition(),
+            Name::CalcMask => calc_mask::definition(),
+            Name::Chmod => chmod::definition(),
+            Name::Create => create::definition(),
+            Name::ShowNfs => show_nfs::definition(),
+            Name::Encode => encode::definition(),
+            Name::CheckNfs => check_nfs::definition(),
+            Name::Child => child::definition(),
+            Name::Mode => mode::definition(),
+            Name::Bridge => bridge::definition(),
+            Name::Table => table::definition(),
+            Name::Normalize => normalize::definition(),
+            Name::Compare => compare::definition(),
+        }
+    }
+
     // The word that names it.
     fn word<'a>(self) -> &'a str
         ensures { result.now ≡ word_of self }
     {
-        match self {
-            Name::ShowPosix => "show-posix",
-            Name::CheckPosix => "check-posix",
-            Name::CalcMask => "calc-mask",
-            Name::Chmod => "chmod",
-            Name::Create => "create",
-            Name::ShowNfs => "show-nfs",
-            Name::Encode => "encode",
-            Name::CheckNfs => "check-nfs",
-            Name::Child => "child",
-            Name::Mode => "mode",
-            Name::Bridge => "bridge",
-            Name::Table => "table",
-            Name::Normalize => "normalize",
-            Name::Compare => "compare",
-        }
+        self.definition().word
     }
 
     fn is_named(self, word: &str) -> bool
         ensures { result ≡ bytes_eq (word_of self) word.now }
     {
         self.word() == word
-    }
-
-    // Its arguments.
-    fn arguments(self) -> &'static [Argument]
-        ensures terms { map term result.now ≡ terms_of self }
-        ensures sound { is_sound (terms_of self) ≡ true }
-    {
-        match self {
-            Name::ShowPosix => show_posix::arguments(),
-            Name::CheckPosix => check_posix::arguments(),
-            Name::CalcMask => calc_mask::arguments(),
-            Name::Chmod => chmod::arguments(),
-            Name::Create => create::arguments(),
-            Name::ShowNfs | Name::Encode | Name::Mode | Name::Compare => profile::arguments(),
-            Name::CheckNfs => check_nfs::arguments(),
-            Name::Child => child::arguments(),
-            Name::Bridge => bridge::arguments(),
-            Name::Table => table::arguments(),
-            Name::Normalize => normalize::arguments(),
-        }
     }
 
     /// What the command takes from the words, of which the first is its own.
@@ -155,9 +144,9 @@ impl Name {
     // Its definition.
     fn command<'a>(self, alloc: Global) -> Result<Command<'a>, AllocError>
         ensures app { IfOk result (λ c. app_of c ≡ app_named self) }
-        ensures sound { is_sound (terms_of self) ≡ true }
+        ensures sound { is_sound (definition_of self).terms ≡ true }
     {
-        command_from(alloc, self.word(), self.arguments())
+        command_from(alloc, self.word(), self.definition().arguments)
     }
 }
 
@@ -206,7 +195,7 @@ impl<'a> Task<'a> {
         match name {
             Name::ShowPosix => Ok(Task::ShowPosix(show_posix::read(alloc, matches)?)),
             Name::CheckPosix => Ok(Task::CheckPosix(check_posix::read(alloc, matches)?)),
-            Name::CalcMask => Ok(Task::CalcMask(calc_mask::read(alloc, matches)?)),
+            Name::CalcMask => Ok(Task::CalcMask(names_in(alloc, matches)?)),
             Name::Chmod => Ok(Task::Chmod(chmod::read(alloc, matches)?)),
             Name::Create => Ok(Task::Create(create::read(alloc, matches)?)),
             Name::ShowNfs => Ok(Task::ShowNfs(profile::read(matches)?)),
@@ -214,7 +203,7 @@ impl<'a> Task<'a> {
             Name::CheckNfs => Ok(Task::CheckNfs(check_nfs::read(matches, words)?)),
             Name::Child => Ok(Task::Child(child::read(matches)?)),
             Name::Mode => Ok(Task::Mode(profile::read(matches)?)),
-            Name::Bridge => Ok(Task::Bridge(bridge::read(alloc, matches)?)),
+            Name::Bridge => Ok(Task::Bridge(names_in(alloc, matches)?)),
             Name::Table => Ok(Task::Table(table::read(matches)?)),
             Name::Normalize => Ok(Task::Normalize(normalize::read(matches)?)),
             Name::Compare => Ok(Task::Compare(profile::read(matches)?)),

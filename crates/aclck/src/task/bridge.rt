@@ -1,37 +1,29 @@
 //! `bridge`: the NFSv4 list that stands for a POSIX ACL.
-ghost use Rattle.std.specs.Prelude.{◌≡◌, ◌⊎◌, IfErr, IfOk, map, true};
-ghost use Rattle.clap.specs.Words.{found_of, rows_of};
+ghost use Rattle.std.specs.Prelude.{◌≡◌, ◌⊎◌, IfErr, IfOk, true};
 ghost use Rattle.acl_nfs4.specs.Spelling.{spelling};
+ghost use Rattle.aclck.specs.Definition.{Defines};
 ghost use Rattle.aclck.specs.Run.{Runs, of_text};
-ghost use Rattle.aclck.specs.Line.{Reads, term};
 ghost use Rattle.aclck.specs.Answer.{is_refusal};
-ghost use Rattle.aclck.specs.Bridge.{BridgeAnswer, Bridges, IsBridgeRefusal, bridge_in, bridge_terms};
+ghost use Rattle.aclck.specs.Bridge.{BridgeAnswer, Bridges, IsBridgeRefusal, bridge};
 
 use crate::answer::{Outcome, RunFault};
 use crate::input::posix::read_file;
-use crate::line::{Argument, LineFault};
-use crate::words::names::names_in;
+use crate::line::Definition;
+use crate::words::names;
 use acl_eval::{BridgeFault, bridge};
 use acl_nfs4::Acl;
 use acl_perm::{Sink, Source, read_all};
 use acl_posix::Names;
-use clap::ArgMatches;
 use std::alloc::Global;
 
-const ARGUMENTS: [Argument; 1] = [Argument::Words];
-
-/// The arguments of `bridge`.
-pub(crate) fn arguments() -> &'static [Argument]
-    ensures { map term result.now ≡ bridge_terms }
+/// The command.
+pub(crate) fn definition() -> Definition
+    ensures { Defines bridge result }
 {
-    &ARGUMENTS
-}
-
-/// The names that a text may have.
-pub(crate) fn read(alloc: Global, matches: &ArgMatches<'_>) -> Result<Names, LineFault>
-    ensures { Reads (λ n. n) (bridge_in (rows_of (found_of matches.now))) result }
-{
-    names_in(alloc, matches)
+    Definition {
+        word: "bridge",
+        arguments: &names::ARGUMENTS,
+    }
 }
 
 /// Writes the XDR of the NFSv4 list that stands for the access ACL of the file whose text the input is. The default ACL

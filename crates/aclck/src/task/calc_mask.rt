@@ -1,35 +1,27 @@
 //! `calc-mask`: the canonical text of a file with its mask calculated.
-ghost use Rattle.std.specs.Prelude.{◌≡◌, ◌⊎◌, IfErr, IfOk, map, true};
-ghost use Rattle.clap.specs.Words.{found_of, rows_of};
+ghost use Rattle.std.specs.Prelude.{◌≡◌, ◌⊎◌, IfErr, IfOk, true};
+ghost use Rattle.aclck.specs.Definition.{Defines};
 ghost use Rattle.aclck.specs.Run.{Runs, of_text};
-ghost use Rattle.aclck.specs.Line.{Reads, term};
 ghost use Rattle.aclck.specs.Answer.{is_refusal};
 ghost use Rattle.aclck.specs.PosixAnswer.{IsPosixFault, Writes};
-ghost use Rattle.aclck.specs.CalcMask.{CalcMaskAnswer, calc_mask_in, calc_mask_terms, masked_text};
+ghost use Rattle.aclck.specs.CalcMask.{CalcMaskAnswer, calc_mask, masked_text};
 
 use crate::answer::{Outcome, RunFault};
 use crate::input::posix::{canonical, read_file};
-use crate::line::{Argument, LineFault};
-use crate::words::names::names_in;
+use crate::line::Definition;
+use crate::words::names;
 use acl_perm::{Sink, Source, put_all, read_all};
 use acl_posix::Names;
-use clap::ArgMatches;
 use std::alloc::Global;
 
-const ARGUMENTS: [Argument; 1] = [Argument::Words];
-
-/// The arguments of `calc-mask`.
-pub(crate) fn arguments() -> &'static [Argument]
-    ensures { map term result.now ≡ calc_mask_terms }
+/// The command.
+pub(crate) fn definition() -> Definition
+    ensures { Defines calc_mask result }
 {
-    &ARGUMENTS
-}
-
-/// The names that a text may have.
-pub(crate) fn read(alloc: Global, matches: &ArgMatches<'_>) -> Result<Names, LineFault>
-    ensures { Reads (λ n. n) (calc_mask_in (rows_of (found_of matches.now))) result }
-{
-    names_in(alloc, matches)
+    Definition {
+        word: "calc-mask",
+        arguments: &names::ARGUMENTS,
+    }
 }
 
 /// Writes the canonical text of the file whose text the input is, with the mask of its access ACL calculated, and added

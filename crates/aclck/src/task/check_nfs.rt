@@ -3,16 +3,17 @@ ghost use Rattle.std.specs.Prelude.{◌≡◌, ◌↔◌, IfOk, map, option_and_
 ghost use Rattle.std.specs.List.Sorted.{IsPermutation};
 ghost use Rattle.clap.specs.Words.{found_of, rows_of};
 ghost use Rattle.acl_perm.specs.Profile.{profile_of};
+ghost use Rattle.aclck.specs.Definition.{Defines};
 ghost use Rattle.aclck.specs.Run.{Runs, of_list};
-ghost use Rattle.aclck.specs.Line.{Reads, term};
+ghost use Rattle.aclck.specs.Line.{Reads};
 ghost use Rattle.aclck.specs.Values.{mask_within};
 ghost use Rattle.acl_eval.specs.Grant.{Grant};
 ghost use Rattle.acl_eval.specs.Situation.{groups_of, situation, user_of};
-ghost use Rattle.aclck.specs.CheckNfs.{CheckNfsAnswer, check_nfs_held, check_nfs_in, check_nfs_terms, object_named, object_names, requester_named, requester_names, values_of};
+ghost use Rattle.aclck.specs.CheckNfs.{CheckNfsAnswer, check_nfs, check_nfs_held, check_nfs_in, object_named, object_names, requester_named, requester_names, values_of};
 
 use crate::answer::{Outcome, RunFault, decision_line};
 use crate::input::xdr::read_list;
-use crate::line::{Argument, LineFault, text_of};
+use crate::line::{Argument, Definition, LineFault, text_of};
 use crate::words::values::{mask_within, profile_in};
 use acl_eval::{Object, Requester, grants};
 use acl_nfs4::Acl;
@@ -34,11 +35,14 @@ const ARGUMENTS: [Argument; 6] = [
     Argument::Words,
 ];
 
-/// The arguments of `check-nfs`.
-pub(crate) fn arguments() -> &'static [Argument]
-    ensures { map term result.now ≡ check_nfs_terms }
+/// The command.
+pub(crate) fn definition() -> Definition
+    ensures { Defines check_nfs result }
 {
-    &ARGUMENTS
+    Definition {
+        word: "check-nfs",
+        arguments: &ARGUMENTS,
+    }
 }
 
 /// Who asks of what, for which rights, and what a list may have.

@@ -1,17 +1,18 @@
 //! `check-posix`: whether the access part of a text grants a request.
-ghost use Rattle.std.specs.Prelude.{◌≡◌, ◌⊎◌, IfErr, IfOk, map, option_and_then, option_map, true};
+ghost use Rattle.std.specs.Prelude.{◌≡◌, ◌⊎◌, IfErr, IfOk, option_and_then, option_map, true};
 ghost use Rattle.clap.specs.Words.{found_of, rows_of};
 ghost use Rattle.acl_posix.specs.Check.{ids};
+ghost use Rattle.aclck.specs.Definition.{Defines};
 ghost use Rattle.aclck.specs.Run.{Runs, of_text};
-ghost use Rattle.aclck.specs.Line.{Reads, term};
+ghost use Rattle.aclck.specs.Line.{Reads};
 ghost use Rattle.aclck.specs.Values.{id_value, want_value};
 ghost use Rattle.aclck.specs.Answer.{is_refusal};
-ghost use Rattle.aclck.specs.CheckPosix.{CheckPosixAnswer, Checks, check_posix_held, check_posix_in, check_posix_terms, groups_value, values_of};
+ghost use Rattle.aclck.specs.CheckPosix.{CheckPosixAnswer, Checks, check_posix, check_posix_held, check_posix_in, groups_value, values_of};
 ghost use Rattle.aclck.specs.PosixAnswer.{IsPosixFault};
 
 use crate::answer::{Outcome, RunFault, decision_line};
 use crate::input::posix::read_file;
-use crate::line::{Argument, LineFault, text_of};
+use crate::line::{Argument, Definition, LineFault, text_of};
 use crate::words::names::names_in;
 use crate::words::values::{id_value, ids_value, want_value};
 use acl_perm::{Perm, Sink, Source, put_all, read_all};
@@ -28,11 +29,14 @@ const ARGUMENTS: [Argument; 6] = [
     Argument::Words,
 ];
 
-/// The arguments of `check-posix`.
-pub(crate) fn arguments() -> &'static [Argument]
-    ensures { map term result.now ≡ check_posix_terms }
+/// The command.
+pub(crate) fn definition() -> Definition
+    ensures { Defines check_posix result }
 {
-    &ARGUMENTS
+    Definition {
+        word: "check-posix",
+        arguments: &ARGUMENTS,
+    }
 }
 
 /// Who asks of whose object, for which permissions, and which names a text may have.

@@ -1,14 +1,15 @@
 //! `child`: the list that a new object takes from its directory.
-ghost use Rattle.std.specs.Prelude.{◌≡◌, map, option_and_then, option_map};
+ghost use Rattle.std.specs.Prelude.{◌≡◌, option_and_then, option_map};
 ghost use Rattle.clap.specs.Words.{found_of, rows_of};
 ghost use Rattle.acl_perm.specs.Profile.{profile_of};
+ghost use Rattle.aclck.specs.Definition.{Defines};
 ghost use Rattle.aclck.specs.Run.{Runs, of_list};
-ghost use Rattle.aclck.specs.Line.{Reads, term};
-ghost use Rattle.aclck.specs.Child.{ChildAnswer, child_held, child_in, child_terms, kind_value};
+ghost use Rattle.aclck.specs.Line.{Reads};
+ghost use Rattle.aclck.specs.Child.{ChildAnswer, child, child_held, child_in, kind_value};
 
 use crate::answer::{Outcome, RunFault};
 use crate::input::xdr::read_list;
-use crate::line::{Argument, LineFault, text_of};
+use crate::line::{Argument, Definition, LineFault, text_of};
 use crate::words::values::profile_in;
 use acl_eval::{ChildKind, child};
 use acl_perm::{Profile, Sink, Source};
@@ -20,11 +21,14 @@ const ARGUMENTS: [Argument; 2] = [
     Argument::Default("profile", "full"),
 ];
 
-/// The arguments of `child`.
-pub(crate) fn arguments() -> &'static [Argument]
-    ensures { map term result.now ≡ child_terms }
+/// The command.
+pub(crate) fn definition() -> Definition
+    ensures { Defines child result }
 {
-    &ARGUMENTS
+    Definition {
+        word: "child",
+        arguments: &ARGUMENTS,
+    }
 }
 
 /// What is created, and what a list may have.

@@ -1,15 +1,16 @@
 //! `create`: the canonical text of a new object.
-ghost use Rattle.std.specs.Prelude.{◌≡◌, ◌⊎◌, IfErr, IfOk, map, true};
+ghost use Rattle.std.specs.Prelude.{◌≡◌, ◌⊎◌, IfErr, IfOk, true};
 ghost use Rattle.clap.specs.Words.{found_of, rows_of};
+ghost use Rattle.aclck.specs.Definition.{Defines};
 ghost use Rattle.aclck.specs.Run.{Runs, of_text};
-ghost use Rattle.aclck.specs.Line.{Reads, term};
+ghost use Rattle.aclck.specs.Line.{Reads};
 ghost use Rattle.aclck.specs.Answer.{is_refusal};
 ghost use Rattle.aclck.specs.PosixAnswer.{IsPosixFault, Writes};
-ghost use Rattle.aclck.specs.Create.{CreateAnswer, create_held, create_in, create_terms, created_text};
+ghost use Rattle.aclck.specs.Create.{CreateAnswer, create, create_held, create_in, created_text};
 
 use crate::answer::{Outcome, RunFault};
 use crate::input::posix::{canonical, read_file};
-use crate::line::{Argument, LineFault, is_set, text_of};
+use crate::line::{Argument, Definition, LineFault, is_set, text_of};
 use crate::task::chmod::mode_in;
 use crate::words::names::names_in;
 use acl_perm::{Mode, Sink, Source, put_all, read_all};
@@ -24,11 +25,14 @@ const ARGUMENTS: [Argument; 4] = [
     Argument::Words,
 ];
 
-/// The arguments of `create`.
-pub(crate) fn arguments() -> &'static [Argument]
-    ensures { map term result.now ≡ create_terms }
+/// The command.
+pub(crate) fn definition() -> Definition
+    ensures { Defines create result }
 {
-    &ARGUMENTS
+    Definition {
+        word: "create",
+        arguments: &ARGUMENTS,
+    }
 }
 
 /// The mode and the umask, whether the new object is a directory, and which names a text may have.

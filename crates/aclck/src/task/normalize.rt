@@ -1,14 +1,15 @@
 //! `normalize`: the normal form of a list, or its five.
-ghost use Rattle.std.specs.Prelude.{◌≡◌, map};
+ghost use Rattle.std.specs.Prelude.{◌≡◌};
 ghost use Rattle.clap.specs.Words.{found_of, rows_of};
 ghost use Rattle.acl_perm.specs.Profile.{profile_of};
+ghost use Rattle.aclck.specs.Definition.{Defines};
 ghost use Rattle.aclck.specs.Run.{Runs, of_list};
-ghost use Rattle.aclck.specs.Line.{Reads, term};
-ghost use Rattle.aclck.specs.Normalize.{NormalizeAnswer, NormalizeInheritAnswer, NormalizedAnswer, normalize_held, normalize_in, normalize_terms};
+ghost use Rattle.aclck.specs.Line.{Reads};
+ghost use Rattle.aclck.specs.Normalize.{NormalizeAnswer, NormalizeInheritAnswer, NormalizedAnswer, normalize, normalize_held, normalize_in};
 
 use crate::answer::{Outcome, RunFault};
 use crate::input::xdr::read_list;
-use crate::line::{Argument, LineFault, is_set, text_of};
+use crate::line::{Argument, Definition, LineFault, is_set, text_of};
 use crate::words::values::profile_in;
 use acl_normal::{normalize, normalize_inherit};
 use acl_perm::{Profile, Sink, Source};
@@ -20,11 +21,14 @@ const ARGUMENTS: [Argument; 2] = [
     Argument::Default("profile", "full"),
 ];
 
-/// The arguments of `normalize`.
-pub(crate) fn arguments() -> &'static [Argument]
-    ensures { map term result.now ≡ normalize_terms }
+/// The command.
+pub(crate) fn definition() -> Definition
+    ensures { Defines normalize result }
 {
-    &ARGUMENTS
+    Definition {
+        word: "normalize",
+        arguments: &ARGUMENTS,
+    }
 }
 
 /// Whether inheritance counts, and what a list may have.

@@ -1,15 +1,16 @@
 //! `show-posix`: the text of a file in a form.
-ghost use Rattle.std.specs.Prelude.{◌≡◌, ◌⊎◌, IfErr, IfOk, map, option_and_then, option_map, true};
+ghost use Rattle.std.specs.Prelude.{◌≡◌, ◌⊎◌, IfErr, IfOk, option_and_then, option_map, true};
 ghost use Rattle.clap.specs.Words.{found_of, rows_of};
+ghost use Rattle.aclck.specs.Definition.{Defines};
 ghost use Rattle.aclck.specs.Run.{Runs, of_text};
-ghost use Rattle.aclck.specs.Line.{Reads, term};
+ghost use Rattle.aclck.specs.Line.{Reads};
 ghost use Rattle.aclck.specs.Answer.{is_refusal};
 ghost use Rattle.aclck.specs.PosixAnswer.{IsPosixFault, Writes};
-ghost use Rattle.aclck.specs.ShowPosix.{ShowPosixAnswer, form_text, form_value, show_posix_held, show_posix_in, show_posix_terms};
+ghost use Rattle.aclck.specs.ShowPosix.{ShowPosixAnswer, form_text, form_value, show_posix, show_posix_held, show_posix_in};
 
 use crate::answer::{Outcome, RunFault};
 use crate::input::posix::{Form, read_file, text_in};
-use crate::line::{Argument, LineFault, text_of};
+use crate::line::{Argument, Definition, LineFault, text_of};
 use crate::words::names::names_in;
 use acl_perm::{Sink, Source, put_all, read_all};
 use acl_posix::Names;
@@ -18,11 +19,14 @@ use std::alloc::Global;
 
 const ARGUMENTS: [Argument; 2] = [Argument::Default("form", "canonical"), Argument::Words];
 
-/// The arguments of `show-posix`.
-pub(crate) fn arguments() -> &'static [Argument]
-    ensures { map term result.now ≡ show_posix_terms }
+/// The command.
+pub(crate) fn definition() -> Definition
+    ensures { Defines show_posix result }
 {
-    &ARGUMENTS
+    Definition {
+        word: "show-posix",
+        arguments: &ARGUMENTS,
+    }
 }
 
 /// The form, and which names a text may have.

@@ -1,16 +1,17 @@
 //! `table`: what the normal form of a list says of one right.
-ghost use Rattle.std.specs.Prelude.{◌≡◌, ◌++◌, ◌∷◌, [], IfOk, List, OnOk, decimal, map, option_and_then, option_map};
+ghost use Rattle.std.specs.Prelude.{◌≡◌, ◌++◌, ◌∷◌, [], IfOk, List, OnOk, decimal, option_and_then, option_map};
 ghost use Rattle.clap.specs.Words.{found_of, rows_of};
 ghost use Rattle.acl_perm.specs.Profile.{profile_of};
 ghost use Rattle.acl_perm.specs.Lines.{line_feed};
 ghost use Rattle.acl_nfs4.specs.AceText.{kind_name, space};
+ghost use Rattle.aclck.specs.Definition.{Defines};
 ghost use Rattle.aclck.specs.Run.{Runs, of_list};
-ghost use Rattle.aclck.specs.Line.{Reads, term};
-ghost use Rattle.aclck.specs.BitTable.{AreTableOf, TableAnswer, bit_value, group_word, right_named, row_line, rows_text, table_held, table_in, table_terms};
+ghost use Rattle.aclck.specs.Line.{Reads};
+ghost use Rattle.aclck.specs.BitTable.{AreTableOf, TableAnswer, bit_value, group_word, right_named, row_line, rows_text, table, table_held, table_in};
 
 use crate::answer::{Outcome, RunFault};
 use crate::input::xdr::read_list;
-use crate::line::{Argument, LineFault, text_of};
+use crate::line::{Argument, Definition, LineFault, text_of};
 use crate::words::values::profile_in;
 use acl_nfs4::{Acl, read_mask};
 use acl_normal::{Row, table};
@@ -24,11 +25,14 @@ const ARGUMENTS: [Argument; 2] = [
     Argument::Default("profile", "full"),
 ];
 
-/// The arguments of `table`.
-pub(crate) fn arguments() -> &'static [Argument]
-    ensures { map term result.now ≡ table_terms }
+/// The command.
+pub(crate) fn definition() -> Definition
+    ensures { Defines table result }
 {
-    &ARGUMENTS
+    Definition {
+        word: "table",
+        arguments: &ARGUMENTS,
+    }
 }
 
 /// The mask of the one right that is asked for, and what a list may have.

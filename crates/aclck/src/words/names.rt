@@ -3,13 +3,16 @@ ghost use Rattle.std.specs.Prelude.{◌≡◌, [], None, Some, map, option_map, 
 ghost use Rattle.acl_posix.specs.Names.{no_names};
 ghost use Rattle.clap.specs.Words.{found_of, rows_of};
 ghost use Rattle.aclck.specs.Line.{Reads, words_of};
-ghost use Rattle.aclck.specs.NameWords.{first_cut, half_named, last_cut, named_id, named_of, half_of, names_value, with_name, with_words, Adds};
+ghost use Rattle.aclck.specs.NameWords.{first_cut, half_named, last_cut, named_id, named_of, half_of, names_in, with_name, with_words, Adds};
 
-use crate::line::LineFault;
+use crate::line::{Argument, LineFault};
 use crate::words::values::id_value;
 use acl_posix::{Id, NameFault, Names};
 use clap::ArgMatches;
 use std::alloc::Global;
+
+/// The arguments of the commands that take names and no other word.
+pub(crate) const ARGUMENTS: [Argument; 1] = [Argument::Words];
 
 // A half of a table of names.
 #[derive(Clone, Copy, Debug, PartialEq, Eq)]
@@ -43,7 +46,7 @@ impl From<NameFault> for LineFault {
 /// The table of the words that are no option's.
 #[tactic(auto, unfolding(crate::specs::NameWords::names_value))]
 pub(crate) fn names_in(alloc: Global, matches: &ArgMatches<'_>) -> Result<Names, LineFault>
-    ensures { Reads (λ n. n) (names_value (words_of (rows_of (found_of matches.now)))) result }
+    ensures { Reads (λ n. n) (names_in (rows_of (found_of matches.now))) result }
 {
     names_given(alloc, given(matches))
 }

@@ -1,23 +1,16 @@
 //! The words of the commands that take a profile and no other word.
-ghost use Rattle.std.specs.Prelude.{◌≡◌, map};
 ghost use Rattle.clap.specs.Words.{found_of, rows_of};
 ghost use Rattle.acl_perm.specs.Profile.{profile_of};
-ghost use Rattle.aclck.specs.Line.{Reads, term};
-ghost use Rattle.aclck.specs.ProfileArgument.{profile_in, profile_terms};
+ghost use Rattle.aclck.specs.Line.{Reads};
+ghost use Rattle.aclck.specs.ProfileArgument.{profile_in};
 
 use crate::line::{Argument, LineFault, text_of};
 use crate::words::values::profile_in;
 use acl_perm::Profile;
 use clap::ArgMatches;
 
-const ARGUMENTS: [Argument; 1] = [Argument::Default("profile", "full")];
-
 /// The arguments of such a command.
-pub(crate) fn arguments() -> &'static [Argument]
-    ensures { map term result.now ≡ profile_terms }
-{
-    &ARGUMENTS
-}
+pub(crate) const ARGUMENTS: [Argument; 1] = [Argument::Default("profile", "full")];
 
 /// What a list may have.
 #[tactic(auto, unfolding(crate::specs::ProfileArgument::profile_in))]

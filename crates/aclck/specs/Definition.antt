@@ -1,0 +1,54 @@
+-- What a command is: its words, what it makes of an input, and what that input is to be (this library's own).
+use Rattle.std.specs.Prelude.{◌≡◌, List, ℕ, true, Option, map}
+use Rattle.clap.specs.Words.{Row, Text}
+use Rattle.acl_perm.specs.Profile.{Profile}
+use Rattle.acl_posix.specs.Names.{Table}
+use Rattle.aclck.specs.Answer.{Answer}
+use Rattle.aclck.specs.Line.{Term, is_sound, term}
+use Rattle.aclck.specs.NameWords.{names_in, names_terms}
+use Rattle.aclck.specs.ProfileArgument.{profile_in, profile_terms}
+use Rattle.aclck.specs.Run.{Shape, of_text}
+use Rattle.aclck.specs.declared.line.Definition.{Definition as HeldDefinition}
+
+-- a command
+pub record Definition : Type 1 where
+  -- the word that names it
+  pub word : Text
+  -- its arguments
+  pub terms : List Term
+  -- what its words give
+  pub Values : Type 0
+  -- the values that the rows of a parse and the words that are no option's spell
+  pub read : List Row → List Text → Option Values
+  -- what it makes of an input at these values
+  pub Answers : Values → List ℕ → Answer → Type 0
+  -- what an input is to be
+  pub shape : Values → Shape
+
+-- the program holds the word and the arguments of the command, of which at most one takes words
+pub record Defines (d : Definition) (held : HeldDefinition) : Type 0 where
+  pub word : held.word.now ≡ d.word
+  pub terms : map term held.arguments.now ≡ d.terms
+  pub sound : is_sound d.terms ≡ true
+
+-- a command that takes a profile and no other word
+abbrev pub of_profile : Text → (Profile → List ℕ → Answer → Type 0) → (Profile → Shape) → Definition
+of_profile word answers shape = record {
+  word = word;
+  terms = profile_terms;
+  Values = Profile;
+  read = λ rows words. profile_in rows;
+  Answers = answers;
+  shape = shape;
+}
+
+-- a command that reads a text, and takes the names that it may have and no other word
+abbrev pub of_names : Text → (Table → List ℕ → Answer → Type 0) → Definition
+of_names word answers = record {
+  word = word;
+  terms = names_terms;
+  Values = Table;
+  read = λ rows words. names_in rows;
+  Answers = answers;
+  shape = λ names. of_text;
+}
