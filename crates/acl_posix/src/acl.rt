@@ -1,5 +1,5 @@
 //! A valid access control list, and the calls on it.
-ghost use Rattle.std.specs.Prelude.{◌≡◌, All, IfErr, IfOk, IsOk, IsSome, IsTrue, MatchResult, OnErr, OnOk};
+ghost use Rattle.std.specs.Prelude.{◌≡◌, All, IfErr, IfOk, IsOk, IsSome, IsTrue, MatchResult, OnErr, OnOk, option_map};
 ghost use Rattle.std.specs.FinMap as set;
 ghost use Rattle.acl_posix.specs.declared.fault.AclFault.{AclFault as Fault};
 ghost use Rattle.acl_posix.specs.declared.fault.AclFault.TheVariants.{Memory};
@@ -140,13 +140,14 @@ impl PosixAcl {
     pub fn effective(&self, entry: Entry) -> Perm
         ensures { result.bits ≡ effective_of self.now (pair_of entry) }
     {
-        if !entry.tag.is_masked() {
-            return entry.perm;
-        }
-        match self.entries.get(Tag::Mask) {
-            Some(mask) => entry.perm.intersection(mask),
-            None => entry.perm,
-        }
+        entry.masked_by(self.mask())
+    }
+
+    /// The permissions of MASK, if there is one.
+    pub(crate) fn mask(&self) -> Option<Perm>
+        ensures { option_map (λ perm. perm.bits) result ≡ set.get self.now mask }
+    {
+        self.entries.get(Tag::Mask)
     }
 
     /// Sets MASK to the union of the permissions of all USER, GROUP_OBJ and GROUP entries, and adds it where it is

@@ -1,4 +1,8 @@
 //! One entry.
+ghost use Rattle.std.specs.Prelude.{◌≡◌, option_map};
+ghost use Rattle.acl_posix.specs.Entries.{pair_of};
+ghost use Rattle.acl_posix.specs.internal.Writing.{masked_by};
+
 use crate::tag::Tag;
 use acl_perm::Perm;
 
@@ -9,4 +13,16 @@ pub struct Entry {
     pub tag: Tag,
     /// What these have, before a mask.
     pub perm: Perm,
+}
+
+impl Entry {
+    /// The permissions that a mask leaves, where there is one.
+    pub(crate) fn masked_by(self, mask: Option<Perm>) -> Perm
+        ensures { result.bits ≡ masked_by (option_map (λ perm. perm.bits) mask) (pair_of self) }
+    {
+        match mask {
+            Some(mask) if self.tag.is_masked() => self.perm.intersection(mask),
+            _ => self.perm,
+        }
+    }
 }

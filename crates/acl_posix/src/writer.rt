@@ -32,10 +32,11 @@ fn put_part<S: Sink>(
     ensures none_failed { OnOk result (S.failure_count sink.new ≡ S.failure_count sink.old) }
     ensures failed { OnErr result (S.failure_count sink.new ≡ one_more (S.failure_count sink.old)) }
 {
+    let mask = acl.mask();
     let mut done = done;
     let mut is_first = is_first;
     for entry in entries {
-        let line = entry_bytes(form, part, is_first, *entry, acl.effective(*entry));
+        let line = entry_bytes(form, part, is_first, *entry, entry.masked_by(mask));
         match put_next(sink, done, &line) {
             Ok(count) => done = count,
             Err(fault) => return Err(fault),

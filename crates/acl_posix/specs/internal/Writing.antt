@@ -1,15 +1,19 @@
 -- How the code puts a text together, an entry after the other: this library's own words, which only
 -- code needs. What public clauses say of the texts stands in Texts.
-use Rattle.std.specs.Prelude.{ℕ, Bool, true, false, List, [], ◌∷◌, ◌++◌, codes, Option, Some, None, if◌then◌else◌}
+use Rattle.std.specs.Prelude.{ℕ, Bool, true, false, List, [], ◌∷◌, ◌++◌, codes, bit_and, unwrap_or, Option, Some, None, if◌then◌else◌}
 use Rattle.std.specs.FinMap as set
 use Rattle.acl_posix.specs.declared.form.Form.{Form}
 use Rattle.acl_posix.specs.declared.form.Form.TheVariants.{Canonical, Shown, Short}
 use Rattle.acl_posix.specs.declared.text_fault.Part.{Part}
 use Rattle.acl_posix.specs.declared.text_fault.Part.TheVariants.{Access, Default}
-use Rattle.acl_posix.specs.Tag.{Tag}
+use Rattle.acl_posix.specs.Tag.{Tag, is_masked}
 use Rattle.acl_posix.specs.Entries.{Entries}
 use Rattle.acl_posix.specs.Mask.{effective_of}
 use Rattle.acl_posix.specs.Texts.{long_word, short_word, entry_text, mark_text}
+
+-- what a mask leaves of an entry, where there is one
+abbrev pub masked_by : Option ℕ → Tag × ℕ → ℕ
+masked_by mask entry = if is_masked entry.0 then bit_and entry.1 (unwrap_or mask entry.1) else entry.1
 
 -- what stands before an entry: a comma before each but the first of a short text, and the mark of a default entry
 abbrev pub lead : Form → Part → Bool → List ℕ
