@@ -1,3 +1,4 @@
+pub mod PlaceLemmas
 pub mod PlainLanes
 pub mod PlainText
 pub mod Within

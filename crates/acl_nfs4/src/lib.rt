@@ -7,6 +7,7 @@ pub mod laws;
 mod limits;
 mod list;
 mod names;
+mod place;
 mod plain_ascii;
 #[cfg(test)]
 mod speed;

@@ -5,6 +5,8 @@ ghost use Rattle.acl_nfs4.specs.BitNames.{bit_in, bits_in, first_name, is_name_o
 ghost use Rattle.acl_nfs4.specs.internal.NameTable.{IsCut, row_of, set_within, table_of};
 ghost use Rattle.acl_nfs4.specs.Within.{IsWithin};
 
+use crate::place::place_of;
+
 /// A row of a table: a bit, its name, and its second name, where it has two.
 pub(crate) struct BitName {
     pub bit: u32,
@@ -67,7 +69,7 @@ fn cut(field: &[u8]) -> FirstWord<'_>
 fn bar_in(field: &[u8]) -> Option<usize>
     ensures { result ≡ position (λ b. b == 0x7c) field.now }
 {
-    field.iter().position(|byte| *byte == b'|')
+    place_of(field, b'|')
 }
 
 fn bits_in(table: &[BitName], field: &[u8]) -> Option<u32>

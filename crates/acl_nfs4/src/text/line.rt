@@ -13,6 +13,7 @@ use crate::limits::{MOST_ACES, MOST_WEIGHT};
 use crate::names::bit_names::set_within;
 use crate::names::flag_names::FLAGS;
 use crate::names::rights::RIGHTS;
+use crate::place::place_of;
 use crate::text::fault::AceTextFault;
 use crate::who::{WhoFault, judge};
 use acl_perm::{Flags, Kind, Mask, Profile, is_all_blank};
@@ -39,7 +40,7 @@ pub(crate) fn is_skipped(line: &[u8]) -> bool
 fn space_in(bytes: &[u8]) -> Option<usize>
     ensures { result ≡ position (λ b. b == 0x20) bytes.now }
 {
-    bytes.iter().position(|b| *b == b' ')
+    place_of(bytes, b' ')
 }
 
 /// What stands before the first space, and what behind it.

@@ -1,0 +1,12 @@
+-- Where a byte stands first: words that this library's code needs. No public clause cites them.
+use Rattle.std.specs.Prelude.{◌≡◌, ◌+◌, ◌<◌, ◌≤◌, ◌==◌, ℕ, List, length, slice_index, true, false}
+
+-- a byte does not stand from one place up to another
+abbrev pub IsAbsent : ℕ → List ℕ → ℕ → ℕ → Type 0
+IsAbsent wanted bytes from to = (k : ℕ) → from ≤ k → k < to → (slice_index bytes k == wanted) ≡ false
+
+-- the first of so many bytes from a place on that is the wanted one, or how many they are
+pub record IsPlaceIn (wanted : ℕ) (bytes : List ℕ) (at count place : ℕ) : Type 0 where
+  pub within : place ≤ count
+  pub before : IsAbsent wanted bytes at (at + place)
+  pub found : place < count → (slice_index bytes (at + place) == wanted) ≡ true
