@@ -70,7 +70,8 @@ one_row b xs e a p kind old new r has key is named first own who group more list
         ∙ key (emitted_counts b e has))
 
 -- an ACE whose key is in the list has a place there
-pub has_place : {A : Type 0} (b : ℕ) (xs : List Ace) (e : Emitted) (a : Ace) (p : Principal) → has_bit e.mask.bits b ≡ true
+pub has_place : {A : Type 0} (b : ℕ) (xs : List Ace) (e : Emitted) (a : Ace) (p : Principal)
+    → has_bit e.mask.bits b ≡ true
     → HasKey b xs (emitted_ace e) → a ≡ emitted_ace e → p ≡ principal_of a → None ≡ first_at b p xs → A
 has_place b xs e a p has key is named first =
     clash (ap kind_in (first ∙ ap (λ v. first_at b v xs) (named ∙ ap principal_of is))

@@ -106,3 +106,6 @@ frees_early k bits xs old new n f none = record {
   where
     clash : (b : ℕ) → has_bit bits b ≡ true → n ≤ b → ⊥
     clash b has l = cc (no_more_bits bits n b none l)
+
+-- before the first right, and after the last
+pub ruleset frees_ends = (frees_nothing, frees_all)

@@ -116,3 +116,8 @@ some_lowest bits is lacks b (has, before) = absurd (clash (sym (lacks b (right_b
   where
     clash : false ≡ true → ⊥
     clash e = cc
+
+-- the steps of the two loops over rights
+pub ruleset free_steps = (none_free_yet, none_free_more, free_there)
+
+pub ruleset lowest_steps = (lacks_yet, lacks_more)

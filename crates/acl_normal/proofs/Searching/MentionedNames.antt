@@ -90,3 +90,6 @@ longest_all names most i le h =
 -- before the first no name is longer
 pub longest_start : (names : List PrincipalRef) → IsLongest names 0 0
 longest_start names = record { is = omega arith }
+
+-- the three steps of the longest name
+pub ruleset longest_steps = (longest_start, longest_more, longest_all)

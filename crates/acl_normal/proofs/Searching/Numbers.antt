@@ -1,5 +1,5 @@
 -- Whom an ACE names, by the numbers of the principals.
-use Rattle.std.specs.Prelude.{◌≡◌, ℕ, ◌<◌, ◌≤◌, ◌+◌, Bool, true, false, not, ◌||◌, List, [], ◌∷◌, ◌++◌, refl, length, take, slice_index_or}
+use Rattle.std.specs.Prelude.{◌≡◌, ℕ, ◌<◌, ◌+◌, Bool, true, false, not, ◌||◌, List, [], ◌∷◌, ◌++◌, refl, length, take, slice_index_or}
 use Rattle.std.specs.List.{AllByRecursion, AllZip}
 use Rattle.std.specs.declared.cmp.Ordering.TheVariants.{Less}
 use Rattle.std.proofs.Common.{sym, ◌∙◌, ap, subst, arith, suc, zero}
@@ -39,24 +39,11 @@ found_at names q s i same lt h e = (
       ∙ sym (principal_at names q i lt),
 )
 
--- one that is not the same does not
-pub not_at : (names : List PrincipalRef) (q : PrincipalRef) (s : Principal) (i : ℕ) (same : Bool) → i < length names
-    → same ≡ principal_eq s (principal (slice_index_or names i q)) → same ≡ false
-    → principal_eq s (slice_index_or (principals names) i everyone) ≡ false
-not_at names q s i same lt h e = ap (principal_eq s) (principal_at names q i lt) ∙ sym h ∙ e
-
 -- a principal that stands at no number is not among them
 pub missing_all : (ps : List Principal) (s : Principal)
     → ((k : ℕ) → k < length ps → principal_eq s (slice_index_or ps k everyone) ≡ false) → is_among s ps ≡ false
 missing_all [] s h = refl
 missing_all (p ∷ ps) s h = rw (h 0 (omega arith), missing_all ps s (λ k lt. h (suc k) (omega arith))) refl
-
--- the same of the principals of the code
-pub missing_names : (names : List PrincipalRef) (s : Principal) (i : ℕ) → length names ≤ i
-    → ((k : ℕ) → k < i → principal_eq s (slice_index_or (principals names) k everyone) ≡ false)
-    → is_among s (principals names) ≡ false
-missing_names names s i le h =
-    missing_all (principals names) s (λ k lt. h k (omega (arith, length-map names principal)))
 
 -- who is not among them stands at no number
 pub missing_each : (ps : List Principal) (s : Principal) (k : ℕ) → k < length ps → is_among s ps ≡ false

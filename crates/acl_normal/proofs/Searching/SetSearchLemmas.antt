@@ -162,3 +162,10 @@ single_differs xs ys ps set a h = record { first = inl (a, found_left xs ys (sin
 pub pair_decides : (xs ys : List Ace) (ps : List Principal) (r : Option (List Principal)) → GrantAlikeTo xs ys []
     → Finds xs ys (singles ps) None → Finds xs ys (pairs ps) r → Finds xs ys (small_sets ps) r
 pair_decides xs ys ps r a h i = record { first = inl (a, found_right xs ys (singles ps) (pairs ps) r h.first i.first) }
+
+-- where a search begins and ends, among single principals, partners and pairs
+pub ruleset single_ends = (goes_on_all, single_here, single_none)
+
+pub ruleset partner_ends = (goes_on_all, partner_here, partner_none)
+
+pub ruleset pair_ends = (goes_on_all, pair_none)

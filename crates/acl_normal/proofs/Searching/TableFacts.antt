@@ -98,7 +98,8 @@ over_head true false v x m = grind (arith, nat_tests)
 over_head false l v x m = grind (arith, nat_tests)
 
 -- the greatest is over a number exactly if some row is
-pub over_is : (q : Sort) (w : Bool) (k v : ℕ) (rows : List Row) → nat_lt v (most_before q w k rows) ≡ any_over q w k v rows
+pub over_is : (q : Sort) (w : Bool) (k v : ℕ) (rows : List Row)
+    → nat_lt v (most_before q w k rows) ≡ any_over q w k v rows
 over_is q w k v [] = le-ltb v 0 (omega arith)
 over_is q w k v (r ∷ rows) =
     over_head (is_counted q r) (nat_lt (place_of w r) k) v (other_place w r) (most_before q w k rows)
@@ -368,3 +369,6 @@ pub not_of_kind : (q : Sort) (size k : ℕ) (rows : List Row) (forward back fs b
 not_of_kind q size k rows forward back fs bs t lt places f b fe be h e =
     found_false q size rows (slice_index_or rows k no_row) fs bs t h e (places_at size k rows no_row lt places)
     (subst (λ v. IsTable q false size rows v) (sym fe) f) (subst (λ v. IsTable q true size rows v) (sym be) b)
+
+-- a row raises the table, or leaves it
+pub ruleset raising = (raises_set, raises_none)

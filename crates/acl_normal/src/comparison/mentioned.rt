@@ -25,6 +25,7 @@ fn mention_one<'a>(names: &mut Vec<Principal<'a>>, item: &AceRef<'a>) -> Result<
 }
 
 // Adds the principals that a list mentions, each as often as the list does.
+#[tactic(auto, using(crate::proofs::Searching::MentionedNames::adds_all))]
 fn mention<'a>(names: &mut Vec<Principal<'a>>, list: &[AceRef<'a>]) -> Result<(), AllocError>
     ensures { OnOk result (AreMentioned (principals names.old.items)
         (list_of list.now) (principals names.new.items)) }
@@ -74,6 +75,7 @@ fn name_length(p: Principal<'_>) -> usize
 }
 
 /// The length of the longest name, and 0 where none is a name.
+#[tactic(auto, using(crate::proofs::Searching::MentionedNames::longest_steps))]
 pub(crate) fn longest_of(whole: &[Principal<'_>]) -> usize
     ensures value { result ≡ longest (principals whole.now) }
     ensures small { result < 2 ^ 63 }

@@ -16,6 +16,7 @@ use std::alloc::{AllocError, Global};
 
 impl Compared<'_> {
     // The first principal at which alone the lists differ, or the number of principals.
+    #[tactic(auto, using(crate::proofs::Searching::RowFacts::least_start))]
     fn least_single(&self, alloc: Global) -> Result<usize, AllocError>
         requires { IsCompared self.now }
         ensures { IfOk result (λ v. IsFirstSingle self.now v) }
@@ -32,6 +33,7 @@ impl Compared<'_> {
     }
 
     // The first principal that is one of a pair at which the lists differ, or the number of principals.
+    #[tactic(auto, using(crate::proofs::Searching::RowFacts::least_start))]
     fn least_member(&self, alloc: Global) -> Result<usize, AllocError>
         requires compared { IsCompared self.now }
         requires alone { IsAlikeAlone self.now }
@@ -50,6 +52,7 @@ impl Compared<'_> {
     }
 
     // The first of the later principals that is a pair with this one at which the lists differ, or their number.
+    #[tactic(auto, using(crate::proofs::Searching::RowFacts::least_start))]
     fn least_partner(&self, alloc: Global, at: usize) -> Result<usize, AllocError>
         requires at { at < length self.now.whole.now }
         requires compared { IsCompared self.now }
@@ -71,6 +74,7 @@ impl Compared<'_> {
 
 /// The first small set at which the lists differ. The first pair has as its lesser member the least principal of any
 /// pair at which they differ, whether the other comes before or behind it, and the least later one as the other.
+#[tactic(auto, using(crate::proofs::Searching::SetEvaluation::rights_of_each))]
 pub(crate) fn find_set<'a>(
     alloc: Global,
     list: &[AceRef<'_>],

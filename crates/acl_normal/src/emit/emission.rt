@@ -83,6 +83,7 @@ fn enter(
 }
 
 /// Marks what became free when rights of a key were taken out.
+#[tactic(auto, using(crate::proofs::Emission::NewlyFree::frees_ends))]
 fn free_after<'a>(
     rows: &MergedRows<'a>,
     at: Key<'a>,

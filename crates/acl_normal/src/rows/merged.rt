@@ -60,6 +60,7 @@ impl<'a> Model for MergedRows<'a> {
 const NO_RIGHT: Right = Right { bit: 11 };
 
 // The lowest of some rights, if there are any.
+#[tactic(auto, using(crate::proofs::Merging::Publics::lowest_steps))]
 pub(crate) fn lowest(bits: Mask) -> Option<Right>
     ensures some { (bit : ℕ) → IsLowest bit bits.bits → option_map (λ right. right.bit) result
         ≡ Some bit }
@@ -100,6 +101,7 @@ impl<'a> MergedRows<'a> {
 
     /// Whether the principal has one of these rights in what is left and is free on it: no ACE before its own
     /// conflicts with that on the right. It takes no memory.
+    #[tactic(auto, using(crate::proofs::Merging::Publics::free_steps))]
     pub fn is_free(&self, p: Principal<'_>, bits: Mask) -> bool
         ensures { IsTrue result ↔ HasFree self.now (principal p.entry) bits.bits }
     {
@@ -202,6 +204,7 @@ impl<'a> MergedRows<'a> {
     }
 
     /// The key of a number.
+    #[tactic(auto, using(crate::proofs::Emission::Marks::number_rank))]
     pub(crate) fn key_of(&self, number: usize) -> Key<'a>
         requires { number < 2 * length self.now }
         ensures { IsNumberOf self.now number (plain_key result) }

@@ -5,4 +5,5 @@ use Rattle.acl_normal.proofs.bit_table.rows_of.Given as goal
 
 -- the rows of the ACEs so far
 abbrev pub invariant-loop-item : goal.invariant-loop-item
-invariant-loop-item l = AreRows l.right.bit l.rows (with_bit l.right.bit (emitted_aces (take l.item-index l.form))) l.table.items
+invariant-loop-item l = AreRows l.right.bit l.rows (with_bit l.right.bit (emitted_aces (take l.item-index l.form)))
+    l.table.items

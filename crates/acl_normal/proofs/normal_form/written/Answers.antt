@@ -10,7 +10,8 @@ push_accepted-requires c =
 
 pub loop-item-preserved : goal.loop-item-preserved
 loop-item-preserved c =
-    next_written c.args.form.now c.loop-item.item-index _ c.loop-item.list c.push_accepted.new.self _ c.loop-item-test.true
+    next_written c.args.form.now c.loop-item.item-index _ c.loop-item.list c.push_accepted.new.self _
+    c.loop-item-test.true
     c.loop-item.invariant (c.ace_of.ensures ∙ ap emitted_ace c.item-item.is) c.in_ok-push_accepted.ensures.ok
 
 pub returns : goal.returns

@@ -5,8 +5,11 @@ use Rattle.acl_normal.specs.internal.Passes.{list_of}
 use Rattle.acl_normal.specs.internal.SetSearch.{principals}
 
 abbrev pub invariant-loop-place : goal.invariant-loop-place
-invariant-loop-place l = record
-    { within : l.place ≤ l.end; first : AreFirstFrom (principals l.whole) (list_of l.list) l.right.bit l.place l.out.items }
+invariant-loop-place l = record {
+  within : l.place ≤ l.end;
+  first : AreFirstFrom (principals l.whole) (list_of l.list) l.right.bit l.place
+      l.out.items;
+}
 
 abbrev pub decreases-loop-place : goal.decreases-loop-place
 decreases-loop-place l = l.place

@@ -45,5 +45,6 @@ returns-clause-marks c =
     c.row_at.ensures (c.rank.ensures ∙ ap kind_rank c.kind_at.ensures) in
     let within : 2 * c.row_at.result + c.rank.result < length c.args.ready.now =
     omega (arith, is.below, c.requires.keys.count, outline_length c.args.rows.now) in
-    on_ok_weaker c.add.result (λ e. adds (nothing_left c.args.rows.now) c.args.ready.now c.add.new.self _ c.args.right.bit
+    on_ok_weaker c.add.result (λ e. adds (nothing_left c.args.rows.now) c.args.ready.now c.add.new.self _
+    c.args.right.bit
     (key_here c.args.rows.now c.args.place) is.named is.is within e) c.add.ensures

@@ -74,7 +74,8 @@ emitted-preserved c =
     (plain_key c.key_of-key.result) c.emitted.invariant.1 c.in-Some.ensures.least c.in-Some.ensures.taken
     c.key_of-key.ensures in (
       drain_turn c.args.rows.now c.emitted.out.items c.push.new.self.items c.emitted.ready c.pop.new.self
-          c.free_after.new.ready c.in-Some.next.number c.in-Some.next.bits (plain_key c.key_of-key.result) c.emitted.rows
+          c.free_after.new.ready c.in-Some.next.number c.in-Some.next.bits (plain_key c.key_of-key.result)
+          c.emitted.rows
           c.emit_row.new.self _ c.emitted.invariant.0 t
           c.in_ok-push.ensures.items refl c.emit_row.ensures c.in_ok-free_after.ensures.marks,
       c.in_ok-free_after.ensures.keys,

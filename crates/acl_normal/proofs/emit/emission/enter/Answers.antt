@@ -11,7 +11,8 @@ pub loop-place-init : goal.loop-place-init
 loop-place-init c = (
   tt,
   tt,
-  walk_starts c.args.kind (is_users c.args.class) c.args.right.bit c.args.rows.now c.waiting_at-place-items.result.now.keys
+  walk_starts c.args.kind (is_users c.args.class) c.args.right.bit c.args.rows.now
+      c.waiting_at-place-items.result.now.keys
       _ (marks (nothing_left c.args.rows.now) c.args.ready.now) c.waiting_at-place-items.ensures
       c.into_iter-place-iterator.ensures.into_iter_gives.4 c.into_iter-place-iterator.ensures.into_iter_gives.0,
   c.requires,
@@ -22,7 +23,8 @@ returns-then-place-last-clause-keys c = c.loop-place.invariant.3
 
 pub returns-then-place-last-clause-marks : goal.returns-then-place-last-clause-marks
 returns-then-place-last-clause-marks c =
-    let once = subst (λ v. IsOnce (column v c.args.right.bit)) c.rows.view_is (c.rows.invariant.once c.args.right.bit) in
+    let once = subst (λ v. IsOnce (column v c.args.right.bit)) c.rows.view_is (c.rows.invariant.once c.args.right.bit)
+    in
     let blocked = c.last_clear-last.ensures.blocked c.in-Some.place.now c.if-place-last.true (omega arith) in
     walk_stops c.args.kind (is_users c.args.class) c.args.right.bit c.args.rows.now c.in-Some.place.now _ _ _ _ once
     c.loop-place.invariant.2 c.in-Some.ensures.steps blocked
@@ -38,7 +40,8 @@ add-requires-clause-keys c = c.loop-place.invariant.3
 
 pub loop-place-preserved : goal.loop-place-preserved
 loop-place-preserved c =
-    let once = subst (λ v. IsOnce (column v c.args.right.bit)) c.rows.view_is (c.rows.invariant.once c.args.right.bit) in
+    let once = subst (λ v. IsOnce (column v c.args.right.bit)) c.rows.view_is (c.rows.invariant.once c.args.right.bit)
+    in
     let clear = c.last_clear-last.ensures.clear c.in-Some.place.now c.if-place-last.false in (
       tt,
       tt,
@@ -52,6 +55,7 @@ returns-clause-keys c = c.loop-place.invariant.3
 
 pub returns-clause-marks : goal.returns-clause-marks
 returns-clause-marks c =
-    let once = subst (λ v. IsOnce (column v c.args.right.bit)) c.rows.view_is (c.rows.invariant.once c.args.right.bit) in
+    let once = subst (λ v. IsOnce (column v c.args.right.bit)) c.rows.view_is (c.rows.invariant.once c.args.right.bit)
+    in
     walk_done c.args.kind (is_users c.args.class) c.args.right.bit c.args.rows.now _ _ _ once c.loop-place.invariant.2
     c.in-None.ensures.steps.0

@@ -27,12 +27,14 @@ loop-bit-preserved c = elim c.if-has.branch [
         c.requires,
         c.args.lists.now.ok,
       ) in
-      rw w.lists-is (notes_on c.args.place c.args.kind (is_users c.args.class) c.args.mask c.args.lists.now.items lists.items
+      rw w.lists-is (notes_on c.args.place c.args.kind (is_users c.args.class) c.args.mask c.args.lists.now.items
+      lists.items
       c.loop-bit.bit w.slot.result w.push.new.self c.loop-bit.invariant (sym c.has.ensures ∙ w.if-has.true)
       c.loop-bit-test.true (omega (arith, c.requires, c.args.lists.now.ok)) w.slot.ensures
       (w.in_ok-push.ensures.items ∙ ap (λ v. v ++ c.args.place ∷ []) (ap (λ v. v.items) w.index_mut-list.ensures.value
       ∙ places_there lists.items w.slot.result _ within)))
-  | else-has w ↦ rw w.lists-is (notes_skip c.args.place c.args.kind (is_users c.args.class) c.args.mask c.args.lists.now.items
+  | else-has w ↦ rw w.lists-is (notes_skip c.args.place c.args.kind (is_users c.args.class) c.args.mask
+      c.args.lists.now.items
       c.loop-bit.lists.items c.loop-bit.bit c.loop-bit.invariant (sym c.has.ensures ∙ w.if-has.false))
 ]
 

@@ -21,7 +21,8 @@ loop-place-preserved c =
     let masks = c.args.masks.now in
     let place = c.loop-place.place in
     let mask = slice_index_or masks place 0 in
-    holds_more c.args.aces.now masks place c.index-aces-place.result mask (is_users c.of.result) c.loop-place.lists.items
+    holds_more c.args.aces.now masks place c.index-aces-place.result mask (is_users c.of.result)
+    c.loop-place.lists.items
     c.note.new.lists.items c.loop-place.invariant c.requires.places c.requires.quiet c.loop-place-test.true
     c.index-aces-place.is (same_default masks place 0 mask (omega (arith, c.loop-place-test.true, c.requires.places)))
     (c.of.ensures ∙ ap is_user c.principal.ensures) c.in_ok-note.ensures

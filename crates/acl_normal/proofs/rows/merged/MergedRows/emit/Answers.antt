@@ -4,4 +4,5 @@ use Rattle.acl_normal.proofs.Merging.Rows.{unnamed_taken}
 use Rattle.acl_normal.proofs.rows.merged.MergedRows.emit.Goals as goal
 
 pub returns-in_default : goal.returns-in_default
-returns-in_default c = sym (unnamed_taken (principal c.args.p) c.args.bits.bits c.args.self.now c.in_default.ensures.missing)
+returns-in_default c = sym (unnamed_taken (principal c.args.p) c.args.bits.bits c.args.self.now
+    c.in_default.ensures.missing)

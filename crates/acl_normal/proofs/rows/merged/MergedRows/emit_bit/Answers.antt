@@ -94,7 +94,8 @@ returns-in-Some c =
 
 pub returns-in_default : goal.returns-in_default
 returns-in_default c =
-    sym (take_none c.args.right.bit (principal c.args.p) c.args.self.now (first_by_none c.args.right.bit (principal c.args.p)
+    sym (take_none c.args.right.bit (principal c.args.p) c.args.self.now
+    (first_by_none c.args.right.bit (principal c.args.p)
     c.args.self.now (sym (c.in_default.ensures (principal c.args.p) c.requires))))
 
 pub put-requires-clause-right : goal.put-requires-clause-right

@@ -32,10 +32,12 @@ loop-bit-preserved c = elim c.if-has.branch [
 pub returns-then-mask-bit-eq0 : goal.returns-then-mask-bit-eq0
 returns-then-mask-bit-eq0 c =
     c.loop-bit.invariant ∙ ap (λ v. take_out (principal c.args.p) v c.args.self.now)
-    (low_all c.args.mask.bits c.loop-bit.bit (λ i l. no_more_bits c.args.mask.bits c.loop-bit.bit i c.if-mask-bit-eq0.true l))
+    (low_all c.args.mask.bits c.loop-bit.bit (λ i l. no_more_bits c.args.mask.bits c.loop-bit.bit i
+    c.if-mask-bit-eq0.true l))
 
 pub returns : goal.returns
 returns c =
     let end : c.loop-bit.bit ≡ 21 = omega (arith, c.loop-bit-test.false, c.loop-bit.auto.bit-end) in
     c.loop-bit.invariant ∙ ap (λ v. take_out (principal c.args.p) (low_bits c.args.mask.bits v) c.args.self.now) end
-    ∙ ap (λ v. take_out (principal c.args.p) v c.args.self.now) (low_all c.args.mask.bits 21 (no_right_above c.args.mask.bits c.args.mask.within))
+    ∙ ap (λ v. take_out (principal c.args.p) v c.args.self.now)
+    (low_all c.args.mask.bits 21 (no_right_above c.args.mask.bits c.args.mask.within))
