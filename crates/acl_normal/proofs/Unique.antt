@@ -1,5 +1,6 @@
 pub mod Names
 pub mod Columns
+pub mod Shorter
 pub mod FirstKind
 pub mod Realised
 pub mod Irreducible

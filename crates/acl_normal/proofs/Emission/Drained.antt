@@ -1,4 +1,5 @@
 -- The loop that emits: what it keeps, what a turn does, and that it ends.
+use Rattle.acl_normal.proofs.Unique.Shorter.{without_no_longer, without_shorter}
 use Rattle.std.specs.Prelude.{◌≡◌, ◌≢◌, ℕ, zero, suc, ◌*◌, ◌/◌, ◌<◌, ◌≤◌, Bool, true, false, cond, not, ◌&&◌, ◌⊎◌, ◌==◌, List, [], ◌∷◌, ◌++◌, Some, None, length, slice_index_or, slice_set, refl}
 use Rattle.std.specs.Ordering.{is_le}
 use Rattle.std.specs.Str.{bytes_eq}
@@ -496,28 +497,6 @@ drain_ends whole out ready xs d empty = completes_all whole out xs d.completes (
         ap (λ v. has_bit v b) (empty k) ∙ ap (λ v. v == 1) (bit_at-zero b) in
         cc (d.free k b)
 
--- no column grows
-pub no_longer : (p : Principal) (c : Column) → length (without_principal p c) ≤ length c
-no_longer p [] = omega arith
-no_longer p ((s, i) ∷ c) = go (principal_eq s p) refl (no_longer p c)
-  where
-    go : (t : Bool) → principal_eq s p ≡ t → length (without_principal p c) ≤ length c
-        → length (without_principal p ((s, i) ∷ c)) ≤ suc (length c)
-    go true e ih = rw e (omega (arith, ih))
-    go false e ih = rw e (omega (arith, ih))
-
--- one that loses a key is shorter
-pub shorter : (p : Principal) (c : Column) (k : Kind) → first_kind (is_either p p) c ≡ Some k
-    → length (without_principal p c) < length c
-shorter p [] k h = cc
-shorter p ((s, i) ∷ c) k h = go (principal_eq s p) refl (shorter p c k)
-  where
-    go : (t : Bool) → principal_eq s p ≡ t
-        → (first_kind (is_either p p) c ≡ Some k → length (without_principal p c) < length c)
-        → length (without_principal p ((s, i) ∷ c)) < suc (length c)
-    go true e ih = rw e (omega (arith, no_longer p c))
-    go false e ih = rw e (omega (arith, ih (rw e at h)))
-
 -- the columns together do not grow
 pub count_kept : (n : ℕ) (p : Principal) (m : ℕ) (xs : List Ace) → count_left n (take_out p m xs) ≤ count_left n xs
 count_kept zero p m xs = omega arith
@@ -527,7 +506,7 @@ count_kept (suc n) p m xs =
     omega (arith, here, count_kept n p m xs)
   where
     go : (t : Bool) → length (cond t (without_principal p (column xs n)) (column xs n)) ≤ length (column xs n)
-    go true = no_longer p (column xs n)
+    go true = without_no_longer p (column xs n)
     go false = omega arith
 
 -- and shrink with one of them
@@ -537,7 +516,7 @@ count_falls zero p m xs b l h = absurd (omega (arith, l))
 count_falls (suc n) p m xs b l h = go (cases_eq b n) (count_falls n p m xs b)
   where
     at : (t : Bool) → length (cond t (without_principal p (column xs n)) (column xs n)) ≤ length (column xs n)
-    at true = no_longer p (column xs n)
+    at true = without_no_longer p (column xs n)
     at false = omega arith
 
     go : (b ≡ n) ⊎ (b ≡ n → ⊥)
@@ -568,7 +547,7 @@ drain_falls whole out old rest q m xs d p = go (some_below m 21)
         count_falls 21 q.0 m xs b
         (⊎_elim (λ l. l) (λ l. absurd (clash (sym e ∙ popped_low whole out old rest q m xs d p b l)))
         (cases_lt b 21)) (rw (column_taken b q.0 m xs, e)
-        (shorter q.0 (column xs b) q.1 first))
+        (without_shorter q.0 (column xs b) q.1 first))
       where
         clash : true ≡ false → ⊥
         clash h = cc

@@ -1,6 +1,6 @@
 -- Several bits of a principal taken out, one after the other.
 use Rattle.std.specs.Prelude.{◌≡◌, ℕ, ◌+◌, ◌<◌, ◌≤◌, ◌^◌, zero, suc, Bool, true, false, not, ◌||◌, ◌&&◌, nat_lt, List, [], ◌∷◌, bit_or, refl, length, slice_index_or}
-use Rattle.std.proofs.Common.{sym, ◌∙◌, ap, arith, ⊎_elim, add-one}
+use Rattle.std.proofs.Common.{sym, ◌∙◌, ap, arith, ⊎_elim, add-one, subst}
 use Rattle.std.proofs.lemmas.Bool.{cases_eq, eq-eqb, ne_eqb, cases_lt, le-ltb, lt-ltb}
 use Rattle.acl_perm.specs.Principal.{Principal}
 use Rattle.acl_perm.specs.Bits.{has_bit}
@@ -149,3 +149,14 @@ key_there [] masks i d h = absurd (omega arith)
 key_there (x ∷ aces) [] i d h = absurd (omega arith)
 key_there (x ∷ aces) (m ∷ masks) zero d h = refl
 key_there (x ∷ aces) (m ∷ masks) (suc i) d h = key_there aces masks i d (omega arith)
+
+-- the same of a list that is what is left
+pub place_of_left : (aces : List AceRef) (masks : List ℕ) (i : ℕ) (xs : List Ace) → with_masks aces masks ≡ xs
+    → i < length xs → i < length aces
+place_of_left aces masks i xs is l = place_within aces masks i (subst (λ v. i < length v) (sym is) l)
+
+pub key_of_left : (aces : List AceRef) (masks : List ℕ) (i : ℕ) (d : AceRef) (xs : List Ace) → with_masks aces masks ≡
+    xs
+    → i < length xs → (principal_of (ace (slice_index_or aces i d)), (slice_index_or aces i d).kind) ≡ key_here xs i
+key_of_left aces masks i d xs is l =
+    key_there aces masks i d (subst (λ v. i < length v) (sym is) l) ∙ ap (λ v. key_here v i) is

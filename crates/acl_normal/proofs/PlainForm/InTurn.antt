@@ -1,24 +1,21 @@
 -- ACEs that come first one after the other: what has come and what is left.
-use Rattle.std.proofs.Common.{◌≡◌, ◌≢◌, ℕ, ◌+◌, ◌<◌, ◌≤◌, Bool, true, false, List, [], ◌∷◌, ◌++◌, length, suc, refl, sym, ap, subst, ◌∙◌, arith, inl, inr, append_assoc, append-nil}
-use Rattle.std.specs.Prelude.{Some}
+use Rattle.acl_normal.proofs.Unique.Shorter.{without_shorter}
+use Rattle.std.proofs.Common.{◌≡◌, ◌≢◌, ℕ, ◌+◌, ◌<◌, ◌≤◌, Bool, true, false, List, [], ◌∷◌, ◌++◌, length, refl, sym, ap, subst, ◌∙◌, arith, inl, inr, append_assoc, append-nil}
 use Rattle.std.specs.List.{AllByRecursion}
-use Rattle.std.proofs.lemmas.Bool.{cases_lt, false≢true, or_from}
+use Rattle.std.proofs.lemmas.Bool.{cases_lt, false≢true}
 use Rattle.std.proofs.lemmas.List.{length-append}
 use Rattle.acl_perm.specs.Bits.{has_bit}
-use Rattle.acl_perm.specs.Principal.{Principal}
 use Rattle.acl_perm.specs.Profile.{full}
-use Rattle.acl_perm.specs.declared.kind.Kind.{Kind}
 use Rattle.acl_perm.proofs.Sets.{some_bit, IsMask-lt}
 use Rattle.acl_nfs4.specs.Ace.{Ace}
 use Rattle.acl_nfs4.specs.Limits.{most_weight}
 use Rattle.acl_nfs4.specs.Spelling.{IsAce, IsAccepted}
 use Rattle.acl_nfs4.specs.Who.{principal_of}
 use Rattle.acl_nfs4.proofs.Push.{each_push}
-use Rattle.acl_eval.specs.Column.{Column, column, first_kind}
-use Rattle.acl_normal.specs.internal.Alike.{is_either}
+use Rattle.acl_eval.specs.Column.{Column, column}
 use Rattle.acl_normal.specs.internal.Counts.{count_left}
 use Rattle.acl_normal.specs.internal.Emissions.{IsEmission, IsStep, HasEmptyColumns, HasOnceColumns}
-use Rattle.acl_normal.specs.Keys.{ace_key, principal_eq}
+use Rattle.acl_normal.specs.Keys.{ace_key}
 use Rattle.acl_normal.specs.Normal.{HasNoEmptyMask, HasNormalFlags, flags_for, is_free}
 use Rattle.acl_normal.specs.internal.Passes.{IsLeast, KeepsProfiles}
 use Rattle.acl_normal.specs.internal.Plain.{without_principal}
@@ -56,29 +53,6 @@ emitting_none whole once = record {
 
 -- ---- one step
 
-without_shorter : (p : Principal) (c : Column) → length (without_principal p c) ≤ length c
-without_shorter p [] = omega arith
-without_shorter p ((q, j) ∷ c) = go (principal_eq q p) refl (without_shorter p c)
-  where
-    go : (b : Bool) → principal_eq q p ≡ b → length (without_principal p c) ≤ length c
-        → length (without_principal p ((q, j) ∷ c)) ≤ suc (length c)
-    go true e ih = rw e (omega (arith, ih))
-    go false e ih = rw e (omega (arith, ih))
-
-without_less : (p : Principal) (k : Kind) (c : Column) → first_kind (is_either p p) c ≡ Some k
-    → length (without_principal p c) < length c
-without_less p k [] h = absurd cc
-without_less p k ((q, j) ∷ c) h = go (principal_eq q p) refl (without_less p k c)
-  where
-    go : (b : Bool) → principal_eq q p ≡ b
-        → (first_kind (is_either p p) c ≡ Some k → length (without_principal p c) < length c)
-        → length (without_principal p ((q, j) ∷ c)) < suc (length c)
-    go true e ih = rw e (omega (arith, without_shorter p c))
-    go false e ih =
-        let skip : first_kind (is_either p p) c ≡ Some k =
-        rw (or_from (principal_eq q p) (principal_eq q p) e e) at h in
-        rw e (omega (arith, ih skip))
-
 -- what of one list is left when an ACE has come
 pub record Taken (left : List Ace) (a : Ace) (rest : List Ace) : Type 0 where
   pub taken : (bit : ℕ) → has_bit a.mask bit ≡ true
@@ -101,7 +75,7 @@ module _ (left rest : List Ace) (a : Ace) (least : IsLeast left left a) (t : Tak
   fewer_at bit has =
       let free : is_free (column left bit) (ace_key a) ≡ true = sym (least.candidate.all bit) ∙ has in
       let p = principal_of a in
-      let less = without_less p a.kind (column left bit)
+      let less = without_shorter p (column left bit) a.kind
       (ahead_from_free (column left bit) p a.kind free p (overlaps_itself p)) in
       omega (arith, less, ap length (t.taken bit has))
 

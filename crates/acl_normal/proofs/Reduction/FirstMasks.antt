@@ -1,4 +1,5 @@
 -- The masks of the first ACEs of a list, place by place.
+use Rattle.std.proofs.Math.Bool.{and-true, or-false, and-false, or_self}
 use Rattle.std.specs.Prelude.{◌≡◌, ℕ, ◌<◌, ◌≤◌, suc, Bool, true, false, cond, not, ◌||◌, ◌&&◌, List, [], ◌∷◌, ◌++◌, Option, Some, None, is_some, is_none, option_map, length, replicate, take, slice_set, slice_index_or, bit_or, refl}
 use Rattle.std.proofs.Common.{sym, ◌∙◌, ap, subst, arith, add-one}
 use Rattle.std.proofs.lemmas.List.{append-nil, get_or-replicate, get_or-set_same, get_or-set_other, length-replicate, length-set, length-take-le, take_all, take_more}
@@ -130,17 +131,13 @@ abbrev pub IsFresh : List Ace → Ace → ℕ → Type 0
 IsFresh xs a m = (b : ℕ)
     → has_bit m b ≡ (counts b a && is_none (first_kind (is_either (principal_of a) everyone) (column xs b)))
 
-and_true : (t : Bool) → (t && true) ≡ t
-and_true true = refl
-and_true false = refl
-
 -- it takes part with all of them
 fresh_counts : (xs : List Ace) (a : Ace) (m b : ℕ) → IsFresh xs a m → counts b (masked a m) ≡ has_bit m b
 fresh_counts xs a m b f = go (is_inherit_only a) refl (has_bit a.mask b) refl
   where
     go : (t : Bool) → is_inherit_only a ≡ t → (s : Bool) → has_bit a.mask b ≡ s
         → (has_bit m b && not (is_inherit_only a)) ≡ has_bit m b
-    go false e s g = rw e (and_true (has_bit m b))
+    go false e s g = rw e (and-true (has_bit m b))
     go true e true g =
         let none : has_bit m b ≡ false = f b ∙ rw (g, e) refl in
         rw none refl
@@ -320,18 +317,6 @@ seen_more whole seen all all' xs a m s named fresh is = record {
     new : ℕ
     new = bit_or (slice_index_or seen (row_of (principal_of a) whole) 0) m
 
-    or_false : (t : Bool) → (t || false) ≡ t
-    or_false true = refl
-    or_false false = refl
-
-    and_false : (t : Bool) → (t && false) ≡ false
-    and_false true = refl
-    and_false false = refl
-
-    or_same : (t : Bool) → (t || t) ≡ t
-    or_same true = refl
-    or_same false = refl
-
     some_is : (b : ℕ) (p : Principal) → is_some (first_kind (is_either p p) (column (xs ++ masked a m ∷ []) b))
         ≡ (is_some (first_kind (is_either p p) (column xs b)) || (has_bit m b && principal_eq (principal_of a) p))
     some_is b p =
@@ -340,7 +325,7 @@ seen_more whole seen all all' xs a m s named fresh is = record {
         ∙ ap (λ t. is_some (first_kind (is_either p p) (column xs b)) || (t && is_either p p (principal_of a)))
         (fresh_counts xs a m b fresh)
         ∙ ap (λ t. is_some (first_kind (is_either p p) (column xs b)) || (has_bit m b && t))
-        (or_same (principal_eq (principal_of a) p))
+        (or_self (principal_eq (principal_of a) p))
 
     rows : (p : Principal) → is_named p whole ≡ true → (b : ℕ) → (t : Bool) → principal_eq (principal_of a) p ≡ t
         → has_bit (slice_index_or (slice_set seen (row_of (principal_of a) whole)
@@ -357,15 +342,15 @@ seen_more whole seen all all' xs a m s named fresh is = record {
         ∙ has_bit-or (slice_index_or seen (row_of (principal_of a) whole) 0) m b
         ∙ ap (λ t. t || has_bit m b) (s.rows (principal_of a) named b)
         ∙ ap (λ v. is_some (first_kind (is_either v v) (column xs b)) || has_bit m b) same
-        ∙ ap (λ t. is_some (first_kind (is_either p p) (column xs b)) || t) (sym (and_true (has_bit m b)))
+        ∙ ap (λ t. is_some (first_kind (is_either p p) (column xs b)) || t) (sym (and-true (has_bit m b)))
         ∙ ap (λ t. is_some (first_kind (is_either p p) (column xs b)) || (has_bit m b && t)) (sym e)
         ∙ sym (some_is b p)
     rows p h b false e =
         ap (λ v. has_bit v b) (get_or-set_other seen (row_of (principal_of a) whole) (row_of p whole)
         (bit_or (slice_index_or seen (row_of (principal_of a) whole) 0) m) 0 apart)
         ∙ s.rows p h b
-        ∙ sym (or_false (is_some (first_kind (is_either p p) (column xs b))))
-        ∙ ap (λ t. is_some (first_kind (is_either p p) (column xs b)) || t) (sym (and_false (has_bit m b)))
+        ∙ sym (or-false (is_some (first_kind (is_either p p) (column xs b))))
+        ∙ ap (λ t. is_some (first_kind (is_either p p) (column xs b)) || t) (sym (and-false (has_bit m b)))
         ∙ ap (λ t. is_some (first_kind (is_either p p) (column xs b)) || (has_bit m b && t)) (sym e)
         ∙ sym (some_is b p)
       where
@@ -381,14 +366,14 @@ seen_more whole seen all all' xs a m s named fresh is = record {
     of_all b true e =
         ap (λ v. has_bit v b) (is ∙ rw e refl) ∙ has_bit-or all m b ∙ ap (λ t. t || has_bit m b) (s.everyone b)
         ∙ ap (λ t. is_some (first_kind (is_either everyone everyone) (column xs b)) || t)
-        (sym (and_true (has_bit m b)))
+        (sym (and-true (has_bit m b)))
         ∙ ap (λ t. is_some (first_kind (is_either everyone everyone) (column xs b)) || (has_bit m b && t)) (sym e)
         ∙ sym (some_is b everyone)
     of_all b false e =
         ap (λ v. has_bit v b) (is ∙ rw e refl) ∙ s.everyone b
-        ∙ sym (or_false (is_some (first_kind (is_either everyone everyone) (column xs b))))
+        ∙ sym (or-false (is_some (first_kind (is_either everyone everyone) (column xs b))))
         ∙ ap (λ t. is_some (first_kind (is_either everyone everyone) (column xs b)) || t)
-        (sym (and_false (has_bit m b)))
+        (sym (and-false (has_bit m b)))
         ∙ ap (λ t. is_some (first_kind (is_either everyone everyone) (column xs b)) || (has_bit m b && t)) (sym e)
         ∙ sym (some_is b everyone)
 

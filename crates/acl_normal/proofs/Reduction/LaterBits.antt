@@ -1,4 +1,5 @@
 -- The masks of what later ACEs have, and of what everyone is allowed.
+use Rattle.std.proofs.Math.Bool.{and-false}
 use Rattle.std.specs.Prelude.{◌≡◌, ℕ, ◌+◌, ◌<◌, ◌≤◌, zero, suc, Bool, true, false, cond, not, ◌||◌, ◌&&◌, List, [], ◌∷◌, ◌++◌, take, Option, Some, None, option_map, bit_or, bit_and, length, slice_index_or, refl}
 use Rattle.std.specs.Int.{bit_at}
 use Rattle.std.proofs.Common.{sym, ◌∙◌, ap, subst, arith}
@@ -154,10 +155,6 @@ allowed_in b [] = false
 allowed_in b (a ∷ xs) =
     (counts b a && (principal_eq (principal_of a) everyone && kind_eq a.kind Allow)) || allowed_in b xs
 
-and_false : (t : Bool) → (t && false) ≡ false
-and_false true = refl
-and_false false = refl
-
 none_allowed : (b : ℕ) (xs : List Ace) → first_kind (is_either everyone everyone) (column xs b) ≡ None
     → allowed_in b xs ≡ false
 none_allowed b [] h = refl
@@ -253,7 +250,7 @@ allows_same xs n bits a h l is e b =
   where
     none : (t s : Bool) → t ≡ (t || (s && false))
     none true s = refl
-    none false s = sym (and_false s)
+    none false s = sym (and-false s)
 
 -- all places
 pub allows_all : (xs : List Ace) (n bits : ℕ) → AllowsTo xs n bits → length xs ≤ n → HasOnceColumns xs → (b : ℕ)

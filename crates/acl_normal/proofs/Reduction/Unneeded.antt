@@ -1,4 +1,5 @@
 -- The needless bits dropped, from the last ACE to the first.
+use Rattle.std.proofs.Math.Bool.{and-true}
 use Rattle.std.specs.Prelude.{◌≡◌, ℕ, ◌+◌, ◌<◌, ◌≤◌, zero, suc, Bool, true, false, cond, not, ◌||◌, ◌&&◌, List, [], ◌∷◌, ◌++◌, Some, None, length, slice_index_or, slice_set, refl}
 use Rattle.std.proofs.Common.{sym, ◌∙◌, ap, subst, arith, append_assoc}
 use Rattle.std.proofs.lemmas.Bool.{and_parts}
@@ -123,10 +124,6 @@ without_absent_bits : (p : Principal) (m : ℕ) (a : Ace)
     → ((b : ℕ) → has_bit m b ≡ true → (counts b a && principal_eq (principal_of a) p) ≡ false) → without_bits p m a ≡ a
 without_absent_bits p m a h = go (principal_eq (principal_of a) p) refl (is_inherit_only a) refl
   where
-    and_true : (t : Bool) → (t && true) ≡ t
-    and_true true = refl
-    and_true false = refl
-
     and_false : (t : Bool) → t ≡ false → (t && false) ≡ t
     and_false false e = refl
     and_false true e = cc
@@ -137,10 +134,10 @@ without_absent_bits p m a h = go (principal_eq (principal_of a) p) refl (is_inhe
         none : (b : ℕ) → has_bit m b ≡ true → has_bit a.mask b ≡ false
         none b i =
             let whole : ((has_bit a.mask b && true) && true) ≡ false = rw (e, f) at h b i in
-            sym (and_true (has_bit a.mask b)) ∙ sym (and_true (has_bit a.mask b && true)) ∙ whole
+            sym (and-true (has_bit a.mask b)) ∙ sym (and-true (has_bit a.mask b && true)) ∙ whole
 
         at : (b : ℕ) (t : Bool) → has_bit m b ≡ t → (has_bit a.mask b && not (has_bit m b)) ≡ has_bit a.mask b
-        at b false i = rw i (and_true (has_bit a.mask b))
+        at b false i = rw i (and-true (has_bit a.mask b))
         at b true i = rw i (and_false (has_bit a.mask b) (none b i))
 
     go : (s : Bool) → principal_eq (principal_of a) p ≡ s → (t : Bool) → is_inherit_only a ≡ t → without_bits p m a ≡ a

@@ -1,4 +1,7 @@
 -- What the first small set at which two lists grant otherwise says of them.
+use Rattle.acl_nfs4.specs.Spelling.{IsAccepted}
+use Rattle.acl_perm.specs.Profile.{full}
+use Rattle.acl_normal.proofs.Unique.Accepted.{accepted_names}
 use Rattle.std.specs.declared.alloc.AllocError.{AllocError}
 use Rattle.std.specs.Prelude.{IsTrue, IsNone, IfOk, Result, ◌≡◌, ◌↔◌, ℕ, ◌+◌, Bool, true, false, List, Option, Some, None, refl}
 use Rattle.std.proofs.Common.{sym, ◌∙◌, ap, subst}
@@ -76,6 +79,14 @@ requester_is xs ys ps set n most mask first s nx ny is h more long at d =
     (subst IsSituation (sym there)
     (found_is_situation xs ys set nx ny (subst (λ v. FindsFirst xs ys (small_sets v) (Some set)) is h.first)))
     (first_is xs ys ps set n most mask first s is h more long at d)
+
+-- accepted lists have names, also as the code holds them
+pub names_of : (xs ys vs ws : List Ace) → vs ≡ xs → ws ≡ ys → IsAccepted full xs → IsAccepted full ys
+    → HasNames vs × HasNames ws
+names_of xs ys vs ws first second here there = (
+  subst HasNames (sym first) (accepted_names full xs here),
+  subst HasNames (sym second) (accepted_names full ys there),
+)
 
 -- an answer about two lists is one about the same lists
 pub same_of : (xs ys vs ws : List Ace) (answer : Result (Option Difference) AllocError) → vs ≡ xs → ws ≡ ys

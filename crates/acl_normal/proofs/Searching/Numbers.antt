@@ -1,5 +1,6 @@
 -- Whom an ACE names, by the numbers of the principals.
-use Rattle.std.specs.Prelude.{◌≡◌, ℕ, ◌<◌, ◌+◌, Bool, true, false, not, ◌||◌, List, [], ◌∷◌, ◌++◌, refl, length, take, slice_index_or}
+use Rattle.std.proofs.Math.Bool.{or-false}
+use Rattle.std.specs.Prelude.{◌≡◌, ℕ, ◌<◌, ◌+◌, Bool, true, false, not, List, [], ◌∷◌, ◌++◌, refl, length, take, slice_index_or}
 use Rattle.std.specs.List.{AllByRecursion, AllZip}
 use Rattle.std.specs.declared.cmp.Ordering.TheVariants.{Less}
 use Rattle.std.proofs.Common.{sym, ◌∙◌, ap, subst, arith, suc, zero}
@@ -71,15 +72,10 @@ apart (p ∷ ps) (suc i) zero r li lk e =
     absurd (not_below_itself p (subst (λ v. principal_cmp p v ≡ Less) e (below_at p ps i (omega arith) r.0)))
 apart (p ∷ ps) (suc i) (suc k) r li lk e = ap suc (apart ps i k r.1 (omega arith) (omega arith) e)
 
--- a choice with nothing is the choice
-alone_of : (x : Bool) → (x || false) ≡ x
-alone_of true = refl
-alone_of false = refl
-
 -- a key that takes part and isn't of everyone is of a principal just where that is its own
 pub is_of_own : (a : Ace) (p : Principal) → takes_part a ≡ true → principal_eq (principal_of a) everyone ≡ false
     → is_of a p ≡ principal_eq (principal_of a) p
-is_of_own a p h e = rw (h, e) (alone_of (principal_eq (principal_of a) p))
+is_of_own a p h e = rw (h, e) (or-false (principal_eq (principal_of a) p))
 
 -- an ACE that takes part and is of a principal names that one alone
 pub whom_one : (ps : List Principal) (a : Ace) (s : Principal) (i : ℕ) (inherit same : Bool) → IsRising ps

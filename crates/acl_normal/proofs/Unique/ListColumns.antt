@@ -38,20 +38,17 @@ pub record ComesFrom (b : ℕ) (xs : List Ace) (front : Column) (e : Key) (back 
   pub back_is : column after b ≡ back
   pub has : has_bit ace.mask b ≡ true
 
-longer_by : (b : ℕ) (a : Ace) (xs : List Ace) (f : Key) (front : Column) (e : Key) (back : Column)
-    → (has_bit a.mask b && not (is_inherit_only a)) ≡ true → ace_key a ≡ f → ComesFrom b xs front e back
-    → ComesFrom b (a ∷ xs) (f ∷ front) e back
-longer_by b a xs f front e back i head s =
-    record {
-      before = a ∷ s.before;
-      ace = s.ace;
-      after = s.after;
-      is = ap (λ v. a ∷ v) s.is;
-      front_is = rw i
-          (rw (head, s.front_is) refl);
-      back_is = s.back_is;
-      has = s.has;
-    }
+longer_by : (b : ℕ) (a : Ace) (xs : List Ace) (front whole : Column) (e : Key) (back : Column)
+    → (s : ComesFrom b xs front e back) → column (a ∷ s.before) b ≡ whole → ComesFrom b (a ∷ xs) whole e back
+longer_by b a xs front whole e back s is = record {
+  before = a ∷ s.before;
+  ace = s.ace;
+  after = s.after;
+  is = ap (λ v. a ∷ v) s.is;
+  front_is = is;
+  back_is = s.back_is;
+  has = s.has;
+}
 
 comes_from : (b : ℕ) (xs : List Ace) (front : Column) (e : Key) (back : Column) → column xs b ≡ front ++ e ∷ back
     → ComesFrom b xs front e back
@@ -76,20 +73,13 @@ comes_from b (a ∷ xs) front e back h = go (has_bit a.mask b && not (is_inherit
         }
     go true i (f ∷ front) h ih =
         let here : ace_key a ∷ column xs b ≡ f ∷ (front ++ e ∷ back) = rw i at h in
-        longer_by b a xs f front e back i (cc) (ih front e back (cc))
+        let s : ComesFrom b xs front e back = ih front e back (cc) in
+        let head : ace_key a ≡ f = cc in
+        longer_by b a xs front (f ∷ front) e back s (rw i (rw (head, s.front_is) refl))
     go false i front h ih =
         let here : column xs b ≡ front ++ e ∷ back = rw i at h in
         let s = ih front e back here in
-        record {
-          before = a ∷ s.before;
-          ace = s.ace;
-          after = s.after;
-          is = ap (λ v. a ∷ v) s.is;
-          front_is = rw i
-              s.front_is;
-          back_is = s.back_is;
-          has = s.has;
-        }
+        longer_by b a xs front front e back s (rw i s.front_is)
 
 -- lists whose columns decide alike grant the same
 pub same_grants_from_columns : (xs ys : List Ace)

@@ -1,11 +1,8 @@
-use Rattle.std.proofs.Common.{ap, subst, sym, ◌∙◌}
+use Rattle.std.proofs.Common.{ap, ◌∙◌}
 use Rattle.acl_normal.proofs.comparison.compare.Goals as goal
-use Rattle.acl_normal.proofs.Unique.Accepted.{accepted_names}
-use Rattle.acl_normal.proofs.Searching.FirstSet.{rising_names, same_list_same, same_of}
-use Rattle.acl_normal.specs.Normal.{HasNames}
+use Rattle.acl_normal.proofs.Searching.FirstSet.{rising_names, same_list_same, same_of, names_of}
 use Rattle.acl_normal.specs.internal.Passes.{list_of}
 use Rattle.acl_normal.specs.internal.SetSearch.{principals}
-use Rattle.acl_perm.specs.Profile.{full}
 
 pub returns-then-eq-clause-same : goal.returns-then-eq-clause-same
 returns-then-eq-clause-same c = same_list_same c.args.first.now c.args.second.now _ c.if-eq.true c.eq.ensures.exact
@@ -19,9 +16,6 @@ returns-clause-same c = same_of _ _ _ _ _ (ap list_of c.deref-6.ensures.value �
     (ap list_of c.deref-7.ensures.value ∙ c.in_ok-other.ensures.aces) c.answer.ensures.same
 
 pub answer-requires-clause-names : goal.answer-requires-clause-names
-answer-requires-clause-names c = (
-  subst HasNames (sym (ap list_of c.deref-6.ensures.value ∙ c.in_ok-list.ensures.aces))
-      (accepted_names full c.args.first.now c.in_ok-list.ensures.accepted),
-  subst HasNames (sym (ap list_of c.deref-7.ensures.value ∙ c.in_ok-other.ensures.aces))
-      (accepted_names full c.args.second.now c.in_ok-other.ensures.accepted),
-)
+answer-requires-clause-names c = names_of _ _ _ _ (ap list_of c.deref-6.ensures.value ∙ c.in_ok-list.ensures.aces)
+    (ap list_of c.deref-7.ensures.value ∙ c.in_ok-other.ensures.aces) c.in_ok-list.ensures.accepted
+    c.in_ok-other.ensures.accepted

@@ -31,15 +31,12 @@ key_of-key-requires c =
 
 pub emit_row-requires : goal.emit_row-requires
 emit_row-requires c =
-    (takes c.emitted.rows c.emitted.ready c.pop.new.self c.in-Some.next.number c.in-Some.next.bits
-    (plain_key c.key_of-key.result) c.emitted.invariant.1 c.in-Some.ensures.least c.in-Some.ensures.taken
+    (takes _ _ _ _ _ _ c.emitted.invariant.1 c.in-Some.ensures.least c.in-Some.ensures.taken
     c.key_of-key.ensures).row
 
 pub invariant_of-mask : goal.invariant_of-mask
 invariant_of-mask c =
-    let t =
-    takes c.emitted.rows c.emitted.ready c.pop.new.self c.in-Some.next.number c.in-Some.next.bits
-    (plain_key c.key_of-key.result) c.emitted.invariant.1 c.in-Some.ensures.least c.in-Some.ensures.taken
+    let t = takes _ _ _ _ _ _ c.emitted.invariant.1 c.in-Some.ensures.least c.in-Some.ensures.taken
     c.key_of-key.ensures in
     record {
       within =
@@ -49,9 +46,7 @@ invariant_of-mask c =
 
 pub free_after-requires : goal.free_after-requires
 free_after-requires c =
-    let t =
-    takes c.emitted.rows c.emitted.ready c.pop.new.self c.in-Some.next.number c.in-Some.next.bits
-    (plain_key c.key_of-key.result) c.emitted.invariant.1 c.in-Some.ensures.least c.in-Some.ensures.taken
+    let t = takes _ _ _ _ _ _ c.emitted.invariant.1 c.in-Some.ensures.least c.in-Some.ensures.taken
     c.key_of-key.ensures in
     subst (λ v. FitsKeys v c.pop.new.self)
     (sym (outline_left (plain_key c.key_of-key.result).0 c.in-Some.next.bits c.emitted.rows c.emit_row.new.self
@@ -59,9 +54,7 @@ free_after-requires c =
 
 pub emitted-smaller : goal.emitted-smaller
 emitted-smaller c =
-    let t =
-    takes c.emitted.rows c.emitted.ready c.pop.new.self c.in-Some.next.number c.in-Some.next.bits
-    (plain_key c.key_of-key.result) c.emitted.invariant.1 c.in-Some.ensures.least c.in-Some.ensures.taken
+    let t = takes _ _ _ _ _ _ c.emitted.invariant.1 c.in-Some.ensures.least c.in-Some.ensures.taken
     c.key_of-key.ensures in
     subst (λ v. count_left 21 v < count_left 21 c.emitted.rows) (sym c.emit_row.ensures)
     (drain_falls c.args.rows.now c.emitted.out.items _ _ (plain_key c.key_of-key.result) c.in-Some.next.bits
@@ -69,9 +62,7 @@ emitted-smaller c =
 
 pub emitted-preserved : goal.emitted-preserved
 emitted-preserved c =
-    let t =
-    takes c.emitted.rows c.emitted.ready c.pop.new.self c.in-Some.next.number c.in-Some.next.bits
-    (plain_key c.key_of-key.result) c.emitted.invariant.1 c.in-Some.ensures.least c.in-Some.ensures.taken
+    let t = takes _ _ _ _ _ _ c.emitted.invariant.1 c.in-Some.ensures.least c.in-Some.ensures.taken
     c.key_of-key.ensures in (
       drain_turn c.args.rows.now c.emitted.out.items c.push.new.self.items c.emitted.ready c.pop.new.self
           c.free_after.new.ready c.in-Some.next.number c.in-Some.next.bits (plain_key c.key_of-key.result)

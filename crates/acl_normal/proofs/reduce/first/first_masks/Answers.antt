@@ -37,18 +37,18 @@ pub index-requires : goal.index-requires
 index-requires c =
     omega (
       arith,
-      row_seen c.args.aces.now c.args.rows.now c.loop-place.seen.items c.loop-place.place _ _ _ c.requires.rows
-          c.loop-place-test.true c.index-aces-place.is c.loop-place.invariant.seen,
       c.loop-place.seen.ok,
+      row_seen _ c.args.rows.now _ _ _ _ _ c.requires.rows c.loop-place-test.true
+          c.index-aces-place.is c.loop-place.invariant.seen,
     )
 
 pub index_mut-requires : goal.index_mut-requires
 index_mut-requires c =
     omega (
       arith,
-      row_seen c.args.aces.now c.args.rows.now c.loop-place.seen.items c.loop-place.place _ _ _ c.requires.rows
-          c.loop-place-test.true c.index-aces-place.is c.loop-place.invariant.seen,
       c.loop-place.seen.ok,
+      row_seen _ c.args.rows.now _ _ _ _ _ c.requires.rows c.loop-place-test.true
+          c.index-aces-place.is c.loop-place.invariant.seen,
     )
 
 pub loop-place-preserved : goal.loop-place-preserved

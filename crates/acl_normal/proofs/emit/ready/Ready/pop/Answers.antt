@@ -6,22 +6,20 @@ use Rattle.acl_normal.proofs.Emission.Marks.{number_within}
 use Rattle.acl_normal.proofs.emit.ready.Ready.pop.Goals as goal
 
 pub index-bits-requires : goal.index-bits-requires
-index-bits-requires c =
-    let n = c.in_ok-number.field-0.0 in
-    let items = c.self.inside.bits.items in
-    let some =
-    popped_some items (heap_items c.self.inside.numbers) (heap_items c.pop.new.self) c.in_ok-number.field-0 n
-    c.self.invariant refl c.in_ok-number.ensures.permutation in
-    omega (arith, number_within items n some, c.self.inside.bits.ok)
+index-bits-requires c = omega (
+  arith,
+  number_within c.self.inside.bits.items c.in_ok-number.field-0.0
+      (popped_some _ _ _ _ _ c.self.invariant refl c.in_ok-number.ensures.permutation),
+  c.self.inside.bits.ok,
+)
 
 pub index_mut-requires : goal.index_mut-requires
-index_mut-requires c =
-    let n = c.in_ok-number.field-0.0 in
-    let items = c.self.inside.bits.items in
-    let some =
-    popped_some items (heap_items c.self.inside.numbers) (heap_items c.pop.new.self) c.in_ok-number.field-0 n
-    c.self.invariant refl c.in_ok-number.ensures.permutation in
-    omega (arith, number_within items n some, c.self.inside.bits.ok)
+index_mut-requires c = omega (
+  arith,
+  number_within c.self.inside.bits.items c.in_ok-number.field-0.0
+      (popped_some _ _ _ _ _ c.self.invariant refl c.in_ok-number.ensures.permutation),
+  c.self.inside.bits.ok,
+)
 
 pub invariant_of-self-2 : goal.invariant_of-self-2
 invariant_of-self-2 c =
@@ -33,9 +31,7 @@ pub returns-clause-least : goal.returns-clause-least
 returns-clause-least c =
     let n = c.in_ok-number.field-0.0 in
     let items = c.self.inside.bits.items in
-    let some =
-    popped_some items (heap_items c.self.inside.numbers) (heap_items c.pop.new.self) c.in_ok-number.field-0 n
-    c.self.invariant refl c.in_ok-number.ensures.permutation in
+    let some = popped_some _ _ _ _ _ c.self.invariant refl c.in_ok-number.ensures.permutation in
     let found : c.index-bits.result.now ≡ slice_index_or items n 0 =
     c.index-bits.ensures ∙ get_or_default_zero items n c.index-bits.result.now (number_within items n some) in
     subst (λ v. IsLeastReady v n c.index-bits.result.now) c.self.view_is (record {

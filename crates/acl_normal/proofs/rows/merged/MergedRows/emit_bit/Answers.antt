@@ -18,30 +18,26 @@ place_in-requires c =
 
 pub kind_at-kind-requires : goal.kind_at-kind-requires
 kind_at-kind-requires c =
-    let first =
-    first_of_cell c.self.inside c.args.self.now c.args.row (principal c.args.p) c.args.right.bit c.in-Some.place
-    c.self.view_is c.requires (λ q h. c.in-Some.ensures q h) in
+    let first = first_of_cell c.self.inside _ _ _ c.args.right.bit _ c.self.view_is c.requires
+    (λ q h. c.in-Some.ensures q h) in
     subst (λ v. c.in-Some.place < length v) c.self.view_is (first_in _ _ _ _ first)
 
 pub index-requires : goal.index-requires
 index-requires c =
-    let first =
-    first_of_cell c.self.inside c.args.self.now c.args.row (principal c.args.p) c.args.right.bit c.in-Some.place
-    c.self.view_is c.requires (λ q h. c.in-Some.ensures q h) in
+    let first = first_of_cell c.self.inside _ _ _ c.args.right.bit _ c.self.view_is c.requires
+    (λ q h. c.in-Some.ensures q h) in
     emit_place c.self.inside (principal c.args.p) c.args.right.bit _ c.in-Some.place first
 
 pub index_mut-requires : goal.index_mut-requires
 index_mut-requires c =
-    let first =
-    first_of_cell c.self.inside c.args.self.now c.args.row (principal c.args.p) c.args.right.bit c.in-Some.place
-    c.self.view_is c.requires (λ q h. c.in-Some.ensures q h) in
+    let first = first_of_cell c.self.inside _ _ _ c.args.right.bit _ c.self.view_is c.requires
+    (λ q h. c.in-Some.ensures q h) in
     emit_place c.self.inside (principal c.args.p) c.args.right.bit _ c.in-Some.place first
 
 pub invariant_of-self : goal.invariant_of-self
 invariant_of-self c =
-    let at_first =
-    first_of_cell c.self.inside c.args.self.now c.args.row (principal c.args.p) c.args.right.bit c.in-Some.place
-    c.self.view_is c.requires (λ q h. c.in-Some.ensures q h) in
+    let at_first = first_of_cell c.self.inside _ _ _ c.args.right.bit _ c.self.view_is c.requires
+    (λ q h. c.in-Some.ensures q h) in
     let s = c.self.inside in
     let p = principal c.args.p in
     let at_row = subst (IsRow c.args.row p) (sym c.self.view_is) c.requires in
@@ -80,9 +76,8 @@ invariant_of-self c =
 
 pub returns-in-Some : goal.returns-in-Some
 returns-in-Some c =
-    let first =
-    first_of_cell c.self.inside c.args.self.now c.args.row (principal c.args.p) c.args.right.bit c.in-Some.place
-    c.self.view_is c.requires (λ q h. c.in-Some.ensures q h) in
+    let first = first_of_cell c.self.inside _ _ _ c.args.right.bit _ c.self.view_is c.requires
+    (λ q h. c.in-Some.ensures q h) in
     let s = c.self.inside in
     let place = emit_place s (principal c.args.p) c.args.right.bit _ c.in-Some.place first in
     let below : c.in-Some.place < length s.masks.items = omega (arith, place, s.masks.ok) in
@@ -100,8 +95,7 @@ returns-in_default c =
 
 pub put-requires-clause-right : goal.put-requires-clause-right
 put-requires-clause-right c =
-    let first =
-    first_of_cell c.self.inside c.args.self.now c.args.row (principal c.args.p) c.args.right.bit c.in-Some.place
-    c.self.view_is c.requires (λ q h. c.in-Some.ensures q h) in
+    let first = first_of_cell c.self.inside _ _ _ c.args.right.bit _ c.self.view_is c.requires
+    (λ q h. c.in-Some.ensures q h) in
     right_cell c.args.right.bit (first_right c.args.right.bit (principal c.args.p) c.self.inside _ c.self.invariant
     first)

@@ -1,5 +1,4 @@
 use Rattle.std.proofs.Common.{◌≡◌, List, ◌∙◌, sym, ap}
-use Rattle.acl_perm.specs.Principal.{principal}
 use Rattle.acl_nfs4.specs.Ace.{Ace}
 use Rattle.acl_nfs4.specs.declared.ace.AceRef.{AceRef}
 use Rattle.acl_normal.specs.internal.Merged.{left_of, IsRight}
@@ -30,14 +29,12 @@ outline_seen s aces list right e is =
 
 pub returns-clause-found : goal.returns-clause-found
 returns-clause-found c =
-    let same = outline_seen c.self.inside c.deref.result.now c.args.self.now c.self.invariant c.deref.ensures.value
-    c.self.view_is in
-    found_row (principal c.args.p) (aces_in c.deref.result.now) c.args.self.now c.find_row.result same
+    found_row _ _ c.args.self.now c.find_row.result
+    (outline_seen c.self.inside _ _ c.self.invariant c.deref.ensures.value c.self.view_is)
     c.find_row.ensures.found
 
 pub returns-clause-missing : goal.returns-clause-missing
 returns-clause-missing c =
-    let same = outline_seen c.self.inside c.deref.result.now c.args.self.now c.self.invariant c.deref.ensures.value
-    c.self.view_is in
-    missed_row (principal c.args.p) (aces_in c.deref.result.now) c.args.self.now c.find_row.result same
+    missed_row _ _ c.args.self.now c.find_row.result
+    (outline_seen c.self.inside _ _ c.self.invariant c.deref.ensures.value c.self.view_is)
     c.find_row.ensures.missing
