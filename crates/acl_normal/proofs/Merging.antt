@@ -12,6 +12,7 @@ pub mod BitsTaken
 pub mod Rows
 pub mod WaitingPlaces
 pub mod FilledCells
+pub mod Heads
 pub mod RowNumbers
 pub mod Few
 pub mod Publics

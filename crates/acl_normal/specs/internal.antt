@@ -20,6 +20,8 @@ pub mod Cells
 pub mod Rows
 -- lists of the places that wait
 pub mod Waiting
+-- numbers by which most principals are compared
+pub mod Heads
 -- what is sorted for the numbers of rows
 pub mod RowNumbers
 -- what the fields of merged rows are to the list that is left

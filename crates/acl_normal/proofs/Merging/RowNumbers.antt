@@ -1,5 +1,5 @@
 -- Rows of principals by number: among the names in order, each row begins where its principal first stands.
-use Rattle.std.specs.Prelude.{◌≡◌, ℕ, ◌+◌, ◌<◌, ◌≤◌, zero, suc, Bool, true, false, cond, not, List, [], ◌∷◌, ◌++◌, length, map, slice_index_or, slice_set, take, ◌⊎◌, refl}
+use Rattle.std.specs.Prelude.{◌≡◌, ℕ, ◌+◌, ◌<◌, ◌≤◌, zero, suc, Bool, true, false, cond, List, [], ◌∷◌, ◌++◌, length, map, slice_index_or, slice_set, take, ◌⊎◌, refl}
 use Rattle.std.specs.List.{Contains, HoldsAt}
 use Rattle.std.specs.List.Sorted.{IsNonDecreasingBy, IsPartitionPoint, IsPartitionedBy, IsPermutation, IsSortedByKey}
 use Rattle.std.specs.Ordering.{eq_by_cmp, is_le, is_lt, ordering_index, ordering_reverse}
@@ -12,7 +12,6 @@ use Rattle.std.proofs.lemmas.List.Recursion.{is_count_by}
 use Rattle.std.proofs.lemmas.List.Sorted.{All-permutation, Contains-permutation, IsPermutation-map, length_permutation, ranks_by, searchable_from_sorted, sorted_far, sum_by-IsPermutation}
 use Rattle.acl_perm.specs.Order.{principal_cmp, principal_total}
 use Rattle.acl_perm.specs.Principal.{Principal, everyone, principal}
-use Rattle.acl_perm.specs.declared.principal.Principal.{Principal as PrincipalRef}
 use Rattle.acl_perm.specs.declared.principal.Principal.TheVariants.{Owner}
 use Rattle.acl_perm.proofs.Orders.{principal_exact, principal_order, principals_same}
 use Rattle.acl_nfs4.specs.Ace.{Ace, ace}
@@ -23,6 +22,7 @@ use Rattle.acl_normal.specs.internal.RowNumbers.{AreSortedNames, named_from, nam
 use Rattle.acl_normal.specs.internal.Rows.{AreRowNumbers, IsByPrincipal, IsRow, is_named, row_of}
 use Rattle.acl_normal.specs.internal.Shown.{aces_in}
 use Rattle.acl_normal.specs.declared.rows.numbers.NamedPlace.{NamedPlace}
+use Rattle.acl_normal.proofs.Merging.Heads.{owner_head}
 use Rattle.acl_normal.proofs.Merging.Rows.{named_at, named_here, not_below, row_below}
 
 -- ---- a count of what stands first
@@ -157,14 +157,14 @@ named_push i (b ∷ xs) a =
     (named_push (suc i) xs a ∙ ap (λ n. named_from (suc i) xs ++ (principal_of a, n) ∷ []) (omega arith))
 
 -- one name more of the code
-pub named_more : (aces : List AceRef) (named new : List NamedPlace) (i : ℕ) (a : AceRef) (p : PrincipalRef)
-    → i < length aces → a ≡ slice_index_or aces i a → principal p ≡ principal_of (ace a)
-    → new ≡ named ++ record { principal = p; place = i } ∷ []
+pub named_more : (aces : List AceRef) (named new : List NamedPlace) (i : ℕ) (a : AceRef) (n : NamedPlace)
+    → i < length aces → a ≡ slice_index_or aces i a → principal n.named.principal ≡ principal_of (ace a)
+    → n.place ≡ i → new ≡ named ++ n ∷ []
     → map named_of named ≡ named_from 0 (aces_in (take i aces))
     → map named_of new ≡ named_from 0 (aces_in (take (i + 1) aces))
-named_more aces named new i a p l here is e n =
-    ap (map named_of) e ∙ map-append named_of named (record { principal = p; place = i } ∷ [])
-    ∙ ap (λ v. v ++ made ∷ []) n ∙ ap (λ v. done ++ v ∷ []) last ∙ sym (named_push 0 before (ace b))
+named_more aces named new i a n l here is at e before_it =
+    ap (map named_of) e ∙ map-append named_of named (n ∷ [])
+    ∙ ap (λ v. v ++ made ∷ []) before_it ∙ ap (λ v. done ++ v ∷ []) last ∙ sym (named_push 0 before (ace b))
     ∙ ap (named_from 0) (sym (map-append ace (take i aces) (b ∷ [])))
     ∙ ap (λ v. named_from 0 (aces_in v)) (sym (take_more aces i a l))
   where
@@ -181,19 +181,20 @@ named_more aces named new i a p l here is e n =
     long = omega (arith, length-map (take i aces) ace, length-take-le i aces (omega (arith, l)))
 
     made : Principal × ℕ
-    made = (principal p, i)
+    made = named_of n
 
     given : Principal × ℕ
     given = (principal_of (ace b), 0 + length before)
 
     last : made ≡ given
     last =
-        ap (λ v. (v, i)) (is ∙ ap (λ v. principal_of (ace v)) here) ∙ ap (λ m. (principal_of (ace b), m)) (sym long)
+        ap (λ v. (v, n.place)) (is ∙ ap (λ v. principal_of (ace v)) here)
+        ∙ ap (λ m. (principal_of (ace b), m)) (at ∙ sym long)
 
 -- the names of the code, sorted
 pub sorted_names : (xs : List Ace) (named new : List NamedPlace) → map named_of named ≡ named_from 0 xs
     → IsPermutation named new
-    → IsSortedByKey (λ n. n.principal) (λ p q. principal_cmp (principal p) (principal q)) new
+    → IsSortedByKey (λ n. principal n.named.principal) principal_cmp new
     → AreSortedNames xs (map named_of new)
 sorted_names xs named new e p s = record {
   permutation = subst (λ v. IsPermutation v (map named_of new)) e (IsPermutation-map named_of named new p);
@@ -203,7 +204,7 @@ sorted_names xs named new e p s = record {
 }
   where
     none : NamedPlace
-    none = record { principal = Owner; place = 0 }
+    none = record { named = record { principal = Owner; head = 0; headed = owner_head }; place = 0 }
 
 module _ (xs : List Ace) (names : List (Principal × ℕ)) (s : AreSortedNames xs names) where
   abbrev at : ℕ → Principal × ℕ
@@ -387,59 +388,64 @@ module _ (xs : List Ace) (named : List NamedPlace) (s : AreSortedNames xs (map n
   named_within k l = omega (arith, l, length-map named named_of)
 
   -- the place of a name has a row
-  pub place_within : (rows : List ℕ) (start i k end : ℕ) (d : NamedPlace) → k < length named → end ≡ length rows
-      → AreNumberedTo xs (map named_of named) rows start i → (slice_index_or named k d).place < end
-  place_within rows start i k end d l e n =
-      let place = ap (λ m. m.1) (name_at k d l) in
-      omega (arith, place, e, (names_true xs (map named_of named) s k (named_within k l)).0, n.count)
+  pub place_within : (rows : List ℕ) (start i k end : ℕ) (n : NamedPlace) → k < length named
+      → n ≡ slice_index_or named k n → end ≡ length rows → AreNumberedTo xs (map named_of named) rows start i
+      → n.place < end
+  place_within rows start i k end n l is e so_far =
+      let place = ap (λ m. m.1) (name_at k n l) in
+      omega (
+        arith,
+        place,
+        e,
+        ap (λ (m : NamedPlace). m.place) is,
+        (names_true xs (map named_of named) s k (named_within k l)).0,
+        so_far.count,
+      )
 
-  -- one name more, of another principal than the one at `start`
-  pub numbered_unlike : (rows : List ℕ) (start i now : ℕ) (d : NamedPlace) (differs : Bool) → i < length named
-      → differs ≡ not (eq_by_cmp principal_cmp (principal (slice_index_or named i d).principal)
-      (principal (slice_index_or named start d).principal))
-      → differs ≡ true → now ≡ i → AreNumberedTo xs (map named_of named) rows start i
-      → AreNumberedTo xs (map named_of named) (slice_set rows (slice_index_or named i d).place now) now (i + 1)
-  numbered_unlike rows start i now d differs l e h this n =
-      rw this
-      (subst (λ v. AreNumberedTo xs (map named_of named) (slice_set rows v i) i (i + 1)) (ap (λ m. m.1) (name_at i d l))
-      (numbered_other xs (map named_of named) s rows start i (named_within i l) other n))
-    where
-      apart : (b : Bool) → not b ≡ true → b ≡ true → ⊥
-      apart true h e = let both : false ≡ true = h in cc
-      apart false h e = let both : false ≡ true = e in cc
+  module _ (rows : List ℕ) (start i : ℕ) (n d : NamedPlace) (l : i < length named)
+      (here : n ≡ slice_index_or named i n) (alike : Bool)
+      (told : alike ≡ eq_by_cmp principal_cmp (principal n.named.principal)
+      (principal (slice_index_or named start d).named.principal))
+      (so_far : AreNumberedTo xs (map named_of named) rows start i) where
+    abbrev first : NamedPlace
+    first = slice_index_or named start d
 
-      other : (slice_index_or (map named_of named) i no_name).0 ≡ (slice_index_or (map named_of named) start no_name).0
-          → ⊥
-      other same =
-          let both = principals_same (principal (slice_index_or named i d).principal)
-          (principal (slice_index_or named start d).principal) in
-          let here = ap (λ m. m.0) (name_at i d l) in
-          let first = ap (λ m. m.0) (name_at start d (omega (arith, l, n.before))) in
-          apart _ (sym e ∙ h) (both.1 (sym here ∙ same ∙ first))
+    abbrev name : ℕ → Principal × ℕ
+    name k = slice_index_or (map named_of named) k no_name
 
-  -- one name more, of the same
-  pub numbered_like : (rows : List ℕ) (start i now : ℕ) (d : NamedPlace) (differs : Bool) → i < length named
-      → differs ≡ not (eq_by_cmp principal_cmp (principal (slice_index_or named i d).principal)
-      (principal (slice_index_or named start d).principal))
-      → differs ≡ false → now ≡ start → AreNumberedTo xs (map named_of named) rows start i
-      → AreNumberedTo xs (map named_of named) (slice_set rows (slice_index_or named i d).place now) now (i + 1)
-  numbered_like rows start i now d differs l e h this n =
-      rw this
-      (subst (λ v. AreNumberedTo xs (map named_of named) (slice_set rows v start) start (i + 1))
-      (ap (λ m. m.1) (name_at i d l))
-      (numbered_same xs (map named_of named) s rows start i (named_within i l) same n))
-    where
-      passes : (b : Bool) → not b ≡ false → b ≡ true
-      passes true h = refl
-      passes false h = sym h
+    this : name i ≡ named_of n
+    this = name_at i n l ∙ ap named_of (sym here)
 
-      same : (slice_index_or (map named_of named) i no_name).0 ≡ (slice_index_or (map named_of named) start no_name).0
-      same =
-          let both = principals_same (principal (slice_index_or named i d).principal)
-          (principal (slice_index_or named start d).principal) in
-          let here = ap (λ m. m.0) (name_at i d l) in
-          let first = ap (λ m. m.0) (name_at start d (omega (arith, l, n.before))) in
-          here ∙ both.0 (passes _ (sym e ∙ h)) ∙ sym first
+    that : name start ≡ named_of first
+    that = name_at start d (omega (arith, l, so_far.before))
+
+    -- one name more, of another principal than the one at `start`
+    pub numbered_unlike : (now : ℕ) → alike ≡ false → now ≡ i
+        → AreNumberedTo xs (map named_of named) (slice_set rows n.place now) now (i + 1)
+    numbered_unlike now h e =
+        rw e
+        (subst (λ v. AreNumberedTo xs (map named_of named) (slice_set rows v i) i (i + 1)) (ap (λ m. m.1) this)
+        (numbered_other xs (map named_of named) s rows start i (named_within i l) other so_far))
+      where
+        other : (name i).0 ≡ (name start).0 → ⊥
+        other same =
+            let both = principals_same (principal n.named.principal) (principal first.named.principal) in
+            let passes : alike ≡ true = told ∙ both.1 (ap (λ m. m.0) (sym this) ∙ same ∙ ap (λ m. m.0) that) in
+            let clash : false ≡ true = sym h ∙ passes in
+            cc
+
+    -- one name more, of the same
+    pub numbered_like : (now : ℕ) → alike ≡ true → now ≡ start
+        → AreNumberedTo xs (map named_of named) (slice_set rows n.place now) now (i + 1)
+    numbered_like now h e =
+        rw e
+        (subst (λ v. AreNumberedTo xs (map named_of named) (slice_set rows v start) start (i + 1))
+        (ap (λ m. m.1) this) (numbered_same xs (map named_of named) s rows start i (named_within i l) same so_far))
+      where
+        same : (name i).0 ≡ (name start).0
+        same =
+            let both = principals_same (principal n.named.principal) (principal first.named.principal) in
+            ap (λ m. m.0) this ∙ both.0 (sym told ∙ h) ∙ ap (λ m. m.0) (sym that)
 
 -- ---- the places in order
 

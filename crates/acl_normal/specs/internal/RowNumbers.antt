@@ -9,7 +9,7 @@ use Rattle.acl_normal.specs.declared.rows.numbers.NamedPlace.{NamedPlace}
 
 -- the principal and the place
 abbrev pub named_of : NamedPlace → Principal × ℕ
-named_of n = (principal n.principal, n.place)
+named_of n = (principal n.named.principal, n.place)
 
 -- whom each ACE names, with its place, from a place on
 abbrev pub named_from : ℕ → List Ace → List (Principal × ℕ)

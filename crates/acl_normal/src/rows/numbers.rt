@@ -7,6 +7,7 @@ ghost use Rattle.acl_normal.specs.internal.RowNumbers.{AreSortedNames, named_fro
 ghost use Rattle.acl_normal.specs.internal.Rows.{AreRowNumbers, IsByPrincipal, IsRow, is_named};
 ghost use Rattle.acl_normal.specs.internal.Shown.{aces_in};
 
+use super::heads::HeadedPrincipal;
 use acl_nfs4::AceRef;
 use acl_perm::Principal;
 use std::alloc::{AllocError, Global};
@@ -22,7 +23,7 @@ pub(crate) struct RowNumbers {
 /// A place, and whom its ACE names.
 #[derive(Clone, Copy)]
 struct NamedPlace<'a> {
-    principal: Principal<'a>,
+    named: HeadedPrincipal<'a>,
     place: usize,
 }
 
@@ -72,7 +73,7 @@ fn named_places<'a>(alloc: Global, aces: &[AceRef<'a>]) -> Result<Vec<NamedPlace
     let mut named = Vec::with_capacity(alloc, aces.len())?;
     for (place, ace) in aces.iter().enumerate() {
         named.push(NamedPlace {
-            principal: ace.principal(),
+            named: HeadedPrincipal::new(ace.principal()),
             place,
         })?;
     }
@@ -84,7 +85,7 @@ fn by_principal<'a>(alloc: Global, aces: &[AceRef<'a>]) -> Result<Vec<NamedPlace
     ensures { IfOk result (λ v. AreSortedNames (aces_in aces.now) (map named_of v.items)) }
 {
     let mut named = named_places(alloc, aces)?;
-    named.sort_by_key(|at| at.principal)?;
+    named.sort_by(|at, other| at.named.compared(&other.named))?;
     Ok(named)
 }
 
@@ -100,7 +101,8 @@ fn rows_of(
     let mut rows = vec![in alloc; 0; aces.len()]?;
     let mut start = 0;
     for (i, at) in named.iter().enumerate() {
-        if at.principal != named[start].principal {
+        let first = named[start].named;
+        if !at.named.is_same(&first) {
             start = i;
         }
         rows[at.place] = start;

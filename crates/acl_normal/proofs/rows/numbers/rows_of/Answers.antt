@@ -3,7 +3,7 @@ use Rattle.std.proofs.lemmas.List.{length-map}
 use Rattle.acl_nfs4.specs.Ace.{ace}
 use Rattle.acl_normal.proofs.Merging.RowNumbers.{numbered_all, numbered_like, numbered_none, numbered_unlike, place_within}
 use Rattle.acl_normal.proofs.rows.numbers.rows_of.Goals as goal
-use Rattle.acl_normal.proofs.rows.numbers.rows_of.Goals.{then-ne, else-ne}
+use Rattle.acl_normal.proofs.rows.numbers.rows_of.Goals.{then-not-is_same, else-not-is_same}
 use Rattle.acl_normal.specs.internal.RowNumbers.{named_of}
 use Rattle.acl_normal.specs.internal.Shown.{aces_in}
 
@@ -21,14 +21,19 @@ bounds-named-start c = omega (arith, c.loop-i.invariant.before)
 pub index_mut-requires : goal.index_mut-requires
 index_mut-requires c =
     place_within (aces_in c.args.aces.now) c.args.named.now c.requires c.loop-i.rows.items c.loop-i.start c.loop-i.i
-    c.loop-i.i c.loop-i.rows.len _ c.loop-i-test.true c.loop-i.rows.ok.0 c.loop-i.invariant
+    c.loop-i.i c.loop-i.rows.len c.index-named-i.result c.loop-i-test.true c.index-named-i.is c.loop-i.rows.ok.0
+    c.loop-i.invariant
 
 pub loop-i-preserved : goal.loop-i-preserved
-loop-i-preserved c = elim c.if-ne.branch [
-  | then-ne w ↦ numbered_unlike (aces_in c.args.aces.now) c.args.named.now c.requires c.loop-i.rows.items c.loop-i.start
-      c.loop-i.i c.if-ne.start _ c.ne.result c.loop-i-test.true c.ne.ensures w.if-ne.true w.start-is c.loop-i.invariant
-  | else-ne w ↦ numbered_like (aces_in c.args.aces.now) c.args.named.now c.requires c.loop-i.rows.items c.loop-i.start
-      c.loop-i.i c.if-ne.start _ c.ne.result c.loop-i-test.true c.ne.ensures w.if-ne.false w.start-is c.loop-i.invariant
+loop-i-preserved c = elim c.if-not-is_same.branch [
+  | then-not-is_same w ↦ numbered_unlike (aces_in c.args.aces.now) c.args.named.now c.requires c.loop-i.rows.items
+      c.loop-i.start c.loop-i.i c.index-named-i.result c.index-named-start.result c.loop-i-test.true
+      c.index-named-i.is c.is_same.result c.is_same.ensures c.loop-i.invariant
+      c.if-not-is_same.start w.if-not-is_same.true w.start-is
+  | else-not-is_same w ↦ numbered_like (aces_in c.args.aces.now) c.args.named.now c.requires c.loop-i.rows.items
+      c.loop-i.start c.loop-i.i c.index-named-i.result c.index-named-start.result c.loop-i-test.true
+      c.index-named-i.is c.is_same.result c.is_same.ensures c.loop-i.invariant
+      c.if-not-is_same.start w.if-not-is_same.false w.start-is
 ]
 
 pub returns : goal.returns
