@@ -4,8 +4,8 @@ use Rattle.std.specs.Io.KnownBytes.{Appends}
 use Rattle.acl_perm.specs.Devices.{one_more}
 use Rattle.acl_perm.specs.declared.whole.WriteFault.{WriteFault}
 
--- a call that writes a text to a sink, as it was and as it is after it: by the bytes that it holds, and by how many puts
--- failed
+-- a call that writes a text to a sink, as it was and as it is after it: by the bytes that it holds, and by how many
+-- puts failed
 pub record Writes {K : Type 0} (holds : K → Option (List ℕ)) (failures : K → ℕ) (sink sink_after : K)
     (text : List ℕ) (r : Result (Unit {0}) WriteFault) : Type 0 where
   -- all of the text went out

@@ -9,6 +9,7 @@ use Rattle.std.specs.declared.cmp.Ordering.TheVariants.{Less, Equal, Greater}
 use Rattle.std.specs.Cmp.{nat_cmp_is}
 use Rattle.std.specs.FinMap.{nat_cmp-IsAntisymmetric}
 use Rattle.std.proofs.lemmas.Bool.{cases_lt}
+use Rattle.std.proofs.lemmas.List.{length-take}
 use Rattle.std.proofs.lemmas.List.Elements.{recursion_from_All}
 use Rattle.std.proofs.lemmas.Fmt.{length-decimal-le}
 use Rattle.acl_posix.specs.declared.form.Form.{Form}
@@ -43,12 +44,7 @@ long_short mask = omega arith
 long_short other = omega arith
 
 short_short : (t : Tag) → length (short_word t) ≤ 5
-short_short user_obj = omega arith
-short_short (user id) = omega arith
-short_short group_obj = omega arith
-short_short (group id) = omega arith
-short_short mask = omega arith
-short_short other = omega arith
+short_short t = let long = length-take 1 (long_word t) in omega (arith, long, long_short t)
 
 word_short : (form : Form) (t : Tag) → length (form_word form t) ≤ 5
 word_short forms.Canonical t = long_short t

@@ -32,7 +32,8 @@ digits_plain : (bs : List ℕ) → list_all is_ascii_digit bs ≡ true → Plain
 digits_plain [] h = refl
 digits_plain (b ∷ bs) h =
     elim (is_ascii_digit b)
-    as (λ t. is_ascii_digit b ≡ t → (t && list_all is_ascii_digit bs) ≡ true → (is_plain b && list_all is_plain bs) ≡ true) [
+    as (λ t. is_ascii_digit b ≡ t → (t && list_all is_ascii_digit bs) ≡ true
+    → (is_plain b && list_all is_plain bs) ≡ true) [
       | true ↦ λ is rest. ap (λ t. t && list_all is_plain bs) (digit_is_plain b is) ∙ digits_plain bs rest
       | false ↦ λ is rest. absurd cc
     ] refl h
@@ -66,7 +67,8 @@ id_found bs rest i value lt some colon digits is small behind =
     record {
       digits = take i bs;
       parts = sym (take-append-drop i bs) ∙ ap (λ (xs : List ℕ). take i bs ++ xs)
-          (drop_more bs i 0 lt ∙ ap (λ (b : ℕ). b ∷ drop (i + 1) bs) colon ∙ ap (λ (xs : List ℕ). 58 ∷ xs) (sym behind));
+          (drop_more bs i 0 lt ∙ ap (λ (b : ℕ). b ∷ drop (i + 1) bs) colon
+          ∙ ap (λ (xs : List ℕ). 58 ∷ xs) (sym behind));
       number = number_of (take i bs) (omega (arith, long)) digits;
       value = rw fits (ap (λ (n : ℕ). Some n) (sym is));
     }

@@ -2,7 +2,7 @@
 use Rattle.std.proofs.Common.{◌≡◌, ℕ, suc, ◌+◌, ◌^◌, ◌<◌, ◌≤◌, true, false, List, [], ◌∷◌, ◌++◌, length, Option, Some, None, Result, Ok, Err, refl, sym, ap, ◌∙◌, subst, arith, Bor}
 use Rattle.acl_perm.specs.declared.lines.Piece.{Piece}
 use Rattle.acl_perm.specs.Lines.{Span, span_of, cut_at, IsCut, IsLineCut, lines_of, is_all_blank, before_mark}
-use Rattle.acl_perm.proofs.LineLemmas.{lines_left, text_left, NumberFits}
+use Rattle.acl_perm.proofs.LineLemmas.{lines_left, NumberFits}
 use Rattle.acl_posix.specs.declared.text_fault.Part.{Part}
 use Rattle.acl_posix.specs.declared.text_fault.TextFault.{TextFault}
 use Rattle.acl_posix.specs.declared.text_fault.TextFault.TheVariants as faults
@@ -114,17 +114,19 @@ read_append_fault table so_far (p ∷ ps) qs f h =
 -- ---- lines of a text
 
 -- a line that is cut off and read
-pub reads_on : (table : Table) (n : ℕ) (text : List ℕ) (so_far next : Lists) (cut : Bor (List ℕ) × Option (Bor (List ℕ)))
-    → IsLineCut text cut → read_pieces table so_far (numbered n (line_pieces cut.0.now)) ≡ Ok next
+pub reads_on : (table : Table) (n : ℕ) (text : List ℕ) (so_far next : Lists)
+    (cut : Bor (List ℕ) × Option (Bor (List ℕ))) → IsLineCut text cut
+    → read_pieces table so_far (numbered n (line_pieces cut.0.now)) ≡ Ok next
     → ReadsOn table n text so_far next cut.1
 reads_on table n text so_far next (first, None) is read =
     ap (λ (ls : List (List ℕ)). read_pieces table so_far (pieces_from n ls)) is
     ∙ read_append table so_far (numbered n (line_pieces first.now)) [] next read ∙ read_none table next
-reads_on table n text so_far next (first, Some rest) is read = (
-  ap (λ (ls : List (List ℕ)). read_pieces table so_far (pieces_from n ls)) is.0
-      ∙ read_append table so_far (numbered n (line_pieces first.now)) (pieces_from (n + 1) (lines_of rest.now)) next read,
-  is.1,
-)
+reads_on table n text so_far next (first, Some rest) is read =
+    let more = pieces_from (n + 1) (lines_of rest.now) in (
+      ap (λ (ls : List (List ℕ)). read_pieces table so_far (pieces_from n ls)) is.0
+          ∙ read_append table so_far (numbered n (line_pieces first.now)) more next read,
+      is.1,
+    )
 
 -- a line that is read at one go
 pub reads_first : (table : Table) (n : ℕ) (text : List ℕ) (so_far : Lists) (part : Part) (entry : Tag × ℕ)
@@ -132,7 +134,8 @@ pub reads_first : (table : Table) (n : ℕ) (text : List ℕ) (so_far : Lists) (
     → ReadsOn table n text so_far (added so_far (part, entry)) (Some rest)
 reads_first table n text so_far part entry rest h = (
   ap (λ (ls : List (List ℕ)). read_pieces table so_far (pieces_from n ls)) h.lines
-      ∙ ap (λ (ss : List Span). read_pieces table so_far (numbered n ss ++ pieces_from (n + 1) (lines_of rest.now))) h.one
+      ∙ ap (λ (ss : List Span). read_pieces table so_far (numbered n ss ++ pieces_from (n + 1) (lines_of rest.now)))
+      h.one
       ∙ read_next table so_far (record { line = n; span = record { column = 1; bytes = h.bytes } })
       (pieces_from (n + 1) (lines_of rest.now)) (part, entry)
       (spelled_read table n (record { column = 1; bytes = h.bytes }) (part, entry) (h.spells table)),
@@ -147,24 +150,11 @@ pub on_told : (table : Table) (n : ℕ) (text : List ℕ) (so_far next : Lists) 
 on_told table n text so_far next None h = read_none table next ∙ sym h
 on_told table n text so_far next (Some rest) h = sym h.0
 
--- and its number fits, and it is shorter
-pub on_fits : (table : Table) (n : ℕ) (whole : List ℕ) (text : List ℕ) (so_far next : Lists) (rest : Option (Bor (List ℕ)))
+-- and the number of its first line fits
+pub on_fits : (table : Table) (n : ℕ) (whole text : List ℕ) (so_far next : Lists) (rest : Option (Bor (List ℕ)))
     → ReadsOn table n text so_far next rest → n + length text ≤ length whole + 1 → NumberFits (n + 1) whole rest
 on_fits table n whole text so_far next None h fits = tt
 on_fits table n whole text so_far next (Some rest) h fits = omega (arith, h.1, fits)
-
--- what is left is shorter
-pub on_smaller : (table : Table) (n : ℕ) (text : List ℕ) (so_far next : Lists) (rest : Option (Bor (List ℕ)))
-    → ReadsOn table n text so_far next rest → text_left rest < suc (length text)
-on_smaller table n text so_far next None h = omega arith
-on_smaller table n text so_far next (Some rest) h = omega (arith, h.1)
-
--- a line that is read, and then others
-pub read_lines_next : (table : Table) (n : ℕ) (so_far next : Lists) (l : List ℕ) (ls : List (List ℕ))
-    → read_pieces table so_far (numbered n (line_pieces l)) ≡ Ok next
-    → read_pieces table so_far (pieces_from n (l ∷ ls)) ≡ read_pieces table next (pieces_from (n + 1) ls)
-read_lines_next table n so_far next l ls h = read_append table so_far (numbered n (line_pieces l))
-    (pieces_from (n + 1) ls) next h
 
 -- a fault of a line is that of the text
 pub read_lines_fault : (table : Table) (n : ℕ) (so_far : Lists) (l : List ℕ) (ls : List (List ℕ)) (f : TextFault)

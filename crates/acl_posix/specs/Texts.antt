@@ -1,6 +1,6 @@
 -- The texts of the ACLs of a file, as functions of the sets of entries alone (acl(5), "LONG TEXT FORM" and "SHORT TEXT
 -- FORM"). That ids are decimal, and where the effective permissions are shown, are this library's own.
-use Rattle.std.specs.Prelude.{ℕ, ◌==◌, List, [], ◌∷◌, ◌++◌, codes, decimal, bit_and, map, Option, Some, None, if◌then◌else◌}
+use Rattle.std.specs.Prelude.{ℕ, ◌==◌, List, [], ◌∷◌, ◌++◌, codes, decimal, bit_and, map, take, Option, Some, None, if◌then◌else◌}
 use Rattle.std.specs.List.{flat_map, All}
 use Rattle.std.specs.FinMap as set
 use Rattle.acl_posix.specs.declared.file.PosixFile.{PosixFile}
@@ -30,12 +30,7 @@ long_word other = codes "other"
 
 -- the first letter of that word
 abbrev pub short_word : Tag → List ℕ
-short_word user_obj = codes "u"
-short_word (user id) = codes "u"
-short_word group_obj = codes "g"
-short_word (group id) = codes "g"
-short_word mask = codes "m"
-short_word other = codes "o"
+short_word tag = take 1 (long_word tag)
 
 -- the id in decimal, or nothing
 abbrev pub qualifier_text : Tag → List ℕ

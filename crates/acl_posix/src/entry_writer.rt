@@ -3,7 +3,7 @@ ghost use Rattle.std.specs.Prelude.{◌≡◌, ◌+◌, ◌≤◌, ◌++◌, ◌
 ghost use Rattle.arrayvec.specs.ArrayVec.{array_vec_len};
 ghost use Rattle.acl_posix.specs.Entries.{pair_of};
 ghost use Rattle.acl_posix.specs.Tag.{tag_of};
-ghost use Rattle.acl_posix.specs.Texts.{entry_text, letter, long_word, mark_text, perm_text, qualifier_text, short_word};
+ghost use Rattle.acl_posix.specs.Texts.{entry_text, letter, long_word, mark_text, perm_text, qualifier_text};
 ghost use Rattle.acl_posix.specs.internal.Writing.{ending, entry_out, form_word, lead};
 
 use crate::entry::Entry;
@@ -54,6 +54,7 @@ fn add_qualifier(line: &mut ArrayVec<u8, 64>, tag: Tag)
 
 fn long_word(tag: Tag) -> &'static [u8]
     ensures text { result.now ≡ long_word (tag_of tag) }
+    ensures some_byte { 1 ≤ length result.now }
     ensures short { length result.now ≤ 5 }
 {
     match tag {
@@ -64,25 +65,14 @@ fn long_word(tag: Tag) -> &'static [u8]
     }
 }
 
-fn short_word(tag: Tag) -> &'static [u8]
-    ensures text { result.now ≡ short_word (tag_of tag) }
-    ensures short { length result.now ≤ 5 }
-{
-    match tag {
-        Tag::UserObj | Tag::User(_) => b"u",
-        Tag::GroupObj | Tag::Group(_) => b"g",
-        Tag::Mask => b"m",
-        Tag::Other => b"o",
-    }
-}
-
 fn word(form: Form, tag: Tag) -> &'static [u8]
     ensures text { result.now ≡ form_word form (tag_of tag) }
     ensures short { length result.now ≤ 5 }
 {
+    let word = long_word(tag);
     match form {
-        Form::Canonical | Form::Shown => long_word(tag),
-        Form::Short => short_word(tag),
+        Form::Canonical | Form::Shown => word,
+        Form::Short => &word[..1],
     }
 }
 

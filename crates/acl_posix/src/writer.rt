@@ -26,7 +26,8 @@ fn put_part<S: Sink>(
     is_first: bool,
 ) -> Result<u64, WriteFault>
     requires entries { pairs entries.now ≡ set.entries acl.now }
-    requires room { done + length (part_out form part acl.now is_first (set.entries acl.now)) < 2 ^ 64 }
+    requires room { done
+        + length (part_out form part acl.now is_first (set.entries acl.now)) < 2 ^ 64 }
     ensures written { WritesFrom (S.contents sink.old) (S.contents sink.new) done
         (part_out form part acl.now is_first (set.entries acl.now)) result }
     ensures none_failed { OnOk result (S.failure_count sink.new ≡ S.failure_count sink.old) }

@@ -1,4 +1,5 @@
--- Lines as the canonical text has them, which the code reads at one go: this library's own words, which only code needs.
+-- Lines as the canonical text has them, which the code reads at one go: this library's own words, which only code
+-- needs.
 use Rattle.std.specs.Prelude.{ℕ, ◌≡◌, ◌<◌, ◌++◌, Bool, true, List, [], ◌∷◌, length, Some, if◌then◌else◌}
 use Rattle.acl_perm.specs.Lines.{lines_of}
 use Rattle.acl_posix.specs.declared.text_fault.Part.{Part}

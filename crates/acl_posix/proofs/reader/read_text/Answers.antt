@@ -12,7 +12,8 @@ loop-rest-preserved c =
     record {
       told = on_told c.args.names.now c.loop-rest.number c.in-Some.left.now lists (lists_of c.read_first.new.lists)
           c.in_ok-rest.rest c.in_ok-rest.ensures
-          ∙ sym (ap (λ (ls : List (List ℕ)). read_pieces c.args.names.now lists (pieces_from c.loop-rest.number ls)) left)
+          ∙ sym (ap (λ (ls : List (List ℕ)). read_pieces c.args.names.now lists (pieces_from c.loop-rest.number ls))
+          left)
           ∙ c.loop-rest.invariant.told;
       fits = on_fits c.args.names.now c.loop-rest.number c.args.text.now c.in-Some.left.now lists
           (lists_of c.read_first.new.lists) c.in_ok-rest.rest c.in_ok-rest.ensures
