@@ -11,11 +11,12 @@ use Rattle.acl_nfs4.specs.Ace.{Ace}
 use Rattle.acl_nfs4.specs.AceText.{TextLine, LineFields, SpellsAce, kind_name}
 use Rattle.acl_nfs4.specs.AceTextFault.{IsAt, IsCut, IsFlagged, IsMasked, IsLight, IsLineFault, flags_column, mask_column, who_column}
 use Rattle.acl_nfs4.specs.internal.AceReading.{fields_of, kind_named, if_light, who_fault_at, who_judged, after_mask, after_flags, after_kind, read_fields, read_ace}
-use Rattle.acl_nfs4.specs.FlagNames.{flag_names, SpellsFlags}
+use Rattle.acl_nfs4.specs.BitNames.{BitName, SpellsSet}
+use Rattle.acl_nfs4.specs.FlagNames.{flag_names}
 use Rattle.acl_nfs4.specs.Limits.{most_aces, most_weight}
 use Rattle.acl_nfs4.specs.internal.NameTable.{set_within}
 use Rattle.acl_nfs4.specs.internal.Reading.{◌>>=◌}
-use Rattle.acl_nfs4.specs.Rights.{rights, SpellsMask}
+use Rattle.acl_nfs4.specs.Rights.{rights}
 use Rattle.acl_nfs4.specs.Spelling.{IsAce, weight}
 use Rattle.acl_nfs4.specs.Who.{who_fault}
 use Rattle.acl_nfs4.specs.Within.{IsWithin}
@@ -24,7 +25,7 @@ use Rattle.acl_nfs4.specs.declared.who.WhoFault.TheVariants as who
 use Rattle.acl_nfs4.specs.declared.text.fault.AceTextFault.{AceTextFault}
 use Rattle.acl_nfs4.specs.declared.text.fault.AceTextFault.TheVariants as faults
 use Rattle.acl_nfs4.proofs.AceFields.{FieldsSay, fields_say, fields_read, fields_few}
-use Rattle.acl_nfs4.proofs.SetFields.{rights_table, same_bytes}
+use Rattle.acl_nfs4.proofs.SetFields.{IsTable, rights_table, same_bytes}
 use Rattle.acl_nfs4.proofs.Tables.{NamesPart, PartSays, flags_table, part_read, part_says}
 
 -- a line spells this ACE, and the list can take it
@@ -219,17 +220,10 @@ kind_none word none_is = among (kind_named word) (kind_says word) where
   among None h = refl
   among (Some kind) h = absurd (none_is kind h)
 
-part_none : (p : ℕ) (field : List ℕ) → ((set : ℕ) → SpellsFlags field set → IsWithin p set → ⊥)
-    → set_within flag_names p field ≡ None
-part_none p field none_is = among (set_within flag_names p field) (part_says flag_names p field flags_table) where
-  among : (o : Option ℕ) → PartSays flag_names p field o → o ≡ None
-  among None h = refl
-  among (Some set) h = absurd (none_is set h.spelled h.within)
-
-mask_none : (p : ℕ) (field : List ℕ) → ((set : ℕ) → SpellsMask field set → IsWithin p set → ⊥)
-    → set_within rights p field ≡ None
-mask_none p field none_is = among (set_within rights p field) (part_says rights p field rights_table) where
-  among : (o : Option ℕ) → PartSays rights p field o → o ≡ None
+part_none : (table : List BitName) (whole : ℕ) (field : List ℕ) → IsTable table
+    → ((set : ℕ) → SpellsSet table field set → IsWithin whole set → ⊥) → set_within table whole field ≡ None
+part_none table whole field is none_is = among (set_within table whole field) (part_says table whole field is) where
+  among : (o : Option ℕ) → PartSays table whole field o → o ≡ None
   among None h = refl
   among (Some set) h = absurd (none_is set h.spelled h.within)
 
@@ -336,10 +330,10 @@ fault_line p list line (faults.AceType l c) h =
     ∙ rw (kind_none h.fields.kind h.no_kind, h.place.same_line, h.place.same_column) refl
 fault_line p list line (faults.Flag l c) h =
     typed_read p list line h.fields h.typed.kind h.typed.cut h.typed.is_kind
-    ∙ rw (part_none p.flags h.fields.flags h.no_flags, h.place.same_line, h.place.same_column) refl
+    ∙ rw (part_none flag_names p.flags h.fields.flags flags_table h.no_flags, h.place.same_line, h.place.same_column) refl
 fault_line p list line (faults.Mask l c) h =
     flagged_read p list line h.fields h.flagged
-    ∙ rw (mask_none p.masks h.fields.mask h.no_mask, h.place.same_line, h.place.same_column) refl
+    ∙ rw (part_none rights p.masks h.fields.mask rights_table h.no_mask, h.place.same_line, h.place.same_column) refl
 fault_line p list line (faults.TooHeavy l c) h =
     masked_read p list line h.fields h.mask h.masked
     ∙ rw (lt-ltb most_weight (weight list + count_ones h.mask) h.heavy, h.place.same_line, h.place.same_column) refl

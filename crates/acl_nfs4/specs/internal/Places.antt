@@ -1,5 +1,5 @@
 -- Where a byte stands first: words that this library's code needs. No public clause cites them.
-use Rattle.std.specs.Prelude.{◌≡◌, ◌+◌, ◌<◌, ◌≤◌, ◌==◌, ℕ, List, length, slice_index, true, false}
+use Rattle.std.specs.Prelude.{◌≡◌, ◌+◌, ◌<◌, ◌≤◌, ◌==◌, ℕ, List, slice_index, true, false}
 
 -- a byte does not stand from one place up to another
 abbrev pub IsAbsent : ℕ → List ℕ → ℕ → ℕ → Type 0

@@ -1,7 +1,8 @@
-use Rattle.std.proofs.Common.{◌≡◌, ℕ, Option, None, Some, cond, refl, sym, ap, ◌∙◌, Err, Ok}
-use Rattle.std.specs.Prelude.{ok_or}
+use Rattle.std.proofs.Common.{◌≡◌, ℕ, ◌+◌, Bool, true, false, ltb, List, Option, None, Some, cond, refl, sym, ap, ◌∙◌, Err, Ok}
+use Rattle.std.specs.Prelude.{count_ones, ok_or}
 use Rattle.std.proofs.lemmas.Bool.{lt-ltb, le-ltb}
 use Rattle.acl_nfs4.specs.internal.AceReading.{if_light}
+use Rattle.acl_nfs4.specs.Limits.{most_weight}
 use Rattle.acl_nfs4.specs.internal.NameTable.{set_within}
 use Rattle.acl_nfs4.specs.internal.Reading.{◌>>=◌}
 use Rattle.acl_nfs4.specs.Rights.{rights}
@@ -19,22 +20,23 @@ returns-in_default-clause-exact c =
       missing None e apart = e
       missing (Some n) e apart = absurd (apart n refl)
 
+-- a mask that the field names, where the list may be too heavy with it
+named : (whole weight line column : ℕ) (field : List ℕ) (mask : ℕ) (heavy : Bool)
+    → set_within rights whole field ≡ Some mask → ltb most_weight (weight + count_ones mask) ≡ heavy
+    → (ok_or (set_within rights whole field) (faults.Mask line column) >>= λ n. if_light weight line column n)
+    ≡ cond heavy (Err (faults.TooHeavy line column)) (Ok mask)
+named whole weight line column field mask heavy e h =
+    ap (λ (o : Option ℕ). ok_or o (faults.Mask line column) >>= (λ n. if_light weight line column n)) e
+    ∙ ap (λ b. cond b (Err (faults.TooHeavy line column)) (Ok mask)) h
+
 pub returns-then-weight-bits-gt-MOST_WEIGHT-clause-exact : goal.returns-then-weight-bits-gt-MOST_WEIGHT-clause-exact
 returns-then-weight-bits-gt-MOST_WEIGHT-clause-exact c =
-    let e : set_within rights c.args.profile.masks.bits c.args.field.now ≡ Some c.in-Some.bits =
-    ap (λ (n : ℕ). set_within rights n c.args.field.now) (sym c.bits.ensures.value)
-    ∙ sym c.in-Some.ensures.exact in
-    ap (λ (o : Option ℕ). ok_or o (faults.Mask c.args.line c.args.column)
-    >>= (λ n. if_light c.args.weight c.args.line c.args.column n)) e
-    ∙ ap (λ b. cond b (Err (faults.TooHeavy c.args.line c.args.column)) (Ok c.in-Some.bits))
+    named c.args.profile.masks.bits c.args.weight c.args.line c.args.column c.args.field.now c.in-Some.bits true
+    (ap (λ (n : ℕ). set_within rights n c.args.field.now) (sym c.bits.ensures.value) ∙ sym c.in-Some.ensures.exact)
     (lt-ltb _ _ c.if-weight-bits-gt-MOST_WEIGHT.true)
 
 pub returns-clause-exact : goal.returns-clause-exact
 returns-clause-exact c =
-    let e : set_within rights c.args.profile.masks.bits c.args.field.now ≡ Some c.in-Some.bits =
-    ap (λ (n : ℕ). set_within rights n c.args.field.now) (sym c.bits.ensures.value)
-    ∙ sym c.in-Some.ensures.exact in
-    ap (λ (o : Option ℕ). ok_or o (faults.Mask c.args.line c.args.column)
-    >>= (λ n. if_light c.args.weight c.args.line c.args.column n)) e
-    ∙ ap (λ b. cond b (Err (faults.TooHeavy c.args.line c.args.column)) (Ok c.in-Some.bits))
+    named c.args.profile.masks.bits c.args.weight c.args.line c.args.column c.args.field.now c.in-Some.bits false
+    (ap (λ (n : ℕ). set_within rights n c.args.field.now) (sym c.bits.ensures.value) ∙ sym c.in-Some.ensures.exact)
     (le-ltb _ _ c.if-weight-bits-gt-MOST_WEIGHT.false)

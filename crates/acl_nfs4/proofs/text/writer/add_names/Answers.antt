@@ -1,7 +1,6 @@
-use Rattle.std.proofs.Common.{◌≡◌, [], ◌++◌, drop, sym, ap, ◌∙◌, arith}
+use Rattle.std.proofs.Common.{◌++◌, sym, ap, ◌∙◌, arith}
 use Rattle.std.proofs.lemmas.List.{append-nil}
-use Rattle.acl_nfs4.specs.BitNames.{names_of}
-use Rattle.acl_nfs4.specs.internal.NameTable.{joined, table_of}
+use Rattle.acl_nfs4.specs.internal.NameTable.{joined}
 use Rattle.acl_nfs4.proofs.Tables.{none_from}
 use Rattle.acl_nfs4.proofs.text.writer.add_names.Goals as goal
 
