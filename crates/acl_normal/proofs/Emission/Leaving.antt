@@ -11,15 +11,15 @@ use Rattle.acl_eval.specs.Column.{Column, first_kind, column}
 use Rattle.acl_eval.specs.Grant.{SameGrants}
 use Rattle.acl_normal.specs.Keys.{principal_eq, ace_key}
 use Rattle.acl_normal.specs.internal.Alike.{is_either, IsAlike}
-use Rattle.acl_normal.specs.Normal.{IsIrreducibleList, IsNormal, HasNormalFlags, HasMasks, counts}
+use Rattle.acl_normal.specs.Normal.{IsIrreducibleList, IsNormal, HasMasks, counts, IsQuiet}
 use Rattle.acl_normal.specs.internal.Emissions.{IsOnce, IsEmission}
 use Rattle.acl_normal.specs.internal.Plain.{without_principal}
 use Rattle.acl_normal.specs.Left.{left}
 use Rattle.acl_normal.specs.internal.Counts.{count_left}
 use Rattle.acl_normal.proofs.Unique.Names.{overlaps_itself, either_first, principal_eq_itself, principal_eq_same}
 use Rattle.acl_normal.proofs.Unique.ListColumns.{no_other_bits, same_grants_from_columns}
-use Rattle.acl_normal.proofs.Unique.Unique.{unique, column_with, column_lacking}
-use Rattle.acl_normal.proofs.Unique.Normal.{emission_of_irreducible}
+use Rattle.acl_normal.proofs.Unique.Unique.{unique}
+use Rattle.acl_normal.proofs.Unique.Normal.{emission_of_irreducible, quiet_flags, column_quiet}
 use Rattle.acl_normal.proofs.Unique.Invariant.{without_absent, alike_without}
 use Rattle.acl_normal.proofs.Unique.FirstAndRest.{once_without}
 use Rattle.acl_normal.proofs.Unique.Columns.{column_first}
@@ -62,27 +62,27 @@ alike_nothing ((p, k) ∷ c) a =
     cc
 
 -- masks whose columns are those of rights
-pub masks_in : (ns : List Ace) → HasNormalFlags ns → ((b : ℕ) → has_bit all_rights b ≡ false → column ns b ≡ [])
-    → HasMasks ns
-masks_in [] f h = tt
-masks_in (a ∷ ns) f h =
-    ((λ b has. inside b has (has_bit all_rights b) refl), masks_in ns f.1 (λ b out. rest b (h b out)))
+pub masks_of_quiet : (xs : List Ace) → IsQuiet xs → ((b : ℕ) → has_bit all_rights b ≡ false → column xs b ≡ []) →
+    HasMasks xs
+masks_of_quiet [] q h = tt
+masks_of_quiet (a ∷ xs) q h =
+    ((λ b has. inside b has (has_bit all_rights b) refl), masks_of_quiet xs q.1 (λ b out. rest b (h b out)))
   where
     inside : (b : ℕ) → has_bit a.mask b ≡ true → (t : Bool) → has_bit all_rights b ≡ t → has_bit all_rights b ≡ true
     inside b has true e = e
-    inside b has false e = cc (column_with b a ns f.0 has, h b e)
+    inside b has false e = cc (column_quiet b a xs q.0 has, h b e)
 
-    rest : (b : ℕ) → column (a ∷ ns) b ≡ [] → column ns b ≡ []
-    rest b e = go (has_bit a.mask b) refl
+    rest : (b : ℕ) → column (a ∷ xs) b ≡ [] → column xs b ≡ []
+    rest b e = go (counts b a) refl
       where
-        go : (t : Bool) → has_bit a.mask b ≡ t → column ns b ≡ []
-        go true g = cc (column_with b a ns f.0 g)
-        go false g = sym (column_lacking b a ns f.0 g) ∙ e
+        go : (t : Bool) → counts b a ≡ t → column xs b ≡ []
+        go true g = cc (rw g at e)
+        go false g = rw g at e
 
 -- what is emitted has rights alone
 pub has_masks : (xs ns : List Ace) → IsIrreducibleList (left xs) → IsEmission xs ns → HasMasks ns
 has_masks xs ns irr e =
-    masks_in ns e.flags (λ b out. alike_nothing (column ns b)
+    masks_of_quiet ns (quiet_flags ns e.flags) (λ b out. alike_nothing (column ns b)
     (subst (λ c. IsAlike c (column ns b)) (no_other_bits (left xs) b irr out) ((emission_left xs ns e).alike b)))
 
 through : {P Q R : Type 0} → P ↔ Q → Q ↔ R → P ↔ R

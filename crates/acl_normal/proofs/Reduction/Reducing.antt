@@ -12,17 +12,17 @@ use Rattle.acl_nfs4.specs.Spelling.{IsAccepted}
 use Rattle.acl_eval.specs.Column.{verdict, column}
 use Rattle.acl_eval.specs.Grant.{SameGrants}
 use Rattle.acl_normal.specs.internal.Alike.{IsIrreducible}
-use Rattle.acl_normal.specs.Normal.{HasNoEmptyMask, IsIrreducibleList, IsNormal, IsQuiet, HasMasks, HasNames, counts}
+use Rattle.acl_normal.specs.Normal.{HasNoEmptyMask, IsIrreducibleList, IsNormal, IsQuiet, HasMasks, HasNames}
 use Rattle.acl_normal.specs.internal.Plain.{unshadowed, default, needed_keys, reduced}
 use Rattle.acl_normal.specs.Left.{IsTidy, left}
 use Rattle.acl_normal.specs.Places.{nothing_left}
 use Rattle.acl_normal.proofs.Unique.Accepted.{accepted_masks, accepted_names}
 use Rattle.acl_normal.proofs.Unique.ListColumns.{names_in_column, same_grants_from_columns}
-use Rattle.acl_normal.proofs.Unique.Normal.{irreducible_list, column_quiet, clique_of}
+use Rattle.acl_normal.proofs.Unique.Normal.{irreducible_list, clique_of}
 use Rattle.acl_normal.proofs.PlainForm.Reduced.{same_reduced, reduced_settled}
 use Rattle.acl_normal.proofs.Unique.Settled.{IsSettled, settled_irreducible}
 use Rattle.acl_normal.proofs.Unique.Unique.{unique}
-use Rattle.acl_normal.proofs.Emission.Leaving.{column_left}
+use Rattle.acl_normal.proofs.Emission.Leaving.{column_left, masks_of_quiet}
 
 -- two passes that reduce each column
 pub reduces : (xs ys zs : List Ace) → ((b : ℕ) → b < 21 → column ys b ≡ unshadowed [] (column xs b))
@@ -53,22 +53,6 @@ no_column b (a ∷ xs) h out = go (has_bit a.mask b) refl (no_column b xs h.1 ou
     go : (t : Bool) → has_bit a.mask b ≡ t → column xs b ≡ [] → column (a ∷ xs) b ≡ []
     go true e ih = cc (h.0 b e)
     go false e ih = rw e ih
-
-masks_of : (xs : List Ace) → IsQuiet xs → ((b : ℕ) → has_bit all_rights b ≡ false → column xs b ≡ []) → HasMasks xs
-masks_of [] q h = tt
-masks_of (a ∷ xs) q h =
-    ((λ b has. inside b has (has_bit all_rights b) refl), masks_of xs q.1 (λ b out. rest b (h b out)))
-  where
-    inside : (b : ℕ) → has_bit a.mask b ≡ true → (t : Bool) → has_bit all_rights b ≡ t → has_bit all_rights b ≡ true
-    inside b has true e = e
-    inside b has false e = cc (column_quiet b a xs q.0 has, h b e)
-
-    rest : (b : ℕ) → column (a ∷ xs) b ≡ [] → column xs b ≡ []
-    rest b e = go (counts b a) refl
-      where
-        go : (t : Bool) → counts b a ≡ t → column xs b ≡ []
-        go true g = cc (rw g at e)
-        go false g = rw g at e
 
 -- a right is one of the first 21 bits
 pub below : (b : ℕ) → has_bit all_rights b ≡ true → b < 21
@@ -139,7 +123,7 @@ reduction_rights xs ys r b out =
 pub reduction_irreducible : (xs ys : List Ace) → IsReduction xs ys → IsIrreducibleList (left ys)
 reduction_irreducible xs ys r =
     irreducible_list (left ys) (full_left ys)
-    (masks_of (left ys) (quiet_left ys r.tidy.quiet) (λ b out. column_left b ys ∙ reduction_rights xs ys r b out))
+    (masks_of_quiet (left ys) (quiet_left ys r.tidy.quiet) (λ b out. column_left b ys ∙ reduction_rights xs ys r b out))
     (quiet_left ys r.tidy.quiet)
     (λ b. subst IsIrreducible (sym (column_left b ys)) (irr b))
   where

@@ -1,4 +1,5 @@
 -- What makes a normal list the normal form of an accepted one: that its keys are keys of the source.
+use Rattle.acl_normal.proofs.Unique.Normal.{quiet_flags}
 use Rattle.std.proofs.Common.{◌≡◌, ℕ, ◌≤◌, ◌<◌, zero, suc, Bool, true, false, List, [], ◌∷◌, ◌++◌, length, refl, sym, ◌∙◌, ap, subst, arith, inl, inr}
 use Rattle.std.specs.Prelude.{◌≢◌, count_ones, ◌&&◌, ◌==◌, not}
 use Rattle.std.specs.List.{AllByRecursion}
@@ -25,7 +26,7 @@ use Rattle.acl_normal.specs.NormalForm.{IsNormalFormOf}
 use Rattle.acl_normal.proofs.Unique.Bits.{no_bits, power_has}
 use Rattle.acl_normal.proofs.Unique.Columns.{column_has, column_lacks}
 use Rattle.acl_normal.proofs.Emission.Drained.{some_below}
-use Rattle.acl_normal.proofs.Emission.Leaving.{masks_in}
+use Rattle.acl_normal.proofs.Emission.Leaving.{masks_of_quiet}
 use Rattle.acl_normal.proofs.Unique.ListColumns.{column-append, no_other_bits}
 use Rattle.acl_normal.proofs.Reduction.Reducing.{below, only_one}
 use Rattle.acl_normal.proofs.Unique.Unique.{who_is, who_of, column_with}
@@ -98,7 +99,7 @@ pub record IsTaken (source result : List Ace) : Type 0 where
   pub comes : (b : ℕ) (e : Key) → Has (column result b) e → Has (column source b) e
 
 masks_of : (xs : List Ace) → IsNormal xs → HasMasks xs
-masks_of xs n = masks_in xs n.flags (λ b out. no_other_bits xs b n.irreducible out)
+masks_of xs n = masks_of_quiet xs (quiet_flags xs n.flags) (λ b out. no_other_bits xs b n.irreducible out)
 
 long_enough : (xs : List Ace) → HasNoEmptyMask xs → length xs ≤ weight xs
 long_enough [] h = omega arith

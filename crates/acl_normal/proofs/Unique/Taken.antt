@@ -18,7 +18,7 @@ use Rattle.acl_normal.specs.internal.Plain.{unshadowed, default, is_needed, need
 use Rattle.acl_normal.proofs.Unique.Forming.{IsTaken}
 use Rattle.acl_normal.proofs.Unique.Free.{once_from_clean}
 use Rattle.acl_normal.proofs.Unique.Irreducible.{clean}
-use Rattle.acl_normal.proofs.Emission.Leaving.{alike_length, column_left, masks_in, same_left}
+use Rattle.acl_normal.proofs.Emission.Leaving.{alike_length, column_left, masks_of_quiet, same_left}
 use Rattle.acl_normal.proofs.Unique.ListColumns.{alike_columns, irreducible_column, no_other_bits}
 use Rattle.acl_normal.proofs.Unique.Names.{overlaps_itself}
 use Rattle.acl_normal.proofs.Unique.Normal.{quiet_flags}
@@ -112,7 +112,7 @@ taken xs ys ns columns irr f n g = record {
 }
   where
     masks : HasMasks ns
-    masks = masks_in ns n.flags (λ b out. no_other_bits ns b n.irreducible out)
+    masks = masks_of_quiet ns (quiet_flags ns n.flags) (λ b out. no_other_bits ns b n.irreducible out)
 
     high : (b : ℕ) → 21 ≤ b → b < 21 → ⊥
     high b l h = omega (arith, l, h)

@@ -8,8 +8,9 @@ use Rattle.acl_normal.proofs.rows.merged.MergedRows.key_at.Goals as goal
 pub index-requires : goal.index-requires
 index-requires c = omega (
   arith,
-  place_of_left c.self.inside.aces.items c.self.inside.masks.items c.args.place _ c.self.view_is c.requires,
   c.self.inside.aces.ok,
+  place_of_left c.self.inside.aces.items
+      c.self.inside.masks.items c.args.place _ c.self.view_is c.requires,
 )
 
 pub returns : goal.returns
