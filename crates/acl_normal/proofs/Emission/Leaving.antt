@@ -62,8 +62,8 @@ alike_nothing ((p, k) ∷ c) a =
     cc
 
 -- masks whose columns are those of rights
-pub masks_of_quiet : (xs : List Ace) → IsQuiet xs → ((b : ℕ) → has_bit all_rights b ≡ false → column xs b ≡ []) →
-    HasMasks xs
+pub masks_of_quiet : (xs : List Ace) → IsQuiet xs → ((b : ℕ) → has_bit all_rights b ≡ false → column xs b ≡ [])
+    → HasMasks xs
 masks_of_quiet [] q h = tt
 masks_of_quiet (a ∷ xs) q h =
     ((λ b has. inside b has (has_bit all_rights b) refl), masks_of_quiet xs q.1 (λ b out. rest b (h b out)))
