@@ -49,8 +49,8 @@ pub struct Requester<'a> {
 
 impl<'a> Requester<'a> {
     /// A requester of these names, which stay where they are. None where one is empty. There may be no group; one
-    /// that is named twice counts once. Groups that stand in the order of their bytes are looked up by halves, and others
-    /// one by one.
+    /// that is named twice counts once. Many groups are looked up by halves if they stand in the order of their bytes,
+    /// and others one by one.
     pub fn new(user: &'a [u8], groups: &'a [&'a [u8]]) -> Option<Self>
         ensures named { IsSome result
             ↔ ((0 < length user.now) × All (λ g. 0 < length g.now) groups.now) }

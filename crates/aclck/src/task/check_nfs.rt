@@ -21,10 +21,9 @@ use acl_perm::{Mask, Profile, Sink, Source, put_all};
 use clap::ArgMatches;
 use std::alloc::{AllocError, Global};
 
-// No more groups than these, or of no more ACEs, are looked up as they stand.
-const FEW_GROUPS: usize = 8;
-
-const FEW_ACES: usize = 16;
+// To put groups in order takes longer than to look up no more of them than these, or for no more ACEs.
+const FEW_GROUPS: usize = 128;
+const FEW_ACES: usize = 128;
 
 const ARGUMENTS: [Argument; 6] = [
     Argument::Required("owner"),
