@@ -16,7 +16,7 @@ use Rattle.aclck.specs.Normalize.{IsFiveForms, NormalizeAnswer, NormalizeInherit
 use Rattle.aclck.specs.ShowNfs.{ShowNfsAnswer}
 use Rattle.aclck.specs.ShowPosix.{ShowPosixAnswer}
 use Rattle.aclck.specs.declared.answer.Outcome.TheVariants as outcome
-use Rattle.aclck.specs.declared.input.posix.Form.TheVariants as form
+use Rattle.acl_posix.specs.declared.form.Form.TheVariants as form
 
 -- what `show-posix` makes of an input in the canonical form is this text
 abbrev pub ShowsCanonical : Table → List ℕ → List ℕ → Type 0

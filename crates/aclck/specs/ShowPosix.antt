@@ -10,8 +10,8 @@ use Rattle.aclck.specs.Line.{Term, any_words, default, words_of}
 use Rattle.aclck.specs.NameWords.{names_value}
 use Rattle.aclck.specs.Answer.{Answer}
 use Rattle.aclck.specs.PosixAnswer.{WritesAnswer}
-use Rattle.aclck.specs.declared.input.posix.Form.{Form}
-use Rattle.aclck.specs.declared.input.posix.Form.TheVariants as form
+use Rattle.acl_posix.specs.declared.form.Form.{Form}
+use Rattle.acl_posix.specs.declared.form.Form.TheVariants as form
 use Rattle.aclck.specs.declared.task.show_posix.ShowPosix.{ShowPosix}
 use Rattle.aclck.specs.Definition.{Definition}
 use Rattle.aclck.specs.Run.{of_text}

@@ -1,26 +1,16 @@
 //! The files that POSIX texts spell, and the texts of files.
 ghost use Rattle.std.specs.Prelude.{◌≡◌, ◌⊎◌, IfErr, IfOk, true};
 ghost use Rattle.acl_posix.specs.Grammar.{Reads};
-ghost use Rattle.acl_posix.specs.Texts.{canonical_text, short_text, shown_text};
+ghost use Rattle.acl_posix.specs.Texts.{canonical_text};
+ghost use Rattle.acl_posix.specs.Texts as texts;
 ghost use Rattle.aclck.specs.Answer.{is_refusal};
 ghost use Rattle.aclck.specs.PosixAnswer.{IsPosixFault};
 ghost use Rattle.aclck.specs.ShowPosix.{form_text};
 
 use crate::answer::RunFault;
 use acl_perm::Counted;
-use acl_posix::{Names, PosixFile, TextFault, parse};
+use acl_posix::{Form, Names, PosixFile, TextFault, parse};
 use std::alloc::{AllocError, Global};
-
-/// A form of the text of a file.
-#[derive(Clone, Copy, Debug, PartialEq, Eq)]
-pub enum Form {
-    /// A line an entry.
-    Canonical,
-    /// The same, with the permissions that a mask leaves behind the entries that it cuts.
-    Shown,
-    /// All entries on one line, with commas between them.
-    Short,
-}
 
 /// The file whose text an input is.
 pub(crate) fn read_file(alloc: Global, input: &[u8], names: &Names) -> Result<PosixFile, RunFault>
@@ -35,47 +25,32 @@ pub(crate) fn read_file(alloc: Global, input: &[u8], names: &Names) -> Result<Po
     }
 }
 
-/// The text of a file in a form.
+/// The text of a file in a form; the short one gets a line feed after it.
 pub(crate) fn text_in(alloc: Global, file: &PosixFile, form: Form) -> Result<Vec<u8>, AllocError>
     ensures { IfOk result (λ text. text.items ≡ form_text form file.now) }
 {
+    let mut text = written(alloc, file, form)?;
     match form {
-        Form::Canonical => canonical(alloc, file),
-        Form::Shown => shown(alloc, file),
-        Form::Short => {
-            let mut text = short(alloc, file)?;
-            text.push(b'\n')?;
-            Ok(text)
-        }
+        Form::Canonical => {}
+        Form::Shown => {}
+        Form::Short => text.push(b'\n')?,
     }
+    Ok(text)
 }
 
 /// The canonical text of a file.
 pub(crate) fn canonical(alloc: Global, file: &PosixFile) -> Result<Vec<u8>, AllocError>
     ensures { IfOk result (λ text. text.items ≡ canonical_text file.now.access file.now.default) }
 {
-    let mut text = Counted::new(Vec::new(alloc));
-    match file.write_canonical(&mut text) {
-        Ok(()) => Ok(text.into_inner()),
-        Err(_) => Err(AllocError),
-    }
+    written(alloc, file, Form::Canonical)
 }
 
-fn shown(alloc: Global, file: &PosixFile) -> Result<Vec<u8>, AllocError>
-    ensures { IfOk result (λ text. text.items ≡ shown_text file.now.access file.now.default) }
+fn written(alloc: Global, file: &PosixFile, form: Form) -> Result<Vec<u8>, AllocError>
+    ensures { IfOk result (λ text.
+        text.items ≡ texts.form_text form file.now.access file.now.default) }
 {
     let mut text = Counted::new(Vec::new(alloc));
-    match file.write_shown(&mut text) {
-        Ok(()) => Ok(text.into_inner()),
-        Err(_) => Err(AllocError),
-    }
-}
-
-fn short(alloc: Global, file: &PosixFile) -> Result<Vec<u8>, AllocError>
-    ensures { IfOk result (λ text. text.items ≡ short_text file.now.access file.now.default) }
-{
-    let mut text = Counted::new(Vec::new(alloc));
-    match file.write_short(&mut text) {
+    match file.write(&mut text, form) {
         Ok(()) => Ok(text.into_inner()),
         Err(_) => Err(AllocError),
     }

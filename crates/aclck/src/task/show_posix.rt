@@ -9,11 +9,11 @@ ghost use Rattle.aclck.specs.PosixAnswer.{IsPosixFault, Writes};
 ghost use Rattle.aclck.specs.ShowPosix.{ShowPosixAnswer, form_text, form_value, show_posix, show_posix_held, show_posix_in};
 
 use crate::answer::{Outcome, RunFault};
-use crate::input::posix::{Form, read_file, text_in};
+use crate::input::posix::{read_file, text_in};
 use crate::line::{Argument, Definition, LineFault, text_of};
 use crate::words::names::names_in;
 use acl_perm::{Sink, Source, put_all, read_all};
-use acl_posix::Names;
+use acl_posix::{Form, Names};
 use clap::ArgMatches;
 use std::alloc::Global;
 
