@@ -6,11 +6,11 @@ ghost use Rattle.acl_nfs4.specs.Rights.{rights};
 ghost use Rattle.acl_normal.specs.Difference.{situation_of};
 ghost use Rattle.aclck.specs.Definition.{Defines};
 ghost use Rattle.aclck.specs.Run.{Runs, of_two};
-ghost use Rattle.aclck.specs.Compare.{CompareAnswer, compare, decision, difference_text, line};
+ghost use Rattle.aclck.specs.Compare.{CompareAnswer, Compares, compare, decision, difference_text, line};
 ghost use Rattle.aclck.specs.internal.Compared.{compared_outcome, compared_text};
 
 use crate::answer::{Outcome, RunFault};
-use crate::input::xdr::read_two;
+use crate::input::xdr::{TwoLists, read_two};
 use crate::line::Definition;
 use crate::words::profile;
 use acl_nfs4::bit_name;
@@ -43,10 +43,26 @@ pub fn run_compare<S: Source, K: Sink>(
         K.contents K.failure_count sink.old sink.new result }
 {
     let lists = read_two(alloc, source, profile)?;
+    let answer = answer_of(alloc, &lists)?;
+    put_all(sink, &answer.text)?;
+    Ok(answer.outcome)
+}
+
+// What a comparison comes to, with its text.
+#[derive(Drop)]
+struct Compared {
+    outcome: Outcome,
+    text: Vec<u8>,
+}
+
+fn answer_of(alloc: Global, lists: &TwoLists) -> Result<Compared, AllocError>
+    ensures { IfOk result (λ answer.
+        Compares lists.now.first lists.now.second answer.outcome answer.text.items) }
+{
     let difference = compare(alloc, &lists.first, &lists.second)?;
     let text = text_of_answer(alloc, &difference)?;
-    put_all(sink, &text)?;
-    Ok(outcome_of(&difference))
+    let outcome = outcome_of(&difference);
+    Ok(Compared { outcome, text })
 }
 
 // Yes where there is no difference.
