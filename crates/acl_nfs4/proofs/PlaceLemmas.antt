@@ -30,13 +30,16 @@ pub first_place : (wanted : ℕ) (bytes : List ℕ) (at n place : ℕ) → IsAbs
     → at + n ≤ length bytes → place < n → IsPlaceIn wanted bytes at n place
     → at + place ≡ position_or_len (λ b. eqb b wanted) bytes
 first_place wanted bytes at n place front inside lt p = sym (position_or_len_is (λ b. eqb b wanted) bytes (at + place) 0
-    (omega (arith, inside, lt)) (λ k high. absent_on wanted bytes at at (at + place) front p.before (omega arith) k (omega arith) high)
+    (omega (arith, inside, lt))
+    (λ k high. absent_on wanted bytes at at (at + place) front p.before (omega arith) k (omega arith) high)
     (λ _. p.found lt))
 
 -- and so is the place among the last bytes, or their number where it stands nowhere
 pub last_place : (wanted : ℕ) (bytes : List ℕ) (at mid n place : ℕ) → IsAbsent wanted bytes 0 mid → at ≤ mid
     → at + n ≡ length bytes → IsPlaceIn wanted bytes at n place
     → at + place ≡ position_or_len (λ b. eqb b wanted) bytes
-last_place wanted bytes at mid n place front le whole p = sym (position_or_len_is (λ b. eqb b wanted) bytes (at + place) 0
-    (omega (arith, whole, p.within)) (λ k high. absent_on wanted bytes at mid (at + place) front p.before le k (omega arith) high)
+last_place wanted bytes at mid n place front le whole p =
+    sym (position_or_len_is (λ b. eqb b wanted) bytes (at + place) 0
+    (omega (arith, whole, p.within))
+    (λ k high. absent_on wanted bytes at mid (at + place) front p.before le k (omega arith) high)
     (λ lt. p.found (omega (arith, whole, lt))))

@@ -155,6 +155,7 @@ pub place_of_left : (aces : List AceRef) (masks : List ℕ) (i : ℕ) (xs : List
     → i < length xs → i < length aces
 place_of_left aces masks i xs is l = place_within aces masks i (subst (λ v. i < length v) (sym is) l)
 
+-- and its key is that of the ACE
 pub key_of_left : (aces : List AceRef) (masks : List ℕ) (i : ℕ) (d : AceRef) (xs : List Ace)
     → with_masks aces masks ≡ xs → i < length xs
     → (principal_of (ace (slice_index_or aces i d)), (slice_index_or aces i d).kind) ≡ key_here xs i

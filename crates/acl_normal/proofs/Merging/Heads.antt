@@ -104,7 +104,8 @@ names_agree (suc n) m (b ∷ xs) (c ∷ ys) f g =
     go (inr l) (inl u) h =
         rw (greater b c u)
         (ap (λ o. ordering_then o Greater)
-        (greater left right (before_decides n (m * 256 + c) (m * 256 + b) ys xs (tail_bytes c ys g) (omega (arith, u)))))
+        (greater left right
+        (before_decides n (m * 256 + c) (m * 256 + b) ys xs (tail_bytes c ys g) (omega (arith, u)))))
     go (inr l) (inr u) h =
         let same : b ≡ c = omega (arith, l, u) in
         rw (equal b c same, same) h

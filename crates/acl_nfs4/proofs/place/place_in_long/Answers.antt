@@ -4,8 +4,10 @@ use Rattle.acl_nfs4.proofs.place.place_in_long.Goals as goal
 
 pub returns-then-place-lt16 : goal.returns-then-place-lt16
 returns-then-place-lt16 c = first_place c.args.wanted c.args.bytes.now c.loop-at.at 16 c.place_in-place.result
-    c.loop-at.invariant.absent (let h = c.loop-at-test.true in omega arith) c.if-place-lt16.true c.place_in-place.ensures
+    c.loop-at.invariant.absent (let h = c.loop-at-test.true in omega arith) c.if-place-lt16.true
+    c.place_in-place.ensures
 
 pub returns : goal.returns
 returns c = last_place c.args.wanted c.args.bytes.now (length c.args.bytes.now - 16) c.loop-at.at 16 c.place_in.result
-    c.loop-at.invariant.absent (let h = c.loop-at-test.false in omega arith) (omega (arith, c.requires)) c.place_in.ensures
+    c.loop-at.invariant.absent (let h = c.loop-at-test.false in omega arith) (omega (arith, c.requires))
+    c.place_in.ensures

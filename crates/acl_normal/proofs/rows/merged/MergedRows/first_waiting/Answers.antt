@@ -15,4 +15,5 @@ returns-in-Some-clause-before c = λ place l.
 
 pub returns-in-Some-clause-behind : goal.returns-in-Some-clause-behind
 returns-in-Some-clause-behind c = λ place l _.
-    before_some _ _ _ _ place c.in-Some.first.now l (sym (c.waiting_at.ensures c.in-Some.first.now) ∙ c.in-Some.ensures.member)
+    before_some _ _ _ _ place c.in-Some.first.now l
+    (sym (c.waiting_at.ensures c.in-Some.first.now) ∙ c.in-Some.ensures.member)

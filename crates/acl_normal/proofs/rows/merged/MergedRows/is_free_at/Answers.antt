@@ -17,4 +17,5 @@ returns-in-Some c =
     free_some c.args.self.now c.args.right.bit (principal c.args.p) c.in-Some.kind c.in-Some.place _
     (subst (λ v. IsOnce (column v c.args.right.bit)) c.self.view_is (c.self.invariant.once c.args.right.bit))
     (sym c.source.ensures ∙ c.in-Some.is)
-    (not_from _ _ (λ t. clear (leb-true _ _ t)) (λ f. blocked (leb-false _ _ f) (omega (arith, rw c.in-Some.is at c.source.type_inv))))
+    (not_from _ _ (λ t. clear (leb-true _ _ t))
+    (λ f. blocked (leb-false _ _ f) (omega (arith, rw c.in-Some.is at c.source.type_inv))))
