@@ -330,8 +330,8 @@ fault_line p list line (faults.AceType l c) h =
     ∙ rw (kind_none h.fields.kind h.no_kind, h.place.same_line, h.place.same_column) refl
 fault_line p list line (faults.Flag l c) h =
     typed_read p list line h.fields h.typed.kind h.typed.cut h.typed.is_kind
-    ∙ rw (part_none flag_names p.flags h.fields.flags flags_table h.no_flags,
-    h.place.same_line, h.place.same_column) refl
+    ∙ rw (part_none flag_names p.flags h.fields.flags flags_table h.no_flags, h.place.same_line, h.place.same_column)
+    refl
 fault_line p list line (faults.Mask l c) h =
     flagged_read p list line h.fields h.flagged
     ∙ rw (part_none rights p.masks h.fields.mask rights_table h.no_mask, h.place.same_line, h.place.same_column) refl

@@ -39,7 +39,6 @@ pub last_place : (wanted : ℕ) (bytes : List ℕ) (at mid n place : ℕ) → Is
     → at + n ≡ length bytes → IsPlaceIn wanted bytes at n place
     → at + place ≡ position_or_len (λ b. eqb b wanted) bytes
 last_place wanted bytes at mid n place front le whole p =
-    sym (position_or_len_is (λ b. eqb b wanted) bytes (at + place) 0
-    (omega (arith, whole, p.within))
+    sym (position_or_len_is (λ b. eqb b wanted) bytes (at + place) 0 (omega (arith, whole, p.within))
     (λ k high. absent_on wanted bytes at mid (at + place) front p.before le k (omega arith) high)
     (λ lt. p.found (omega (arith, whole, lt))))

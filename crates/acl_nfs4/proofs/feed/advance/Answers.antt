@@ -15,21 +15,21 @@ judge-reach-requires c = rw c.in-Ok.ensures
 
 pub overflow_sub-fed : goal.overflow_sub-fed
 overflow_sub-fed c =
-    let whole : IsWhole (profile_of c.args.profile) c.extend.new.self c.judge-reach.result.progress = rw c.in-None.is at
-    c.judge-reach.ensures.judged in
+    let whole : IsWhole (profile_of c.args.profile) c.extend.new.self c.judge-reach.result.progress =
+    rw c.in-None.is at c.judge-reach.ensures.judged in
     let e = ended (profile_of c.args.profile) c.args.text.now c.args.piece.now c.extend.new.self
     c.judge-reach.result.progress (code_profile c.args.profile (omega arith)) c.in-Ok.ensures whole c.requires.cut in
     subst (λ (k : ℕ). k ≤ 4 + c.judge-reach.result.progress.used) (sym c.len-before.ensures) e.after
 
 pub returns-in-None-clause-feeds : goal.returns-in-None-clause-feeds
 returns-in-None-clause-feeds c =
-    let whole : IsWhole (profile_of c.args.profile) c.extend.new.self c.judge-reach.result.progress = rw c.in-None.is at
-    c.judge-reach.ensures.judged in
+    let whole : IsWhole (profile_of c.args.profile) c.extend.new.self c.judge-reach.result.progress =
+    rw c.in-None.is at c.judge-reach.ensures.judged in
     let e = ended (profile_of c.args.profile) c.args.text.now c.args.piece.now c.extend.new.self
     c.judge-reach.result.progress (code_profile c.args.profile (omega arith)) c.in-Ok.ensures whole c.requires.cut in
     let n : length c.args.text.now ≡ c.len-before.result = sym c.len-before.ensures in
-    let list : List Ace = aces_of c.judge-reach.result.progress.seen
-    (body_in c.extend.new.self c.judge-reach.result.progress) in (
+    let list : List Ace =
+    aces_of c.judge-reach.result.progress.seen (body_in c.extend.new.self c.judge-reach.result.progress) in (
       list,
       ap (λ (t : List ℕ). done (aces_of c.judge-reach.result.progress.seen t)) c.cut.ensures,
       subst (λ (k : ℕ). 4 + c.judge-reach.result.progress.used - k ≤ length c.args.piece.now) n e.within,
@@ -50,6 +50,6 @@ returns-in-Truncated-clause-feed c =
 
 pub overflow_add-fed : goal.overflow_add-fed
 overflow_add-fed c =
-    let whole : IsWhole (profile_of c.args.profile) c.extend.new.self c.judge-reach.result.progress = rw c.in-None.is at
-    c.judge-reach.ensures.judged in
+    let whole : IsWhole (profile_of c.args.profile) c.extend.new.self c.judge-reach.result.progress =
+    rw c.in-None.is at c.judge-reach.ensures.judged in
     omega (arith, whole.inside, c.judge-reach.ensures.fits)
