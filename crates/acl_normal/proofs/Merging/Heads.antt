@@ -5,7 +5,7 @@ use Rattle.std.specs.Cmp.Lexicographic.{slice_cmp}
 use Rattle.std.specs.Ordering.{nat_cmp, ordering_then}
 use Rattle.std.specs.declared.cmp.Ordering.{Ordering}
 use Rattle.std.specs.declared.cmp.Ordering.TheVariants.{Less, Equal, Greater}
-use Rattle.std.proofs.Common.{sym, ◌∙◌, ap, arith, inl, inr}
+use Rattle.std.proofs.Common.{sym, ◌∙◌, arith, inl, inr}
 use Rattle.std.proofs.lemmas.Bool.{cases_lt}
 use Rattle.std.proofs.lemmas.Map.Lookups.{exact_unsigned}
 use Rattle.acl_perm.specs.Order.{principal_cmp, principal_name, principal_rank}
@@ -53,104 +53,73 @@ nothing_first (suc n) m ys = go (nothing_first n (m * 256 + 0) (drop 1 ys)) (get
         let l = before_decides n (m * 256 + 0) (m * 256 + get_or ys 0 0) [] (drop 1 ys) no_bytes (omega (arith, e)) in
         omega (arith, l)
 
--- what a comparison of heads leaves open
+-- one of two numbers is less, or they are one number
+compare : {A : Type 0} (m k : ℕ) → (m < k → A) → (k < m → A) → (m ≡ k → A) → A
+compare {A} m k below above same = go (cases_lt m k) (cases_lt k m)
+  where
+    go : (m < k) ⊎ (k ≤ m) → (k < m) ⊎ (m ≤ k) → A
+    go (inl l) _ = below l
+    go (inr l) (inl u) = above u
+    go (inr l) (inr u) = same (omega (arith, l, u))
+
+-- two numbers, compared first, leave an answer as it is
 abbrev Agrees : ℕ → ℕ → Ordering → Type 0
 Agrees m k o = ordering_then (nat_cmp m k) o ≡ o
 
-agrees_less : (m k : ℕ) → m ≤ k → Agrees m k Less
-agrees_less m k l = go (cases_lt m k)
-  where
-    go : (m < k) ⊎ (k ≤ m) → Agrees m k Less
-    go (inl b) = ap (λ o. ordering_then o Less) (less m k b)
-    go (inr b) = ap (λ o. ordering_then o Less) (equal m k (omega (arith, l, b)))
+-- numbers that never say other than the answer
+agrees : (m k : ℕ) (o : Ordering) → (m < k → o ≡ Less) → (k < m → o ≡ Greater) → Agrees m k o
+agrees m k o below above =
+    compare m k (λ l. rw (less m k l) (sym (below l))) (λ l. rw (greater m k l) (sym (above l)))
+    (λ e. rw (equal m k e) refl)
 
-agrees_greater : (m k : ℕ) → k ≤ m → Agrees m k Greater
-agrees_greater m k l = go (cases_lt k m)
-  where
-    go : (k < m) ⊎ (m ≤ k) → Agrees m k Greater
-    go (inl b) = ap (λ o. ordering_then o Greater) (greater m k b)
-    go (inr b) = ap (λ o. ordering_then o Greater) (equal m k (omega (arith, l, b)))
+-- heads that follow what stands before them, and agree with the rest where that is the same
+decided : (b c m k : ℕ) (rest : Ordering) → (b < c → m < k) → (c < b → k < m) → (b ≡ c → Agrees m k rest)
+    → Agrees m k (ordering_then (nat_cmp b c) rest)
+decided b c m k rest below above same =
+    compare b c
+    (λ l. rw (less b c l) (agrees m k Less (λ h. refl) (λ h. absurd (omega (arith, h, below l)))))
+    (λ l. rw (greater b c l) (agrees m k Greater (λ h. absurd (omega (arith, h, above l))) (λ h. refl)))
+    (λ e. rw (equal b c e) (same e))
 
 -- behind equal bytes the names decide
-names_agree : (n m : ℕ) (xs ys : List ℕ) → IsBytes xs → IsBytes ys
-    → Agrees (head_from m n xs) (head_from m n ys) (slice_cmp nat_cmp xs ys)
-names_agree zero m xs ys f g = ap (λ o. ordering_then o (slice_cmp nat_cmp xs ys)) (equal m m refl)
-names_agree (suc n) m [] [] f g = agrees_equal (head_from m (suc n) [])
-  where
-    agrees_equal : (k : ℕ) → Agrees k k Equal
-    agrees_equal k = ap (λ o. ordering_then o Equal) (equal k k refl)
-names_agree (suc n) m [] (c ∷ ys) f g = agrees_less _ _ (nothing_first (suc n) m (c ∷ ys))
-names_agree (suc n) m (b ∷ xs) [] f g = agrees_greater _ _ (nothing_first (suc n) m (b ∷ xs))
-names_agree (suc n) m (b ∷ xs) (c ∷ ys) f g =
-    go (cases_lt b c) (cases_lt c b) (names_agree n (m * 256 + c) xs ys (tail_bytes b xs f) (tail_bytes c ys g))
-  where
-    left : ℕ
-    left = head_from (m * 256 + b) n xs
-
-    right : ℕ
-    right = head_from (m * 256 + c) n ys
-
-    rest : Ordering
-    rest = slice_cmp nat_cmp xs ys
-
-    Goal : Type 0
-    Goal = Agrees left right (ordering_then (nat_cmp b c) rest)
-
-    go : (b < c) ⊎ (c ≤ b) → (c < b) ⊎ (b ≤ c) → Agrees (head_from (m * 256 + c) n xs) right rest → Goal
-    go (inl l) _ h =
-        rw (less b c l)
-        (ap (λ o. ordering_then o Less)
-        (less left right (before_decides n (m * 256 + b) (m * 256 + c) xs ys (tail_bytes b xs f) (omega (arith, l)))))
-    go (inr l) (inl u) h =
-        rw (greater b c u)
-        (ap (λ o. ordering_then o Greater)
-        (greater left right
-        (before_decides n (m * 256 + c) (m * 256 + b) ys xs (tail_bytes c ys g) (omega (arith, u)))))
-    go (inr l) (inr u) h =
-        let same : b ≡ c = omega (arith, l, u) in
-        rw (equal b c same, same) h
+names_agree : (n m k : ℕ) (xs ys : List ℕ) → IsBytes xs → IsBytes ys → m ≡ k
+    → Agrees (head_from m n xs) (head_from k n ys) (slice_cmp nat_cmp xs ys)
+names_agree zero m k xs ys f g e = rw (equal m k e) refl
+names_agree (suc n) m k [] [] f g e = rw e (rw (equal (head_from k (suc n) []) (head_from k (suc n) []) refl) refl)
+names_agree (suc n) m k [] (c ∷ ys) f g e =
+    rw e
+    (agrees (head_from k (suc n) []) (head_from k (suc n) (c ∷ ys)) Less (λ h. refl)
+    (λ h. absurd (omega (arith, h, nothing_first (suc n) k (c ∷ ys)))))
+names_agree (suc n) m k (b ∷ xs) [] f g e =
+    rw e
+    (agrees (head_from k (suc n) (b ∷ xs)) (head_from k (suc n) []) Greater
+    (λ h. absurd (omega (arith, h, nothing_first (suc n) k (b ∷ xs)))) (λ h. refl))
+names_agree (suc n) m k (b ∷ xs) (c ∷ ys) f g e =
+    decided b c (head_from (m * 256 + b) n xs) (head_from (k * 256 + c) n ys) (slice_cmp nat_cmp xs ys)
+    (λ l. before_decides n (m * 256 + b) (k * 256 + c) xs ys (tail_bytes b xs f) (omega (arith, e, l)))
+    (λ l. before_decides n (k * 256 + c) (m * 256 + b) ys xs (tail_bytes c ys g) (omega (arith, e, l)))
+    (λ h. names_agree n (m * 256 + b) (k * 256 + c) xs ys (tail_bytes b xs f) (tail_bytes c ys g) (omega (arith, e, h)))
 
 -- the heads never say other than the principals
 heads_agree : (p q : Principal) → IsBytes (principal_name p) → IsBytes (principal_name q)
     → Agrees (principal_head p) (principal_head q) (principal_cmp p q)
-heads_agree p q f g = go (cases_lt r s) (cases_lt s r)
-  where
-    r : ℕ
-    r = principal_rank p
-
-    s : ℕ
-    s = principal_rank q
-
-    names : Ordering
-    names = slice_cmp nat_cmp (principal_name p) (principal_name q)
-
-    Goal : Type 0
-    Goal = Agrees (principal_head p) (principal_head q) (ordering_then (nat_cmp r s) names)
-
-    go : (r < s) ⊎ (s ≤ r) → (s < r) ⊎ (r ≤ s) → Goal
-    go (inl l) _ =
-        rw (less r s l)
-        (ap (λ o. ordering_then o Less)
-        (less (principal_head p) (principal_head q) (before_decides 7 r s (principal_name p) (principal_name q) f l)))
-    go (inr l) (inl h) =
-        rw (greater r s h)
-        (ap (λ o. ordering_then o Greater)
-        (greater (principal_head p) (principal_head q)
-        (before_decides 7 s r (principal_name q) (principal_name p) g h)))
-    go (inr l) (inr h) =
-        let same : r ≡ s = omega (arith, l, h) in
-        rw (equal r s same, same) (names_agree 7 s (principal_name p) (principal_name q) f g)
+heads_agree p q f g =
+    decided (principal_rank p) (principal_rank q) (principal_head p) (principal_head q)
+    (slice_cmp nat_cmp (principal_name p) (principal_name q))
+    (before_decides 7 (principal_rank p) (principal_rank q) (principal_name p) (principal_name q) f)
+    (before_decides 7 (principal_rank q) (principal_rank p) (principal_name q) (principal_name p) g)
+    (names_agree 7 (principal_rank p) (principal_rank q) (principal_name p) (principal_name q) f g)
 
 -- unlike heads decide
 pub compared_as : (p q : PrincipalRef) (m k : ℕ) (answer : Ordering) → HasHead m p → HasHead k q
     → answer ≡ nat_cmp m k → (m ≡ k → ⊥) → answer ≡ principal_cmp (principal p) (principal q)
-compared_as p q m k answer f g e unlike = e ∙ go (nat_cmp m k) refl ∙ agrees
+compared_as p q m k answer f g e unlike = e ∙ go (nat_cmp m k) refl ∙ whole
   where
     principals : Ordering
     principals = principal_cmp (principal p) (principal q)
 
-    agrees : Agrees m k principals
-    agrees = rw (f.is, g.is) (heads_agree (principal p) (principal q) f.bytes g.bytes)
+    whole : Agrees m k principals
+    whole = rw (f.is, g.is) (heads_agree (principal p) (principal q) f.bytes g.bytes)
 
     go : (o : Ordering) → nat_cmp m k ≡ o → o ≡ ordering_then o principals
     go Less is = refl
