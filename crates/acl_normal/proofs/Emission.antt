@@ -6,3 +6,4 @@ pub mod NewlyFree
 pub mod Filled
 pub mod Leaving
 pub mod Drained
+pub mod InRows

@@ -1,6 +1,6 @@
 -- The table of one bit, row by row.
-use Rattle.std.proofs.Common.{◌≡◌, ℕ, ◌+◌, ◌≤◌, ◌<◌, suc, Bool, true, false, List, [], ◌∷◌, ◌++◌, length, take, drop, refl, sym, ◌∙◌, ap, subst}
-use Rattle.std.specs.Prelude.{slice_index_or, filter, Option, Some, None}
+use Rattle.std.proofs.Common.{◌≡◌, ℕ, ◌+◌, ◌≤◌, ◌<◌, suc, Bool, true, false, List, [], ◌∷◌, ◌++◌, length, take, drop, refl, sym, ◌∙◌, ap, arith, subst}
+use Rattle.std.specs.Prelude.{All, slice_index_or, filter, Option, Some, None}
 use Rattle.std.proofs.lemmas.List.{append-nil, take_more, take_all, map-append}
 use Rattle.acl_perm.specs.Bits.{has_bit, identifier_group}
 use Rattle.acl_perm.specs.Principal.{Principal}
@@ -10,7 +10,8 @@ use Rattle.acl_nfs4.specs.Who.{principal_of}
 use Rattle.acl_eval.specs.Column.{column}
 use Rattle.acl_normal.specs.internal.Alike.{IsAlike}
 use Rattle.acl_normal.specs.internal.Emissions.{IsOnce}
-use Rattle.acl_normal.specs.internal.Emitted.{emitted_ace, emitted_aces}
+use Rattle.acl_normal.specs.internal.Cells.{ArePlaces}
+use Rattle.acl_normal.specs.internal.Emitted.{StandInRows, emitted_ace, emitted_aces}
 use Rattle.acl_normal.specs.Left.{KeepsFirsts}
 use Rattle.acl_normal.specs.Keys.{plain_key}
 use Rattle.acl_normal.specs.Places.{first_at}
@@ -25,6 +26,7 @@ use Rattle.acl_normal.proofs.Unique.Names.{overlaps_itself}
 use Rattle.acl_normal.proofs.Unique.SameOrder.{once_has}
 use Rattle.acl_normal.proofs.Unique.Unique.{no_inherit_only}
 use Rattle.acl_normal.proofs.Inheritance.Writing.{split_at}
+use Rattle.acl_normal.proofs.Merging.Rows.{row_below}
 
 -- an ACE without the bit has no row
 pub no_row : (b : ℕ) (xs : List Ace) (a : Ace) (rows : List Row) → has_bit a.mask b ≡ false → AddsRow b xs a rows rows
@@ -141,3 +143,24 @@ rows_from b xs ys (a ∷ list) (r ∷ rows) keeps so = (
   },
   rows_from b xs ys list rows keeps so.1,
 )
+
+-- what stands in the rows of a list stands in one of so many
+pub row_there : (xs : List Ace) (es shown : List Emitted) (n : ℕ) → StandInRows xs es → shown ≡ es → n ≡ length xs
+    → All (λ e. e.row < n) shown
+row_there xs es shown n stand is count = subst (λ v. All (λ e. e.row < n) v) (sym is) below
+  where
+    below : (k : ℕ) (d : Emitted) → k < length es → (slice_index_or es k d).row < n
+    below k d l = let at = stand k d l in
+        omega (arith, count, at.is, row_below (principal_of (emitted_ace (slice_index_or es k d))) xs at.named)
+
+-- the rows of all, by their places in a list
+pub rows_shown : (b : ℕ) (xs : List Ace) (places held : List (Option ℕ)) (es shown : List Emitted) (rows : List Row)
+    → held ≡ places → shown ≡ es
+    → ((list : List Ace) → ArePlaces b list held → StandInRows list shown
+    → All (λ e. HasKey b list (emitted_ace e)) shown → AreRows b list (with_bit b (emitted_aces shown)) rows)
+    → ArePlaces b xs places → StandInRows xs es → All (λ e. HasKey b xs (emitted_ace e)) es
+    → AreRows b xs (with_bit b (emitted_aces es)) rows
+rows_shown b xs places held es shown rows same is so at stand keys =
+    subst (λ v. AreRows b xs (with_bit b (emitted_aces v)) rows) is
+    (so xs (subst (λ v. ArePlaces b xs v) (sym same) at) (subst (λ v. StandInRows xs v) (sym is) stand)
+    (subst (λ v. All (λ e. HasKey b xs (emitted_ace e)) v) (sym is) keys))

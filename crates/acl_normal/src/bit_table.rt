@@ -1,16 +1,16 @@
 //! The table of one right: what the normal form says of it, and where that comes from.
-ghost use Rattle.std.specs.Prelude.{◌≡◌, ◌<◌, ℕ, List, [], IfOk, IsOkAnd, OnOk, length, slice_index_or};
+ghost use Rattle.std.specs.Prelude.{◌≡◌, ◌<◌, ℕ, List, [], All, IfOk, IsOkAnd, OnOk, length};
 ghost use Rattle.acl_nfs4.specs.Ace.{Ace};
-ghost use Rattle.acl_normal.specs.internal.Emitted.{emitted_ace, emitted_aces};
+ghost use Rattle.acl_nfs4.specs.Who.{principal_of};
+ghost use Rattle.acl_normal.specs.internal.Cells.{ArePlaces, first_place};
+ghost use Rattle.acl_normal.specs.internal.Emitted.{StandInRows, emitted_ace, emitted_aces};
 ghost use Rattle.acl_normal.specs.Left.{IsLowest};
-ghost use Rattle.acl_normal.specs.NormalForm.{IsNormalFormOf};
-ghost use Rattle.acl_normal.specs.declared.emit.emission.Emitted.{Emitted as Emission};
 ghost use Rattle.acl_normal.specs.Tables.{AddsRow, AreRows, HasKey, IsTable, with_bit};
 
-use crate::emit::emission::Emitted;
-use crate::normal_form::{ace_of, form_of};
+use crate::emit::emission::{Emitted, normalize_left};
+use crate::normal_form::ace_of;
 use crate::reduce::reduced_rows;
-use crate::rows::merged::{MergedRows, lowest};
+use crate::rows::merged::lowest;
 use acl_nfs4::Acl;
 use acl_perm::{Kind, Mask, Right};
 use std::alloc::{AllocError, Global};
@@ -39,55 +39,61 @@ pub fn table(alloc: Global, list: &Acl, bit: Mask) -> Result<Vec<Row>, AllocErro
     let Some(right) = lowest(bit) else {
         return Ok(Vec::new(alloc));
     };
-    let rows = reduced_rows(alloc, list)?;
-    let form = form_of(alloc, list)?;
-    let table = rows_of(alloc, &rows, &form, right)?;
+    let _accepted = list.aces();
+    let mut rows = reduced_rows(alloc, list)?;
+    let places = rows.places(alloc, right)?;
+    let form = normalize_left(alloc, &mut rows)?;
+    let table = rows_of(alloc, &places, &form, right)?;
     Ok(table)
 }
 
-// The rows of the ACEs that have the right.
-fn rows_of<'a>(
+// The rows of the ACEs that have the right, by the places of their principals.
+fn rows_of(
     alloc: Global,
-    rows: &MergedRows<'a>,
-    form: &[Emitted<'a>],
+    places: &[Option<usize>],
+    form: &[Emitted<'_>],
     right: Right,
 ) -> Result<Vec<Row>, AllocError>
-    requires { (i : ℕ) (d : Emission) → i < length form.now
-        → HasKey right.bit rows.now (emitted_ace (slice_index_or form.now i d)) }
-    ensures { IfOk result (λ table.
-        AreRows right.bit rows.now (with_bit right.bit (emitted_aces form.now)) table.items) }
+    requires { All (λ e. e.row < length places.now) form.now }
+    ensures { IfOk result (λ table. (list : List Ace) → ArePlaces right.bit list places.now
+        → StandInRows list form.now → All (λ e. HasKey right.bit list (emitted_ace e)) form.now
+        → AreRows right.bit list (with_bit right.bit (emitted_aces form.now)) table.items) }
 {
     let mut table = Vec::new(alloc);
     for item in form {
-        add_row(alloc, rows, *item, right, &mut table)?;
+        add_row(alloc, places[item.row], *item, right, &mut table)?;
     }
     Ok(table)
 }
 
 // The row of an ACE, where that has the right.
-fn add_row<'a>(
+fn add_row(
     alloc: Global,
-    rows: &MergedRows<'a>,
-    item: Emitted<'a>,
+    place: Option<usize>,
+    item: Emitted<'_>,
     right: Right,
     table: &mut Vec<Row>,
 ) -> Result<(), AllocError>
-    requires { HasKey right.bit rows.now (emitted_ace item) }
-    ensures { OnOk result (AddsRow right.bit rows.now (emitted_ace item.entry)
-        table.old.items table.new.items) }
+    ensures { OnOk result ((list : List Ace)
+        → place ≡ first_place right.bit (principal_of (emitted_ace item.entry)) list
+        → HasKey right.bit list (emitted_ace item.entry)
+        → AddsRow right.bit list (emitted_ace item.entry) table.old.items table.new.items) }
 {
     if !item.mask.has(right) {
         return Ok(());
     }
-    let shown = ace_of(item);
-    if let Some((_kind, source)) = rows.source(shown.principal(), right) {
-        let who = Vec::from_slice(alloc, shown.who)?;
-        table.push(Row {
-            kind: shown.kind,
-            who,
-            group: shown.flags.is_group(),
-            source,
-        })?;
+    match place {
+        Some(source) => {
+            let shown = ace_of(item);
+            let who = Vec::from_slice(alloc, shown.who)?;
+            table.push(Row {
+                kind: shown.kind,
+                who,
+                group: shown.flags.is_group(),
+                source,
+            })?;
+            Ok(())
+        }
+        None => Ok(()),
     }
-    Ok(())
 }

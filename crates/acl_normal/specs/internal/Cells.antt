@@ -1,8 +1,9 @@
 -- The rows of principals (this library's own): where each of their rights stands.
-use Rattle.std.specs.Prelude.{ℕ, ◌-◌, ◌==◌, nat_lt, cond, List, [], Option, Some, None, option_map, slice_index_or}
+use Rattle.std.specs.Prelude.{◌≡◌, ℕ, ◌-◌, ◌==◌, nat_lt, cond, List, [], Option, Some, None, option_map, slice_index_or}
 use Rattle.acl_perm.specs.Principal.{Principal}
 use Rattle.acl_nfs4.specs.Ace.{Ace}
 use Rattle.acl_normal.specs.Places.{first_at}
+use Rattle.acl_normal.specs.internal.Rows.{IsRow}
 use Rattle.acl_normal.specs.declared.rows.cells.Cells.{Cells}
 
 -- the number of the cell of a bit, if the bit is a right
@@ -33,3 +34,8 @@ place_at rows row b = place_in (slice_index_or rows row (record { places = [] })
 -- the place of the first ACE of a principal with the bit
 abbrev pub first_place : ℕ → Principal → List Ace → Option ℕ
 first_place b p xs = option_map (λ e. e.1) (first_at b p xs)
+
+-- by row, the place of the first ACE of the row's principal with the bit
+abbrev pub ArePlaces : ℕ → List Ace → List (Option ℕ) → Type 0
+ArePlaces b xs places =
+    (row : ℕ) (p : Principal) → IsRow row p xs → slice_index_or places row None ≡ first_place b p xs

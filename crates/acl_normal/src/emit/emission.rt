@@ -6,7 +6,7 @@ ghost use Rattle.acl_eval.specs.Grant.{SameGrants};
 ghost use Rattle.acl_perm.specs.Order.{kind_rank};
 ghost use Rattle.acl_normal.specs.internal.Classes.{is_users};
 ghost use Rattle.acl_normal.specs.internal.Emissions.{IsEmission};
-ghost use Rattle.acl_normal.specs.internal.Emitted.{emitted_aces};
+ghost use Rattle.acl_normal.specs.internal.Emitted.{StandInRows, emitted_aces};
 ghost use Rattle.acl_normal.specs.Keys.{plain_key};
 ghost use Rattle.acl_normal.specs.Left.{left};
 ghost use Rattle.acl_normal.specs.Normal.{IsIrreducibleList, IsNormal};
@@ -20,11 +20,12 @@ use crate::rows::merged::MergedRows;
 use acl_perm::{Key, Kind, Mask, Right};
 use std::alloc::{AllocError, Global};
 
-/// An ACE of a normal form: a key and its rights.
+/// An ACE of a normal form: a key, its rights, and the row of the principal.
 #[derive(Clone, Copy)]
 pub(crate) struct Emitted<'a> {
     pub(crate) key: Key<'a>,
     pub(crate) mask: Mask,
+    pub(crate) row: usize,
 }
 
 // The number of a type, in the order of types.
@@ -134,7 +135,8 @@ pub(crate) fn drain<'a>(
     alloc: Global,
     rows: &mut MergedRows<'a>,
 ) -> Result<Vec<Emitted<'a>>, AllocError>
-    ensures { IfOk result (λ v. IsEmission rows.old (emitted_aces v.items)) }
+    ensures emission { IfOk result (λ v. IsEmission rows.old (emitted_aces v.items)) }
+    ensures rows { IfOk result (λ v. StandInRows rows.old v.items) }
 {
     let _ = &rows.masks;
     let mut ready = Ready::new(alloc, rows.len())?;
@@ -144,8 +146,9 @@ pub(crate) fn drain<'a>(
     'emitted: while let Some(next) = ready.pop() {
         let key = rows.key_of(next.number);
         let mask = Mask { bits: next.bits };
-        out.push(Emitted { key, mask })?;
-        rows.emit_row(next.number / 2, key.principal, mask);
+        let row = next.number / 2;
+        out.push(Emitted { key, mask, row })?;
+        rows.emit_row(row, key.principal, mask);
         free_after(rows, key, mask, &mut ready)?;
     }
     Ok(out)
@@ -162,6 +165,7 @@ pub(crate) fn normalize_left<'a>(
     ensures only { IfOk result (λ v. (ns : List Ace) → IsNormal ns
         → SameGrants all_rights rows.old ns
         → ns ≡ emitted_aces v.items) }
+    ensures rows { IfOk result (λ v. StandInRows rows.old v.items) }
     ensures weight { IfOk result (λ v. count_left 21 (emitted_aces v.items)
         ≡ count_left 21 rows.old) }
 {

@@ -7,7 +7,7 @@ ghost use Rattle.acl_perm.specs.Principal.{Principal as Who, principal};
 ghost use Rattle.acl_perm.specs.declared.kind.Kind.TheVariants.{Deny, Allow};
 ghost use Rattle.acl_eval.specs.Column.{column};
 ghost use Rattle.acl_eval.specs.Grant.{SameGrants};
-ghost use Rattle.acl_normal.specs.internal.Cells.{first_place};
+ghost use Rattle.acl_normal.specs.internal.Cells.{ArePlaces, first_place};
 ghost use Rattle.acl_normal.specs.internal.Classes.{is_users};
 ghost use Rattle.acl_normal.specs.Left.{HasFree, IsLowest, IsTidy, KeepsFirsts, left};
 ghost use Rattle.acl_normal.specs.Normal.{IsIrreducibleList, is_free};
@@ -254,6 +254,22 @@ impl<'a> MergedRows<'a> {
             None => None,
             Some(place) => Some(place as usize),
         }
+    }
+
+    /// By row, the place of the ACE that still waits with a right.
+    pub(crate) fn places(
+        &self,
+        alloc: Global,
+        right: Right,
+    ) -> Result<Vec<Option<usize>>, AllocError>
+        ensures count { IfOk result (λ places. vec_len places ≡ length self.now) }
+        ensures places { IfOk result (λ places. ArePlaces right.bit self.now places.items) }
+    {
+        let mut places = Vec::with_capacity(alloc, self.len())?;
+        for row in 0..self.len() {
+            places.push(self.place_in(row, right))?;
+        }
+        Ok(places)
     }
 
     /// The type of the principal's ACE with the right, and its place.

@@ -1,13 +1,15 @@
-use Rattle.std.proofs.Common.{◌<◌, ◌∙◌, sym, ap, subst, arith, refl}
+use Rattle.std.proofs.Common.{◌/◌, ◌<◌, ◌∙◌, sym, ap, subst, arith, refl}
 use Rattle.acl_eval.specs.Column.{column}
 use Rattle.acl_normal.specs.internal.Counts.{count_left}
 use Rattle.acl_normal.specs.internal.Emissions.{IsOnce}
 use Rattle.acl_normal.specs.Keys.{plain_key}
 use Rattle.acl_normal.specs.Places.{nothing_left}
 use Rattle.acl_normal.specs.internal.Ready.{FitsKeys, marks}
-use Rattle.acl_normal.proofs.Emission.Drained.{drain_starts, drain_turn, drain_ends, drain_falls, outline_left, popped_mask, ready_within, takes}
+use Rattle.acl_normal.proofs.Emission.Drained.{drain_starts, drain_turn, drain_ends, drain_falls, outline_left, emitted_principal, popped_mask, popped_named, ready_within, takes}
 use Rattle.acl_normal.proofs.Merging.Few.{rows_few}
 use Rattle.acl_normal.proofs.Emission.Marks.{nothing_marked}
+use Rattle.acl_normal.proofs.Emission.InRows.{no_rows, rows_turn}
+use Rattle.acl_normal.specs.internal.Rows.{IsRow}
 use Rattle.acl_normal.proofs.emit.emission.drain.Goals as goal
 
 pub new-requires : goal.new-requires
@@ -22,6 +24,7 @@ emitted-init c = rw c.new-out.ensures.items (
       (λ b none. ap (λ v. column v b) (sym c.rows.view_is) ∙ c.rows.invariant.rights b none)
       c.in_ok-fill.ensures.marks,
   c.in_ok-fill.ensures.keys,
+  no_rows c.args.rows.now,
 )
 
 pub key_of-key-requires : goal.key_of-key-requires
@@ -70,10 +73,20 @@ emitted-preserved c =
           c.emit_row.new.self _ c.emitted.invariant.0 t
           c.in_ok-push.ensures.items refl c.emit_row.ensures c.in_ok-free_after.ensures.marks,
       c.in_ok-free_after.ensures.keys,
+      rows_turn c.args.rows.now c.emitted.rows c.emit_row.new.self c.emitted.out.items c.push.new.self.items _
+          (plain_key c.key_of-key.result) c.in-Some.next.bits c.emitted.invariant.2 c.in_ok-push.ensures.items
+          (subst (λ p. IsRow (c.in-Some.next.number / 2) p c.emitted.rows)
+          (sym (emitted_principal (plain_key c.key_of-key.result) c.in-Some.next.bits
+          (popped_named c.args.rows.now c.emitted.out.items _ _ (plain_key c.key_of-key.result) c.in-Some.next.bits
+          c.emitted.rows c.emitted.invariant.0 t.popped))) t.row)
+          c.emit_row.ensures,
     )
 
-pub returns : goal.returns
-returns c =
+pub returns-clause-rows : goal.returns-clause-rows
+returns-clause-rows c = c.emitted.invariant.2.rows
+
+pub returns-clause-emission : goal.returns-clause-emission
+returns-clause-emission c =
     drain_ends c.args.rows.now c.emitted.out.items (marks (nothing_left c.emitted.rows) c.emitted.ready)
     c.emitted.rows c.emitted.invariant.0
     (nothing_marked (nothing_left c.emitted.rows) c.emitted.ready c.in_default.ensures.none)

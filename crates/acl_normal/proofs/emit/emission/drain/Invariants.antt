@@ -2,11 +2,13 @@ use Rattle.acl_normal.specs.internal.Counts.{count_left}
 use Rattle.acl_normal.specs.Places.{nothing_left}
 use Rattle.acl_normal.specs.internal.Ready.{FitsKeys, marks}
 use Rattle.acl_normal.proofs.Emission.Drained.{Drains}
+use Rattle.acl_normal.proofs.Emission.InRows.{KeepsRows}
 use Rattle.acl_normal.proofs.emit.emission.drain.Given as goal
 
 abbrev pub invariant-emitted : goal.invariant-emitted
 invariant-emitted l =
     Drains l.fn.rows l.out.items (marks (nothing_left l.rows) l.ready) l.rows × FitsKeys (nothing_left l.rows) l.ready
+    × KeepsRows l.fn.rows l.rows l.out.items
 
 abbrev pub decreases-emitted : goal.decreases-emitted
 decreases-emitted l = count_left 21 l.rows

@@ -7,16 +7,16 @@ use Rattle.acl_normal.specs.internal.Emitted.{emitted_aces}
 
 pub returns-clause-normal : goal.returns-clause-normal
 returns-clause-normal c =
-    (left_normal c.args.rows.now (emitted_aces c.in_ok-out.out.items) c.requires c.in_ok-out.ensures).0
+    (left_normal c.args.rows.now (emitted_aces c.in_ok-out.out.items) c.requires c.in_ok-out.ensures.emission).0
 
 pub returns-clause-grants : goal.returns-clause-grants
 returns-clause-grants c =
-    (left_normal c.args.rows.now (emitted_aces c.in_ok-out.out.items) c.requires c.in_ok-out.ensures).1
+    (left_normal c.args.rows.now (emitted_aces c.in_ok-out.out.items) c.requires c.in_ok-out.ensures.emission).1
 
 pub returns-clause-only : goal.returns-clause-only
-returns-clause-only c = left_only c.args.rows.now (emitted_aces c.in_ok-out.out.items) c.requires c.in_ok-out.ensures
+returns-clause-only c = left_only c.args.rows.now (emitted_aces c.in_ok-out.out.items) c.requires c.in_ok-out.ensures.emission
 
 pub returns-clause-weight : goal.returns-clause-weight
 returns-clause-weight c =
     alike_count 21 c.args.rows.now (emitted_aces c.in_ok-out.out.items)
-    (λ b. subst (λ v. IsOnce (column v b)) c.rows.view_is (c.rows.invariant.once b)) c.in_ok-out.ensures
+    (λ b. subst (λ v. IsOnce (column v b)) c.rows.view_is (c.rows.invariant.once b)) c.in_ok-out.ensures.emission
