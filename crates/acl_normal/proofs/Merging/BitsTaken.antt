@@ -150,12 +150,12 @@ key_there (x ∷ aces) [] i d h = absurd (omega arith)
 key_there (x ∷ aces) (m ∷ masks) zero d h = refl
 key_there (x ∷ aces) (m ∷ masks) (suc i) d h = key_there aces masks i d (omega arith)
 
--- the same of a list that is what is left
+-- a place of a list that is what is left is one of the ACEs
 pub place_of_left : (aces : List AceRef) (masks : List ℕ) (i : ℕ) (xs : List Ace) → with_masks aces masks ≡ xs
     → i < length xs → i < length aces
 place_of_left aces masks i xs is l = place_within aces masks i (subst (λ v. i < length v) (sym is) l)
 
--- and its key is that of the ACE
+-- and its key
 pub key_of_left : (aces : List AceRef) (masks : List ℕ) (i : ℕ) (d : AceRef) (xs : List Ace)
     → with_masks aces masks ≡ xs → i < length xs
     → (principal_of (ace (slice_index_or aces i d)), (slice_index_or aces i d).kind) ≡ key_here xs i
