@@ -19,8 +19,7 @@ use Rattle.aclck.specs.Values.{profile_value}
 use Rattle.aclck.specs.Answer.{Answer, IsXdrFault, done, refused}
 use Rattle.aclck.specs.declared.answer.Outcome.TheVariants as outcome
 use Rattle.aclck.specs.declared.task.table.BitTable.{BitTable}
-use Rattle.aclck.specs.Definition.{Definition}
-use Rattle.aclck.specs.Run.{of_list}
+use Rattle.aclck.specs.Definition.{Definition, on_list}
 
 -- ---- words
 
@@ -96,11 +95,4 @@ TableAnswer v input (refused f) = IsXdrFault v.profile input f
 
 -- the command
 abbrev pub table : Definition
-table = record {
-  word = codes "table";
-  terms = table_terms;
-  Values = TableValues;
-  read = λ rows words. table_in rows;
-  Answers = TableAnswer;
-  shape = λ v. of_list v.profile;
-}
+table = on_list (codes "table") table_terms table_in TableAnswer (λ v. v.profile)

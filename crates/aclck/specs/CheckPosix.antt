@@ -16,8 +16,7 @@ use Rattle.aclck.specs.PosixAnswer.{IsPosixFault}
 use Rattle.aclck.specs.declared.answer.Outcome.{Outcome}
 use Rattle.aclck.specs.declared.answer.Outcome.TheVariants as outcome
 use Rattle.aclck.specs.declared.task.check_posix.CheckPosix.{CheckPosix}
-use Rattle.aclck.specs.Definition.{Definition}
-use Rattle.aclck.specs.Run.{of_text}
+use Rattle.aclck.specs.Definition.{Definition, on_text}
 
 -- ---- words
 
@@ -91,11 +90,4 @@ CheckPosixAnswer v input (refused f) = IsPosixFault v.names input f
 
 -- the command
 abbrev pub check_posix : Definition
-check_posix = record {
-  word = codes "check-posix";
-  terms = check_posix_terms;
-  Values = CheckPosixValues;
-  read = λ rows words. check_posix_in rows;
-  Answers = CheckPosixAnswer;
-  shape = λ v. of_text;
-}
+check_posix = on_text (codes "check-posix") check_posix_terms check_posix_in CheckPosixAnswer

@@ -14,8 +14,7 @@ use Rattle.aclck.specs.Values.{profile_value}
 use Rattle.aclck.specs.Answer.{Answer}
 use Rattle.aclck.specs.XdrAnswer.{MakesAnswer}
 use Rattle.aclck.specs.declared.task.child.Child.{Child}
-use Rattle.aclck.specs.Definition.{Definition}
-use Rattle.aclck.specs.Run.{of_list}
+use Rattle.aclck.specs.Definition.{Definition, on_list}
 
 -- ---- words
 
@@ -59,11 +58,4 @@ ChildAnswer v = MakesAnswer v.profile (child_text v.created)
 
 -- the command
 abbrev pub child : Definition
-child = record {
-  word = codes "child";
-  terms = child_terms;
-  Values = ChildValues;
-  read = λ rows words. child_in rows;
-  Answers = ChildAnswer;
-  shape = λ v. of_list v.profile;
-}
+child = on_list (codes "child") child_terms child_in ChildAnswer (λ v. v.profile)

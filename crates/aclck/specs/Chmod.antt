@@ -13,8 +13,7 @@ use Rattle.aclck.specs.Values.{mode_value}
 use Rattle.aclck.specs.Answer.{Answer}
 use Rattle.aclck.specs.PosixAnswer.{WritesAnswer}
 use Rattle.aclck.specs.declared.task.chmod.Chmod.{Chmod}
-use Rattle.aclck.specs.Definition.{Definition}
-use Rattle.aclck.specs.Run.{of_text}
+use Rattle.aclck.specs.Definition.{Definition, on_text}
 
 -- ---- words
 
@@ -52,11 +51,4 @@ ChmodAnswer v = WritesAnswer v.names (chmod_text v.mode)
 
 -- the command
 abbrev pub chmod : Definition
-chmod = record {
-  word = codes "chmod";
-  terms = chmod_terms;
-  Values = ChmodValues;
-  read = λ rows words. chmod_in rows;
-  Answers = ChmodAnswer;
-  shape = λ v. of_text;
-}
+chmod = on_text (codes "chmod") chmod_terms chmod_in ChmodAnswer

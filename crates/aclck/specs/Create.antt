@@ -13,8 +13,7 @@ use Rattle.aclck.specs.Values.{mode_value}
 use Rattle.aclck.specs.Answer.{Answer}
 use Rattle.aclck.specs.PosixAnswer.{WritesAnswer}
 use Rattle.aclck.specs.declared.task.create.Create.{Create}
-use Rattle.aclck.specs.Definition.{Definition}
-use Rattle.aclck.specs.Run.{of_text}
+use Rattle.aclck.specs.Definition.{Definition, on_text}
 
 -- ---- words
 
@@ -57,11 +56,4 @@ CreateAnswer v = WritesAnswer v.names (created_text v.mode v.umask v.is_director
 
 -- the command
 abbrev pub create : Definition
-create = record {
-  word = codes "create";
-  terms = create_terms;
-  Values = CreateValues;
-  read = λ rows words. create_in rows;
-  Answers = CreateAnswer;
-  shape = λ v. of_text;
-}
+create = on_text (codes "create") create_terms create_in CreateAnswer

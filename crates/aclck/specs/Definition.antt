@@ -7,7 +7,7 @@ use Rattle.aclck.specs.Answer.{Answer}
 use Rattle.aclck.specs.Line.{Term, is_sound, term}
 use Rattle.aclck.specs.NameWords.{names_in, names_terms}
 use Rattle.aclck.specs.ProfileArgument.{profile_in, profile_terms}
-use Rattle.aclck.specs.Run.{Shape, of_text}
+use Rattle.aclck.specs.Run.{Shape, of_list, of_text}
 use Rattle.aclck.specs.declared.line.Definition.{Definition as HeldDefinition}
 
 -- a command
@@ -31,6 +31,29 @@ pub record Defines (d : Definition) (held : HeldDefinition) : Type 0 where
   pub terms : map term held.arguments.now ≡ d.terms
   pub sound : is_sound d.terms ≡ true
 
+-- a command that reads a text
+abbrev pub on_text : {V : Type 0} → Text → List Term → (List Row → Option V) → (V → List ℕ → Answer → Type 0) → Definition
+on_text {V} word terms read answers = record {
+  word = word;
+  terms = terms;
+  Values = V;
+  read = λ rows words. read rows;
+  Answers = answers;
+  shape = λ v. of_text;
+}
+
+-- a command that reads a list of the profile among its values
+abbrev pub on_list : {V : Type 0} → Text → List Term → (List Row → Option V) → (V → List ℕ → Answer → Type 0)
+    → (V → Profile) → Definition
+on_list {V} word terms read answers profile = record {
+  word = word;
+  terms = terms;
+  Values = V;
+  read = λ rows words. read rows;
+  Answers = answers;
+  shape = λ v. of_list (profile v);
+}
+
 -- a command that takes a profile and no other word
 abbrev pub of_profile : Text → (Profile → List ℕ → Answer → Type 0) → (Profile → Shape) → Definition
 of_profile word answers shape = record {
@@ -44,11 +67,4 @@ of_profile word answers shape = record {
 
 -- a command that reads a text, and takes the names that it may have and no other word
 abbrev pub of_names : Text → (Table → List ℕ → Answer → Type 0) → Definition
-of_names word answers = record {
-  word = word;
-  terms = names_terms;
-  Values = Table;
-  read = λ rows words. names_in rows;
-  Answers = answers;
-  shape = λ names. of_text;
-}
+of_names word answers = on_text word names_terms names_in answers

@@ -14,8 +14,7 @@ use Rattle.aclck.specs.Values.{profile_value}
 use Rattle.aclck.specs.Answer.{Answer, IsXdrFault, done, refused}
 use Rattle.aclck.specs.declared.answer.Outcome.TheVariants as outcome
 use Rattle.aclck.specs.declared.task.normalize.Normalize.{Normalize}
-use Rattle.aclck.specs.Definition.{Definition}
-use Rattle.aclck.specs.Run.{of_list}
+use Rattle.aclck.specs.Definition.{Definition, on_list}
 
 -- ---- words
 
@@ -68,14 +67,7 @@ NormalizedAnswer v = by v.inherit v.profile
 
 -- the command
 abbrev pub normalize : Definition
-normalize = record {
-  word = codes "normalize";
-  terms = normalize_terms;
-  Values = NormalizeValues;
-  read = λ rows words. normalize_in rows;
-  Answers = NormalizedAnswer;
-  shape = λ v. of_list v.profile;
-}
+normalize = on_list (codes "normalize") normalize_terms normalize_in NormalizedAnswer (λ v. v.profile)
 
 -- ---- what the laws say of the five
 

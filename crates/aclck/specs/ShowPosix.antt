@@ -13,8 +13,7 @@ use Rattle.aclck.specs.PosixAnswer.{WritesAnswer}
 use Rattle.acl_posix.specs.declared.form.Form.{Form}
 use Rattle.acl_posix.specs.declared.form.Form.TheVariants as form
 use Rattle.aclck.specs.declared.task.show_posix.ShowPosix.{ShowPosix}
-use Rattle.aclck.specs.Definition.{Definition}
-use Rattle.aclck.specs.Run.{of_text}
+use Rattle.aclck.specs.Definition.{Definition, on_text}
 
 -- ---- words
 
@@ -61,11 +60,4 @@ ShowPosixAnswer v = WritesAnswer v.names (form_text v.form)
 
 -- the command
 abbrev pub show_posix : Definition
-show_posix = record {
-  word = codes "show-posix";
-  terms = show_posix_terms;
-  Values = ShowPosixValues;
-  read = λ rows words. show_posix_in rows;
-  Answers = ShowPosixAnswer;
-  shape = λ v. of_text;
-}
+show_posix = on_text (codes "show-posix") show_posix_terms show_posix_in ShowPosixAnswer
