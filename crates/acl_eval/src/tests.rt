@@ -157,6 +157,18 @@ fn names_say_who_is_meant(rt: HostRuntime) {
     }
 }
 
+// In order, and in no order.
+#[test]
+fn a_group_is_found_among_many(rt: HostRuntime) {
+    let mut groups = [b"staff".as_slice(); 130];
+    assert!(rt; is_granted(GROUP_NAMED, "bob", "alice", &groups, 1) == Some(true));
+    groups[129] = b"users";
+    assert!(rt; is_granted(GROUP_NAMED, "bob", "alice", &groups, 1) == Some(false));
+    groups[0] = b"users";
+    groups[129] = b"staff";
+    assert!(rt; is_granted(GROUP_NAMED, "bob", "alice", &groups, 1) == Some(false));
+}
+
 #[test]
 fn an_empty_name_is_none(rt: HostRuntime) {
     assert!(rt; Object::new(b"", b"staff").is_none());
