@@ -23,6 +23,7 @@ use std::alloc::{AllocError, Global};
 
 // To put groups in order takes longer than to look up no more of them than these, or for no more ACEs.
 const FEW_GROUPS: usize = 128;
+
 const FEW_ACES: usize = 128;
 
 const ARGUMENTS: [Argument; 6] = [
