@@ -31,6 +31,16 @@ pub struct Definition {
     pub arguments: &'static [Argument],
 }
 
+impl Definition {
+    /// The command of a word and its arguments.
+    pub(crate) fn new(word: &'static str, arguments: &'static [Argument]) -> Definition
+        ensures named { result.word.now ≡ word.now }
+        ensures takes { result.arguments.now ≡ arguments.now }
+    {
+        Definition { word, arguments }
+    }
+}
+
 /// Why words ask for nothing.
 #[derive(Clone, Copy, Debug, PartialEq, Eq)]
 pub enum LineFault {

@@ -20,10 +20,7 @@ use std::alloc::Global;
 pub(crate) fn definition() -> Definition
     ensures { Defines bridge result }
 {
-    Definition {
-        word: "bridge",
-        arguments: &names::ARGUMENTS,
-    }
+    Definition::new("bridge", &names::ARGUMENTS)
 }
 
 /// Writes the XDR of the NFSv4 list that stands for the access ACL of the file whose text the input is. The default ACL

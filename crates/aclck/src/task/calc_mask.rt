@@ -18,10 +18,7 @@ use std::alloc::Global;
 pub(crate) fn definition() -> Definition
     ensures { Defines calc_mask result }
 {
-    Definition {
-        word: "calc-mask",
-        arguments: &names::ARGUMENTS,
-    }
+    Definition::new("calc-mask", &names::ARGUMENTS)
 }
 
 /// Writes the canonical text of the file whose text the input is, with the mask of its access ACL calculated, and added

@@ -39,10 +39,7 @@ const ARGUMENTS: [Argument; 6] = [
 pub(crate) fn definition() -> Definition
     ensures { Defines check_nfs result }
 {
-    Definition {
-        word: "check-nfs",
-        arguments: &ARGUMENTS,
-    }
+    Definition::new("check-nfs", &ARGUMENTS)
 }
 
 /// Who asks of what, for which rights, and what a list may have.

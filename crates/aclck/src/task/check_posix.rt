@@ -33,10 +33,7 @@ const ARGUMENTS: [Argument; 6] = [
 pub(crate) fn definition() -> Definition
     ensures { Defines check_posix result }
 {
-    Definition {
-        word: "check-posix",
-        arguments: &ARGUMENTS,
-    }
+    Definition::new("check-posix", &ARGUMENTS)
 }
 
 /// Who asks of whose object, for which permissions, and which names a text may have.

@@ -25,10 +25,7 @@ const ARGUMENTS: [Argument; 2] = [
 pub(crate) fn definition() -> Definition
     ensures { Defines child result }
 {
-    Definition {
-        word: "child",
-        arguments: &ARGUMENTS,
-    }
+    Definition::new("child", &ARGUMENTS)
 }
 
 /// What is created, and what a list may have.

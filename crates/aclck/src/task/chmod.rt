@@ -25,10 +25,7 @@ const ARGUMENTS: [Argument; 2] = [Argument::Required("mode"), Argument::Words];
 pub(crate) fn definition() -> Definition
     ensures { Defines chmod result }
 {
-    Definition {
-        word: "chmod",
-        arguments: &ARGUMENTS,
-    }
+    Definition::new("chmod", &ARGUMENTS)
 }
 
 /// The mode, and which names a text may have.

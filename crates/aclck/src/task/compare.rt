@@ -22,10 +22,7 @@ use std::alloc::{AllocError, Global};
 pub(crate) fn definition() -> Definition
     ensures { Defines compare result }
 {
-    Definition {
-        word: "compare",
-        arguments: &profile::ARGUMENTS,
-    }
+    Definition::new("compare", &profile::ARGUMENTS)
 }
 
 /// Writes whether the two lists that the whole input spells, one after the other, grant the same: `same`, or the first

@@ -29,10 +29,7 @@ const ARGUMENTS: [Argument; 4] = [
 pub(crate) fn definition() -> Definition
     ensures { Defines create result }
 {
-    Definition {
-        word: "create",
-        arguments: &ARGUMENTS,
-    }
+    Definition::new("create", &ARGUMENTS)
 }
 
 /// The mode and the umask, whether the new object is a directory, and which names a text may have.

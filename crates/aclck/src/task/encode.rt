@@ -18,10 +18,7 @@ use std::alloc::Global;
 pub(crate) fn definition() -> Definition
     ensures { Defines encode result }
 {
-    Definition {
-        word: "encode",
-        arguments: &profile::ARGUMENTS,
-    }
+    Definition::new("encode", &profile::ARGUMENTS)
 }
 
 /// Writes the bytes that spell the list whose text the whole input is. Nothing is written before the input is accepted,

@@ -17,10 +17,7 @@ use std::alloc::Global;
 pub(crate) fn definition() -> Definition
     ensures { Defines mode result }
 {
-    Definition {
-        word: "mode",
-        arguments: &profile::ARGUMENTS,
-    }
+    Definition::new("mode", &profile::ARGUMENTS)
 }
 
 /// Writes the mode of the list that the whole input spells, as three octal digits and a line feed. Nothing is written

@@ -25,10 +25,7 @@ const ARGUMENTS: [Argument; 2] = [
 pub(crate) fn definition() -> Definition
     ensures { Defines normalize result }
 {
-    Definition {
-        word: "normalize",
-        arguments: &ARGUMENTS,
-    }
+    Definition::new("normalize", &ARGUMENTS)
 }
 
 /// Whether inheritance counts, and what a list may have.

@@ -18,10 +18,7 @@ use std::alloc::{AllocError, Global};
 pub(crate) fn definition() -> Definition
     ensures { Defines show_nfs result }
 {
-    Definition {
-        word: "show-nfs",
-        arguments: &profile::ARGUMENTS,
-    }
+    Definition::new("show-nfs", &profile::ARGUMENTS)
 }
 
 /// Writes the text of the list that the whole input spells. Nothing is written before the input is accepted, as a list

@@ -23,10 +23,7 @@ const ARGUMENTS: [Argument; 2] = [Argument::Default("form", "canonical"), Argume
 pub(crate) fn definition() -> Definition
     ensures { Defines show_posix result }
 {
-    Definition {
-        word: "show-posix",
-        arguments: &ARGUMENTS,
-    }
+    Definition::new("show-posix", &ARGUMENTS)
 }
 
 /// The form, and which names a text may have.

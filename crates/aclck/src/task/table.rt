@@ -29,10 +29,7 @@ const ARGUMENTS: [Argument; 2] = [
 pub(crate) fn definition() -> Definition
     ensures { Defines table result }
 {
-    Definition {
-        word: "table",
-        arguments: &ARGUMENTS,
-    }
+    Definition::new("table", &ARGUMENTS)
 }
 
 /// The mask of the one right that is asked for, and what a list may have.
