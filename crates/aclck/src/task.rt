@@ -24,7 +24,7 @@ pub mod table;
 
 use crate::answer::{Outcome, RunFault};
 use crate::line::{Definition, LineFault, command_from, parse};
-use crate::words::names::names_in;
+use crate::words::names::{self, names_in};
 use crate::words::profile;
 use acl_perm::{Profile, Sink, Source};
 use acl_posix::Names;
@@ -94,20 +94,20 @@ impl Name {
         ensures { Defines (definition_of self) result }
     {
         match self {
-            Name::ShowPosix => show_posix::definition(),
-            Name::CheckPosix => check_posix::definition(),
-            Name::CalcMask => calc_mask::definition(),
-            Name::Chmod => chmod::definition(),
-            Name::Create => create::definition(),
-            Name::ShowNfs => show_nfs::definition(),
-            Name::Encode => encode::definition(),
-            Name::CheckNfs => check_nfs::definition(),
-            Name::Child => child::definition(),
-            Name::Mode => mode::definition(),
-            Name::Bridge => bridge::definition(),
-            Name::Table => table::definition(),
-            Name::Normalize => normalize::definition(),
-            Name::Compare => compare::definition(),
+            Name::ShowPosix => Definition::new(show_posix::WORD, &show_posix::ARGUMENTS),
+            Name::CheckPosix => Definition::new(check_posix::WORD, &check_posix::ARGUMENTS),
+            Name::CalcMask => Definition::new(calc_mask::WORD, &names::ARGUMENTS),
+            Name::Chmod => Definition::new(chmod::WORD, &chmod::ARGUMENTS),
+            Name::Create => Definition::new(create::WORD, &create::ARGUMENTS),
+            Name::ShowNfs => Definition::new(show_nfs::WORD, &profile::ARGUMENTS),
+            Name::Encode => Definition::new(encode::WORD, &profile::ARGUMENTS),
+            Name::CheckNfs => Definition::new(check_nfs::WORD, &check_nfs::ARGUMENTS),
+            Name::Child => Definition::new(child::WORD, &child::ARGUMENTS),
+            Name::Mode => Definition::new(mode::WORD, &profile::ARGUMENTS),
+            Name::Bridge => Definition::new(bridge::WORD, &names::ARGUMENTS),
+            Name::Table => Definition::new(table::WORD, &table::ARGUMENTS),
+            Name::Normalize => Definition::new(normalize::WORD, &normalize::ARGUMENTS),
+            Name::Compare => Definition::new(compare::WORD, &profile::ARGUMENTS),
         }
     }
 

@@ -1,27 +1,20 @@
 //! `bridge`: the NFSv4 list that stands for a POSIX ACL.
 ghost use Rattle.std.specs.Prelude.{◌≡◌, ◌⊎◌, IfErr, IfOk, true};
 ghost use Rattle.acl_nfs4.specs.Spelling.{spelling};
-ghost use Rattle.aclck.specs.Definition.{Defines};
 ghost use Rattle.aclck.specs.Run.{Runs, of_text};
 ghost use Rattle.aclck.specs.Answer.{is_refusal};
-ghost use Rattle.aclck.specs.Bridge.{BridgeAnswer, Bridges, IsBridgeRefusal, bridge};
+ghost use Rattle.aclck.specs.Bridge.{BridgeAnswer, Bridges, IsBridgeRefusal};
 
 use crate::answer::{Outcome, RunFault};
 use crate::input::posix::read_file;
-use crate::line::Definition;
-use crate::words::names;
 use acl_eval::{BridgeFault, bridge};
 use acl_nfs4::Acl;
 use acl_perm::{Sink, Source, read_all};
 use acl_posix::Names;
 use std::alloc::Global;
 
-/// The command.
-pub(crate) fn definition() -> Definition
-    ensures { Defines bridge result }
-{
-    Definition::new("bridge", &names::ARGUMENTS)
-}
+/// The word that names the command.
+pub(crate) const WORD: &str = "bridge";
 
 /// Writes the XDR of the NFSv4 list that stands for the access ACL of the file whose text the input is. The default ACL
 /// takes no part, but where it is invalid the input is refused. Nothing is written before the list is ready.

@@ -1,25 +1,18 @@
 //! `calc-mask`: the canonical text of a file with its mask calculated.
 ghost use Rattle.std.specs.Prelude.{◌≡◌, ◌⊎◌, IfErr, IfOk, true};
-ghost use Rattle.aclck.specs.Definition.{Defines};
 ghost use Rattle.aclck.specs.Run.{Runs, of_text};
 ghost use Rattle.aclck.specs.Answer.{is_refusal};
 ghost use Rattle.aclck.specs.PosixAnswer.{IsPosixFault, Writes};
-ghost use Rattle.aclck.specs.CalcMask.{CalcMaskAnswer, calc_mask, masked_text};
+ghost use Rattle.aclck.specs.CalcMask.{CalcMaskAnswer, masked_text};
 
 use crate::answer::{Outcome, RunFault};
 use crate::input::posix::{canonical, read_file};
-use crate::line::Definition;
-use crate::words::names;
 use acl_perm::{Sink, Source, put_all, read_all};
 use acl_posix::Names;
 use std::alloc::Global;
 
-/// The command.
-pub(crate) fn definition() -> Definition
-    ensures { Defines calc_mask result }
-{
-    Definition::new("calc-mask", &names::ARGUMENTS)
-}
+/// The word that names the command.
+pub(crate) const WORD: &str = "calc-mask";
 
 /// Writes the canonical text of the file whose text the input is, with the mask of its access ACL calculated, and added
 /// where there is none; the default ACL stays. Nothing is written before the input is accepted.

@@ -3,17 +3,16 @@ ghost use Rattle.std.specs.Prelude.{◌≡◌, ◌↔◌, IfOk, map, option_and_
 ghost use Rattle.std.specs.List.Sorted.{IsPermutation};
 ghost use Rattle.clap.specs.Words.{found_of, rows_of};
 ghost use Rattle.acl_perm.specs.Profile.{profile_of};
-ghost use Rattle.aclck.specs.Definition.{Defines};
 ghost use Rattle.aclck.specs.Run.{Runs, of_list};
 ghost use Rattle.aclck.specs.Line.{Reads};
 ghost use Rattle.aclck.specs.Values.{mask_within};
 ghost use Rattle.acl_eval.specs.Grant.{Grant};
 ghost use Rattle.acl_eval.specs.Situation.{groups_of, situation, user_of};
-ghost use Rattle.aclck.specs.CheckNfs.{CheckNfsAnswer, check_nfs, check_nfs_held, check_nfs_in, object_named, object_names, requester_named, requester_names, values_of};
+ghost use Rattle.aclck.specs.CheckNfs.{CheckNfsAnswer, check_nfs_held, check_nfs_in, object_named, object_names, requester_named, requester_names, values_of};
 
 use crate::answer::{Outcome, RunFault, decision_line};
 use crate::input::xdr::read_list;
-use crate::line::{Argument, Definition, LineFault, text_of};
+use crate::line::{Argument, LineFault, text_of};
 use crate::words::values::{mask_within, profile_in};
 use acl_eval::{Object, Requester, grants};
 use acl_nfs4::Acl;
@@ -26,7 +25,11 @@ const FEW_GROUPS: usize = 128;
 
 const FEW_ACES: usize = 128;
 
-const ARGUMENTS: [Argument; 6] = [
+/// The word that names the command.
+pub(crate) const WORD: &str = "check-nfs";
+
+/// Its arguments.
+pub(crate) const ARGUMENTS: [Argument; 6] = [
     Argument::Required("owner"),
     Argument::Required("group"),
     Argument::Required("user"),
@@ -34,13 +37,6 @@ const ARGUMENTS: [Argument; 6] = [
     Argument::Default("profile", "full"),
     Argument::Words,
 ];
-
-/// The command.
-pub(crate) fn definition() -> Definition
-    ensures { Defines check_nfs result }
-{
-    Definition::new("check-nfs", &ARGUMENTS)
-}
 
 /// Who asks of what, for which rights, and what a list may have.
 #[derive(Clone, Copy, Debug)]

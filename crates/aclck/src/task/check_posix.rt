@@ -2,17 +2,16 @@
 ghost use Rattle.std.specs.Prelude.{◌≡◌, ◌⊎◌, IfErr, IfOk, option_and_then, option_map, true};
 ghost use Rattle.clap.specs.Words.{found_of, rows_of};
 ghost use Rattle.acl_posix.specs.Check.{ids};
-ghost use Rattle.aclck.specs.Definition.{Defines};
 ghost use Rattle.aclck.specs.Run.{Runs, of_text};
 ghost use Rattle.aclck.specs.Line.{Reads};
 ghost use Rattle.aclck.specs.Values.{id_value, want_value};
 ghost use Rattle.aclck.specs.Answer.{is_refusal};
-ghost use Rattle.aclck.specs.CheckPosix.{CheckPosixAnswer, Checks, check_posix, check_posix_held, check_posix_in, groups_value, values_of};
+ghost use Rattle.aclck.specs.CheckPosix.{CheckPosixAnswer, Checks, check_posix_held, check_posix_in, groups_value, values_of};
 ghost use Rattle.aclck.specs.PosixAnswer.{IsPosixFault};
 
 use crate::answer::{Outcome, RunFault, decision_line};
 use crate::input::posix::read_file;
-use crate::line::{Argument, Definition, LineFault, text_of};
+use crate::line::{Argument, LineFault, text_of};
 use crate::words::names::names_in;
 use crate::words::values::{id_value, ids_value, want_value};
 use acl_perm::{Perm, Sink, Source, put_all, read_all};
@@ -20,7 +19,11 @@ use acl_posix::{Id, Names};
 use clap::ArgMatches;
 use std::alloc::Global;
 
-const ARGUMENTS: [Argument; 6] = [
+/// The word that names the command.
+pub(crate) const WORD: &str = "check-posix";
+
+/// Its arguments.
+pub(crate) const ARGUMENTS: [Argument; 6] = [
     Argument::Required("owner"),
     Argument::Required("group"),
     Argument::Required("user"),
@@ -28,13 +31,6 @@ const ARGUMENTS: [Argument; 6] = [
     Argument::Required("want"),
     Argument::Words,
 ];
-
-/// The command.
-pub(crate) fn definition() -> Definition
-    ensures { Defines check_posix result }
-{
-    Definition::new("check-posix", &ARGUMENTS)
-}
 
 /// Who asks of whose object, for which permissions, and which names a text may have.
 #[derive(Drop)]

@@ -2,31 +2,27 @@
 ghost use Rattle.std.specs.Prelude.{◌≡◌, option_and_then, option_map};
 ghost use Rattle.clap.specs.Words.{found_of, rows_of};
 ghost use Rattle.acl_perm.specs.Profile.{profile_of};
-ghost use Rattle.aclck.specs.Definition.{Defines};
 ghost use Rattle.aclck.specs.Run.{Runs, of_list};
 ghost use Rattle.aclck.specs.Line.{Reads};
-ghost use Rattle.aclck.specs.Child.{ChildAnswer, child, child_held, child_in, kind_value};
+ghost use Rattle.aclck.specs.Child.{ChildAnswer, child_held, child_in, kind_value};
 
 use crate::answer::{Outcome, RunFault};
 use crate::input::xdr::read_list;
-use crate::line::{Argument, Definition, LineFault, text_of};
+use crate::line::{Argument, LineFault, text_of};
 use crate::words::values::profile_in;
 use acl_eval::{ChildKind, child};
 use acl_perm::{Profile, Sink, Source};
 use clap::ArgMatches;
 use std::alloc::Global;
 
-const ARGUMENTS: [Argument; 2] = [
+/// The word that names the command.
+pub(crate) const WORD: &str = "child";
+
+/// Its arguments.
+pub(crate) const ARGUMENTS: [Argument; 2] = [
     Argument::Required("kind"),
     Argument::Default("profile", "full"),
 ];
-
-/// The command.
-pub(crate) fn definition() -> Definition
-    ensures { Defines child result }
-{
-    Definition::new("child", &ARGUMENTS)
-}
 
 /// What is created, and what a list may have.
 #[derive(Clone, Copy, Debug)]

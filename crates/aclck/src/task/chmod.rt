@@ -1,17 +1,16 @@
 //! `chmod`: the canonical text of a file with its mode set.
 ghost use Rattle.std.specs.Prelude.{◌≡◌, ◌⊎◌, IfErr, IfOk, option_and_then, option_map, true};
 ghost use Rattle.clap.specs.Words.{found_of, rows_of};
-ghost use Rattle.aclck.specs.Definition.{Defines};
 ghost use Rattle.aclck.specs.Run.{Runs, of_text};
 ghost use Rattle.aclck.specs.Line.{Reads};
 ghost use Rattle.aclck.specs.Values.{mode_value};
 ghost use Rattle.aclck.specs.Answer.{is_refusal};
 ghost use Rattle.aclck.specs.PosixAnswer.{IsPosixFault, Writes};
-ghost use Rattle.aclck.specs.Chmod.{ChmodAnswer, chmod, chmod_held, chmod_in, chmod_text};
+ghost use Rattle.aclck.specs.Chmod.{ChmodAnswer, chmod_held, chmod_in, chmod_text};
 
 use crate::answer::{Outcome, RunFault};
 use crate::input::posix::{canonical, read_file};
-use crate::line::{Argument, Definition, LineFault, text_of};
+use crate::line::{Argument, LineFault, text_of};
 use crate::words::names::names_in;
 use crate::words::values::mode_value;
 use acl_perm::{Mode, Sink, Source, put_all, read_all};
@@ -19,14 +18,11 @@ use acl_posix::Names;
 use clap::ArgMatches;
 use std::alloc::Global;
 
-const ARGUMENTS: [Argument; 2] = [Argument::Required("mode"), Argument::Words];
+/// The word that names the command.
+pub(crate) const WORD: &str = "chmod";
 
-/// The command.
-pub(crate) fn definition() -> Definition
-    ensures { Defines chmod result }
-{
-    Definition::new("chmod", &ARGUMENTS)
-}
+/// Its arguments.
+pub(crate) const ARGUMENTS: [Argument; 2] = [Argument::Required("mode"), Argument::Words];
 
 /// The mode, and which names a text may have.
 #[derive(Drop)]

@@ -4,26 +4,19 @@ ghost use Rattle.acl_perm.specs.Profile.{profile_of};
 ghost use Rattle.acl_nfs4.specs.BitNames.{first_name};
 ghost use Rattle.acl_nfs4.specs.Rights.{rights};
 ghost use Rattle.acl_normal.specs.Difference.{situation_of};
-ghost use Rattle.aclck.specs.Definition.{Defines};
 ghost use Rattle.aclck.specs.Run.{Runs, of_two};
-ghost use Rattle.aclck.specs.Compare.{CompareAnswer, Compares, compare, decision, difference_text, line};
+ghost use Rattle.aclck.specs.Compare.{CompareAnswer, Compares, decision, difference_text, line};
 ghost use Rattle.aclck.specs.internal.Compared.{compared_outcome, compared_text};
 
 use crate::answer::{Outcome, RunFault};
 use crate::input::xdr::{TwoLists, read_two};
-use crate::line::Definition;
-use crate::words::profile;
 use acl_nfs4::bit_name;
 use acl_normal::{Difference, compare};
 use acl_perm::{Mask, Profile, Sink, Source, put_all};
 use std::alloc::{AllocError, Global};
 
-/// The command.
-pub(crate) fn definition() -> Definition
-    ensures { Defines compare result }
-{
-    Definition::new("compare", &profile::ARGUMENTS)
-}
+/// The word that names the command.
+pub(crate) const WORD: &str = "compare";
 
 /// Writes whether the two lists that the whole input spells, one after the other, grant the same: `same`, or the first
 /// small situation in which they don't, the lowest right on which they differ there, what both answer, and No. A fault

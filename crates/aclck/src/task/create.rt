@@ -1,16 +1,15 @@
 //! `create`: the canonical text of a new object.
 ghost use Rattle.std.specs.Prelude.{◌≡◌, ◌⊎◌, IfErr, IfOk, true};
 ghost use Rattle.clap.specs.Words.{found_of, rows_of};
-ghost use Rattle.aclck.specs.Definition.{Defines};
 ghost use Rattle.aclck.specs.Run.{Runs, of_text};
 ghost use Rattle.aclck.specs.Line.{Reads};
 ghost use Rattle.aclck.specs.Answer.{is_refusal};
 ghost use Rattle.aclck.specs.PosixAnswer.{IsPosixFault, Writes};
-ghost use Rattle.aclck.specs.Create.{CreateAnswer, create, create_held, create_in, created_text};
+ghost use Rattle.aclck.specs.Create.{CreateAnswer, create_held, create_in, created_text};
 
 use crate::answer::{Outcome, RunFault};
 use crate::input::posix::{canonical, read_file};
-use crate::line::{Argument, Definition, LineFault, is_set, text_of};
+use crate::line::{Argument, LineFault, is_set, text_of};
 use crate::task::chmod::mode_in;
 use crate::words::names::names_in;
 use acl_perm::{Mode, Sink, Source, put_all, read_all};
@@ -18,19 +17,16 @@ use acl_posix::{Names, create};
 use clap::ArgMatches;
 use std::alloc::Global;
 
-const ARGUMENTS: [Argument; 4] = [
+/// The word that names the command.
+pub(crate) const WORD: &str = "create";
+
+/// Its arguments.
+pub(crate) const ARGUMENTS: [Argument; 4] = [
     Argument::Required("mode"),
     Argument::Required("umask"),
     Argument::Flag("dir"),
     Argument::Words,
 ];
-
-/// The command.
-pub(crate) fn definition() -> Definition
-    ensures { Defines create result }
-{
-    Definition::new("create", &ARGUMENTS)
-}
 
 /// The mode and the umask, whether the new object is a directory, and which names a text may have.
 #[derive(Drop)]

@@ -2,24 +2,17 @@
 ghost use Rattle.std.specs.Prelude.{◌≡◌, ◌⊎◌, IfErr, IfOk, true};
 ghost use Rattle.acl_perm.specs.Profile.{profile_of};
 ghost use Rattle.acl_nfs4.specs.AceText.{IsAceText};
-ghost use Rattle.aclck.specs.Definition.{Defines};
 ghost use Rattle.aclck.specs.Run.{Runs, of_text};
 ghost use Rattle.aclck.specs.Answer.{is_refusal};
-ghost use Rattle.aclck.specs.Encode.{EncodeAnswer, IsNfsTextFault, encode};
+ghost use Rattle.aclck.specs.Encode.{EncodeAnswer, IsNfsTextFault};
 
 use crate::answer::{Outcome, RunFault};
-use crate::line::Definition;
-use crate::words::profile;
 use acl_nfs4::{AceTextFault, Acl, parse_text_with};
 use acl_perm::{Profile, Sink, Source, read_all};
 use std::alloc::Global;
 
-/// The command.
-pub(crate) fn definition() -> Definition
-    ensures { Defines encode result }
-{
-    Definition::new("encode", &profile::ARGUMENTS)
-}
+/// The word that names the command.
+pub(crate) const WORD: &str = "encode";
 
 /// Writes the bytes that spell the list whose text the whole input is. Nothing is written before the input is accepted,
 /// as the text of a list that keeps to the profile.

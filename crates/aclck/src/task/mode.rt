@@ -1,24 +1,17 @@
 //! `mode`: the mode of a list.
 ghost use Rattle.std.specs.Prelude.{◌≡◌};
 ghost use Rattle.acl_perm.specs.Profile.{profile_of};
-ghost use Rattle.aclck.specs.Definition.{Defines};
 ghost use Rattle.aclck.specs.Run.{Runs, of_list};
-ghost use Rattle.aclck.specs.ListMode.{ModeAnswer, mode, mode_line, octal_digit};
+ghost use Rattle.aclck.specs.ListMode.{ModeAnswer, mode_line, octal_digit};
 
 use crate::answer::{Outcome, RunFault};
 use crate::input::xdr::read_list;
-use crate::line::Definition;
-use crate::words::profile;
 use acl_eval::mode_of;
 use acl_perm::{Mode, Perm, Profile, Sink, Source, put_all};
 use std::alloc::Global;
 
-/// The command.
-pub(crate) fn definition() -> Definition
-    ensures { Defines mode result }
-{
-    Definition::new("mode", &profile::ARGUMENTS)
-}
+/// The word that names the command.
+pub(crate) const WORD: &str = "mode";
 
 /// Writes the mode of the list that the whole input spells, as three octal digits and a line feed. Nothing is written
 /// before the input is accepted, as a list that keeps to the profile. Nothing is read after a refusal.

@@ -2,31 +2,27 @@
 ghost use Rattle.std.specs.Prelude.{◌≡◌};
 ghost use Rattle.clap.specs.Words.{found_of, rows_of};
 ghost use Rattle.acl_perm.specs.Profile.{profile_of};
-ghost use Rattle.aclck.specs.Definition.{Defines};
 ghost use Rattle.aclck.specs.Run.{Runs, of_list};
 ghost use Rattle.aclck.specs.Line.{Reads};
-ghost use Rattle.aclck.specs.Normalize.{NormalizeAnswer, NormalizeInheritAnswer, NormalizedAnswer, normalize, normalize_held, normalize_in};
+ghost use Rattle.aclck.specs.Normalize.{NormalizeAnswer, NormalizeInheritAnswer, NormalizedAnswer, normalize_held, normalize_in};
 
 use crate::answer::{Outcome, RunFault};
 use crate::input::xdr::read_list;
-use crate::line::{Argument, Definition, LineFault, is_set, text_of};
+use crate::line::{Argument, LineFault, is_set, text_of};
 use crate::words::values::profile_in;
 use acl_normal::{normalize, normalize_inherit};
 use acl_perm::{Profile, Sink, Source};
 use clap::ArgMatches;
 use std::alloc::Global;
 
-const ARGUMENTS: [Argument; 2] = [
+/// The word that names the command.
+pub(crate) const WORD: &str = "normalize";
+
+/// Its arguments.
+pub(crate) const ARGUMENTS: [Argument; 2] = [
     Argument::Flag("inherit"),
     Argument::Default("profile", "full"),
 ];
-
-/// The command.
-pub(crate) fn definition() -> Definition
-    ensures { Defines normalize result }
-{
-    Definition::new("normalize", &ARGUMENTS)
-}
 
 /// Whether inheritance counts, and what a list may have.
 #[derive(Clone, Copy, Debug)]

@@ -2,24 +2,17 @@
 ghost use Rattle.std.specs.Prelude.{◌≡◌, IfOk};
 ghost use Rattle.acl_perm.specs.Profile.{profile_of};
 ghost use Rattle.acl_nfs4.specs.AceText.{ace_text};
-ghost use Rattle.aclck.specs.Definition.{Defines};
 ghost use Rattle.aclck.specs.Run.{Runs, of_list};
-ghost use Rattle.aclck.specs.ShowNfs.{ShowNfsAnswer, show_nfs};
+ghost use Rattle.aclck.specs.ShowNfs.{ShowNfsAnswer};
 
 use crate::answer::{Outcome, RunFault};
 use crate::input::xdr::read_list;
-use crate::line::Definition;
-use crate::words::profile;
 use acl_nfs4::Acl;
 use acl_perm::{Counted, Profile, Sink, Source, put_all};
 use std::alloc::{AllocError, Global};
 
-/// The command.
-pub(crate) fn definition() -> Definition
-    ensures { Defines show_nfs result }
-{
-    Definition::new("show-nfs", &profile::ARGUMENTS)
-}
+/// The word that names the command.
+pub(crate) const WORD: &str = "show-nfs";
 
 /// Writes the text of the list that the whole input spells. Nothing is written before the input is accepted, as a list
 /// that keeps to the profile. Nothing is read after a refusal.

@@ -1,30 +1,29 @@
 //! `show-posix`: the text of a file in a form.
 ghost use Rattle.std.specs.Prelude.{◌≡◌, ◌⊎◌, IfErr, IfOk, option_and_then, option_map, true};
 ghost use Rattle.clap.specs.Words.{found_of, rows_of};
-ghost use Rattle.aclck.specs.Definition.{Defines};
 ghost use Rattle.aclck.specs.Run.{Runs, of_text};
 ghost use Rattle.aclck.specs.Line.{Reads};
 ghost use Rattle.aclck.specs.Answer.{is_refusal};
 ghost use Rattle.aclck.specs.PosixAnswer.{IsPosixFault, Writes};
-ghost use Rattle.aclck.specs.ShowPosix.{ShowPosixAnswer, form_text, form_value, show_posix, show_posix_held, show_posix_in};
+ghost use Rattle.aclck.specs.ShowPosix.{ShowPosixAnswer, form_text, form_value, show_posix_held, show_posix_in};
 
 use crate::answer::{Outcome, RunFault};
 use crate::input::posix::{read_file, text_in};
-use crate::line::{Argument, Definition, LineFault, text_of};
+use crate::line::{Argument, LineFault, text_of};
 use crate::words::names::names_in;
 use acl_perm::{Sink, Source, put_all, read_all};
 use acl_posix::{Form, Names};
 use clap::ArgMatches;
 use std::alloc::Global;
 
-const ARGUMENTS: [Argument; 2] = [Argument::Default("form", "canonical"), Argument::Words];
+/// The word that names the command.
+pub(crate) const WORD: &str = "show-posix";
 
-/// The command.
-pub(crate) fn definition() -> Definition
-    ensures { Defines show_posix result }
-{
-    Definition::new("show-posix", &ARGUMENTS)
-}
+/// Its arguments.
+pub(crate) const ARGUMENTS: [Argument; 2] = [
+    Argument::Default("form", "canonical"),
+    Argument::Words,
+];
 
 /// The form, and which names a text may have.
 #[derive(Drop)]

@@ -4,14 +4,13 @@ ghost use Rattle.clap.specs.Words.{found_of, rows_of};
 ghost use Rattle.acl_perm.specs.Profile.{profile_of};
 ghost use Rattle.acl_perm.specs.Lines.{line_feed};
 ghost use Rattle.acl_nfs4.specs.AceText.{kind_name, space};
-ghost use Rattle.aclck.specs.Definition.{Defines};
 ghost use Rattle.aclck.specs.Run.{Runs, of_list};
 ghost use Rattle.aclck.specs.Line.{Reads};
-ghost use Rattle.aclck.specs.BitTable.{AreTableOf, TableAnswer, bit_value, group_word, right_named, row_line, rows_text, table, table_held, table_in};
+ghost use Rattle.aclck.specs.BitTable.{AreTableOf, TableAnswer, bit_value, group_word, right_named, row_line, rows_text, table_held, table_in};
 
 use crate::answer::{Outcome, RunFault};
 use crate::input::xdr::read_list;
-use crate::line::{Argument, Definition, LineFault, text_of};
+use crate::line::{Argument, LineFault, text_of};
 use crate::words::values::profile_in;
 use acl_nfs4::{Acl, read_mask};
 use acl_normal::{Row, table};
@@ -20,17 +19,14 @@ use clap::ArgMatches;
 use itoa::Buffer;
 use std::alloc::{AllocError, Global};
 
-const ARGUMENTS: [Argument; 2] = [
+/// The word that names the command.
+pub(crate) const WORD: &str = "table";
+
+/// Its arguments.
+pub(crate) const ARGUMENTS: [Argument; 2] = [
     Argument::Required("bit"),
     Argument::Default("profile", "full"),
 ];
-
-/// The command.
-pub(crate) fn definition() -> Definition
-    ensures { Defines table result }
-{
-    Definition::new("table", &ARGUMENTS)
-}
 
 /// The mask of the one right that is asked for, and what a list may have.
 #[derive(Clone, Copy, Debug)]
