@@ -1,5 +1,6 @@
 -- The table of names that words spell: `u:NAME=ID` and `g:NAME=ID` (this library's own).
 use Rattle.std.specs.Prelude.{ℕ, ◌==◌, ◌≡◌, Option, Some, None, Result, Ok, Err, List, [], ◌∷◌, codes, length, nat_lt, if◌then◌else◌}
+use Rattle.std.specs.Borrow.{Bor}
 use Rattle.std.specs.List.{after_first, before_first, position_or_len}
 use Rattle.std.specs.Option.{is_none, option_and_then, option_map}
 use Rattle.std.specs.Str.{bytes_eq}
@@ -15,18 +16,26 @@ use Rattle.aclck.specs.declared.words.names.Half.{Half as HeldHalf}
 use Rattle.aclck.specs.declared.words.names.Half.TheVariants as held
 use Rattle.aclck.specs.declared.words.names.NamedId.{NamedId as HeldNamedId}
 
--- what stands before the first of these bytes, and what stands behind it
-abbrev pub first_cut : ℕ → Text → Option (Text × Text)
+-- a text cut at a byte: what stands before it, and what stands behind it
+pub record Cut : Type 0 where
+  pub before : Text
+  pub behind : Text
+
+-- the text, cut at the first of these bytes
+abbrev pub first_cut : ℕ → Text → Option Cut
 first_cut byte text = if nat_lt (position_or_len (λ b. b == byte) text) (length text)
-    then Some (before_first (λ b. b == byte) text, after_first (λ b. b == byte) text) else None
+    then Some (record {
+      before = before_first (λ b. b == byte) text;
+      behind = after_first (λ b. b == byte) text;
+    }) else None
 
 -- a byte, and what is cut of the bytes behind it
-abbrev pub cut_behind : ℕ → ℕ → Text → Option (Text × Text) → Option (Text × Text)
-cut_behind byte b rest None = if b == byte then Some ([], rest) else None
-cut_behind byte b rest (Some (before, behind)) = Some (b ∷ before, behind)
+abbrev pub cut_behind : ℕ → ℕ → Text → Option Cut → Option Cut
+cut_behind byte b rest None = if b == byte then Some (record { before = []; behind = rest }) else None
+cut_behind byte b rest (Some cut) = Some (record { before = b ∷ cut.before; behind = cut.behind })
 
--- what stands before the last of these bytes, and what stands behind it
-abbrev pub last_cut : ℕ → Text → Option (Text × Text)
+-- the text, cut at the last of these bytes
+abbrev pub last_cut : ℕ → Text → Option Cut
 last_cut byte [] = None
 last_cut byte (b ∷ rest) = cut_behind byte b rest (last_cut byte rest)
 
@@ -48,9 +57,9 @@ pub record NamedId : Type 0 where
 
 -- a word, cut at its last equals sign, and what is before that at its first colon
 unfoldable pub named_id : Text → Option NamedId
-named_id word = option_and_then (λ pair. option_and_then (λ name. option_and_then (λ half.
-    option_map (λ id. record { half = half; name = name.1; id = id })
-    (id_value pair.1)) (half_named name.0)) (first_cut 58 pair.0)) (last_cut 61 word)
+named_id word = option_and_then (λ whole. option_and_then (λ front. option_and_then (λ half.
+    option_map (λ id. record { half = half; name = front.behind; id = id })
+    (id_value whole.behind)) (half_named front.before)) (first_cut 58 whole.before)) (last_cut 61 word)
 
 -- the table with one more name in one half, where it may be added
 abbrev pub with_half : Half → Table → Text → ℕ → Option Table
@@ -74,6 +83,10 @@ unfoldable pub names_value : List Text → Option Table
 names_value words = with_words no_names words
 
 -- ---- what the program holds
+
+-- the cut that two slices are
+abbrev pub cut_of : Bor Text × Bor Text → Cut
+cut_of sides = record { before = sides.0.now; behind = sides.1.now }
 
 -- the half that is held
 abbrev pub half_of : HeldHalf → Half

@@ -3,7 +3,7 @@ ghost use Rattle.std.specs.Prelude.{◌≡◌, [], None, Some, map, option_map, 
 ghost use Rattle.acl_posix.specs.Names.{no_names};
 ghost use Rattle.clap.specs.Words.{found_of, rows_of};
 ghost use Rattle.aclck.specs.Line.{Reads, words_of};
-ghost use Rattle.aclck.specs.NameWords.{first_cut, half_named, last_cut, named_id, named_of, half_of, names_in, with_name, with_words, Adds};
+ghost use Rattle.aclck.specs.NameWords.{cut_of, first_cut, half_named, last_cut, named_id, named_of, half_of, names_in, with_name, with_words, Adds};
 
 use crate::line::{Argument, LineFault};
 use crate::words::values::id_value;
@@ -113,14 +113,14 @@ fn named_id<'a>(word: &'a str) -> Option<NamedId<'a>>
 
 // What stands before and behind the last equals sign.
 fn last_cut<'a>(word: &'a str) -> Option<(&'a str, &'a str)>
-    ensures { option_map (λ cut. (cut.0.now, cut.1.now)) result ≡ last_cut 61 word.entry.now }
+    ensures { option_map cut_of result ≡ last_cut 61 word.entry.now }
 {
     word.rsplit_once('=')
 }
 
 // What stands before and behind the first colon.
 fn first_cut<'a>(word: &'a str) -> Option<(&'a str, &'a str)>
-    ensures { option_map (λ cut. (cut.0.now, cut.1.now)) result ≡ first_cut 58 word.entry.now }
+    ensures { option_map cut_of result ≡ first_cut 58 word.entry.now }
 {
     word.split_once(':')
 }
