@@ -17,7 +17,10 @@ use Rattle.acl_normal.proofs.Unique.Spelled.{IsForm, form_of, forms_tell}
 use Rattle.acl_normal.proofs.Unique.Unique.{unique}
 use Rattle.acl_posix.specs.Texts.{canonical_text}
 use Rattle.acl_posix.proofs.Whole.{apart, back, canonical_reads}
+use Rattle.aclck.specs.Answer.{done}
 use Rattle.aclck.specs.Headline.{Headline}
+use Rattle.aclck.specs.Normalize.{NormalizeAnswer}
+use Rattle.aclck.specs.declared.answer.Outcome.TheVariants as outcome
 
 -- bytes spell one list
 pub one_of : (p : Profile) (list other : List Ace) (x : List ℕ) → IsProfile p → Xdr p list x → Xdr p other x
@@ -74,19 +77,23 @@ twice p x a b is h = (
   },
 )
 
--- the spelling of the normal form of a list that was read is what is to be written
+-- the spelling of the normal form of a list that was read is the answer
 pub written_form : (profile : CodeProfile) → profile.flags.bits ≤ 255 → (source form : List Ace) (x : List ℕ)
-    → Xdr (profile_of profile) source x → IsNormalFormOf source form → Normalises (profile_of profile) x (spelling form)
-written_form profile le source form x read is_form = record {
-  source = source;
-  form = form;
-  read = read;
-  is_form = is_form;
-  spelled = record {
-    accepted = (form_of (profile_of profile) source form (code_profile profile le) read.accepted is_form).accepted;
-    spelled = refl;
-  };
-}
+    → Xdr (profile_of profile) source x → IsNormalFormOf source form
+    → NormalizeAnswer (profile_of profile) x (done outcome.Yes (spelling form))
+written_form profile le source form x read is_form = (
+  refl,
+  record {
+    source = source;
+    form = form;
+    read = read;
+    is_form = is_form;
+    spelled = record {
+      accepted = (form_of (profile_of profile) source form (code_profile profile le) read.accepted is_form).accepted;
+      spelled = refl;
+    };
+  },
+)
 
 -- the parts together
 pub headline_holds : Headline

@@ -15,8 +15,10 @@ use Rattle.acl_normal.specs.NormalForm.{IsNormalFormOf, Normalises}
 use Rattle.acl_normal.specs.Paths.{SameAtEveryPath}
 use Rattle.acl_normal.specs.declared.five_forms.FiveForms.{FiveForms}
 use Rattle.acl_normal.proofs.Inheritance.FiveFormLemmas.{all_accepted, joined_tell}
+use Rattle.aclck.specs.Answer.{done}
 use Rattle.aclck.specs.Headline.{GrantAtPaths, HeadlineOverPaths}
-use Rattle.aclck.specs.Normalize.{IsFiveForms, NormalisesAtPaths}
+use Rattle.aclck.specs.Normalize.{IsFiveForms, NormalisesAtPaths, NormalizeInheritAnswer}
+use Rattle.aclck.specs.declared.answer.Outcome.TheVariants as outcome
 use Rattle.aclck.proofs.NormalFormLemmas.{one_of, own_form}
 
 -- the list that was read is the one whose five were written
@@ -88,18 +90,21 @@ forms_own p x a is h =
       );
     }
 
--- the spellings of the five forms of a list that was read are what is to be written
+-- the spellings of the five forms of a list that was read are the answer
 pub written_forms : (profile : CodeProfile) → profile.flags.bits ≤ 255 → (source : List Ace) (forms : FiveForms)
     (x : List ℕ) → Xdr (profile_of profile) source x → AreFormsOf source forms
-    → NormalisesAtPaths (profile_of profile) x (five_spellings forms)
-written_forms profile le source forms x read are_forms = record {
-  source = source;
-  forms = forms;
-  read = read;
-  are_forms = are_forms;
-  accepted = all_accepted (profile_of profile) source forms (code_profile profile le) read.accepted are_forms;
-  spelled = refl;
-}
+    → NormalizeInheritAnswer (profile_of profile) x (done outcome.Yes (five_spellings forms))
+written_forms profile le source forms x read are_forms = (
+  refl,
+  record {
+    source = source;
+    forms = forms;
+    read = read;
+    are_forms = are_forms;
+    accepted = all_accepted (profile_of profile) source forms (code_profile profile le) read.accepted are_forms;
+    spelled = refl;
+  },
+)
 
 -- the parts together
 pub headline_over_paths_holds : HeadlineOverPaths
