@@ -32,7 +32,8 @@ pub record Defines (d : Definition) (held : HeldDefinition) : Type 0 where
   pub sound : is_sound d.terms ≡ true
 
 -- a command that reads a text
-abbrev pub on_text : {V : Type 0} → Text → List Term → (List Row → Option V) → (V → List ℕ → Answer → Type 0) → Definition
+abbrev pub on_text : {V : Type 0} → Text → List Term → (List Row → Option V) → (V → List ℕ → Answer → Type 0)
+    → Definition
 on_text {V} word terms read answers = record {
   word = word;
   terms = terms;

@@ -7,6 +7,6 @@ of_groups-same-requires c = sorted_groups c.args.requester.now _ _ _ c.groups-gr
 
 pub returns : goal.returns
 returns c =
-    let same = same_grant c.args.list.now c.args.object.now c.args.requester.now c.of_groups-same.result c.args.mask.bits
-    c.of_groups-same.ensures.user c.of_groups-same.ensures.groups in
+    let same = same_grant c.args.list.now c.args.object.now c.args.requester.now c.of_groups-same.result
+    c.args.mask.bits c.of_groups-same.ensures.user c.of_groups-same.ensures.groups in
     (λ yes. same.1 (c.outcome_of-2.ensures.0 yes), λ granted. c.outcome_of-2.ensures.1 (same.0 granted))
