@@ -1,0 +1,199 @@
+/* compare: of each right and principal, where a list first speaks of it and with which type. */
+
+typedef struct {
+    u32 here, there;
+    u8 here_allows, there_allows;
+} Said;
+
+static void say(const List *list, const u32 *number, u32 rows, int bit, Said *said, int is_there)
+{
+    u32 *places = is_there ? &said->there : &said->here;
+    u8 *allows = is_there ? &said->there_allows : &said->here_allows;
+    u32 whole = list->count, step = sizeof(Said) / sizeof(u32);
+    u8 whole_allows = 0;
+    for (u32 row = 0; row < rows; row++)
+        places[row * step] = ~0u;
+    for (u32 k = 0; k < list->count; k++) {
+        const Ace *ace = &list->aces[k];
+        if (ace->flags & INHERIT_ONLY || !(ace->mask >> bit & 1))
+            continue;
+        if (ace->rank == EVERYONE) {
+            whole = k;
+            whole_allows = ace->kind == ALLOW;
+            break;
+        }
+        if (places[number[k] * step] == ~0u) {
+            places[number[k] * step] = k;
+            allows[number[k] * sizeof(Said)] = ace->kind == ALLOW;
+        }
+    }
+    /* the last row is everyone's, that of the situation which none of the mentioned matches */
+    for (u32 row = 0; row < rows; row++)
+        if (places[row * step] == ~0u) {
+            places[row * step] = whole;
+            allows[row * sizeof(Said)] = whole_allows;
+        }
+}
+
+static void rise(u32 *table, u32 size)
+{
+    for (u32 k = 1; k < size; k++)
+        if (table[k] < table[k - 1])
+            table[k] = table[k - 1];
+}
+
+/* The first row, below `limit`, that another of the other type and overlapping stands before in one list alone. */
+static u32 first_inverting(const Said *said, const Rows *rows, u32 count, u32 size, u32 limit)
+{
+    u32 *tables[2][2][2];
+    for (int allows = 0; allows < 2; allows++)
+        for (int others = 0; others < 2; others++)
+            for (int swapped = 0; swapped < 2; swapped++)
+                tables[allows][others][swapped] = cleared(size + 2, sizeof(u32));
+    for (u32 row = 0; row < count; row++) {
+        u32 **of = tables[said[row].here_allows][rows->first[row]->rank != USER];
+        u32 here = said[row].here, there = said[row].there;
+        if (of[0][here + 1] < there + 1)
+            of[0][here + 1] = there + 1;
+        if (of[1][there + 1] < here + 1)
+            of[1][there + 1] = here + 1;
+    }
+    for (int k = 0; k < 8; k++)
+        rise(tables[k >> 2][k >> 1 & 1][k & 1], size + 2);
+    u32 found = 0;
+    for (; found < limit; found++) {
+        const Said *it = &said[found];
+        u32 **others = tables[!it->here_allows][1], **users = tables[!it->here_allows][0];
+        if (others[0][it->here] > it->there + 1 || others[1][it->there] > it->here + 1)
+            break;
+        if (rows->first[found]->rank != USER
+            && (users[0][it->here] > it->there + 1 || users[1][it->there] > it->here + 1))
+            break;
+    }
+    for (int k = 0; k < 8; k++)
+        free(tables[k >> 2][k >> 1 & 1][k & 1]);
+    return found;
+}
+
+static int inverts(const Said *a, const Said *b, int are_users)
+{
+    return !are_users && a->here_allows != b->here_allows && (b->here < a->here) != (b->there < a->there);
+}
+
+static void put_strange(const char *what, u8 letter, u32 len)
+{
+    put_text(what);
+    want(len + 1);
+    memset(out.bytes + out.len, letter, len);
+    out.len += len;
+    put_byte('\n');
+}
+
+static void put_name(const char *what, const Ace *ace)
+{
+    put_text(what);
+    put(ace->who, ace->len);
+    put_byte('\n');
+}
+
+static void put_difference(const Rows *rows, u32 mentioned, const u32 *set, int many, int bit, int first_grants)
+{
+    u32 strange = 1;
+    const Ace *user = 0, *names[2];
+    int is_owner = 0, has_group = 0, groups = 0;
+    for (u32 row = 0; row < mentioned; row++)
+        if ((rows->first[row]->rank == USER || rows->first[row]->rank == GROUP_NAMED)
+            && strange <= rows->first[row]->len)
+            strange = rows->first[row]->len + 1;
+    for (int k = 0; k < many; k++) {
+        const Ace *ace = rows->first[set[k]];
+        if (ace->rank == USER)
+            user = ace;
+        is_owner |= ace->rank == OWNER;
+        has_group |= ace->rank == GROUP;
+        if (ace->rank == GROUP_NAMED)
+            names[groups++] = ace;
+    }
+    put_text("differ\n");
+    if (user && is_owner)
+        put_name("owner ", user);
+    else
+        put_strange("owner ", is_owner ? 'u' : 'o', strange);
+    if (has_group && groups)
+        put_name("group ", names[0]);
+    else
+        put_strange("group ", 'g', strange);
+    if (user)
+        put_name("user ", user);
+    else
+        put_strange("user ", 'u', strange);
+    for (int k = 0; k < groups; k++)
+        put_name("member ", names[k]);
+    if (has_group && !groups)
+        put_strange("member ", 'g', strange);
+    put_text("mask ");
+    put_set(rights, 1u << bit);
+    put_text(first_grants ? "\nfirst granted\nsecond denied\n" : "\nfirst denied\nsecond granted\n");
+    finish(1);
+}
+
+static void compare(void)
+{
+    List first, second;
+    read_all();
+    const u8 *last = in.bytes + in.len, *between = parse(in.bytes, last, &first);
+    if (parse(between, last, &second) != last)
+        end(2, "refused");
+    size_t half = (size_t)(between - in.bytes);
+    if (half * 2 == in.len && !memcmp(in.bytes, between, half)) {
+        put_text("same\n");
+        finish(0);
+    }
+    u32 both = first.count + second.count, size = (first.count > second.count ? first.count : second.count) + 1;
+    Headed *items = room(both, sizeof(Headed)), *behind = headed(&second, first.count, headed(&first, 0, items));
+    u32 count = (u32)(behind - items);
+    Rows rows = numbered(sorted(items, count), count, both);
+    u32 mentioned = rows.count, mask = 0, set[2] = { ~0u, ~0u };
+    if (mentioned && rows.first[mentioned - 1]->rank == EVERYONE)
+        mentioned--;
+    for (u32 k = 0; k < count; k++)
+        mask |= items[k].ace->mask;
+    Said *said = room((size_t)rows.count + 1, sizeof(Said));
+    /* none, or one: the row behind the mentioned is that of everyone */
+    u32 limit = mentioned + 1, single = limit;
+    int bit = -1, grants = 0;
+    for (u32 left = mask; left && single; left &= left - 1) {
+        int b = bit_at(left);
+        say(&first, rows.number, mentioned + 1, b, said, 0);
+        say(&second, rows.number + first.count, mentioned + 1, b, said, 1);
+        if (said[mentioned].here_allows != said[mentioned].there_allows)
+            single = 0, bit = b, grants = said[mentioned].here_allows;
+        for (u32 row = 0; row + 1 < single; row++)
+            if (said[row].here_allows != said[row].there_allows)
+                single = row + 1, bit = b, grants = said[row].here_allows;
+    }
+    if (bit >= 0) {
+        set[0] = single - 1;
+        put_difference(&rows, mentioned, set, single > 0, bit, grants);
+    }
+    for (u32 left = mask; left; left &= left - 1) {
+        int b = bit_at(left);
+        say(&first, rows.number, mentioned + 1, b, said, 0);
+        say(&second, rows.number + first.count, mentioned + 1, b, said, 1);
+        u32 most = set[0] == ~0u ? mentioned : set[0] + 1, row = first_inverting(said, &rows, mentioned, size, most);
+        if (row == most)
+            continue;
+        u32 other = row + 1;
+        while (!inverts(&said[row], &said[other],
+                        rows.first[row]->rank == USER && rows.first[other]->rank == USER))
+            other++;
+        if (row < set[0] || other < set[1]) {
+            set[0] = row, set[1] = other, bit = b;
+            grants = said[row].here < said[other].here ? said[row].here_allows : said[other].here_allows;
+        }
+    }
+    if (bit >= 0)
+        put_difference(&rows, mentioned, set, 2, bit, grants);
+    put_text("same\n");
+    finish(0);
+}

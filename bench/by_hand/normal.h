@@ -1,0 +1,316 @@
+/* normalize and table. */
+
+/* The order of principals: by a head of rank and seven bytes, and then by the name. */
+
+typedef struct {
+    u64 head;
+    const Ace *ace;
+    u32 place;
+} Headed;
+
+static inline u64 head_of(const Ace *ace)
+{
+    u64 bytes = 0;
+    if (ace->rank != USER && ace->rank != GROUP_NAMED)
+        return (u64)ace->rank << 56;
+    if (ace->len >= 8)
+        memcpy(&bytes, ace->who, 8);
+    else
+        memcpy(&bytes, ace->who, ace->len);
+    return (u64)ace->rank << 56 | __builtin_bswap64(bytes) >> 8;
+}
+
+static inline int is_same(const Headed *a, const Headed *b)
+{
+    if (a->head != b->head)
+        return 0;
+    if (a->ace->rank != USER && a->ace->rank != GROUP_NAMED)
+        return 1;
+    return a->ace->len == b->ace->len && !memcmp(a->ace->who, b->ace->who, a->ace->len);
+}
+
+static inline int is_before(const Headed *a, const Headed *b)
+{
+    if (a->head != b->head)
+        return a->head < b->head;
+    if (a->ace->rank == USER || a->ace->rank == GROUP_NAMED) {
+        int order = by_bytes(a->ace->who, a->ace->len, b->ace->who, b->ace->len);
+        if (order)
+            return order < 0;
+    }
+    return a->place < b->place;
+}
+
+/* Merges runs that rise already, from short ones on. */
+static Headed *sorted(Headed *items, u32 count)
+{
+    u32 *runs = room((size_t)count + 2, sizeof(u32)), many = 0;
+    for (u32 k = 0; k < count; k++)
+        if (k == 0 || !is_before(&items[k - 1], &items[k]))
+            runs[many++] = k;
+    runs[many] = count;
+    Headed *from = items, *to = many > 1 ? room(count, sizeof(Headed)) : items;
+    while (many > 1) {
+        u32 done = 0;
+        for (u32 r = 0; r < many; r += 2) {
+            u32 a = runs[r], a_end = runs[r + 1], b = a_end, b_end = r + 2 <= many ? runs[r + 2] : a_end, at = a;
+            while (a < a_end && b < b_end)
+                to[at++] = is_before(&from[b], &from[a]) ? from[b++] : from[a++];
+            memcpy(to + at, from + a, (a_end - a) * sizeof(Headed));
+            at += a_end - a;
+            memcpy(to + at, from + b, (b_end - b) * sizeof(Headed));
+            runs[done++] = runs[r];
+        }
+        runs[many = done] = count;
+        Headed *other = from;
+        from = to;
+        to = other;
+    }
+    return from;
+}
+
+/* Puts down what takes part; the places of the list count from `first`. */
+static Headed *headed(const List *list, u32 first, Headed *to)
+{
+    for (u32 k = 0; k < list->count; k++)
+        if (!(list->aces[k].flags & INHERIT_ONLY))
+            *to++ = (Headed){ head_of(&list->aces[k]), &list->aces[k], first + k };
+    return to;
+}
+
+/* The principals of a list in order, each by an ACE that names it, and of each ACE the number of its principal. */
+typedef struct {
+    const Ace **first;
+    u32 *number, count;
+} Rows;
+
+static Rows numbered(const Headed *items, u32 count, u32 places)
+{
+    Rows rows = { room(count, sizeof(Ace *)), room(places, sizeof(u32)), 0 };
+    for (u32 k = 0; k < count; k++) {
+        if (!k || !is_same(&items[k - 1], &items[k]))
+            rows.first[rows.count++] = items[k].ace;
+        rows.number[items[k].place] = rows.count - 1;
+    }
+    return rows;
+}
+
+static Rows rows_of(const List *list)
+{
+    Headed *items = room(list->count, sizeof(Headed));
+    u32 count = (u32)(headed(list, 0, items) - items);
+    return numbered(sorted(items, count), count, list->count);
+}
+
+/* The normal form: it is handed key by key to `emit`. */
+
+typedef struct {
+    u32 *places, *keys, left, free, count;
+} Column;
+
+static int bit_at(u32 mask)
+{
+    return __builtin_ctz(mask);
+}
+
+/* Takes out of the masks the bits that play no part: those that an earlier ACE has decided, and those that say what
+ * would be so without them. */
+static void reduce(const List *list, const u32 *number, u32 rows, u32 *masks)
+{
+    u32 *seen = cleared(rows, sizeof(u32)), whole = 0, allowed = 0, later_users = 0, later_others = 0;
+    for (u32 k = 0; k < list->count; k++) {
+        const Ace *ace = &list->aces[k];
+        masks[k] = 0;
+        if (ace->flags & INHERIT_ONLY)
+            continue;
+        masks[k] = ace->mask & ~seen[number[k]] & ~whole;
+        seen[number[k]] |= masks[k];
+        if (ace->rank == EVERYONE) {
+            whole |= masks[k];
+            if (ace->kind == ALLOW)
+                allowed |= masks[k];
+        }
+    }
+    for (u32 k = list->count; k--;) {
+        const Ace *ace = &list->aces[k];
+        u32 mask = masks[k], odd = ace->kind == ALLOW ? mask & ~allowed : mask & allowed, same = mask & ~odd;
+        if (ace->rank == EVERYONE) {
+            masks[k] = ace->kind == ALLOW ? mask : 0;
+        } else if (ace->rank == USER) {
+            masks[k] = odd | (same & later_others);
+            later_users |= odd;
+        } else {
+            masks[k] = odd | (same & (later_users | later_others));
+            later_others |= odd;
+        }
+    }
+    free(seen);
+}
+
+typedef struct {
+    Column columns[COUNT][2][2]; /* by right, by type, and of users or of others */
+    u32 *left, *free;            /* by key: the bits that stand still, and of these the free ones */
+    u64 *levels[4];              /* the keys with a free bit, by bits of words of 64 */
+} Emission;
+
+static void mark(Emission *it, u32 key)
+{
+    for (int level = 0; level < 4; level++, key >>= 6)
+        it->levels[level][key >> 6] |= 1ull << (key & 63);
+}
+
+static void unmark(Emission *it, u32 key)
+{
+    for (int level = 0; level < 4; level++, key >>= 6)
+        if (it->levels[level][key >> 6] &= ~(1ull << (key & 63)))
+            return;
+}
+
+static u32 least(const Emission *it)
+{
+    u32 key = 0;
+    for (int level = 4; level--;)
+        key = key << 6 | (u32)__builtin_ctzll(it->levels[level][key]);
+    return key;
+}
+
+static void fill_columns(Emission *it, const List *list, const u32 *number, const u32 *masks)
+{
+    u32 weight = 0;
+    for (u32 k = 0; k < list->count; k++)
+        for (u32 mask = masks[k]; mask; mask &= mask - 1, weight++)
+            it->columns[bit_at(mask)][list->aces[k].kind][list->aces[k].rank != USER].count++;
+    u32 *places = room((size_t)weight * 2, sizeof(u32));
+    for (int bit = 0; bit < COUNT; bit++)
+        for (int kind = 0; kind < 2; kind++)
+            for (int others = 0; others < 2; others++) {
+                Column *column = &it->columns[bit][kind][others];
+                column->places = places;
+                column->keys = places + weight;
+                places += column->count;
+                column->count = 0;
+            }
+    for (u32 k = 0; k < list->count; k++)
+        for (u32 mask = masks[k]; mask; mask &= mask - 1) {
+            Column *column = &it->columns[bit_at(mask)][list->aces[k].kind][list->aces[k].rank != USER];
+            u32 key = number[k] * 2 + (list->aces[k].kind == ALLOW);
+            column->places[column->count] = k;
+            column->keys[column->count++] = key;
+            it->left[key] |= mask & -mask;
+        }
+}
+
+/* Where the first of a column stands that is left. */
+static u32 first_left(Emission *it, Column *column, int bit)
+{
+    while (column->left < column->count && !(it->left[column->keys[column->left]] >> bit & 1))
+        column->left++;
+    return column->left < column->count ? column->places[column->left] : ~0u;
+}
+
+static void set_free(Emission *it, Column *column, int bit, u32 limit)
+{
+    for (; column->free < column->count && column->places[column->free] < limit; column->free++) {
+        u32 key = column->keys[column->free];
+        if (it->left[key] >> bit & 1) {
+            if (!it->free[key])
+                mark(it, key);
+            it->free[key] |= 1u << bit;
+        }
+    }
+}
+
+/* What the ACEs of a type at a right keep from being free. */
+static void look(Emission *it, int bit, int kind)
+{
+    u32 others = first_left(it, &it->columns[bit][kind][1], bit);
+    u32 users = first_left(it, &it->columns[bit][kind][0], bit);
+    set_free(it, &it->columns[bit][!kind][0], bit, others);
+    set_free(it, &it->columns[bit][!kind][1], bit, users < others ? users : others);
+}
+
+static void normal_form(const List *list, const Rows *of, void (*emit)(const Ace *, u32 row, u32 kind, u32 mask))
+{
+    u32 rows = of->count, *number = of->number, *masks = room(list->count, sizeof(u32));
+    reduce(list, number, rows, masks);
+    Emission *it = cleared(1, sizeof(Emission));
+    it->left = cleared(rows * 2, sizeof(u32));
+    it->free = cleared(rows * 2, sizeof(u32));
+    for (int level = 0; level < 4; level++)
+        it->levels[level] = cleared((rows * 2 >> 6 * (level + 1)) + 1, sizeof(u64));
+    fill_columns(it, list, number, masks);
+    for (int bit = 0; bit < COUNT; bit++) {
+        look(it, bit, ALLOW);
+        look(it, bit, DENY);
+    }
+    while (it->levels[3][0]) {
+        u32 key = least(it), mask = it->free[key], kind = key & 1 ? ALLOW : DENY;
+        emit(of->first[key >> 1], key >> 1, kind, mask);
+        it->left[key] &= ~mask;
+        it->free[key] = 0;
+        unmark(it, key);
+        for (; mask; mask &= mask - 1)
+            look(it, bit_at(mask), (int)kind);
+    }
+}
+
+static u32 emitted;
+
+static void put_normal(const Ace *ace, u32 row, u32 kind, u32 mask)
+{
+    (void)row;
+    put_ace(kind, ace->rank == GROUP_NAMED ? OF_GROUP : 0, mask, ace->who, ace->len);
+    emitted++;
+}
+
+static void put_normal_form(List list)
+{
+    size_t head = begin_list();
+    Rows rows = rows_of(&list);
+    emitted = 0;
+    normal_form(&list, &rows, put_normal);
+    put_word(out.bytes + head, emitted);
+}
+
+static void normalize(int argc, char **argv)
+{
+    List list = read_list();
+    put_normal_form(list);
+    if (argc > 2 && !strcmp(argv[2], "--inherit")) {
+        List directory = child_of(list, 1);
+        put_normal_form(child_of(list, 0));
+        put_normal_form(directory);
+        put_normal_form(child_of(directory, 0));
+        put_normal_form(child_of(directory, 1));
+    }
+    finish(0);
+}
+
+static u32 asked, *sources;
+
+static void put_row(const Ace *ace, u32 row, u32 kind, u32 mask)
+{
+    if (!(mask & asked))
+        return;
+    put_number(sources[row]);
+    put_text(kind == ALLOW ? " ALLOW " : " DENY ");
+    put_text(ace->rank == GROUP_NAMED ? "GROUP " : "- ");
+    put(ace->who, ace->len);
+    put_byte('\n');
+}
+
+static void table(int argc, char **argv)
+{
+    const char *name = option(argc, argv, "bit");
+    if (!name)
+        end(3, "usage");
+    asked = bit_of(rights, (const u8 *)name, strlen(name));
+    List list = read_list();
+    Rows rows = rows_of(&list);
+    sources = room(rows.count, sizeof(u32));
+    for (u32 k = list.count; k--;)
+        if (!(list.aces[k].flags & INHERIT_ONLY) && list.aces[k].mask & asked)
+            sources[rows.number[k]] = k;
+    normal_form(&list, &rows, put_row);
+    finish(0);
+}
