@@ -1,6 +1,6 @@
 -- The fields of a written entry spell that entry, with every table of names and at any column.
-use Rattle.std.proofs.Common.{◌≡◌, ℕ, zero, suc, ◌+◌, ◌%◌, ◌^◌, ◌<◌, Bool, true, false, eqb, List, [], ◌∷◌, ◌++◌, length, Some, refl, sym, ap, ◌∙◌, subst, arith}
-use Rattle.std.specs.Prelude.{not, ◌&&◌, ◌||◌, codes, decimal, nat_le, ◌==◌}
+use Rattle.std.proofs.Common.{◌≡◌, ℕ, zero, suc, ◌+◌, ◌%◌, ◌^◌, ◌<◌, Bool, true, false, eqb, List, [], ◌∷◌, ◌++◌, length, take, Option, None, Some, refl, sym, ap, ◌∙◌, subst, arith}
+use Rattle.std.specs.Prelude.{IfSome, option_map, unwrap_or, not, ◌&&◌, ◌||◌, codes, decimal, nat_le, ◌==◌}
 use Rattle.std.specs.List.{slice_split, list_all, All}
 use Rattle.std.specs.Char.{is_ascii_digit}
 use Rattle.std.proofs.lemmas.Bool.Decides.{nat_tests}
@@ -14,11 +14,12 @@ use Rattle.acl_posix.specs.declared.field.TagWord.{TagWord}
 use Rattle.acl_posix.specs.declared.field.TagWord.TheVariants as words
 use Rattle.acl_posix.specs.declared.text_fault.Part.{Part}
 use Rattle.acl_posix.specs.declared.text_fault.Part.TheVariants as parts
-use Rattle.acl_posix.specs.Tag.{Tag, user_obj, user, group_obj, group, mask, other, IsTag}
+use Rattle.acl_posix.specs.Id.{IsId}
+use Rattle.acl_posix.specs.Tag.{Tag, user_obj, user, group_obj, group, mask, other, row, IsTag}
 use Rattle.acl_posix.specs.Names.{Table, Ids}
 use Rattle.acl_posix.specs.Fields.{permissions_of, word_of, is_default, id_of, id_in}
 use Rattle.acl_posix.specs.Grammar.{EntryFields, fields_of, HasFields, SpellsTag, HasTag, Spells}
-use Rattle.acl_posix.specs.Texts.{perm_text, long_word, short_word, qualifier_text}
+use Rattle.acl_posix.specs.Texts.{perm_text, word_text, long_word, short_word, qualifier_text}
 
 -- ---- bytes of fields
 
@@ -80,14 +81,13 @@ decimal_pass p each n lt =
 pub decimal_plain : (n : ℕ) → n < 2 ^ 64 → Plain (decimal n)
 decimal_plain = decimal_pass is_plain digit_plain
 
+digits_plain : (number : Option ℕ) → IfSome number IsId → Plain (unwrap_or (option_map decimal number) [])
+digits_plain None h = refl
+digits_plain (Some id) h = decimal_plain id (omega (arith, h))
+
 -- a qualifier is written in plain bytes
 pub qualifier_plain : (t : Tag) → IsTag t → Plain (qualifier_text t)
-qualifier_plain user_obj h = refl
-qualifier_plain (user id) h = decimal_plain id (omega arith)
-qualifier_plain group_obj h = refl
-qualifier_plain (group id) h = decimal_plain id (omega arith)
-qualifier_plain mask h = refl
-qualifier_plain other h = refl
+qualifier_plain t h = digits_plain (row t).qualifier h
 
 -- what holds of each of the eight sets of permissions holds of all
 each_perm : (P : ℕ → Type 0) → P 0 → P 1 → P 2 → P 3 → P 4 → P 5 → P 6 → P 7 → (p : ℕ) → p < 8 → P p
@@ -129,41 +129,34 @@ id_again ids n lt =
     let again = number_again n lt in
     (is.0.0, rw (again.1, again.0) again.2)
 
--- the tag word of a tag
-abbrev pub tag_word : Tag → TagWord
-tag_word user_obj = words.User
-tag_word (user id) = words.User
-tag_word group_obj = words.Group
-tag_word (group id) = words.Group
-tag_word mask = words.Mask
-tag_word other = words.Other
-
 -- a word that stands for the tag word of a tag
 pub record IsWordOf (t : Tag) (w : List ℕ) : Type 0 where
   pub plain : Plain w
   pub some_byte : 0 < length w
-  pub means : word_of w ≡ Some (tag_word t)
+  pub means : word_of w ≡ Some (row t).word
   pub no_default : is_default w ≡ false
+
+-- what tests say of bytes that stand for a tag word
+abbrev Tells : TagWord → List ℕ → Type 0
+Tells word w = Plain w × (0 < length w) × (word_of w ≡ Some word) × (is_default w ≡ false)
+
+both_tell : (word : TagWord) → Tells word (word_text word) × Tells word (take 1 (word_text word))
+unfolding word_of
+both_tell words.User = ((refl, omega arith, refl, refl), (refl, omega arith, refl, refl))
+both_tell words.Group = ((refl, omega arith, refl, refl), (refl, omega arith, refl, refl))
+both_tell words.Mask = ((refl, omega arith, refl, refl), (refl, omega arith, refl, refl))
+both_tell words.Other = ((refl, omega arith, refl, refl), (refl, omega arith, refl, refl))
+
+is_word : (t : Tag) (w : List ℕ) → Tells (row t).word w → IsWordOf t w
+is_word t w h = record { plain = h.0; some_byte = h.1; means = h.2; no_default = h.3 }
 
 -- the long word of a tag is one of its words
 pub long_is : (t : Tag) → IsWordOf t (long_word t)
-unfolding word_of
-long_is user_obj = record { plain = refl; some_byte = omega arith; means = refl; no_default = refl }
-long_is (user id) = record { plain = refl; some_byte = omega arith; means = refl; no_default = refl }
-long_is group_obj = record { plain = refl; some_byte = omega arith; means = refl; no_default = refl }
-long_is (group id) = record { plain = refl; some_byte = omega arith; means = refl; no_default = refl }
-long_is mask = record { plain = refl; some_byte = omega arith; means = refl; no_default = refl }
-long_is other = record { plain = refl; some_byte = omega arith; means = refl; no_default = refl }
+long_is t = is_word t (long_word t) (both_tell (row t).word).0
 
 -- the short word of a tag is one of its words
 pub short_is : (t : Tag) → IsWordOf t (short_word t)
-unfolding word_of
-short_is user_obj = record { plain = refl; some_byte = omega arith; means = refl; no_default = refl }
-short_is (user id) = record { plain = refl; some_byte = omega arith; means = refl; no_default = refl }
-short_is group_obj = record { plain = refl; some_byte = omega arith; means = refl; no_default = refl }
-short_is (group id) = record { plain = refl; some_byte = omega arith; means = refl; no_default = refl }
-short_is mask = record { plain = refl; some_byte = omega arith; means = refl; no_default = refl }
-short_is other = record { plain = refl; some_byte = omega arith; means = refl; no_default = refl }
+short_is t = is_word t (short_word t) (both_tell (row t).word).1
 
 -- a word that marks an entry of a default ACL
 pub record IsMark (d : List ℕ) : Type 0 where
@@ -179,7 +172,7 @@ long_mark = record { plain = refl; some_byte = omega arith; means = refl }
 pub short_mark : IsMark (codes "d")
 short_mark = record { plain = refl; some_byte = omega arith; means = refl }
 
-tag_spelled : (names : Table) (w : List ℕ) (t : Tag) → IsTag t → word_of w ≡ Some (tag_word t)
+tag_spelled : (names : Table) (w : List ℕ) (t : Tag) → IsTag t → word_of w ≡ Some (row t).word
     → SpellsTag names w (qualifier_text t) t
 tag_spelled names w user_obj h e = (e, refl)
 tag_spelled names w (user id) h e = let lt : id < 4294967295 = omega (arith, h) in
@@ -241,7 +234,7 @@ colon_next bs rest h = slice_split_at (λ b. eqb b 58) bs 58 rest (no_colon bs h
 -- a qualifier that spells a tag behind the word of the tag
 pub record IsQualifierOf (t : Tag) (q : List ℕ) : Type 0 where
   pub plain : Plain q
-  pub spells : (names : Table) (w : List ℕ) → word_of w ≡ Some (tag_word t) → SpellsTag names w q t
+  pub spells : (names : Table) (w : List ℕ) → word_of w ≡ Some (row t).word → SpellsTag names w q t
 
 -- a qualifier as it is written is one
 pub written_qualifier : (t : Tag) → IsTag t → IsQualifierOf t (qualifier_text t)

@@ -1,6 +1,6 @@
 -- No text of ACLs has 2^64 bytes: ids of a sorted list rise, so it has at most 6 * 2^32 entries.
-use Rattle.std.proofs.Common.{◌≡◌, ℕ, suc, ◌+◌, ◌*◌, ◌^◌, ◌<◌, ◌≤◌, Bool, true, false, cond, eqb, List, [], ◌∷◌, ◌++◌, length, refl, ap, ◌∙◌, arith, length-append, inl, inr}
-use Rattle.std.specs.Prelude.{codes}
+use Rattle.std.proofs.Common.{◌≡◌, ℕ, suc, ◌+◌, ◌*◌, ◌^◌, ◌<◌, ◌≤◌, Bool, true, false, cond, eqb, List, [], ◌∷◌, ◌++◌, length, Option, Some, None, refl, ap, ◌∙◌, arith, length-append, inl, inr}
+use Rattle.std.specs.Prelude.{codes, decimal, IfSome, option_map, unwrap_or}
 use Rattle.std.specs.List.{All, AllByRecursion}
 use Rattle.std.specs.List.Sorted.{IsStrictlySortedBy}
 use Rattle.std.specs.FinMap as fin
@@ -16,10 +16,13 @@ use Rattle.acl_posix.specs.declared.form.Form.{Form}
 use Rattle.acl_posix.specs.declared.form.Form.TheVariants as forms
 use Rattle.acl_posix.specs.declared.text_fault.Part.{Part}
 use Rattle.acl_posix.specs.declared.text_fault.Part.TheVariants as parts
-use Rattle.acl_posix.specs.Tag.{Tag, user_obj, user, group_obj, group, mask, other, tag_cmp, rank, qualifier, IsTag}
+use Rattle.acl_posix.specs.declared.field.TagWord.{TagWord}
+use Rattle.acl_posix.specs.declared.field.TagWord.TheVariants as words
+use Rattle.acl_posix.specs.Id.{IsId}
+use Rattle.acl_posix.specs.Tag.{Tag, user_obj, user, group_obj, group, mask, other, row, tag_cmp, rank, qualifier, IsTag}
 use Rattle.acl_posix.specs.Entries.{Entries, IsEntry, tags}
 use Rattle.acl_posix.specs.Mask.{effective_of}
-use Rattle.acl_posix.specs.Texts.{perm_text, long_word, short_word, qualifier_text, entry_text, mark_text}
+use Rattle.acl_posix.specs.Texts.{perm_text, word_text, long_word, short_word, qualifier_text, entry_text, mark_text}
 use Rattle.acl_posix.specs.internal.Writing.{lead, form_word, ending, entry_out, part_out}
 use Rattle.acl_posix.proofs.Lookups.{entries_sorted}
 
@@ -35,31 +38,27 @@ lead_short forms.Short parts.Access false = omega arith
 lead_short forms.Short parts.Default true = omega arith
 lead_short forms.Short parts.Default false = omega arith
 
-long_short : (t : Tag) → length (long_word t) ≤ 5
-long_short user_obj = omega arith
-long_short (user id) = omega arith
-long_short group_obj = omega arith
-long_short (group id) = omega arith
-long_short mask = omega arith
-long_short other = omega arith
+text_short : (word : TagWord) → length (word_text word) ≤ 5
+text_short words.User = omega arith
+text_short words.Group = omega arith
+text_short words.Mask = omega arith
+text_short words.Other = omega arith
 
 short_short : (t : Tag) → length (short_word t) ≤ 5
-short_short t = let long = length-take 1 (long_word t) in omega (arith, long, long_short t)
+short_short t = let long = length-take 1 (long_word t) in omega (arith, long, text_short (row t).word)
 
 word_short : (form : Form) (t : Tag) → length (form_word form t) ≤ 5
-word_short forms.Canonical t = long_short t
-word_short forms.Shown t = long_short t
+word_short forms.Canonical t = text_short (row t).word
+word_short forms.Shown t = text_short (row t).word
 word_short forms.Short t = short_short t
 
+digits_short : (number : Option ℕ) → IfSome number IsId → length (unwrap_or (option_map decimal number) []) ≤ 20
+digits_short None h = omega arith
+digits_short (Some id) h = let lt : id < 4294967295 = omega (arith, h) in
+    length-decimal-le 20 id (omega arith) (omega arith) (omega arith)
+
 qualifier_short : (t : Tag) → IsTag t → length (qualifier_text t) ≤ 20
-qualifier_short user_obj h = omega arith
-qualifier_short (user id) h = let lt : id < 4294967295 = omega (arith, h) in
-    length-decimal-le 20 id (omega arith) (omega arith) (omega arith)
-qualifier_short group_obj h = omega arith
-qualifier_short (group id) h = let lt : id < 4294967295 = omega (arith, h) in
-    length-decimal-le 20 id (omega arith) (omega arith) (omega arith)
-qualifier_short mask h = omega arith
-qualifier_short other h = omega arith
+qualifier_short t h = digits_short (row t).qualifier h
 
 mark_short : (eff perm : ℕ) → length (mark_text eff perm) ≤ 15
 mark_short eff perm =
@@ -110,13 +109,12 @@ part_short form part acl first (e ∷ es) h =
 abbrev place : Tag → ℕ
 place t = rank t * 4294967296 + qualifier t
 
+number_under : (number : Option ℕ) → IfSome number IsId → unwrap_or number 0 < 4294967296
+number_under None h = omega arith
+number_under (Some id) h = omega (arith, h)
+
 qualifier_under : (t : Tag) → IsTag t → qualifier t < 4294967296
-qualifier_under user_obj h = omega arith
-qualifier_under (user id) h = omega (arith, h)
-qualifier_under group_obj h = omega arith
-qualifier_under (group id) h = omega (arith, h)
-qualifier_under mask h = omega arith
-qualifier_under other h = omega arith
+qualifier_under t h = number_under (row t).qualifier h
 
 rank_under : (t : Tag) → rank t ≤ 5
 rank_under user_obj = omega arith

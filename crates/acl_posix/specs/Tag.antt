@@ -1,9 +1,11 @@
 -- Whom an entry speaks of: its tag type with its qualifier (POSIX.1e draft 17, section 23.1.2; acl(5), "ACL ENTRIES").
-use Rattle.std.specs.Prelude.{ℕ, Bool, true, false, List, codes}
+use Rattle.std.specs.Prelude.{ℕ, Bool, true, false, List, codes, Option, Some, None, IfSome, is_some, unwrap_or}
 use Rattle.std.specs.declared.cmp.Ordering.{Ordering}
 use Rattle.std.specs.Ordering.{nat_cmp, ordering_then}
 use Rattle.acl_posix.specs.declared.tag.Tag.{Tag as TagOfCode}
 use Rattle.acl_posix.specs.declared.tag.Tag.TheVariants as code
+use Rattle.acl_posix.specs.declared.field.TagWord.{TagWord}
+use Rattle.acl_posix.specs.declared.field.TagWord.TheVariants.{User, Group, Mask, Other}
 use Rattle.acl_posix.specs.Id.{IsId}
 
 -- the owner, a user by id, the owning group, a group by id, the mask, or all others
@@ -14,6 +16,24 @@ pub data Tag : Type 0 where
   group : (id : ℕ) → Tag
   mask : Tag
   other : Tag
+
+-- what there is to say of a tag: the place of its type in the canonical order, the name of the type in ASCII, its word in
+-- a text, its qualifier, and whether the mask limits its entry, which is then one of the file group class
+pub record Row : Type 0 where
+  pub rank : ℕ
+  pub name : List ℕ
+  pub word : TagWord
+  pub qualifier : Option ℕ
+  pub masked : Bool
+
+-- the tag types in canonical order; USER and GROUP have a qualifier, and USER, GROUP_OBJ and GROUP are limited
+abbrev pub row : Tag → Row
+row user_obj = record { rank = 0; name = codes "USER_OBJ"; word = User; qualifier = None; masked = false }
+row (user id) = record { rank = 1; name = codes "USER"; word = User; qualifier = Some id; masked = true }
+row group_obj = record { rank = 2; name = codes "GROUP_OBJ"; word = Group; qualifier = None; masked = true }
+row (group id) = record { rank = 3; name = codes "GROUP"; word = Group; qualifier = Some id; masked = true }
+row mask = record { rank = 4; name = codes "MASK"; word = Mask; qualifier = None; masked = false }
+row other = record { rank = 5; name = codes "OTHER"; word = Other; qualifier = None; masked = false }
 
 -- the plain data that a tag of the code stands for
 abbrev pub tag_of : TagOfCode → Tag
@@ -26,57 +46,27 @@ tag_of code.Other = other
 
 -- a qualifier is the id of a user or a group
 abbrev pub IsTag : Tag → Type 0
-IsTag user_obj = Unit {0}
-IsTag (user id) = IsId id
-IsTag group_obj = Unit {0}
-IsTag (group id) = IsId id
-IsTag mask = Unit {0}
-IsTag other = Unit {0}
+IsTag tag = IfSome (row tag).qualifier IsId
 
 -- the name of the tag type, in ASCII
 abbrev pub name_of : Tag → List ℕ
-name_of user_obj = codes "USER_OBJ"
-name_of (user id) = codes "USER"
-name_of group_obj = codes "GROUP_OBJ"
-name_of (group id) = codes "GROUP"
-name_of mask = codes "MASK"
-name_of other = codes "OTHER"
+name_of tag = (row tag).name
 
 -- the tag has a qualifier: USER or GROUP
 abbrev pub is_named : Tag → Bool
-is_named user_obj = false
-is_named (user id) = true
-is_named group_obj = false
-is_named (group id) = true
-is_named mask = false
-is_named other = false
+is_named tag = is_some (row tag).qualifier
 
 -- the entries of the file group class, which the mask limits: USER, GROUP_OBJ and GROUP
 abbrev pub is_masked : Tag → Bool
-is_masked user_obj = false
-is_masked (user id) = true
-is_masked group_obj = true
-is_masked (group id) = true
-is_masked mask = false
-is_masked other = false
+is_masked tag = (row tag).masked
 
 -- the place of a tag type in the canonical order: USER_OBJ, USER, GROUP_OBJ, GROUP, MASK, OTHER
 abbrev pub rank : Tag → ℕ
-rank user_obj = 0
-rank (user id) = 1
-rank group_obj = 2
-rank (group id) = 3
-rank mask = 4
-rank other = 5
+rank tag = (row tag).rank
 
 -- the qualifier, and 0 where there is none
 abbrev pub qualifier : Tag → ℕ
-qualifier user_obj = 0
-qualifier (user id) = id
-qualifier group_obj = 0
-qualifier (group id) = id
-qualifier mask = 0
-qualifier other = 0
+qualifier tag = unwrap_or (row tag).qualifier 0
 
 -- the canonical order: by tag type, then by qualifier
 abbrev pub tag_cmp : Tag → Tag → Ordering

@@ -1,12 +1,14 @@
 -- The texts of the ACLs of a file, as functions of the sets of entries alone (acl(5), "LONG TEXT FORM" and "SHORT TEXT
 -- FORM"). That ids are decimal, and where the effective permissions are shown, are this library's own.
-use Rattle.std.specs.Prelude.{ℕ, ◌==◌, List, [], ◌∷◌, ◌++◌, codes, decimal, bit_and, map, take, Option, Some, None, if◌then◌else◌}
+use Rattle.std.specs.Prelude.{ℕ, ◌==◌, List, [], ◌∷◌, ◌++◌, codes, decimal, bit_and, map, take, Option, Some, None, option_map, unwrap_or, if◌then◌else◌}
 use Rattle.std.specs.List.{flat_map, All}
 use Rattle.std.specs.FinMap as set
 use Rattle.acl_posix.specs.declared.file.PosixFile.{PosixFile}
 use Rattle.acl_posix.specs.declared.form.Form.{Form}
 use Rattle.acl_posix.specs.declared.form.Form.TheVariants.{Canonical, Shown, Short}
-use Rattle.acl_posix.specs.Tag.{Tag, user_obj, user, group_obj, group, mask, other}
+use Rattle.acl_posix.specs.declared.field.TagWord.{TagWord}
+use Rattle.acl_posix.specs.declared.field.TagWord.TheVariants.{User, Group, Mask, Other}
+use Rattle.acl_posix.specs.Tag.{Tag, row}
 use Rattle.acl_posix.specs.Entries.{Entries, IsEntry}
 use Rattle.acl_posix.specs.Valid.{IsValid}
 use Rattle.acl_posix.specs.Mask.{effective_of}
@@ -19,14 +21,16 @@ letter perm bit shown = if bit_and perm bit == bit then shown else 45
 abbrev pub perm_text : ℕ → List ℕ
 perm_text perm = letter perm 4 114 ∷ letter perm 2 119 ∷ letter perm 1 120 ∷ []
 
+-- a tag word, in full
+abbrev pub word_text : TagWord → List ℕ
+word_text User = codes "user"
+word_text Group = codes "group"
+word_text Mask = codes "mask"
+word_text Other = codes "other"
+
 -- the word of a tag, in full
 abbrev pub long_word : Tag → List ℕ
-long_word user_obj = codes "user"
-long_word (user id) = codes "user"
-long_word group_obj = codes "group"
-long_word (group id) = codes "group"
-long_word mask = codes "mask"
-long_word other = codes "other"
+long_word tag = word_text (row tag).word
 
 -- the first letter of that word
 abbrev pub short_word : Tag → List ℕ
@@ -34,12 +38,7 @@ short_word tag = take 1 (long_word tag)
 
 -- the id in decimal, or nothing
 abbrev pub qualifier_text : Tag → List ℕ
-qualifier_text user_obj = []
-qualifier_text (user id) = decimal id
-qualifier_text group_obj = []
-qualifier_text (group id) = decimal id
-qualifier_text mask = []
-qualifier_text other = []
+qualifier_text tag = unwrap_or (option_map decimal (row tag).qualifier) []
 
 -- an entry with the word of its tag: word, qualifier and permissions with colons between them
 abbrev pub entry_text : List ℕ → Tag × ℕ → List ℕ
