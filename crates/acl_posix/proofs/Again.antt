@@ -90,7 +90,7 @@ pub qualifier_plain : (t : Tag) → IsTag t → Plain (qualifier_text t)
 qualifier_plain t h = digits_plain (row t).qualifier h
 
 -- what holds of each of the eight sets of permissions holds of all
-each_perm : (P : ℕ → Type 0) → P 0 → P 1 → P 2 → P 3 → P 4 → P 5 → P 6 → P 7 → (p : ℕ) → p < 8 → P p
+pub each_perm : (P : ℕ → Type 0) → P 0 → P 1 → P 2 → P 3 → P 4 → P 5 → P 6 → P 7 → (p : ℕ) → p < 8 → P p
 each_perm P a b c d e f g h zero lt = a
 each_perm P a b c d e f g h (suc zero) lt = b
 each_perm P a b c d e f g h (suc (suc zero)) lt = c

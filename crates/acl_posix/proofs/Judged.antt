@@ -48,21 +48,15 @@ permissions_say : (names : Table) (piece : TextPiece) (fields : EntryFields) (ta
     → Says names piece (ended piece.line fields tag)
 unfolding read_permissions
 permissions_say names piece fields tag has spelled =
+    let place : IsPlace piece.line fields.permissions piece.line (start_of fields.permissions) =
+    here piece.line fields.permissions in
     elim (permissions_of (trimmed fields.permissions.bytes))
     as (λ o. permissions_of (trimmed fields.permissions.bytes) ≡ o
     → Says names piece
     (ok_or o (faults.Permission piece.line (start_of fields.permissions))
     >>= (λ perm. Ok (made fields tag perm)))) [
       | None ↦ λ is.
-          record {
-            fields = fields;
-            has = has;
-            tag = tag;
-            has_tag = spelled;
-            no_set = is;
-            place =
-                here piece.line fields.permissions;
-          }
+          record { fields = fields; has = has; tag = tag; has_tag = spelled; no_set = is; place = place }
       | Some perm ↦ λ is. record { fields = fields; has = has; part = refl; tag = spelled; permissions = is }
     ] refl
 

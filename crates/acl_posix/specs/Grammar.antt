@@ -20,10 +20,6 @@ comment_mark = 35
 abbrev pub comma : ℕ
 comma = 44
 
--- the byte between two fields of an entry
-abbrev pub colon : ℕ
-colon = 58
-
 -- a piece of a text, which is to spell an entry: the number of its line, and its bytes with their column
 pub record TextPiece : Type 0 where
   pub line : ℕ
@@ -47,6 +43,10 @@ pieces_from line (bytes ∷ lines) = numbered line (line_pieces bytes) ++ pieces
 -- the pieces of a text, in the order in which they stand
 abbrev pub pieces_of : List ℕ → List TextPiece
 pieces_of text = pieces_from 1 (lines_of text)
+
+-- the byte between two fields of an entry
+abbrev pub colon : ℕ
+colon = 58
 
 -- the fields of an entry, and the part that it belongs to
 pub record EntryFields : Type 0 where

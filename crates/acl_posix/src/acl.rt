@@ -28,16 +28,13 @@ pub struct PosixAcl {
 }
 
 impl Model for PosixAcl {
-    ghost use Rattle.std.specs.Prelude.{ℕ};
-    ghost use Rattle.std.specs.FinMap as set;
-    ghost use Rattle.std.specs.Coded.{coded_ℕ};
-    ghost use Rattle.acl_posix.specs.Tag.{tag_cmp};
-    ghost use Rattle.acl_posix.specs.internal.TagCode.{coded_tag};
+    ghost use Rattle.acl_posix.specs.Entries.{Entries};
+    ghost use Rattle.acl_posix.specs.internal.TagCode.{coded_entries};
     ghost use Rattle.acl_posix.specs.Valid.{IsValid};
 
-    ghost Value = { set.FinMap tag_cmp ℕ };
+    ghost Value = { Entries };
 
-    ghost coded = { set.code coded_tag coded_ℕ };
+    ghost coded = { coded_entries };
 
     ghost view = { λ acl. acl.entries };
 

@@ -17,16 +17,12 @@ pub(crate) struct SortedEntries {
 }
 
 impl Model for SortedEntries {
-    ghost use Rattle.std.specs.Prelude.{ℕ};
-    ghost use Rattle.std.specs.FinMap as set;
-    ghost use Rattle.std.specs.Coded.{coded_ℕ};
-    ghost use Rattle.acl_posix.specs.Tag.{tag_cmp};
-    ghost use Rattle.acl_posix.specs.internal.TagCode.{coded_tag};
-    ghost use Rattle.acl_posix.specs.Entries.{as_set, IsSorted, pairs};
+    ghost use Rattle.acl_posix.specs.internal.TagCode.{coded_entries};
+    ghost use Rattle.acl_posix.specs.Entries.{as_set, Entries, IsSorted, pairs};
 
-    ghost Value = { set.FinMap tag_cmp ℕ };
+    ghost Value = { Entries };
 
-    ghost coded = { set.code coded_tag coded_ℕ };
+    ghost coded = { coded_entries };
 
     ghost view = { λ entries. as_set (pairs entries.items.items) };
 

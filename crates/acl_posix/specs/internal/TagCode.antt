@@ -1,12 +1,15 @@
 -- What the code needs of tags, and no contract cites (this library's own): their order in the code's words, that it is
--- total, and each tag as two numbers. The three proofs stand here since a trait's ghost members cite them.
+-- total, each tag as two numbers, and sets of entries as numbers. The three proofs stand here since a trait's ghost
+-- members cite them.
 use Rattle.std.specs.Prelude.{ℕ, zero, suc, ◌≡◌, refl}
+use Rattle.std.specs.FinMap as set
 use Rattle.std.specs.Coded.{Coded, code_by, coded×, coded_ℕ}
 use Rattle.std.specs.declared.cmp.Ordering.{Ordering}
 use Rattle.std.specs.Cmp.{IsTotalOrder, nat_cmp_total}
 use Rattle.std.proofs.lemmas.Cmp.{on_total, then_total}
 use Rattle.acl_posix.specs.declared.tag.Tag.{Tag as TagOfCode}
 use Rattle.acl_posix.specs.Tag.{Tag, user_obj, user, group_obj, group, mask, other, tag_of, rank, qualifier, tag_cmp}
+use Rattle.acl_posix.specs.Entries.{Entries}
 
 -- the canonical order of the tags of the code
 abbrev pub code_cmp : TagOfCode → TagOfCode → Ordering
@@ -43,3 +46,7 @@ abbrev pub coded_tag : Coded Tag
 coded_tag =
     code_by (ℕ × ℕ) (coded× coded_ℕ coded_ℕ) (λ tag. (rank tag, qualifier tag))
     (λ both. tag_from both.0 both.1) tag_again
+
+-- a set of entries as numbers
+abbrev pub coded_entries : Coded Entries
+coded_entries = set.code coded_tag coded_ℕ
