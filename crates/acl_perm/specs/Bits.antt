@@ -35,6 +35,10 @@ IsMask n = bit_and n all_rights ≡ n
 abbrev pub all_flags : ℕ
 all_flags = 0xff
 
+-- a set of flags
+abbrev pub IsFlags : ℕ → Type 0
+IsFlags n = n ≤ all_flags
+
 -- the bit of the flag INHERIT_ONLY (RFC 8881, section 6.2.1.4.1)
 abbrev pub inherit_only : ℕ
 inherit_only = 3
@@ -42,7 +46,3 @@ inherit_only = 3
 -- the bit of the flag IDENTIFIER_GROUP (RFC 8881, section 6.2.1.4.1)
 abbrev pub identifier_group : ℕ
 identifier_group = 6
-
--- a set of flags
-abbrev pub IsFlags : ℕ → Type 0
-IsFlags n = n ≤ all_flags

@@ -1,4 +1,4 @@
-//! What each constant is: a function that returns it, for its clause alone.
+//! What each constant is: functions that return them, for their clauses alone.
 ghost use Rattle.std.specs.Prelude.{◌≡◌, map};
 ghost use Rattle.acl_perm.specs.Bits.{all_flags, all_rights};
 ghost use Rattle.acl_perm.specs.Numbers.{flags_in_order, mask_bits, flag_bits, rights_of_directories, rights_in_order};
@@ -11,64 +11,29 @@ use crate::mode::Mode;
 use crate::perm::Perm;
 use crate::profile::Profile;
 
-fn perm_none() -> Perm
-    ensures { result.bits ≡ 0 }
+fn empty_sets() -> (Perm, Mode, Mask, Flags)
+    ensures perm { result.0.bits ≡ 0 }
+    ensures mode { result.1.bits ≡ 0 }
+    ensures mask { result.2.bits ≡ 0 }
+    ensures flags { result.3.bits ≡ 0 }
 {
-    Perm::NONE
+    (Perm::NONE, Mode::NONE, Mask::NONE, Flags::NONE)
 }
 
-fn perm_all() -> Perm
-    ensures { result.bits ≡ 7 }
+fn full_sets() -> (Perm, Mode, Mask, Flags)
+    ensures perm { result.0.bits ≡ 7 }
+    ensures mode { result.1.bits ≡ mode_of_parts 7 7 7 }
+    ensures mask { result.2.bits ≡ all_rights }
+    ensures flags { result.3.bits ≡ all_flags }
 {
-    Perm::ALL
+    (Perm::ALL, Mode::ALL, Mask::ALL, Flags::ALL)
 }
 
-fn mode_none() -> Mode
-    ensures { result.bits ≡ 0 }
+fn profiles() -> (Profile, Profile)
+    ensures full { profile_of result.0 ≡ full }
+    ensures narrow { profile_of result.1 ≡ narrow }
 {
-    Mode::NONE
-}
-
-fn mode_all() -> Mode
-    ensures { result.bits ≡ mode_of_parts 7 7 7 }
-{
-    Mode::ALL
-}
-
-fn mask_none() -> Mask
-    ensures { result.bits ≡ 0 }
-{
-    Mask::NONE
-}
-
-fn mask_all() -> Mask
-    ensures { result.bits ≡ all_rights }
-{
-    Mask::ALL
-}
-
-fn flags_none() -> Flags
-    ensures { result.bits ≡ 0 }
-{
-    Flags::NONE
-}
-
-fn flags_all() -> Flags
-    ensures { result.bits ≡ all_flags }
-{
-    Flags::ALL
-}
-
-fn profile_full() -> Profile
-    ensures { profile_of result ≡ full }
-{
-    Profile::FULL
-}
-
-fn profile_narrow() -> Profile
-    ensures { profile_of result ≡ narrow }
-{
-    Profile::NARROW
+    (Profile::FULL, Profile::NARROW)
 }
 
 fn rights() -> [Mask; 16]
