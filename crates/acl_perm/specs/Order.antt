@@ -1,31 +1,23 @@
 -- The order of principals, and of principals with a type (this library's own: RFC 8881 orders none). Names are compared
 -- byte by byte, and a proper beginning comes first.
-use Rattle.std.specs.Prelude.{◌≡◌, ◌↔◌, ℕ, List, []}
+use Rattle.std.specs.Prelude.{◌≡◌, ◌↔◌, ℕ, List}
 use Rattle.std.specs.declared.cmp.Ordering.{Ordering}
 use Rattle.std.specs.declared.cmp.Ordering.TheVariants.{Less, Equal}
 use Rattle.std.specs.Ordering.{nat_cmp, ordering_then, ordering_reverse}
 use Rattle.std.specs.Cmp.{IsTotalOrder, then_total, on_total, nat_cmp_total}
 use Rattle.std.specs.Cmp.Lexicographic.{slice_cmp, nat_list_cmp_total}
-use Rattle.acl_perm.specs.Principal.{Principal, owner, user, group, group_named, everyone, principal}
+use Rattle.acl_perm.specs.Principal.{Principal, row, principal}
 use Rattle.acl_perm.specs.declared.kind.Kind.{Kind}
 use Rattle.acl_perm.specs.declared.kind.Kind.TheVariants.{Deny, Allow}
 use Rattle.acl_perm.specs.declared.key.Key.{Key as KeyOfCode}
 
 -- `OWNER@`, then users, then `GROUP@`, then groups, then `EVERYONE@`
 abbrev pub principal_rank : Principal → ℕ
-principal_rank owner = 0
-principal_rank (user name) = 1
-principal_rank group = 2
-principal_rank (group_named name) = 3
-principal_rank everyone = 4
+principal_rank p = (row p).rank
 
 -- the name of a user or of a group; the others have none
 abbrev pub principal_name : Principal → List ℕ
-principal_name owner = []
-principal_name (user name) = name
-principal_name group = []
-principal_name (group_named name) = name
-principal_name everyone = []
+principal_name p = (row p).name
 
 -- by rank, and then by the bytes of the name
 abbrev pub principal_cmp : Principal → Principal → Ordering

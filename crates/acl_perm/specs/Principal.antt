@@ -1,5 +1,5 @@
 -- Whom an entry of an access control list names (RFC 8881, section 6.2.1.5).
-use Rattle.std.specs.Prelude.{ℕ, List, Bool, true, false}
+use Rattle.std.specs.Prelude.{ℕ, List, [], Bool, true, false}
 use Rattle.acl_perm.specs.declared.principal.Principal.{Principal as PrincipalRef}
 use Rattle.acl_perm.specs.declared.principal.Principal.TheVariants as code
 
@@ -12,6 +12,22 @@ pub data Principal : Type 0 where
   group_named : (name : List ℕ) → Principal
   everyone : Principal
 
+-- what there is to say of a principal: its place in the order, its name, which is empty where it has none, and whether
+-- it is a user name or `EVERYONE@`
+pub record Row : Type 0 where
+  pub rank : ℕ
+  pub name : List ℕ
+  pub is_user : Bool
+  pub is_everyone : Bool
+
+-- `OWNER@`, then users, then `GROUP@`, then groups, then `EVERYONE@`
+abbrev pub row : Principal → Row
+row owner = record { rank = 0; name = []; is_user = false; is_everyone = false }
+row (user name) = record { rank = 1; name = name; is_user = true; is_everyone = false }
+row group = record { rank = 2; name = []; is_user = false; is_everyone = false }
+row (group_named name) = record { rank = 3; name = name; is_user = false; is_everyone = false }
+row everyone = record { rank = 4; name = []; is_user = false; is_everyone = true }
+
 -- the plain data that a principal of the code stands for
 abbrev pub principal : PrincipalRef → Principal
 principal code.Owner = owner
@@ -22,16 +38,8 @@ principal code.Everyone = everyone
 
 -- the principal is a user name
 abbrev pub is_user : Principal → Bool
-is_user owner = false
-is_user (user name) = true
-is_user group = false
-is_user (group_named name) = false
-is_user everyone = false
+is_user p = (row p).is_user
 
 -- the principal is `EVERYONE@`
 abbrev pub is_everyone : Principal → Bool
-is_everyone owner = false
-is_everyone (user name) = false
-is_everyone group = false
-is_everyone (group_named name) = false
-is_everyone everyone = true
+is_everyone p = (row p).is_everyone
