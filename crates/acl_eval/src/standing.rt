@@ -51,6 +51,7 @@ impl<'a> Standing<'a> {
 
     /// Whether the ACE takes part and speaks of the requester. Most ACEs are of a user, which is told first: they have
     /// neither flag, and a who without `@` at its end is no special one.
+    #[inline(always)]
     pub(crate) fn is_meant_by(&self, item: &AceRef<'_>) -> bool
         requires { 1 ≤ length item.now.who.now }
         ensures { result ≡ speaks (situation self.now.object self.now.requester) (ace item.now) }
@@ -62,6 +63,8 @@ impl<'a> Standing<'a> {
         !item.flags.is_inherit_only() && self.is_match(item.principal())
     }
 
+    // Kept out of `is_meant_by`, which is then small enough to be inlined.
+    #[inline(never)]
     fn is_match(&self, whom: Principal<'_>) -> bool
         ensures { result
             ≡ matches (situation self.now.object self.now.requester) (principal whom.entry) }
