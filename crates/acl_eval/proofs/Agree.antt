@@ -2,14 +2,14 @@
 use Rattle.std.proofs.Common.{◌≡◌, ℕ, ◌^◌, ◌<◌, Bool, true, false, cond, List, [], ◌∷◌, refl, sym, ap, subst, ◌∙◌}
 use Rattle.std.specs.Prelude.{bit_and, ◌&&◌, ◌||◌, ◌==◌, not, unwrap_or, Option, Some, None, is_some, T}
 use Rattle.std.specs.List.{list_any, AllByRecursion}
-use Rattle.std.specs.Ordering.{eq_by_cmp, is_lt}
+use Rattle.std.specs.Ordering.{eq_by_cmp, is_eq, is_lt}
 use Rattle.std.specs.declared.cmp.Ordering.{Ordering}
 use Rattle.std.specs.declared.cmp.Ordering.TheVariants.{Less, Equal, Greater}
 use Rattle.std.specs.FinMap as fin
 use Rattle.std.specs.FinMap.Entries.{below_all, is_sorted}
 use Rattle.std.proofs.lemmas.List.Elements.{recursion_from_All}
 use Rattle.acl_perm.specs.Bits.{has_bit}
-use Rattle.acl_perm.proofs.Bools.{and_true_right, or_false_right}
+use Rattle.acl_perm.proofs.Bools.{and_regroup, and_swap, and_true_right, and_twice, cond_bool, either_and, or_false_right}
 use Rattle.acl_perm.proofs.Sets.{has_bit-and, no_bit}
 use Rattle.acl_perm.specs.Situation.{Situation}
 use Rattle.acl_posix.specs.Id.{IsId}
@@ -38,32 +38,22 @@ pub record IsRight (want j b : ℕ) : Type 0 where
 
 -- ---- tests of some element
 
-twice : (x : Bool) → (x && x) ≡ (x && true)
-twice true = refl
-twice false = refl
-
 any_alike : {X : Type 0} (p q : X → Bool) (xs : List X) → AllByRecursion (λ x. p x ≡ q x) xs → list_any p xs
     ≡ list_any q xs
 any_alike p q [] h = refl
 any_alike p q (x ∷ xs) h = ap (λ (z : Bool). z || list_any p xs) h.0
     ∙ ap (λ (z : Bool). q x || z) (any_alike p q xs h.1)
 
-spread : (x y c : Bool) → ((x && c) || (y && c)) ≡ ((x || y) && c)
-spread true y true = refl
-spread true true false = refl
-spread true false false = refl
-spread false y c = refl
-
 any_and : {X : Type 0} (p : X → Bool) (c : Bool) (xs : List X) → list_any (λ x. p x && c) xs ≡ (list_any p xs && c)
 any_and p c [] = refl
-any_and p c (x ∷ xs) = ap (λ (z : Bool). (p x && c) || z) (any_and p c xs) ∙ spread (p x) (list_any p xs) c
+any_and p c (x ∷ xs) = ap (λ (z : Bool). (p x && c) || z) (any_and p c xs) ∙ sym (either_and (p x) (list_any p xs) c)
 
 -- ---- the bit of an entry
 
 masked_bit : (o : Option ℕ) (n j want : ℕ) → want ≡ 2 ^ j → 0 < want → contains 7 want ≡ true
     → has_bit (bit_and n (unwrap_or o n)) j ≡ (contains n want && contains (unwrap_or o 7) want)
 masked_bit None n j want e pos all =
-    has_bit-and n n j ∙ twice (has_bit n j) ∙ ap (λ (z : Bool). z && true) (sym (contains_single n j want e pos))
+    has_bit-and n n j ∙ and_twice (has_bit n j) ∙ sym (and_true_right (has_bit n j)) ∙ ap (λ (z : Bool). z && true) (sym (contains_single n j want e pos))
     ∙ ap (λ (z : Bool). contains n want && z) (sym all)
 masked_bit (Some m) n j want e pos all =
     has_bit-and n m j ∙ ap (λ (z : Bool). z && has_bit m j) (sym (contains_single n j want e pos))
@@ -111,14 +101,6 @@ owner_least (group id) h = cc
 owner_least mask h = cc
 owner_least other h = cc
 
-other_last : (l : Tag) → T (is_lt (tag_cmp other l)) → is_other l ≡ false
-other_last user_obj h = refl
-other_last (user id) h = refl
-other_last group_obj h = refl
-other_last (group id) h = refl
-other_last mask h = refl
-other_last other h = absurd h
-
 other_only : (l : Tag) → eq_by_cmp tag_cmp other l ≡ false → is_other l ≡ false
 other_only user_obj h = refl
 other_only (user id) h = refl
@@ -126,6 +108,9 @@ other_only group_obj h = refl
 other_only (group id) h = refl
 other_only mask h = refl
 other_only other h = absurd cc
+
+other_last : (l : Tag) → T (is_lt (tag_cmp other l)) → is_other l ≡ false
+other_last l h = other_only l (ap is_eq (less (tag_cmp other l) h))
 
 -- ---- the owner
 
@@ -206,20 +191,11 @@ any_split E s j (e ∷ ps) =
 
 class_is : (a d o : Bool) → cond a true (cond d false o) ≡ cond (a || d) a o
 class_is true d o = refl
-class_is false true o = refl
-class_is false false o = refl
+class_is false d o = refl
 
 reorder : (g v h c m : Bool) → (g ≡ true → v ≡ (h && c)) → (g && (v && m)) ≡ (((g && m) && h) && c)
 reorder false v h c m e = refl
-reorder true v h c m e = ap (λ (z : Bool). z && m) (e refl) ∙ turn h c m
-  where
-    turn : (h c m : Bool) → ((h && c) && m) ≡ ((m && h) && c)
-    turn true true true = refl
-    turn true true false = refl
-    turn true false true = refl
-    turn true false false = refl
-    turn false c true = refl
-    turn false c false = refl
+reorder true v h c m e = ap (λ (z : Bool). z && m) (e refl) ∙ and_swap (h && c) m ∙ sym (and_regroup m h c)
 
 -- ---- OTHER
 
@@ -253,10 +229,6 @@ others_decide E s want j b (e ∷ ps) right sorted =
           (other_only e.0 same)
           ∙ others_decide E s want j b ps right (back (below_all tag_cmp e.0 ps) (is_sorted tag_cmp ps) sorted)
     ] refl
-
-if_bool : (o : Bool) → cond o true false ≡ o
-if_bool true = refl
-if_bool false = refl
 
 -- ---- the whole check
 
@@ -292,7 +264,7 @@ class_decides E object requester want j b right a all =
     ≡ ((posix.matches og requester.groups e.0 && contains e.1 want) && mask_contains E want)) one es all)
     ∙ any_and (λ e. posix.matches og requester.groups e.0 && contains e.1 want) (mask_contains E want) es in
     let others : last ≡ contains (perm_at E other) want =
-    if_bool (list_any (others_test E s j) es) ∙ others_decide E s want j b es right (fin.entries_sorted E)
+    cond_bool (list_any (others_test E s j) es) ∙ others_decide E s want j b es right (fin.entries_sorted E)
     ∙ ap (λ (o : Option ℕ). contains (unwrap_or o 0) want) (sym (fin.get-entries E other)) in
     class_is allowed (list_any (denies_test E s j) es) last
     ∙ ap (λ (z : Bool). cond z allowed last) (sym (any_split E s j es) ∙ some)

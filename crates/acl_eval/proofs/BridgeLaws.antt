@@ -18,7 +18,7 @@ use Rattle.acl_eval.specs.Bridge.{image, bridge_list}
 use Rattle.acl_eval.specs.BridgeLaws.{by_name, IsAsked, IsAccess, GrantsSingles, KeepsGrants}
 use Rattle.acl_eval.proofs.Runs.{run_grants}
 use Rattle.acl_eval.proofs.Same.{only_bit}
-use Rattle.acl_eval.proofs.Images.{Stands, of_each, image_bit, read_data, write_data, execute, contains_single}
+use Rattle.acl_eval.proofs.Images.{Stands, of_each, image_bit, rights, contains_single}
 use Rattle.acl_eval.proofs.ValidChecks.{mask_contains, plain, plain_check}
 use Rattle.acl_eval.proofs.Agree.{IsRight, agrees}
 
@@ -104,11 +104,11 @@ single E object requester want j b access a right lt has = (
 pub grants_singles : GrantsSingles
 unfolding image
 grants_singles entries object requester want access a (inl r) = rw r
-    (single entries object requester 4 2 0 access a (right_at 2 0 (omega arith) read_data) (omega arith) refl)
+    (single entries object requester 4 2 0 access a (right_at 2 0 (omega arith) rights.read_data) (omega arith) refl)
 grants_singles entries object requester want access a (inr (inl w)) = rw w
-    (single entries object requester 2 1 1 access a (right_at 1 1 (omega arith) write_data) (omega arith) refl)
+    (single entries object requester 2 1 1 access a (right_at 1 1 (omega arith) rights.write_data) (omega arith) refl)
 grants_singles entries object requester want access a (inr (inr x)) = rw x
-    (single entries object requester 1 0 5 access a (right_at 0 5 (omega arith) execute) (omega arith) refl)
+    (single entries object requester 1 0 5 access a (right_at 0 5 (omega arith) rights.execute) (omega arith) refl)
 
 -- one permission of a set
 part : (want j : ℕ) → j < 3 → has_bit want j ≡ true → contains want (2 ^ j) ≡ true

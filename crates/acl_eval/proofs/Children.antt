@@ -1,13 +1,13 @@
 -- The list of a child, and what of its parent's it keeps.
 use Rattle.std.proofs.Common.{◌≡◌, ℕ, ◌+◌, ◌*◌, ◌≤◌, Bool, true, false, eqb, List, [], ◌∷◌, ◌++◌, length, refl, sym, ap, subst, ◌∙◌, arith}
-use Rattle.std.specs.Prelude.{bit_and, bit_or, not, count_ones, Option, None, Some, IsTrue, ◌&&◌, ◌||◌}
+use Rattle.std.specs.Prelude.{bit_and, bit_or, count_ones, Option, None, Some, IsTrue, ◌&&◌, ◌||◌}
 use Rattle.std.specs.List.{AllByRecursion}
 use Rattle.std.specs.Int.{bit_at}
 use Rattle.std.proofs.lemmas.Bool.{eqb-true}
 use Rattle.std.proofs.lemmas.Nat.{and_comm}
 use Rattle.std.proofs.lemmas.Nat.Bits.{and_pow}
 use Rattle.std.proofs.lemmas.List.{length-append}
-use Rattle.acl_perm.proofs.Sets.{bit_test, has_bit-and, has_bit-or, same_set}
+use Rattle.acl_perm.proofs.Sets.{has_bit-and, has_bit-or, same_set}
 use Rattle.acl_perm.specs.Bits.{has_bit, inherit_only}
 use Rattle.acl_perm.specs.Profile.{Profile}
 use Rattle.acl_nfs4.specs.Ace.{Ace}
@@ -17,20 +17,6 @@ use Rattle.acl_nfs4.proofs.Lists.{weight-cons}
 use Rattle.acl_eval.specs.declared.inherit.ChildKind.{ChildKind}
 use Rattle.acl_eval.specs.declared.inherit.ChildKind.TheVariants.{File, Directory}
 use Rattle.acl_eval.specs.Inheritance.{child_flags, children, ends, goes_on, waits, with_flags, file_inherit, directory_inherit, no_propagate_inherit}
-
--- the test of bit 0
-pub tests_file : (n : ℕ) → not (eqb (bit_and n 1) 0) ≡ has_bit n 0
-tests_file n = bit_test n 0 1 refl (omega arith)
-
--- the test of bit 1
-pub tests_directory : (n : ℕ) → not (eqb (bit_and n 2) 0) ≡ has_bit n 1
-tests_directory n = bit_test n 1 2 refl (omega arith)
-
--- the test of bit 2
-pub tests_no_propagate : (n : ℕ) → not (eqb (bit_and n 4) 0) ≡ has_bit n 2
-tests_no_propagate n = bit_test n 2 4 refl (omega arith)
-
-pub ruleset flag_tests = (tests_file, tests_directory, tests_no_propagate)
 
 -- ---- flags within a set
 
@@ -119,29 +105,29 @@ each_child P kind (a ∷ list) step each = by (each_child P kind list step each.
     by rest None e = subst (AllByRecursion P) (sym (child_lacks kind a list e)) rest
     by rest (Some f) e = subst (AllByRecursion P) (sym (child_has kind a list f e)) (step a f e each.0, rest)
 
+-- a list's sum of numbers that flags do not change is no greater in the child
+no_more : (total : List Ace → ℕ) (of : Ace → ℕ) → ((a : Ace) (list : List Ace) → total (a ∷ list) ≡ of a + total list)
+    → ((a : Ace) (f : ℕ) → of (with_flags a f) ≡ of a) → (kind : ChildKind) (list : List Ace)
+    → total (children kind list) ≤ total list
+no_more total of cons same kind [] = omega arith
+no_more total of cons same kind (a ∷ list) =
+    by (no_more total of cons same kind list) (child_flags kind a.flags) refl
+  where
+    by : total (children kind list) ≤ total list → (o : Option ℕ) → child_flags kind a.flags ≡ o
+        → total (children kind (a ∷ list)) ≤ total (a ∷ list)
+    by rest None e = let l = ap total (child_lacks kind a list e) in omega (arith, rest, l, cons a list)
+    by rest (Some f) e =
+        let l : total (children kind (a ∷ list)) ≡ of (with_flags a f) + total (children kind list) =
+        ap total (child_has kind a list f e) ∙ cons (with_flags a f) (children kind list) in
+        omega (arith, rest, l, same a f, cons a list)
+
 -- the child has no more ACEs
 pub fewer : (kind : ChildKind) (list : List Ace) → length (children kind list) ≤ length list
-fewer kind [] = omega arith
-fewer kind (a ∷ list) = by (fewer kind list) (child_flags kind a.flags) refl
-  where
-    by : length (children kind list) ≤ length list → (o : Option ℕ) → child_flags kind a.flags ≡ o
-        → length (children kind (a ∷ list)) ≤ length (a ∷ list)
-    by rest None e = let l = ap length (child_lacks kind a list e) in omega (arith, rest, l)
-    by rest (Some f) e = let l = ap length (child_has kind a list f e) in omega (arith, rest, l)
+fewer = no_more length (λ a. 1) (λ a list. omega arith) (λ a f. refl)
 
 -- and no more mask bits
 pub lighter : (kind : ChildKind) (list : List Ace) → weight (children kind list) ≤ weight list
-lighter kind [] = omega arith
-lighter kind (a ∷ list) = by (lighter kind list) (child_flags kind a.flags) refl
-  where
-    by : weight (children kind list) ≤ weight list → (o : Option ℕ) → child_flags kind a.flags ≡ o
-        → weight (children kind (a ∷ list)) ≤ weight (a ∷ list)
-    by rest None e = let l = ap weight (child_lacks kind a list e) in
-        omega (arith, rest, l, weight-cons a list)
-    by rest (Some f) e =
-        let l : weight (children kind (a ∷ list)) ≡ count_ones a.mask + weight (children kind list) =
-        ap weight (child_has kind a list f e) ∙ weight-cons (with_flags a f) (children kind list) in
-        omega (arith, rest, l, weight-cons a list)
+lighter = no_more weight (λ a. count_ones a.mask) weight-cons (λ a f. refl)
 
 -- the child of a list that fits a profile with INHERIT_ONLY fits it
 pub child_fits : (p : Profile) (kind : ChildKind) (list : List Ace) → IsTrue (has_bit p.flags inherit_only)

@@ -1,41 +1,26 @@
 -- The flags of a child, flag by flag.
 use Rattle.std.proofs.Common.{◌≡◌, ℕ, Bool, true, false, refl, sym, ap, subst, ◌∙◌}
 use Rattle.std.specs.Prelude.{bit_and, bit_or, not, Option, None, Some, ◌&&◌, ◌||◌}
+use Rattle.acl_perm.proofs.Bools.{and_true_right, and_false_right, or_true_right, or_false_right}
 use Rattle.acl_perm.proofs.Sets.{has_bit-and, has_bit-or}
 use Rattle.acl_perm.specs.Bits.{has_bit}
 use Rattle.acl_eval.specs.declared.inherit.ChildKind.TheVariants.{File, Directory}
 use Rattle.acl_eval.specs.Inheritance.{child_flags, ends, goes_on, waits, file_inherit, directory_inherit, no_propagate_inherit}
 use Rattle.acl_eval.specs.InheritanceLaws.{IsByFlag}
 
-and_all : (x : Bool) → (x && true) ≡ x
-and_all true = refl
-and_all false = refl
-
-and_none : (x : Bool) → (x && false) ≡ false
-and_none true = refl
-and_none false = refl
-
-or_none : (x : Bool) → (x || false) ≡ x
-or_none true = refl
-or_none false = refl
-
-or_all : (x : Bool) → (x || true) ≡ true
-or_all true = refl
-or_all false = refl
-
 -- a flag that is kept, and one that is cleared
 kept : (n c k : ℕ) → has_bit c k ≡ true → has_bit (bit_and n c) k ≡ has_bit n k
-kept n c k e = has_bit-and n c k ∙ ap (λ (b : Bool). has_bit n k && b) e ∙ and_all (has_bit n k)
+kept n c k e = has_bit-and n c k ∙ ap (λ (b : Bool). has_bit n k && b) e ∙ and_true_right (has_bit n k)
 
 cleared : (n c k : ℕ) → has_bit c k ≡ false → has_bit (bit_and n c) k ≡ false
-cleared n c k e = has_bit-and n c k ∙ ap (λ (b : Bool). has_bit n k && b) e ∙ and_none (has_bit n k)
+cleared n c k e = has_bit-and n c k ∙ ap (λ (b : Bool). has_bit n k && b) e ∙ and_false_right (has_bit n k)
 
 -- a flag beside one that is set, and that one
 beside : (n c k : ℕ) → has_bit c k ≡ false → has_bit (bit_or n c) k ≡ has_bit n k
-beside n c k e = has_bit-or n c k ∙ ap (λ (b : Bool). has_bit n k || b) e ∙ or_none (has_bit n k)
+beside n c k e = has_bit-or n c k ∙ ap (λ (b : Bool). has_bit n k || b) e ∙ or_false_right (has_bit n k)
 
 set : (n c k : ℕ) → has_bit c k ≡ true → has_bit (bit_or n c) k ≡ true
-set n c k e = has_bit-or n c k ∙ ap (λ (b : Bool). has_bit n k || b) e ∙ or_all (has_bit n k)
+set n c k e = has_bit-or n c k ∙ ap (λ (b : Bool). has_bit n k || b) e ∙ or_true_right (has_bit n k)
 
 ended : (flags : ℕ) → IsByFlag false flags (ends flags)
 ended flags = record {

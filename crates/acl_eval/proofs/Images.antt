@@ -1,6 +1,6 @@
 -- The bits of the image of permissions.
-use Rattle.std.proofs.Common.{◌≡◌, ℕ, zero, suc, ◌+◌, ◌-◌, ◌*◌, ◌^◌, ◌<◌, true, false, cond, eqb, refl, sym, ap, ◌∙◌, arith}
-use Rattle.std.specs.Prelude.{count_ones, bit_and, not}
+use Rattle.std.proofs.Common.{◌≡◌, ℕ, zero, suc, ◌+◌, ◌-◌, ◌*◌, ◌^◌, ◌<◌, true, false, cond, eqb, List, [], ◌∷◌, refl, sym, ap, ◌∙◌, arith}
+use Rattle.std.specs.Prelude.{count_ones, bit_and, not, slice_index_or}
 use Rattle.std.specs.Int.{bit_at, w8}
 use Rattle.std.proofs.lemmas.Bool.{true≢false}
 use Rattle.std.proofs.lemmas.Nat.Bits.{and_pow, bit_at-lt}
@@ -25,25 +25,32 @@ of_each P a b c d e f g h (suc (suc (suc (suc (suc (suc (suc (suc n)))))))) lt =
 pub record Stands (j b : ℕ) : Type 0 where
   pub same : (p : ℕ) → p < 8 → has_bit (image p) b ≡ has_bit p j
 
--- READ_DATA is read
-pub read_data : Stands 2 0
-unfolding image
-read_data = record { same = of_each (λ p. has_bit (image p) 0 ≡ has_bit p 2) refl refl refl refl refl refl refl refl }
+-- eight answers of a function, one for each set of permissions
+abbrev eight : {A : Type 0} → (ℕ → A) → List A
+eight f = f 0 ∷ f 1 ∷ f 2 ∷ f 3 ∷ f 4 ∷ f 5 ∷ f 6 ∷ f 7 ∷ []
 
--- WRITE_DATA is write
-pub write_data : Stands 1 1
-unfolding image
-write_data = record { same = of_each (λ p. has_bit (image p) 1 ≡ has_bit p 1) refl refl refl refl refl refl refl refl }
+-- two functions with the same eight answers answer alike
+same_eight : {A : Type 0} (f g : ℕ → A) → eight f ≡ eight g → (p : ℕ) → p < 8 → f p ≡ g p
+same_eight f g e = of_each (λ p. f p ≡ g p) (at 0) (at 1) (at 2) (at 3) (at 4) (at 5) (at 6) (at 7)
+  where
+    at : (k : ℕ) → slice_index_or (eight f) k (f 0) ≡ slice_index_or (eight g) k (f 0)
+    at k = ap (λ answers. slice_index_or answers k (f 0)) e
 
--- APPEND_DATA is write too
-pub append_data : Stands 1 2
-unfolding image
-append_data = record { same = of_each (λ p. has_bit (image p) 2 ≡ has_bit p 1) refl refl refl refl refl refl refl refl }
+-- READ_DATA is read, WRITE_DATA and APPEND_DATA are write, and EXECUTE is execute
+pub record Rights : Type 0 where
+  pub read_data : Stands 2 0
+  pub write_data : Stands 1 1
+  pub append_data : Stands 1 2
+  pub execute : Stands 0 5
 
--- EXECUTE is execute
-pub execute : Stands 0 5
+pub rights : Rights
 unfolding image
-execute = record { same = of_each (λ p. has_bit (image p) 5 ≡ has_bit p 0) refl refl refl refl refl refl refl refl }
+rights = record {
+  read_data = record { same = same_eight (λ p. has_bit (image p) 0) (λ p. has_bit p 2) refl };
+  write_data = record { same = same_eight (λ p. has_bit (image p) 1) (λ p. has_bit p 1) refl };
+  append_data = record { same = same_eight (λ p. has_bit (image p) 2) (λ p. has_bit p 1) refl };
+  execute = record { same = same_eight (λ p. has_bit (image p) 5) (λ p. has_bit p 0) refl };
+}
 
 none_at : (b : ℕ) → ((p : ℕ) → p < 8 → has_bit (image p) b ≡ false) → (want : ℕ) → want < 8 → has_bit (image want) b
     ≡ true → ⊥
@@ -82,21 +89,21 @@ unfolding image
 image_parts = of_each (λ p. cond (eqb (bit_and p 4) 0) 0 1 + cond (eqb (bit_and p 2) 0) 0 6 + cond
     (eqb (bit_and p 1) 0) 0 32 ≡ image p) refl refl refl refl refl refl refl refl
 
-third : (p : ℕ) → p < 8 → has_bit (image p) 3 ≡ false
-unfolding image
-third = of_each (λ p. has_bit (image p) 3 ≡ false) refl refl refl refl refl refl refl refl
+-- the other rights of a byte are of no image
+record Others : Type 0 where
+  third : (p : ℕ) → p < 8 → has_bit (image p) 3 ≡ false
+  fourth : (p : ℕ) → p < 8 → has_bit (image p) 4 ≡ false
+  sixth : (p : ℕ) → p < 8 → has_bit (image p) 6 ≡ false
+  seventh : (p : ℕ) → p < 8 → has_bit (image p) 7 ≡ false
 
-fourth : (p : ℕ) → p < 8 → has_bit (image p) 4 ≡ false
+others : Others
 unfolding image
-fourth = of_each (λ p. has_bit (image p) 4 ≡ false) refl refl refl refl refl refl refl refl
-
-sixth : (p : ℕ) → p < 8 → has_bit (image p) 6 ≡ false
-unfolding image
-sixth = of_each (λ p. has_bit (image p) 6 ≡ false) refl refl refl refl refl refl refl refl
-
-seventh : (p : ℕ) → p < 8 → has_bit (image p) 7 ≡ false
-unfolding image
-seventh = of_each (λ p. has_bit (image p) 7 ≡ false) refl refl refl refl refl refl refl refl
+others = record {
+  third = same_eight (λ p. has_bit (image p) 3) (λ p. false) refl;
+  fourth = same_eight (λ p. has_bit (image p) 4) (λ p. false) refl;
+  sixth = same_eight (λ p. has_bit (image p) 6) (λ p. false) refl;
+  seventh = same_eight (λ p. has_bit (image p) 7) (λ p. false) refl;
+}
 
 -- which permission a right of an image is of
 pub record Permits (want b : ℕ) : Type 0 where
@@ -110,25 +117,23 @@ permits want b j lt small st h = record { j = j; small = small; stands = st; has
 
 -- each right of an image is one of a permission
 pub image_bit : (want b : ℕ) → want < 8 → has_bit (image want) b ≡ true → Permits want b
-image_bit want zero lt h = permits want 0 2 lt (omega arith) read_data h
-image_bit want (suc zero) lt h = permits want 1 1 lt (omega arith) write_data h
-image_bit want (suc (suc zero)) lt h = permits want 2 1 lt (omega arith) append_data h
-image_bit want (suc (suc (suc zero))) lt h = absurd (none_at 3 third want lt h)
-image_bit want (suc (suc (suc (suc zero)))) lt h = absurd (none_at 4 fourth want lt h)
-image_bit want (suc (suc (suc (suc (suc zero))))) lt h = permits want 5 0 lt (omega arith) execute h
-image_bit want (suc (suc (suc (suc (suc (suc zero)))))) lt h = absurd (none_at 6 sixth want lt h)
-image_bit want (suc (suc (suc (suc (suc (suc (suc zero))))))) lt h = absurd (none_at 7 seventh want lt h)
+image_bit want zero lt h = permits want 0 2 lt (omega arith) rights.read_data h
+image_bit want (suc zero) lt h = permits want 1 1 lt (omega arith) rights.write_data h
+image_bit want (suc (suc zero)) lt h = permits want 2 1 lt (omega arith) rights.append_data h
+image_bit want (suc (suc (suc zero))) lt h = absurd (none_at 3 others.third want lt h)
+image_bit want (suc (suc (suc (suc zero)))) lt h = absurd (none_at 4 others.fourth want lt h)
+image_bit want (suc (suc (suc (suc (suc zero))))) lt h = permits want 5 0 lt (omega arith) rights.execute h
+image_bit want (suc (suc (suc (suc (suc (suc zero)))))) lt h = absurd (none_at 6 others.sixth want lt h)
+image_bit want (suc (suc (suc (suc (suc (suc (suc zero))))))) lt h = absurd (none_at 7 others.seventh want lt h)
 image_bit want (suc (suc (suc (suc (suc (suc (suc (suc b)))))))) lt h =
     absurd (true≢false (sym h ∙ has_bit-above w8 (image want) (suc (suc (suc (suc (suc (suc (suc (suc b))))))))
     (omega (arith, image_lt want lt)) (omega arith)))
 
 -- what is not allowed is denied
 pub complement : (j p : ℕ) → j < 3 → p < 8 → has_bit (7 - p) j ≡ not (has_bit p j)
-complement zero p lt = of_each (λ p. has_bit (7 - p) 0 ≡ not (has_bit p 0)) refl refl refl refl refl refl refl refl p
-complement (suc zero) p lt = of_each (λ p. has_bit (7 - p) 1 ≡ not (has_bit p 1)) refl refl refl refl refl refl refl
-    refl p
-complement (suc (suc zero)) p lt = of_each (λ p. has_bit (7 - p) 2 ≡ not (has_bit p 2)) refl refl refl refl refl refl
-    refl refl p
+complement zero p lt = same_eight (λ p. has_bit (7 - p) 0) (λ p. not (has_bit p 0)) refl p
+complement (suc zero) p lt = same_eight (λ p. has_bit (7 - p) 1) (λ p. not (has_bit p 1)) refl p
+complement (suc (suc zero)) p lt = same_eight (λ p. has_bit (7 - p) 2) (λ p. not (has_bit p 2)) refl p
 complement (suc (suc (suc j))) p lt = absurd (omega (arith, lt))
 
 by_digit : (d q : ℕ) → d < 2 → 0 < q → eqb (d * q) q ≡ eqb d 1

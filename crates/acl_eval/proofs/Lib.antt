@@ -1,3 +1,4 @@
+pub mod BitTests
 pub mod Members
 pub mod Columns
 pub mod Scans

@@ -1,8 +1,9 @@
 -- The mode of a list without the ACEs of users and groups that it names.
 use Rattle.std.proofs.Common.{◌≡◌, ℕ, Bool, true, false, List, [], ◌∷◌, refl, ap}
-use Rattle.std.specs.Prelude.{Option, unwrap_or}
+use Rattle.std.specs.Prelude.{◌==◌, ◌||◌, Option, unwrap_or}
 use Rattle.acl_perm.specs.Bits.{has_bit}
-use Rattle.acl_perm.specs.Principal.{Principal, owner, user, group, group_named, everyone}
+use Rattle.acl_perm.specs.Order.{principal_rank}
+use Rattle.acl_perm.specs.Principal.{Principal, is_everyone}
 use Rattle.acl_perm.specs.declared.kind.Kind.{Kind}
 use Rattle.acl_perm.specs.declared.kind.Kind.TheVariants.{Deny}
 use Rattle.acl_nfs4.specs.Ace.{Ace}
@@ -41,26 +42,18 @@ same_part test skips list =
     let at = λ (bit : ℕ). ap (λ (kind : Option Kind). is_allow (unwrap_or kind Deny)) (same_kind test skips list bit) in
     same_perm (is_granted_by test (unnamed list)) (is_granted_by test list) (at 0) (at 1) (at 2) (at 5)
 
+neither : (a b : Bool) → (a || b) ≡ false → (a ≡ false) × (b ≡ false)
+neither false b h = (refl, h)
+neither true b h = absurd cc
+
 owner_no_name : PassesNoName is_for_owner
-owner_no_name owner e = absurd cc
-owner_no_name (user name) e = refl
-owner_no_name group e = refl
-owner_no_name (group_named name) e = refl
-owner_no_name everyone e = absurd cc
+owner_no_name p e = (neither (is_for_owner p) (is_for_group p) e).0
 
 group_no_name : PassesNoName is_for_group
-group_no_name owner e = refl
-group_no_name (user name) e = refl
-group_no_name group e = absurd cc
-group_no_name (group_named name) e = refl
-group_no_name everyone e = absurd cc
+group_no_name p e = (neither (is_for_owner p) (is_for_group p) e).1
 
 others_no_name : PassesNoName is_for_others
-others_no_name owner e = refl
-others_no_name (user name) e = refl
-others_no_name group e = refl
-others_no_name (group_named name) e = refl
-others_no_name everyone e = absurd cc
+others_no_name p e = (neither (principal_rank p == 0) (is_everyone p) (owner_no_name p e)).1
 
 -- the mode is the same
 pub same_mode : (list : List Ace) → mode_of_list (unnamed list) ≡ mode_of_list list

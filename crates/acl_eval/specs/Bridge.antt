@@ -1,6 +1,6 @@
 -- The NFSv4 list that stands for a POSIX access ACL (this library's own: neither RFC 8881 nor acl(5) has one). What an
 -- entry decides in the access check of acl(5), it decides here by an ACE that allows and one that denies.
-use Rattle.std.specs.Prelude.{ℕ, ◌+◌, ◌-◌, ◌==◌, Bool, true, false, List, [], ◌∷◌, ◌++◌, if◌then◌else◌}
+use Rattle.std.specs.Prelude.{ℕ, ◌+◌, ◌-◌, ◌==◌, Bool, ◌&&◌, ◌||◌, List, [], ◌∷◌, ◌++◌, if◌then◌else◌}
 use Rattle.std.specs.List.{filter, flat_map}
 use Rattle.std.specs.Fmt.{decimal}
 use Rattle.std.specs.FinMap as set
@@ -8,7 +8,7 @@ use Rattle.acl_perm.specs.Bits.{has_bit}
 use Rattle.acl_perm.specs.Profile.{full}
 use Rattle.acl_perm.specs.declared.kind.Kind.{Kind}
 use Rattle.acl_perm.specs.declared.kind.Kind.TheVariants.{Deny, Allow}
-use Rattle.acl_posix.specs.Tag.{Tag, user_obj, user, group_obj, group, mask, other}
+use Rattle.acl_posix.specs.Tag.{Tag, user_obj, user, group_obj, group, mask, other, is_named, rank}
 use Rattle.acl_posix.specs.Entries.{Entries}
 use Rattle.acl_posix.specs.Mask.{effective_of}
 use Rattle.acl_nfs4.specs.Ace.{Ace}
@@ -32,14 +32,21 @@ who_of (group id) = decimal id
 who_of mask = []
 who_of other = everyone_name
 
+-- USER_OBJ and USER
+abbrev pub is_user : Tag → Bool
+is_user tag = rank tag == 0 || rank tag == 1
+
+-- GROUP_OBJ and GROUP
+abbrev pub is_group : Tag → Bool
+is_group tag = rank tag == 2 || rank tag == 3
+
+-- OTHER
+abbrev pub is_other : Tag → Bool
+is_other tag = rank tag == 5
+
 -- their flags: IDENTIFIER_GROUP on named groups, and no other
 abbrev pub flags_of : Tag → ℕ
-flags_of user_obj = 0
-flags_of (user id) = 0
-flags_of group_obj = 0
-flags_of (group id) = 0x40
-flags_of mask = 0
-flags_of other = 0
+flags_of tag = if is_group tag && is_named tag then 0x40 else 0
 
 -- the ACE of a tag with what these permissions stand for; there is none where there are no permissions
 unfoldable pub ace_of : Kind → Tag → ℕ → List Ace
@@ -57,33 +64,6 @@ deny_of entries entry = ace_of Deny entry.0 (7 - effective_of entries entry)
 -- first the one, then the other
 abbrev pub decide_of : Entries → Tag × ℕ → List Ace
 decide_of entries entry = allow_of entries entry ++ deny_of entries entry
-
--- USER_OBJ and USER
-abbrev pub is_user : Tag → Bool
-is_user user_obj = true
-is_user (user id) = true
-is_user group_obj = false
-is_user (group id) = false
-is_user mask = false
-is_user other = false
-
--- GROUP_OBJ and GROUP
-abbrev pub is_group : Tag → Bool
-is_group user_obj = false
-is_group (user id) = false
-is_group group_obj = true
-is_group (group id) = true
-is_group mask = false
-is_group other = false
-
--- OTHER
-abbrev pub is_other : Tag → Bool
-is_other user_obj = false
-is_other (user id) = false
-is_other group_obj = false
-is_other (group id) = false
-is_other mask = false
-is_other other = true
 
 -- the ACEs of some entries of a list, in its order
 abbrev pub each : (Tag → Bool) → (Tag × ℕ → List Ace) → List (Tag × ℕ) → List Ace

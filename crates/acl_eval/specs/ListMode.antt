@@ -1,34 +1,23 @@
 -- The mode of a list (RFC 8881, section 6.3.2): what it grants the owner, the group and others, as file mode bits.
-use Rattle.std.specs.Prelude.{ℕ, ◌+◌, Bool, true, false, ◌&&◌, if◌then◌else◌, List}
+use Rattle.std.specs.Prelude.{ℕ, ◌+◌, ◌==◌, Bool, ◌&&◌, ◌||◌, if◌then◌else◌, List}
 use Rattle.acl_perm.specs.Mode.{mode_of_parts}
-use Rattle.acl_perm.specs.Principal.{Principal, owner, user, group, group_named, everyone}
+use Rattle.acl_perm.specs.Order.{principal_rank}
+use Rattle.acl_perm.specs.Principal.{Principal, owner, group, is_everyone}
 use Rattle.acl_nfs4.specs.Ace.{Ace}
 use Rattle.acl_eval.specs.Column.{column, verdict}
 use Rattle.acl_eval.specs.Grant.{is_allow}
 
--- ACEs of `OWNER@` and of `EVERYONE@` decide for the owner
+-- ACEs of `OWNER@`, the first in the order of principals, and of `EVERYONE@` decide for the owner
 abbrev pub is_for_owner : Principal → Bool
-is_for_owner owner = true
-is_for_owner (user name) = false
-is_for_owner group = false
-is_for_owner (group_named name) = false
-is_for_owner everyone = true
+is_for_owner p = principal_rank p == principal_rank owner || is_everyone p
 
 -- those of `GROUP@` and of `EVERYONE@` for the group
 abbrev pub is_for_group : Principal → Bool
-is_for_group owner = false
-is_for_group (user name) = false
-is_for_group group = true
-is_for_group (group_named name) = false
-is_for_group everyone = true
+is_for_group p = principal_rank p == principal_rank group || is_everyone p
 
 -- those of `EVERYONE@` alone for others
 abbrev pub is_for_others : Principal → Bool
-is_for_others owner = false
-is_for_others (user name) = false
-is_for_others group = false
-is_for_others (group_named name) = false
-is_for_others everyone = true
+is_for_others p = is_everyone p
 
 -- the ACEs whose principal passes the test grant the bit
 abbrev pub is_granted_by : (Principal → Bool) → List Ace → ℕ → Bool

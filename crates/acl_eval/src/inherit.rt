@@ -51,7 +51,7 @@ const KEPT_AT_THE_END: u8 = 0x70;
 const KEPT_ON_THE_WAY: u8 = 0x77;
 
 // The flags of an ACE in the child, where the child has it.
-#[tactic(auto, using(crate::proofs::Children::flag_tests))]
+#[tactic(auto, using(crate::proofs::BitTests::bit_tests))]
 fn inherited(kind: ChildKind, flags: Flags) -> Option<Flags>
     ensures { option_map (λ f. f.bits) result ≡ child_flags kind flags.bits }
 {

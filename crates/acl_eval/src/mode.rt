@@ -114,21 +114,21 @@ impl Class {
     }
 }
 
-#[tactic(auto, using(crate::proofs::Classes::tests_read))]
+#[tactic(auto, using(crate::proofs::BitTests::bit_tests))]
 fn can_read(bits: u32) -> bool
     ensures { result ≡ has_bit bits 0 }
 {
     (bits & READ_DATA) != 0
 }
 
-#[tactic(auto, using(crate::proofs::Classes::tests_write))]
+#[tactic(auto, using(crate::proofs::BitTests::bit_tests))]
 fn can_write_in_place(bits: u32) -> bool
     ensures { result ≡ has_bit bits 1 }
 {
     (bits & WRITE_DATA) != 0
 }
 
-#[tactic(auto, using(crate::proofs::Classes::tests_append))]
+#[tactic(auto, using(crate::proofs::BitTests::bit_tests))]
 fn can_append(bits: u32) -> bool
     ensures { result ≡ has_bit bits 2 }
 {
@@ -141,7 +141,7 @@ fn can_write(bits: u32) -> bool
     can_write_in_place(bits) && can_append(bits)
 }
 
-#[tactic(auto, using(crate::proofs::Classes::tests_execute))]
+#[tactic(auto, using(crate::proofs::BitTests::bit_tests))]
 fn can_execute(bits: u32) -> bool
     ensures { result ≡ has_bit bits 5 }
 {
