@@ -209,30 +209,38 @@ fn first(bytes: &[u8], calls: u64) -> &[u8] {
     &bytes[..bytes.len().min(calls.saturating_mul(2) as usize)]
 }
 
-// What call number `call` answers where the call `failing` fails: the count of bytes taken.
-fn answer_of(bytes: &[u8], call: u64, failing: u64) -> Option<usize>
-    ensures { IfSome result (λ n. (n ≤ 2) × (n ≤ length bytes.now)) }
-{
-    if call == failing {
-        None
-    } else {
-        Some(bytes.len().min(2))
+// A call of a device, and the one that fails, by their numbers.
+#[derive(Clone, Copy)]
+struct Call {
+    number: u64,
+    failing: u64,
+}
+
+impl Call {
+    // What it answers: the count of bytes taken.
+    fn answer(self, bytes: &[u8]) -> Option<usize>
+        ensures { IfSome result (λ n. (n ≤ 2) × (n ≤ length bytes.now)) }
+    {
+        if self.number == self.failing {
+            None
+        } else {
+            Some(bytes.len().min(2))
+        }
+    }
+
+    // How many failures are counted then.
+    fn failures(self) -> u64 {
+        u64::from(self.number >= self.failing)
     }
 }
 
 // A pull, and the bytes that are left then.
-fn pull_two<'a, S: Source>(
-    rt: &impl Abort,
-    source: &mut S,
-    bytes: &'a [u8],
-    call: u64,
-    failing: u64,
-) -> &'a [u8] {
-    let answer = answer_of(bytes, call, failing);
+fn pull<'a, S: Source>(rt: &impl Abort, source: &mut S, bytes: &'a [u8], call: Call) -> &'a [u8] {
+    let answer = call.answer(bytes);
     let mut buf = [0u8; 4];
     let pulled = source.pull(&mut buf).ok();
-    let is_counted = source.failures() == u64::from(call >= failing);
-    assert!(rt; pulled == answer && is_counted, "call {call}");
+    let is_counted = source.failures() == call.failures();
+    assert!(rt; pulled == answer && is_counted, "call {}", call.number);
     let Some(count) = answer else {
         return bytes;
     };
@@ -242,17 +250,11 @@ fn pull_two<'a, S: Source>(
 }
 
 // A put, and the bytes that are left then.
-fn put_two<'a, S: Sink>(
-    rt: &impl Abort,
-    sink: &mut S,
-    bytes: &'a [u8],
-    call: u64,
-    failing: u64,
-) -> &'a [u8] {
-    let answer = answer_of(bytes, call, failing);
+fn put<'a, S: Sink>(rt: &impl Abort, sink: &mut S, bytes: &'a [u8], call: Call) -> &'a [u8] {
+    let answer = call.answer(bytes);
     let put = sink.put(bytes).ok();
-    let is_counted = sink.failures() == u64::from(call >= failing);
-    assert!(rt; put == answer && is_counted, "call {call}");
+    let is_counted = sink.failures() == call.failures();
+    assert!(rt; put == answer && is_counted, "call {}", call.number);
     bytes.split_at(answer.unwrap_or(0)).1
 }
 
@@ -260,8 +262,8 @@ fn pulls_but_one(rt: &impl Abort, failing: u64) {
     let device = FailsOnce::new(b"granted".as_slice(), failing, Slip::Error);
     let mut source = Counted::new(Fused::new(device, 9, 4));
     let mut bytes = b"granted".as_slice();
-    for call in 1..6u64 {
-        bytes = pull_two(rt, &mut source, bytes, call, failing);
+    for number in 1..6u64 {
+        bytes = pull(rt, &mut source, bytes, Call { number, failing });
     }
     assert!(rt; source.into_inner().into_inner().calls == 5);
 }
@@ -271,8 +273,8 @@ fn puts_but_one(rt: &impl Abort, failing: u64) {
     let device = FailsOnce::new(room.as_mut_slice(), failing, Slip::Error);
     let mut sink = Counted::new(Fused::new(device, 9, 4));
     let mut bytes = b"granted".as_slice();
-    for call in 1..6u64 {
-        bytes = put_two(rt, &mut sink, bytes, call, failing);
+    for number in 1..6u64 {
+        bytes = put(rt, &mut sink, bytes, Call { number, failing });
     }
     assert!(rt; sink.into_inner().into_inner().calls == 5);
     assert!(rt; room == *b"granted");
@@ -312,18 +314,6 @@ fn read_ended(rt: &impl Abort, alloc: Global, failing: u64, passed: u64, slip: S
     assert!(rt; source.into_inner().calls == failing);
 }
 
-// With ample memory a whole write ends at the call that fails, whether that is an error or takes no byte, and so does a
-// whole read, where no byte is the end.
-#[test]
-fn ample_memory_and_a_failure_that_passes(rt: HostRuntime) {
-    for passed in 0..4u64 {
-        for slip in [Slip::Error, Slip::Nothing] {
-            write_ended(&rt, passed + 1, passed, slip);
-            read_ended(&rt, rt.alloc(), passed + 1, passed, slip);
-        }
-    }
-}
-
 // A write of a whole buffer to a device that passes so many calls, and so many bytes.
 fn whole_write(rt: &impl Abort, calls: u64, passed: usize) {
     let mut room = [0u8; 5];
@@ -348,25 +338,39 @@ fn a_spent_device_fails_whole_buffers(rt: HostRuntime) {
     }
 }
 
-// With ample memory a whole read succeeds.
-#[test]
-fn ample_memory_suffices(rt: HostRuntime) {
-    let mut source = Counted::new(b"granted".as_slice());
-    match read_all(rt.alloc(), &mut source) {
-        Ok(bytes) => assert!(rt; bytes.as_slice() == b"granted".as_slice()),
-        Err(_) => assert!(rt; false, "memory is wanting"),
-    }
-    let mut sink = Counted::new(Vec::new(rt.alloc()));
-    assert!(rt; put_all(&mut sink, b"granted").is_ok());
-    assert!(rt; sink.into_inner().as_slice() == b"granted".as_slice());
-}
+// What is answered where memory is ample.
+mod ample {
+    use super::*;
 
-// With ample memory a whole read goes past a megabyte.
-#[test]
-fn ample_memory_suffices_for_a_large_input(rt: HostRuntime) -> Result<(), Fail> {
-    let mut source = Counted::new(io::repeat(b'a').take(1_200_000));
-    let bytes = read_all(rt.alloc(), &mut source)?;
-    assert!(rt; bytes.len() == 1_200_000);
-    assert!(rt; bytes.iter().all(|byte| *byte == b'a'));
-    Ok(())
+    // Whether that call is an error or takes no byte, which is the end of a read.
+    #[test]
+    fn whole_reads_and_writes_end_at_the_call_that_fails(rt: HostRuntime) {
+        for passed in 0..4u64 {
+            for slip in [Slip::Error, Slip::Nothing] {
+                write_ended(&rt, passed + 1, passed, slip);
+                read_ended(&rt, rt.alloc(), passed + 1, passed, slip);
+            }
+        }
+    }
+
+    #[test]
+    fn whole_reads_and_writes_succeed(rt: HostRuntime) {
+        let mut source = Counted::new(b"granted".as_slice());
+        match read_all(rt.alloc(), &mut source) {
+            Ok(bytes) => assert!(rt; bytes.as_slice() == b"granted".as_slice()),
+            Err(_) => assert!(rt; false, "memory is wanting"),
+        }
+        let mut sink = Counted::new(Vec::new(rt.alloc()));
+        assert!(rt; put_all(&mut sink, b"granted").is_ok());
+        assert!(rt; sink.into_inner().as_slice() == b"granted".as_slice());
+    }
+
+    #[test]
+    fn a_whole_read_goes_past_a_megabyte(rt: HostRuntime) -> Result<(), Fail> {
+        let mut source = Counted::new(io::repeat(b'a').take(1_200_000));
+        let bytes = read_all(rt.alloc(), &mut source)?;
+        assert!(rt; bytes.len() == 1_200_000);
+        assert!(rt; bytes.iter().all(|byte| *byte == b'a'));
+        Ok(())
+    }
 }
