@@ -1,11 +1,12 @@
 -- The number that digits spell.
-use Rattle.std.proofs.Common.{◌≡◌, ℕ, zero, suc, ◌+◌, ◌-◌, ◌*◌, ◌<◌, ◌≤◌, true, false, List, [], ◌∷◌, length, get_or, take, None, refl, ap, ◌∙◌, arith}
+use Rattle.std.proofs.Common.{◌≡◌, ℕ, zero, suc, ◌+◌, ◌-◌, ◌*◌, ◌<◌, ◌≤◌, true, false, List, [], ◌∷◌, length, get_or, take, None, refl, ap, ◌∙◌, arith, length-take}
+use Rattle.std.proofs.Math.Nat.{pow-le-pow_right}
 use Rattle.std.specs.Prelude.{not, ◌&&◌, ◌==◌}
 use Rattle.std.specs.List.{list_all}
 use Rattle.std.specs.Char.{is_ascii_digit, digit_value}
-use Rattle.std.specs.Str.Parse.{digits_value, digits_value_after}
+use Rattle.std.specs.Str.Parse.{AllDigits, digits_value, digits_value_after}
 use Rattle.std.proofs.lemmas.Bool.Decides.{nat_tests}
-use Rattle.std.proofs.lemmas.Int.Digits.{digits_value_more}
+use Rattle.std.proofs.lemmas.Int.Digits.{digits_value_more, digits_value-lt}
 use Rattle.acl_posix.specs.Names.{is_number}
 use Rattle.acl_posix.specs.Fields.{id_of}
 
@@ -24,6 +25,26 @@ all_at (b ∷ bs) (suc i) lt h = all_at bs i (omega arith)
       | true ↦ λ e. e
       | false ↦ λ e. absurd cc
     ] h)
+
+digit_small : (b : ℕ) → is_ascii_digit b ≡ true → digit_value b < 10
+digit_small b h = omega (arith, digit_is b h, (let most : b ≤ 57 = grind (arith, nat_tests) in most))
+
+all_small : (bs : List ℕ) → list_all is_ascii_digit bs ≡ true → AllDigits 10 bs
+all_small [] h = tt
+all_small (b ∷ bs) h = elim (is_ascii_digit b)
+    as (λ t. is_ascii_digit b ≡ t → (t && list_all is_ascii_digit bs) ≡ true
+    → (digit_value b < 10) × AllDigits 10 bs) [
+      | true ↦ λ is rest. (digit_small b is, all_small bs rest)
+      | false ↦ λ is rest. absurd cc
+    ] refl h
+
+-- the number of ten digits or fewer
+pub ten_digits : (bs : List ℕ) (i : ℕ) → i ≤ 10 → list_all is_ascii_digit (take i bs) ≡ true
+    → digits_value 10 (take i bs) < 10000000000
+ten_digits bs i few h =
+    let most : length (take i bs) ≤ 10 = omega (arith, length-take i bs, few) in
+    let least : 1 ≤ 10 = omega arith in
+    omega (arith, digits_value-lt 10 (take i bs) (all_small (take i bs) h), pow-le-pow_right {n = 10} least most)
 
 -- each byte of a number is a digit
 pub digits_all : (bs : List ℕ) → is_number bs ≡ true → list_all is_ascii_digit bs ≡ true

@@ -17,6 +17,7 @@ pub mod Again
 pub mod Whole
 pub mod FirstLines
 pub mod Written
+pub mod Fronts
 pub mod Bounds
 pub mod Forms
 pub mod Limits

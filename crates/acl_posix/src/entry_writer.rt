@@ -1,26 +1,27 @@
-//! The text of one entry.
-ghost use Rattle.std.specs.Prelude.{◌≡◌, ◌+◌, ◌≤◌, ◌++◌, ◌∷◌, [], length, ◌==◌, bit_and, if◌then◌else◌};
-ghost use Rattle.arrayvec.specs.ArrayVec.{array_vec_len};
+//! The text of one entry, which is put together from its end: each part in front of what stands behind it.
+ghost use Rattle.std.specs.Prelude.{◌≡◌, ◌+◌, ◌≤◌, ◌++◌, ◌∷◌, [], ◌==◌, bit_and, drop, if◌then◌else◌};
 ghost use Rattle.acl_posix.specs.Entries.{pair_of};
 ghost use Rattle.acl_posix.specs.Tag.{tag_of};
-ghost use Rattle.acl_posix.specs.Texts.{entry_text, letter, long_word, mark_text, perm_text, qualifier_text};
-ghost use Rattle.acl_posix.specs.internal.Writing.{ending, entry_out, form_word, lead};
+ghost use Rattle.acl_posix.specs.Texts.{entry_text, letter, mark_text, perm_text, qualifier_text};
+ghost use Rattle.acl_posix.specs.internal.Writing.{ending, entry_out, form_word, lead, IsPut};
 
 use crate::entry::Entry;
 use crate::form::Form;
 use crate::tag::Tag;
 use crate::text_fault::Part;
 use acl_perm::Perm;
-use arrayvec::ArrayVec;
-use itoa::Buffer;
+use itoa::write_digits;
 
-fn add(line: &mut ArrayVec<u8, 64>, bytes: &[u8])
-    requires { array_vec_len line.old + length bytes.now ≤ 64 }
-    ensures { line.new.items ≡ line.old.items ++ bytes.now }
+// Bytes in front of those from `end` on, and where they begin.
+#[inline(always)]
+fn put<const N: usize>(line: &mut [u8; 64], end: usize, bytes: [u8; N]) -> usize
+    requires room { N ≤ end }
+    requires inside { end ≤ 64 }
+    ensures { IsPut bytes.entry line.old line.new end result }
 {
-    for b in bytes {
-        line.push(*b);
-    }
+    let start = end - N;
+    line[start..end].copy_from_slice(&bytes);
+    start
 }
 
 fn letter(perm: Perm, bit: u8, shown: u8) -> u8
@@ -29,121 +30,124 @@ fn letter(perm: Perm, bit: u8, shown: u8) -> u8
     if perm.bits & bit == bit { shown } else { b'-' }
 }
 
-fn add_perm(line: &mut ArrayVec<u8, 64>, perm: Perm)
-    requires { array_vec_len line.old + 3 ≤ 64 }
-    ensures { line.new.items ≡ line.old.items ++ perm_text perm.bits }
+// A colon, and the permissions.
+fn put_perm(line: &mut [u8; 64], end: usize, perm: Perm) -> usize
+    requires room { 4 ≤ end }
+    requires inside { end ≤ 64 }
+    ensures { IsPut (58 ∷ perm_text perm.bits) line.old line.new end result }
 {
-    line.push(letter(perm, 4, b'r'));
-    line.push(letter(perm, 2, b'w'));
-    line.push(letter(perm, 1, b'x'));
+    let read = letter(perm, 4, b'r');
+    let write = letter(perm, 2, b'w');
+    let execute = letter(perm, 1, b'x');
+    put(line, end, [b':', read, write, execute])
 }
 
-fn add_qualifier(line: &mut ArrayVec<u8, 64>, tag: Tag)
-    requires { array_vec_len line.old + 10 ≤ 64 }
-    ensures text { line.new.items ≡ line.old.items ++ qualifier_text (tag_of tag) }
-    ensures short { array_vec_len line.new ≤ array_vec_len line.old + 10 }
-{
-    match tag {
-        Tag::User(id) | Tag::Group(id) => {
-            let mut buffer = Buffer::new();
-            add(line, buffer.format(id.value).as_bytes());
-        }
-        Tag::UserObj | Tag::GroupObj | Tag::Mask | Tag::Other => {}
-    }
-}
-
-fn long_word(tag: Tag) -> &'static [u8]
-    ensures text { result.now ≡ long_word (tag_of tag) }
-    ensures some_byte { 1 ≤ length result.now }
-    ensures short { length result.now ≤ 5 }
+fn put_qualifier(line: &mut [u8; 64], end: usize, tag: Tag) -> usize
+    requires room { 10 ≤ end }
+    requires inside { end ≤ 64 }
+    ensures text { IsPut (qualifier_text (tag_of tag)) line.old line.new end result }
+    ensures short { end ≤ result + 10 }
 {
     match tag {
-        Tag::UserObj | Tag::User(_) => b"user",
-        Tag::GroupObj | Tag::Group(_) => b"group",
-        Tag::Mask => b"mask",
-        Tag::Other => b"other",
+        Tag::User(id) | Tag::Group(id) => write_digits(u64::from(id.value), line, end),
+        Tag::UserObj | Tag::GroupObj | Tag::Mask | Tag::Other => end,
     }
 }
 
-fn word(form: Form, tag: Tag) -> &'static [u8]
-    ensures text { result.now ≡ form_word form (tag_of tag) }
-    ensures short { length result.now ≤ 5 }
+// The word of a tag, and a colon.
+fn put_word(line: &mut [u8; 64], end: usize, form: Form, tag: Tag) -> usize
+    requires room { 6 ≤ end }
+    requires inside { end ≤ 64 }
+    ensures text { IsPut (form_word form (tag_of tag) ++ 58 ∷ []) line.old line.new end result }
+    ensures short { end ≤ result + 6 }
 {
-    let word = long_word(tag);
-    match form {
-        Form::Canonical | Form::Shown => word,
-        Form::Short => &word[..1],
+    match (form, tag) {
+        (Form::Canonical | Form::Shown, Tag::UserObj | Tag::User(_)) => put(line, end, *b"user:"),
+        (Form::Canonical | Form::Shown, Tag::GroupObj | Tag::Group(_)) => put(
+            line, end, *b"group:",
+        ),
+        (Form::Canonical | Form::Shown, Tag::Mask) => put(line, end, *b"mask:"),
+        (Form::Canonical | Form::Shown, Tag::Other) => put(line, end, *b"other:"),
+        (Form::Short, Tag::UserObj | Tag::User(_)) => put(line, end, *b"u:"),
+        (Form::Short, Tag::GroupObj | Tag::Group(_)) => put(line, end, *b"g:"),
+        (Form::Short, Tag::Mask) => put(line, end, *b"m:"),
+        (Form::Short, Tag::Other) => put(line, end, *b"o:"),
     }
 }
 
-fn lead(form: Form, part: Part, is_first: bool) -> &'static [u8]
-    ensures text { result.now ≡ lead form part is_first }
-    ensures short { length result.now ≤ 8 }
+// What stands before an entry.
+fn put_lead(line: &mut [u8; 64], end: usize, form: Form, part: Part, is_first: bool) -> usize
+    requires room { 8 ≤ end }
+    requires inside { end ≤ 64 }
+    ensures { IsPut (lead form part is_first) line.old line.new end result }
 {
     match (form, part, is_first) {
-        (Form::Canonical | Form::Shown, Part::Access, _) => b"",
-        (Form::Canonical | Form::Shown, Part::Default, _) => b"default:",
-        (Form::Short, Part::Access, true) => b"",
-        (Form::Short, Part::Access, false) => b",",
-        (Form::Short, Part::Default, true) => b"d:",
-        (Form::Short, Part::Default, false) => b",d:",
+        (Form::Canonical | Form::Shown, Part::Access, _) => end,
+        (Form::Canonical | Form::Shown, Part::Default, _) => put(line, end, *b"default:"),
+        (Form::Short, Part::Access, true) => end,
+        (Form::Short, Part::Access, false) => put(line, end, *b","),
+        (Form::Short, Part::Default, true) => put(line, end, *b"d:"),
+        (Form::Short, Part::Default, false) => put(line, end, *b",d:"),
     }
 }
 
-/// Adds the word, the qualifier and the permissions, with colons between them.
-fn add_fields(line: &mut ArrayVec<u8, 64>, word: &[u8], entry: Entry)
-    requires { array_vec_len line.old + length word.now + 15 ≤ 64 }
-    ensures text { line.new.items ≡ line.old.items ++ entry_text word.now (pair_of entry) }
-    ensures short { array_vec_len line.new ≤ array_vec_len line.old + length word.now + 15 }
-{
-    add(line, word);
-    line.push(b':');
-    add_qualifier(line, entry.tag);
-    line.push(b':');
-    add_perm(line, entry.perm);
-}
-
-/// Adds the effective permissions as a comment, where they are not those of the entry.
-fn add_mark(line: &mut ArrayVec<u8, 64>, effective: Perm, perm: Perm)
-    requires { array_vec_len line.old + 15 ≤ 64 }
-    ensures text { line.new.items ≡ line.old.items ++ mark_text effective.bits perm.bits }
-    ensures short { array_vec_len line.new ≤ array_vec_len line.old + 15 }
+// The effective permissions as a comment, where they are not those of the entry.
+fn put_mark(line: &mut [u8; 64], end: usize, effective: Perm, perm: Perm) -> usize
+    requires room { 15 ≤ end }
+    requires inside { end ≤ 64 }
+    ensures text { IsPut (mark_text effective.bits perm.bits) line.old line.new end result }
+    ensures short { end ≤ result + 15 }
 {
     if effective.bits == perm.bits {
-        return;
+        return end;
     }
-    add(line, b"\t#effective:");
-    add_perm(line, effective);
+    let end = put_perm(line, end, effective);
+    put(line, end, *b"\t#effective")
 }
 
-fn add_ending(line: &mut ArrayVec<u8, 64>, form: Form, effective: Perm, perm: Perm)
-    requires { array_vec_len line.old + 16 ≤ 64 }
-    ensures text { line.new.items ≡ line.old.items ++ ending form effective.bits perm.bits }
+// What stands behind an entry.
+fn put_ending(line: &mut [u8; 64], form: Form, effective: Perm, perm: Perm) -> usize
+    ensures text { IsPut (ending form effective.bits perm.bits) line.old line.new 64 result }
+    ensures short { 64 ≤ result + 16 }
 {
     match form {
-        Form::Canonical => line.push(b'\n'),
+        Form::Canonical => put(line, 64, *b"\n"),
         Form::Shown => {
-            add_mark(line, effective, perm);
-            line.push(b'\n');
+            let end = put(line, 64, *b"\n");
+            put_mark(line, end, effective, perm)
         }
-        Form::Short => {}
+        Form::Short => 64,
     }
 }
 
-/// The text of an entry with all that belongs to it.
+// The word, the qualifier and the permissions, with colons between them.
+fn put_fields(line: &mut [u8; 64], end: usize, form: Form, entry: Entry) -> usize
+    requires room { 20 ≤ end }
+    requires inside { end ≤ 64 }
+    ensures text { IsPut (entry_text (form_word form (tag_of entry.tag)) (pair_of entry))
+        line.old line.new end result }
+    ensures short { end ≤ result + 20 }
+{
+    let end = put_perm(line, end, entry.perm);
+    let end = put_qualifier(line, end, entry.tag);
+    put_word(line, end, form, entry.tag)
+}
+
+/// Puts the text of an entry with all that belongs to it at the end of a line, and answers where it begins.
 #[tactic(auto, unfolding(crate::specs::internal::Writing::entry_out))]
-pub(crate) fn entry_bytes(
+pub(crate) fn put_entry(
+    line: &mut [u8; 64],
     form: Form,
     part: Part,
     is_first: bool,
     entry: Entry,
     effective: Perm,
-) -> ArrayVec<u8, 64>
-    ensures { result.items ≡ entry_out form part is_first effective.bits (pair_of entry) }
+) -> usize
+    ensures within { result ≤ 64 }
+    ensures text { drop result line.new
+        ≡ entry_out form part is_first effective.bits (pair_of entry) }
 {
-    let mut line = ArrayVec::new();
-    add(&mut line, lead(form, part, is_first));
-    add_fields(&mut line, word(form, entry.tag), entry);
-    add_ending(&mut line, form, effective, entry.perm);
-    line
+    let end = put_ending(line, form, effective, entry.perm);
+    let end = put_fields(line, end, form, entry);
+    put_lead(line, end, form, part, is_first)
 }

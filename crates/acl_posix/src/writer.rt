@@ -9,7 +9,7 @@ ghost use Rattle.acl_posix.specs.internal.Writing.{default_out, part_out};
 
 use crate::acl::PosixAcl;
 use crate::entry::Entry;
-use crate::entry_writer::entry_bytes;
+use crate::entry_writer::put_entry;
 use crate::file::PosixFile;
 use crate::form::Form;
 use crate::text_fault::Part;
@@ -36,9 +36,17 @@ fn put_part<S: Sink>(
     let mask = acl.mask();
     let mut done = done;
     let mut is_first = is_first;
+    let mut line = [0; 64];
     for entry in entries {
-        let line = entry_bytes(form, part, is_first, *entry, entry.masked_by(mask));
-        match put_next(sink, done, &line) {
+        let start = put_entry(
+            &mut line,
+            form,
+            part,
+            is_first,
+            *entry,
+            entry.masked_by(mask),
+        );
+        match put_next(sink, done, &line[start..]) {
             Ok(count) => done = count,
             Err(fault) => return Err(fault),
         }

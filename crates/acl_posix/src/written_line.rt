@@ -55,23 +55,19 @@ struct PermBefore<'a> {
 }
 
 /// What the first line of a text spells, where it is the line of a user or a group by id as the canonical text has it,
-/// but for zeros before the id.
+/// but for zeros before the id, which has at most ten digits.
 pub(crate) fn written_line(text: &[u8]) -> Option<WrittenLine<'_>>
     ensures { IfSome result (λ line.
         IsFirstLine text.now line.part (pair_of line.entry) line.rest.now) }
 {
-    match behind(text, b"default:") {
-        Some(bytes) => {
-            let EntryBefore { entry, rest } = entry_before(bytes)?;
-            let part = Part::Default;
-            Some(WrittenLine { part, entry, rest })
-        }
-        None => {
-            let EntryBefore { entry, rest } = entry_before(text)?;
-            let part = Part::Access;
-            Some(WrittenLine { part, entry, rest })
-        }
+    if let Some(EntryBefore { entry, rest }) = entry_before(text) {
+        let part = Part::Access;
+        return Some(WrittenLine { part, entry, rest });
     }
+    let bytes = behind(text, b"default:")?;
+    let EntryBefore { entry, rest } = entry_before(bytes)?;
+    let part = Part::Default;
+    Some(WrittenLine { part, entry, rest })
 }
 
 fn entry_before(bytes: &[u8]) -> Option<EntryBefore<'_>>
@@ -107,31 +103,29 @@ fn fields_before(bytes: &[u8]) -> Option<FieldsBefore<'_>>
     Some(FieldsBefore { id, perm, rest })
 }
 
+// How many digits the greatest id has.
+const MOST_DIGITS: usize = 10;
+
 fn id_before(bytes: &[u8]) -> Option<IdBefore<'_>>
     ensures { IfSome result (λ found. IsIdBefore bytes.now found.id.value found.rest.now) }
 {
+    let most = bytes.len().min(MOST_DIGITS);
     let mut value = 0u64;
     let mut place = 0;
-    while place < bytes.len() {
+    while place < most {
         let b = bytes[place];
-        if b == b':' {
-            if place == 0 {
-                return None;
-            }
-            let id = Id::new(value as u32)?;
-            let rest = &bytes[place + 1..];
-            return Some(IdBefore { id, rest });
-        }
         if !b.is_ascii_digit() {
-            return None;
+            break;
         }
         value = value * 10 + u64::from(b - b'0');
-        if value > u64::from(GREATEST) {
-            return None;
-        }
         place += 1;
     }
-    None
+    if place == 0 || place == bytes.len() || bytes[place] != b':' || value > u64::from(GREATEST) {
+        return None;
+    }
+    let id = Id::new(value as u32)?;
+    let rest = &bytes[place + 1..];
+    Some(IdBefore { id, rest })
 }
 
 fn perm_before(bytes: &[u8]) -> Option<PermBefore<'_>>

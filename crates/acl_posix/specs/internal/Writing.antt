@@ -1,6 +1,6 @@
 -- How the code puts a text together, an entry after the other: this library's own words, which only
 -- code needs. What public clauses say of the texts stands in Texts.
-use Rattle.std.specs.Prelude.{ℕ, Bool, true, false, List, [], ◌∷◌, ◌++◌, codes, bit_and, unwrap_or, Option, Some, None, if◌then◌else◌}
+use Rattle.std.specs.Prelude.{ℕ, ◌≡◌, ◌+◌, Bool, true, false, List, [], ◌∷◌, ◌++◌, codes, drop, length, bit_and, unwrap_or, Option, Some, None, if◌then◌else◌}
 use Rattle.std.specs.FinMap as set
 use Rattle.acl_posix.specs.declared.form.Form.{Form}
 use Rattle.acl_posix.specs.declared.form.Form.TheVariants.{Canonical, Shown, Short}
@@ -10,6 +10,11 @@ use Rattle.acl_posix.specs.Tag.{Tag, is_masked}
 use Rattle.acl_posix.specs.Entries.{Entries}
 use Rattle.acl_posix.specs.Mask.{effective_of}
 use Rattle.acl_posix.specs.Texts.{long_word, short_word, entry_text, mark_text}
+
+-- bytes stand in front of what stood from a place on
+pub record IsPut (bytes old new : List ℕ) (end start : ℕ) : Type 0 where
+  pub begins : start + length bytes ≡ end
+  pub written : drop start new ≡ bytes ++ drop end old
 
 -- what a mask leaves of an entry, where there is one
 abbrev pub masked_by : Option ℕ → Tag × ℕ → ℕ

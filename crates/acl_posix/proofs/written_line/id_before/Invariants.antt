@@ -7,10 +7,10 @@ use Rattle.acl_posix.proofs.written_line.id_before.Given as goal
 -- digits so far, and their number
 abbrev pub invariant-loop-place : goal.invariant-loop-place
 invariant-loop-place l = record {
+  within : l.place ≤ l.most;
   digits : list_all is_ascii_digit (take l.place l.bytes) ≡ true;
   value : l.value ≡ digits_value 10 (take l.place l.bytes);
-  within : l.value ≤ 4294967294;
 }
 
 abbrev pub decreases-loop-place : goal.decreases-loop-place
-decreases-loop-place l = length l.bytes - l.place
+decreases-loop-place l = l.most - l.place
