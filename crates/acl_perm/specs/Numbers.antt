@@ -1,6 +1,8 @@
 -- The numbers of the access rights and of the flags, in the order in which RFC 8881, sections 6.2.1.3.1 and 6.2.1.4.1,
 -- lists them.
 use Rattle.std.specs.Prelude.{ℕ, List, [], ◌∷◌}
+use Rattle.acl_perm.specs.declared.perm.Perm.{Perm}
+use Rattle.acl_perm.specs.declared.mode.Mode.{Mode}
 use Rattle.acl_perm.specs.declared.mask.Mask.{Mask}
 use Rattle.acl_perm.specs.declared.flags.Flags.{Flags}
 
@@ -11,6 +13,10 @@ mask_bits mask = mask.bits
 -- the number of a set of flags
 abbrev pub flag_bits : Flags → ℕ
 flag_bits flags = flags.bits
+
+-- the numbers of a set of each kind
+abbrev pub numbers_of : Perm × Mode × Mask × Flags → List ℕ
+numbers_of (perm, mode, mask, flags) = perm.bits ∷ mode.bits ∷ mask.bits ∷ flags.bits ∷ []
 
 -- READ_DATA, WRITE_DATA, APPEND_DATA, READ_NAMED_ATTRS, WRITE_NAMED_ATTRS, EXECUTE, DELETE_CHILD, READ_ATTRIBUTES,
 -- WRITE_ATTRIBUTES, WRITE_RETENTION, WRITE_RETENTION_HOLD; and DELETE, READ_ACL, WRITE_ACL, WRITE_OWNER, SYNCHRONIZE

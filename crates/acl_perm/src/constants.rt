@@ -1,7 +1,7 @@
 //! What each constant is: functions that return them, for their clauses alone.
-ghost use Rattle.std.specs.Prelude.{◌≡◌, map};
+ghost use Rattle.std.specs.Prelude.{◌≡◌, [], ◌∷◌, map};
 ghost use Rattle.acl_perm.specs.Bits.{all_flags, all_rights};
-ghost use Rattle.acl_perm.specs.Numbers.{flags_in_order, mask_bits, flag_bits, rights_of_directories, rights_in_order};
+ghost use Rattle.acl_perm.specs.Numbers.{flags_in_order, mask_bits, flag_bits, numbers_of, rights_of_directories, rights_in_order};
 ghost use Rattle.acl_perm.specs.Mode.{mode_of_parts};
 ghost use Rattle.acl_perm.specs.Profile.{full, narrow, profile_of};
 
@@ -12,28 +12,21 @@ use crate::perm::Perm;
 use crate::profile::Profile;
 
 fn empty_sets() -> (Perm, Mode, Mask, Flags)
-    ensures perm { result.0.bits ≡ 0 }
-    ensures mode { result.1.bits ≡ 0 }
-    ensures mask { result.2.bits ≡ 0 }
-    ensures flags { result.3.bits ≡ 0 }
+    ensures { numbers_of result ≡ 0 ∷ 0 ∷ 0 ∷ 0 ∷ [] }
 {
     (Perm::NONE, Mode::NONE, Mask::NONE, Flags::NONE)
 }
 
 fn full_sets() -> (Perm, Mode, Mask, Flags)
-    ensures perm { result.0.bits ≡ 7 }
-    ensures mode { result.1.bits ≡ mode_of_parts 7 7 7 }
-    ensures mask { result.2.bits ≡ all_rights }
-    ensures flags { result.3.bits ≡ all_flags }
+    ensures { numbers_of result ≡ 7 ∷ mode_of_parts 7 7 7 ∷ all_rights ∷ all_flags ∷ [] }
 {
     (Perm::ALL, Mode::ALL, Mask::ALL, Flags::ALL)
 }
 
-fn profiles() -> (Profile, Profile)
-    ensures full { profile_of result.0 ≡ full }
-    ensures narrow { profile_of result.1 ≡ narrow }
+fn profiles() -> [Profile; 2]
+    ensures { map profile_of result ≡ full ∷ narrow ∷ [] }
 {
-    (Profile::FULL, Profile::NARROW)
+    [Profile::FULL, Profile::NARROW]
 }
 
 fn rights() -> [Mask; 16]
