@@ -1,5 +1,5 @@
 //! A device for tests, which fails after some calls.
-ghost use Rattle.std.specs.Prelude.{◌≡◌};
+ghost use Rattle.std.specs.Prelude.{◌≡◌, IfOk, min};
 ghost use Rattle.std.specs.Io.{ReadsAtMost, WritesAtMost};
 ghost use Rattle.std.specs.Io.KnownBytes.{Keeps, ReadConsumes, WriteAppends};
 ghost use Rattle.acl_perm.specs.Devices.{GivesOn, fused_remaining};
@@ -17,7 +17,7 @@ pub struct Fused<T> {
 }
 
 impl<T> Fused<T> {
-    ghost use Rattle.acl_perm.specs.Fused.{fused_calls, fused_inner, fused_step};
+    ghost use Rattle.acl_perm.specs.Fused.{fused_calls, fused_inner, fused_step, TakesCall};
 
     /// Passes the first `calls` calls, each of at most `step` bytes.
     pub fn new(inner: T, calls: u64, step: usize) -> Fused<T>
@@ -39,6 +39,19 @@ impl<T> Fused<T> {
         } = self;
         inner
     }
+
+    /// Takes a call of `len` bytes: how many of them it may pass.
+    fn take_call(&mut self, len: usize) -> io::Result<usize>
+        ensures room { IfOk result (λ room. room ≡ min (fused_step self.old) len) }
+        ensures inner { fused_inner self.new ≡ fused_inner self.old }
+        ensures call { TakesCall self.old self.new result }
+    {
+        if self.calls == 0 {
+            return Err(io::Error::other("the device is spent"));
+        }
+        self.calls -= 1;
+        Ok(self.step.min(len))
+    }
 }
 
 impl<R: Read> Read for Fused<R> {
@@ -54,11 +67,7 @@ impl<R: Read> Read for Fused<R> {
             (R.remaining (fused_inner self.new)) result buf.new }
         ensures call { TakesCall self.old self.new result }
     {
-        if self.calls == 0 {
-            return Err(io::Error::other("the device is spent"));
-        }
-        self.calls -= 1;
-        let room = self.step.min(buf.len());
+        let room = self.take_call(buf.len())?;
         self.inner.read(&mut buf[..room])
     }
 }
@@ -74,11 +83,7 @@ impl<W: Write> Write for Fused<W> {
             (W.contents (fused_inner self.new)) result bytes.now }
         ensures call { TakesCall self.old self.new result }
     {
-        if self.calls == 0 {
-            return Err(io::Error::other("the device is spent"));
-        }
-        self.calls -= 1;
-        let room = self.step.min(bytes.len());
+        let room = self.take_call(bytes.len())?;
         self.inner.write(&bytes[..room])
     }
 
