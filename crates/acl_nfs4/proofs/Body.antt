@@ -5,7 +5,8 @@ use Rattle.std.specs.List.{flat_map}
 use Rattle.std.proofs.lemmas.List.{append-nil, length-append, length-drop, length-replicate, take_at, drop_at}
 use Rattle.std.proofs.lemmas.List.Concat.{flat_map-cons}
 use Rattle.std.proofs.lemmas.Nat.{from_be_bytes-to_be_bytes_4}
-use Rattle.acl_perm.specs.Profile.{Profile, full}
+use Rattle.acl_perm.specs.Profile.{Profile, full, profile_of}
+use Rattle.acl_perm.specs.declared.profile.Profile.{Profile as CodeProfile}
 use Rattle.acl_nfs4.specs.Within.{IsProfile}
 use Rattle.acl_perm.specs.declared.kind.Kind.{Kind}
 use Rattle.acl_perm.specs.declared.kind.Kind.TheVariants.{Deny, Allow}
@@ -16,7 +17,7 @@ use Rattle.acl_nfs4.specs.Fields.{number, count_of}
 use Rattle.acl_nfs4.specs.internal.Reading.{kind_from, ◌>>=◌, Place, word_field, aces_at, read, ending, value_at, Gives}
 use Rattle.acl_nfs4.specs.internal.Body.{listed, aces_of, Spells, IsBody}
 use Rattle.acl_nfs4.proofs.Fields.{IsBytes, who_bounds, goes_to, ok_is, word_takes, front_is}
-use Rattle.acl_nfs4.proofs.Within.{flags_lt, mask_lt, full_is, in_full}
+use Rattle.acl_nfs4.proofs.Within.{code_profile, flags_lt, mask_lt, full_is, in_full}
 use Rattle.acl_nfs4.proofs.Lists.{weight-cons, aces_again, aces_take, read_takes, read_again}
 
 -- where the fields of an ACE stand in bytes that begin with it
@@ -167,6 +168,13 @@ viewed profile bytes count p q is fits ce le =
       shorter = omega (arith, ap length t.0.takes.parts, length-append (flat_map piece l.0) q.rest);
       counted = omega (arith, found.within, ap length found.after, length-drop q.at bytes);
     }
+
+-- the same of a profile of the code, over a slice
+pub viewed_slice : (profile : CodeProfile) (bytes : List ℕ) (count : ℕ) (p q : Place) → profile.flags.bits ≤ 255
+    → IsBytes bytes → word_field count_of (record { at = length bytes - length bytes; rest = bytes }) ≡ Ok (count, p)
+    → ending (aces_at (profile_of profile) count 0 p) ≡ Ok q → Viewed (profile_of profile) bytes count p q
+viewed_slice profile bytes count p q small fits first rest =
+    viewed (profile_of profile) bytes count p q (code_profile profile small) fits (at_start bytes _ first) rest
 
 -- what was read is the value at the front
 pub value_of : (profile : Profile) (bytes : List ℕ) (x : List Ace × Place) → read profile bytes ≡ Ok x

@@ -21,7 +21,6 @@ pub mod Pieces
 pub mod Exactly
 pub mod Held
 pub mod Decoding
-pub mod FirstWord
 pub mod FromSource
 pub mod Tables
 pub mod AceFields

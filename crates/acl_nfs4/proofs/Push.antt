@@ -8,7 +8,8 @@ use Rattle.std.proofs.lemmas.List.{append-nil, length-append, take-replicate}
 use Rattle.std.proofs.lemmas.Grind.{flat_map-append}
 use Rattle.std.proofs.lemmas.List.Concat.{flat_map-cons}
 use Rattle.acl_perm.specs.Profile.{Profile, full}
-use Rattle.acl_nfs4.specs.Ace.{Ace}
+use Rattle.acl_nfs4.specs.Ace.{Ace, ace}
+use Rattle.acl_nfs4.specs.declared.ace.AceRef.{AceRef}
 use Rattle.acl_nfs4.specs.Limits.{most_aces, most_weight}
 use Rattle.acl_nfs4.specs.Who.{who_fault, IsWho}
 use Rattle.acl_nfs4.specs.Spelling.{piece, weight, IsAce, IsAccepted}
@@ -17,6 +18,7 @@ use Rattle.acl_nfs4.specs.Owned.{IsOwned}
 use Rattle.acl_nfs4.specs.Push.{who_refusal, push_refusal}
 use Rattle.acl_nfs4.proofs.Body.{aces_of-flat_map, is_body}
 use Rattle.acl_nfs4.proofs.Faults.{weight-push}
+use Rattle.acl_nfs4.proofs.Within.{flags_within}
 
 -- one more ACE at the end of a list of ACEs
 pub each_push : (profile : Profile) (list : List Ace) (a : Ace) → AllByRecursion (IsAce profile) list → IsAce profile a
@@ -82,6 +84,15 @@ pushed n w bytes a o is room light =
       };
       list = e;
     }
+
+-- a push of an ACE of the code onto the list that fields hold
+pub pushed_item : (n w : ℕ) (bytes : List ℕ) (list : List Ace) (item : AceRef) → IsOwned n w bytes
+    → aces_of n bytes ≡ list → item.flags.bits ≤ 255 → IsWho item.who.now → length list < most_aces
+    → weight list + count_ones item.mask.bits ≤ most_weight → Pushed n w bytes (ace item)
+pushed_item n w bytes list item o e small who room light =
+    pushed n w bytes (ace item) o
+    (record { flags = flags_within item.flags.bits small; mask = item.mask.within; who = who })
+    (omega (arith, ap length e, o.spells.whole, room)) (omega (arith, ap weight e, o.heavy, light))
 
 who_passes : (who : List ℕ) → IsWho who → option_map who_refusal (who_fault who) ≡ None
 who_passes who is = rw is refl

@@ -1,4 +1,5 @@
 -- Reading a text that was judged so far.
+pub mod FirstWord
 use Rattle.std.proofs.Common.{◌≡◌, ℕ, suc, ◌+◌, ◌-◌, ◌<◌, ◌≤◌, List, [], ◌∷◌, ◌++◌, length, take, drop, Result, Ok, Err, refl, sym, ap, subst, ◌∙◌, append_assoc, arith, inl, inr}
 use Rattle.std.specs.Prelude.{count_ones, Option, None, Some}
 use Rattle.std.specs.List.{flat_map, AllByRecursion}

@@ -1,6 +1,6 @@
 -- Tables that name bits: the rows that words name, and the sets of them.
 use Rattle.std.proofs.Common.{◌≡◌, ℕ, zero, suc, ◌*◌, ◌^◌, ◌<◌, Bool, true, false, cond, eqb, ltb, List, [], ◌∷◌, length, get_or, drop, Option, Some, None, refl, sym, ap, ◌∙◌, subst, arith, inl, inr, ⊎_elim, Bor}
-use Rattle.std.specs.Prelude.{◌&&◌, ◌||◌, ◌↔◌, bit_and, bit_or, find, option_map, IfSome, IsSome}
+use Rattle.std.specs.Prelude.{◌&&◌, ◌||◌, ◌↔◌, bit_and, bit_or, find, map, option_map, IfSome, IsSome}
 use Rattle.std.specs.List.{list_all, slice_split, join_with_byte, AllByRecursion}
 use Rattle.std.specs.Option.{option_map_or}
 use Rattle.std.specs.Str.{bytes_eq}
@@ -265,79 +265,23 @@ text_spells table set all bits within =
           let wrong : eqb 0 0 ≡ false = subst (λ (n : ℕ). eqb n 0 ≡ false) (sym same) h in
           cc
 
+-- the bits of rows are the powers of these numbers
+bits_are : (rows : List BitName) (ks : List ℕ) → map (λ (row : BitName). row.bit) rows ≡ map (λ k. 2 ^ k) ks
+    → AreBits rows
+bits_are [] ks e = tt
+bits_are (row ∷ rows) [] e = absurd cc
+bits_are (row ∷ rows) (k ∷ ks) e =
+    let first : row.bit ≡ 2 ^ k = cc in
+    let others : map (λ (row : BitName). row.bit) rows ≡ map (λ k. 2 ^ k) ks = cc in
+    ((k, first), bits_are rows ks others)
+
 -- the bits of the rights
 pub rights_bits : AreBits rights
-rights_bits = (
-  (0, refl),
-  (
-    (1, refl),
-    (
-      (2, refl),
-      (
-        (3, refl),
-        (
-          (4, refl),
-          (
-            (5, refl),
-            (
-              (6, refl),
-              (
-                (7, refl),
-                (
-                  (8, refl),
-                  (
-                    (9, refl),
-                    (
-                      (10, refl),
-                      (
-                        (16, refl),
-                        (
-                          (17, refl),
-                          (
-                            (18, refl),
-                            (
-                              (19, refl),
-                              ((20, refl), tt),
-                            ),
-                          ),
-                        ),
-                      ),
-                    ),
-                  ),
-                ),
-              ),
-            ),
-          ),
-        ),
-      ),
-    ),
-  ),
-)
+rights_bits = bits_are rights (0 ∷ 1 ∷ 2 ∷ 3 ∷ 4 ∷ 5 ∷ 6 ∷ 7 ∷ 8 ∷ 9 ∷ 10 ∷ 16 ∷ 17 ∷ 18 ∷ 19 ∷ 20 ∷ []) refl
 
 -- the bits of the flags
 pub flags_bits : AreBits flag_names
-flags_bits = (
-  (0, refl),
-  (
-    (1, refl),
-    (
-      (2, refl),
-      (
-        (3, refl),
-        (
-          (4, refl),
-          (
-            (5, refl),
-            (
-              (6, refl),
-              ((7, refl), tt),
-            ),
-          ),
-        ),
-      ),
-    ),
-  ),
-)
+flags_bits = bits_are flag_names (0 ∷ 1 ∷ 2 ∷ 3 ∷ 4 ∷ 5 ∷ 6 ∷ 7 ∷ []) refl
 
 -- ---- a field, where a set has all that it names
 

@@ -6,7 +6,8 @@ pub returns-then-place-lt8 : goal.returns-then-place-lt8
 returns-then-place-lt8 c =
     let same : c.place_in-place.result ≡ 0 + c.place_in-place.result = omega arith in
     same ∙ first_place c.args.wanted c.args.bytes.now 0 8 c.place_in-place.result
-    (λ k low high. absurd (omega (arith, high))) (omega (arith, c.requires)) c.if-place-lt8.true c.place_in-place.ensures
+    (λ k low high. absurd (omega (arith, high))) (omega (arith, c.requires)) c.if-place-lt8.true
+    c.place_in-place.ensures
 
 pub returns : goal.returns
 returns c = last_place c.args.wanted c.args.bytes.now (length c.args.bytes.now - 8) 8 8 c.place_in.result

@@ -1,9 +1,8 @@
 use Rattle.std.proofs.Common.{arith, refl}
 use Rattle.std.proofs.lemmas.Result.{err_from_is_err_and}
 use Rattle.acl_perm.specs.Profile.{profile_of}
-use Rattle.acl_nfs4.proofs.Within.{code_profile}
 use Rattle.acl_nfs4.specs.internal.Cursor.{place}
-use Rattle.acl_nfs4.proofs.Body.{at_start, viewed, fails_at_count, fails_later, is_body, answers}
+use Rattle.acl_nfs4.proofs.Body.{at_start, viewed_slice, fails_at_count, fails_later, is_body, answers}
 use Rattle.acl_nfs4.proofs.xdr.view.view_of.Goals as goal
 
 pub returns-in_err-count : goal.returns-in_err-count
@@ -21,25 +20,22 @@ returns-in_err-skip_aces c =
 
 pub overflow_sub-body : goal.overflow_sub-body
 overflow_sub-body c =
-    let v = viewed (profile_of c.args.profile) c.args.bytes.now c.in_ok-count.count (place c.count.new.cursor)
-    (place c.skip_aces.new.cursor) (code_profile c.args.profile (omega arith))
-    (λ i. omega (arith, c.type_inv.bytes i)) (at_start c.args.bytes.now _ c.in_ok-count.ensures.exact)
+    let v = viewed_slice c.args.profile c.args.bytes.now c.in_ok-count.count (place c.count.new.cursor)
+    (place c.skip_aces.new.cursor) (omega arith) (λ i. omega (arith, c.type_inv.bytes i)) c.in_ok-count.ensures.exact
     c.in_ok-skip_aces.ensures in
     v.shorter
 
 pub overflow_sub-result : goal.overflow_sub-result
 overflow_sub-result c =
-    let v = viewed (profile_of c.args.profile) c.args.bytes.now c.in_ok-count.count (place c.count.new.cursor)
-    (place c.skip_aces.new.cursor) (code_profile c.args.profile (omega arith))
-    (λ i. omega (arith, c.type_inv.bytes i)) (at_start c.args.bytes.now _ c.in_ok-count.ensures.exact)
+    let v = viewed_slice c.args.profile c.args.bytes.now c.in_ok-count.count (place c.count.new.cursor)
+    (place c.skip_aces.new.cursor) (omega arith) (λ i. omega (arith, c.type_inv.bytes i)) c.in_ok-count.ensures.exact
     c.in_ok-skip_aces.ensures in
     omega (arith, v.counted)
 
 pub invariant_of-result : goal.invariant_of-result
 invariant_of-result c =
-    let v = viewed (profile_of c.args.profile) c.args.bytes.now c.in_ok-count.count (place c.count.new.cursor)
-    (place c.skip_aces.new.cursor) (code_profile c.args.profile (omega arith))
-    (λ i. omega (arith, c.type_inv.bytes i)) (at_start c.args.bytes.now _ c.in_ok-count.ensures.exact)
+    let v = viewed_slice c.args.profile c.args.bytes.now c.in_ok-count.count (place c.count.new.cursor)
+    (place c.skip_aces.new.cursor) (omega arith) (λ i. omega (arith, c.type_inv.bytes i)) c.in_ok-count.ensures.exact
     c.in_ok-skip_aces.ensures in
     record {
       body = rw c.split_at.ensures.front (is_body v.list c.in_ok-count.count _ v.long v.spells);
@@ -48,9 +44,8 @@ invariant_of-result c =
 
 pub returns : goal.returns
 returns c =
-    let v = viewed (profile_of c.args.profile) c.args.bytes.now c.in_ok-count.count (place c.count.new.cursor)
-    (place c.skip_aces.new.cursor) (code_profile c.args.profile (omega arith))
-    (λ i. omega (arith, c.type_inv.bytes i)) (at_start c.args.bytes.now _ c.in_ok-count.ensures.exact)
+    let v = viewed_slice c.args.profile c.args.bytes.now c.in_ok-count.count (place c.count.new.cursor)
+    (place c.skip_aces.new.cursor) (omega arith) (λ i. omega (arith, c.type_inv.bytes i)) c.in_ok-count.ensures.exact
     c.in_ok-skip_aces.ensures in
     answers (profile_of c.args.profile) c.args.bytes.now c.in_ok-count.count (place c.count.new.cursor)
     (place c.skip_aces.new.cursor) c.split_at.result.0.now _ v c.split_at.ensures.front refl
