@@ -1,129 +1,77 @@
 //! What a new file or directory inherits, row by row and over all flags.
+use super::harness::{ALLOW, AceRow, DENY, built, kept, passes};
 use super::*;
+use ChildKind::{Directory, File};
 use acl_nfs4::{AceRef, Acl, AclView, Flags, Kind, PushFault};
 use acl_perm::Mask;
 use std::alloc::Global;
 use std::process::Abort;
 
-// An ACE as its type, flags, mask and who.
-type Row = (Kind, u32, u32, &'static [u8]);
+// An ACE as its type, mask and who.
+type Entry = (Kind, u32, &'static [u8]);
 
-// A parent, what is created, and the child.
-type Creation = (Row, ChildKind, Option<Row>);
+const ALICE: Entry = (ALLOW, 1, b"alice");
 
-static CREATIONS: [Creation; 15] = [
-    (
-        (Kind::Allow, 0x01, 1, b"alice"),
-        ChildKind::Directory,
-        Some((Kind::Allow, 0x09, 1, b"alice")),
-    ),
-    (
-        (Kind::Allow, 0x09, 1, b"alice"),
-        ChildKind::File,
-        Some((Kind::Allow, 0, 1, b"alice")),
-    ),
-    ((Kind::Allow, 0x05, 1, b"alice"), ChildKind::Directory, None),
-    (
-        (Kind::Allow, 0x0e, 1, b"alice"),
-        ChildKind::Directory,
-        Some((Kind::Allow, 0, 1, b"alice")),
-    ),
-    (
-        (Kind::Allow, 0x8b, 1, b"GROUP@"),
-        ChildKind::File,
-        Some((Kind::Allow, 0, 1, b"GROUP@")),
-    ),
-    (
-        (Kind::Allow, 0x8b, 1, b"GROUP@"),
-        ChildKind::Directory,
-        Some((Kind::Allow, 0x03, 1, b"GROUP@")),
-    ),
-    ((Kind::Deny, 0x52, 2, b"staff"), ChildKind::File, None),
-    (
-        (Kind::Deny, 0x52, 2, b"staff"),
-        ChildKind::Directory,
-        Some((Kind::Deny, 0x52, 2, b"staff")),
-    ),
-    ((Kind::Allow, 0x08, 1, b"alice"), ChildKind::Directory, None),
-    ((Kind::Allow, 0x00, 1, b"alice"), ChildKind::File, None),
-    (
-        (Kind::Deny, 0x71, 1, b"staff"),
-        ChildKind::File,
-        Some((Kind::Deny, 0x70, 1, b"staff")),
-    ),
-    (
-        (Kind::Deny, 0x76, 1, b"staff"),
-        ChildKind::Directory,
-        Some((Kind::Deny, 0x70, 1, b"staff")),
-    ),
-    (
-        (Kind::Allow, 0x77, 1, b"staff"),
-        ChildKind::Directory,
-        Some((Kind::Allow, 0x70, 1, b"staff")),
-    ),
-    (
-        (Kind::Allow, 0x73, 1, b"staff"),
-        ChildKind::Directory,
-        Some((Kind::Allow, 0x73, 1, b"staff")),
-    ),
-    (
-        (Kind::Allow, 0x7b, 1, b"staff"),
-        ChildKind::Directory,
-        Some((Kind::Allow, 0x73, 1, b"staff")),
-    ),
+const GROUP: Entry = (ALLOW, 1, b"GROUP@");
+
+const STAFF: Entry = (ALLOW, 1, b"staff");
+
+const NO_STAFF: Entry = (DENY, 1, b"staff");
+
+const READ_ONLY_STAFF: Entry = (DENY, 2, b"staff");
+
+// An ACE of a directory, its flags, what is created, and its flags there, if it is inherited.
+static CREATIONS: [(Entry, u32, ChildKind, Option<u32>); 15] = [
+    (ALICE, 0x01, Directory, Some(0x09)),
+    (ALICE, 0x09, File, Some(0)),
+    (ALICE, 0x05, Directory, None),
+    (ALICE, 0x0e, Directory, Some(0)),
+    (GROUP, 0x8b, File, Some(0)),
+    (GROUP, 0x8b, Directory, Some(0x03)),
+    (READ_ONLY_STAFF, 0x52, File, None),
+    (READ_ONLY_STAFF, 0x52, Directory, Some(0x52)),
+    (ALICE, 0x08, Directory, None),
+    (ALICE, 0x00, File, None),
+    (NO_STAFF, 0x71, File, Some(0x70)),
+    (NO_STAFF, 0x76, Directory, Some(0x70)),
+    (STAFF, 0x77, Directory, Some(0x70)),
+    (STAFF, 0x73, Directory, Some(0x73)),
+    (STAFF, 0x7b, Directory, Some(0x73)),
 ];
 
-fn built(alloc: Global, rows: &[Row]) -> Result<Acl, PushFault> {
-    let mut list = Acl::new(alloc);
-    for (kind, flags, mask, who) in rows {
-        if let (Some(flags), Some(mask)) = (Flags::new(*flags), Mask::new(*mask)) {
-            list.push(AceRef {
-                kind: *kind,
-                flags,
-                mask,
-                who: *who,
-            })?;
-        }
-    }
-    Ok(list)
+fn with_flags((kind, mask, who): Entry, flags: u32) -> AceRow {
+    (kind, flags, mask, who)
 }
 
 fn child_of(alloc: Global, parent: &Acl, kind: ChildKind) -> Result<Acl, PushFault> {
-    match child(alloc, parent, kind) {
-        Ok(list) => Ok(list),
-        Err(_) => Err(PushFault::Memory),
-    }
+    kept(child(alloc, parent, kind))
 }
 
-fn has_child(
-    alloc: Global,
-    parent: &Acl,
-    kind: ChildKind,
-    wanted: &Acl,
-) -> Result<bool, PushFault> {
+fn gives(alloc: Global, parent: &Acl, kind: ChildKind, wanted: &Acl) -> Result<bool, PushFault> {
     let list = child_of(alloc, parent, kind)?;
     Ok(list == *wanted)
 }
 
-fn wanted_of(alloc: Global, expected: Option<Row>) -> Result<Acl, PushFault> {
-    match expected {
-        Some(row) => built(alloc, &[row]),
+fn wanted_of(alloc: Global, ace: Entry, flags: Option<u32>) -> Result<Acl, PushFault> {
+    match flags {
+        Some(flags) => built(alloc, &[with_flags(ace, flags)]),
         None => Ok(Acl::new(alloc)),
     }
 }
 
-fn created(rt: &impl Abort, alloc: Global) -> Result<(), PushFault> {
-    for (row, kind, expected) in CREATIONS {
-        let parent = built(alloc, &[row])?;
-        let wanted = wanted_of(alloc, expected)?;
-        assert!(rt; has_child(alloc, &parent, kind, &wanted)?);
+/// A new file or directory inherits what the rows say.
+pub fn created(rt: &impl Abort, alloc: Global) -> Result<(), PushFault> {
+    for (ace, flags, kind, inherited) in CREATIONS {
+        let parent = built(alloc, &[with_flags(ace, flags)])?;
+        let wanted = wanted_of(alloc, ace, inherited)?;
+        assert!(rt; gives(alloc, &parent, kind, &wanted)?);
     }
     Ok(())
 }
 
 #[test]
 fn a_child_inherits_by_its_kind(rt: HostRuntime) {
-    assert!(rt; matches!(created(&rt, rt.alloc()), Ok(()) | Err(PushFault::Memory)));
+    assert!(rt; passes(created(&rt, rt.alloc())));
 }
 
 // The flags of RFC 8881, section 6.2.1.4.1.
@@ -155,14 +103,14 @@ fn flag_set(flags: u32) -> FlagSet {
 // Whether an ACE of a directory is one of what is created in it.
 fn is_taken(kind: ChildKind, parent: &FlagSet) -> bool {
     match kind {
-        ChildKind::File => parent.file,
-        ChildKind::Directory => parent.directory || parent.file && !parent.no_propagate,
+        File => parent.file,
+        Directory => parent.directory || parent.file && !parent.no_propagate,
     }
 }
 
 // Whether it is handed on further below what is created.
 fn is_handed_on(kind: ChildKind, parent: &FlagSet) -> bool {
-    kind == ChildKind::Directory && !parent.no_propagate
+    kind == Directory && !parent.no_propagate
 }
 
 // Whether these are its flags there: those of inheritance where it is handed on, with INHERIT_ONLY exactly where it is
@@ -192,7 +140,7 @@ fn is_by_the_rules(list: &Acl, kind: ChildKind, flags: u32) -> bool {
 }
 
 fn creates_by_the_rules(alloc: Global, kind: ChildKind, flags: u32) -> Result<bool, PushFault> {
-    let parent = built(alloc, &[(Kind::Allow, flags, 1, b"alice")])?;
+    let parent = built(alloc, &[with_flags(ALICE, flags)])?;
     let list = child_of(alloc, &parent, kind)?;
     Ok(list.len() < 2 && is_by_the_rules(&list, kind, flags))
 }
@@ -202,7 +150,7 @@ fn creates_many(alloc: Global, count: usize, kind: ChildKind) -> Result<bool, Pu
     let mut parent = Acl::new(alloc);
     for _ in 0..count {
         parent.push(AceRef {
-            kind: Kind::Deny,
+            kind: DENY,
             flags: Flags { bits: 0x03 },
             mask: Mask::NONE,
             who: b"alice",
@@ -223,35 +171,32 @@ const NO_WRITE: &[u8; 56] = b"\0\0\0\x02\
     \0\0\0\x01\0\0\0\0\0\0\0\x02\0\0\0\x06OWNER@\0\0\
     \0\0\0\0\0\0\0\0\0\0\0\x07\0\0\0\x09EVERYONE@\0\0\0";
 
-static MODES: [(&[Row], u16); 14] = [
+static MODES: [(&[AceRow], u16); 14] = [
     (
-        &[
-            (Kind::Deny, 0, 2, b"OWNER@"),
-            (Kind::Allow, 0, 7, b"EVERYONE@"),
-        ],
+        &[(DENY, 0, 2, b"OWNER@"), (ALLOW, 0, 7, b"EVERYONE@")],
         0o466,
     ),
     (
         &[
-            (Kind::Allow, 0, 1, b"OWNER@"),
-            (Kind::Deny, 0, 1, b"EVERYONE@"),
-            (Kind::Allow, 0x08, 6, b"GROUP@"),
-            (Kind::Allow, 0, 0x20, b"EVERYONE@"),
+            (ALLOW, 0, 1, b"OWNER@"),
+            (DENY, 0, 1, b"EVERYONE@"),
+            (ALLOW, 0x08, 6, b"GROUP@"),
+            (ALLOW, 0, 0x20, b"EVERYONE@"),
         ],
         0o511,
     ),
     (&[], 0),
-    (&[(Kind::Allow, 0, 0x27, b"OWNER@")], 0o700),
-    (&[(Kind::Allow, 0, 0x27, b"GROUP@")], 0o070),
-    (&[(Kind::Allow, 0, 0x27, b"EVERYONE@")], 0o777),
-    (&[(Kind::Allow, 0, 0x27, b"bob")], 0),
-    (&[(Kind::Allow, 0x40, 0x27, b"staff")], 0),
-    (&[(Kind::Allow, 0x40, 0x27, b"GROUP@")], 0o070),
-    (&[(Kind::Allow, 0, 0x01, b"EVERYONE@")], 0o444),
-    (&[(Kind::Allow, 0, 0x02, b"EVERYONE@")], 0),
-    (&[(Kind::Allow, 0, 0x04, b"EVERYONE@")], 0),
-    (&[(Kind::Allow, 0, 0x06, b"EVERYONE@")], 0o222),
-    (&[(Kind::Allow, 0, 0x20, b"EVERYONE@")], 0o111),
+    (&[(ALLOW, 0, 0x27, b"OWNER@")], 0o700),
+    (&[(ALLOW, 0, 0x27, b"GROUP@")], 0o070),
+    (&[(ALLOW, 0, 0x27, b"EVERYONE@")], 0o777),
+    (&[(ALLOW, 0, 0x27, b"bob")], 0),
+    (&[(ALLOW, 0x40, 0x27, b"staff")], 0),
+    (&[(ALLOW, 0x40, 0x27, b"GROUP@")], 0o070),
+    (&[(ALLOW, 0, 0x01, b"EVERYONE@")], 0o444),
+    (&[(ALLOW, 0, 0x02, b"EVERYONE@")], 0),
+    (&[(ALLOW, 0, 0x04, b"EVERYONE@")], 0),
+    (&[(ALLOW, 0, 0x06, b"EVERYONE@")], 0o222),
+    (&[(ALLOW, 0, 0x20, b"EVERYONE@")], 0o111),
 ];
 
 #[test]
@@ -263,7 +208,8 @@ fn a_view_has_its_mode(rt: HostRuntime) {
     assert!(rt; mode == Some(0o466));
 }
 
-fn modes(rt: &impl Abort, alloc: Global) -> Result<(), PushFault> {
+/// A list has the mode that the rows say.
+pub fn modes(rt: &impl Abort, alloc: Global) -> Result<(), PushFault> {
     for (rows, mode) in MODES {
         let list = built(alloc, rows)?;
         assert!(rt; mode_of(list.aces()).bits() == mode);
@@ -273,21 +219,16 @@ fn modes(rt: &impl Abort, alloc: Global) -> Result<(), PushFault> {
 
 #[test]
 fn a_list_has_its_mode(rt: HostRuntime) {
-    assert!(rt; matches!(modes(&rt, rt.alloc()), Ok(()) | Err(PushFault::Memory)));
+    assert!(rt; passes(modes(&rt, rt.alloc())));
 }
 
 mod ample {
     use super::*;
 
     #[test]
-    fn a_child_inherits_by_its_kind(rt: HostRuntime) {
-        assert!(rt; created(&rt, rt.alloc()).is_ok());
-    }
-
-    #[test]
     fn many_aces_are_inherited(rt: HostRuntime) {
         for count in [65, 4_097, 65_536usize] {
-            for kind in [ChildKind::File, ChildKind::Directory] {
+            for kind in [File, Directory] {
                 assert!(rt;
                     creates_many(rt.alloc(), count, kind) == Ok(true),
                     "{count}"
@@ -299,7 +240,7 @@ mod ample {
     #[test]
     fn every_set_of_flags_is_inherited_by_the_rules(rt: HostRuntime) {
         for flags in 0..256u32 {
-            for kind in [ChildKind::File, ChildKind::Directory] {
+            for kind in [File, Directory] {
                 assert!(rt;
                     creates_by_the_rules(rt.alloc(), kind, flags) == Ok(true),
                     "{flags}"
@@ -311,16 +252,11 @@ mod ample {
     // An ACE that only files inherit waits in a new directory for the files in it.
     #[test]
     fn a_directory_hands_on_what_is_for_files(rt: HostRuntime) -> Result<(), PushFault> {
-        let parent = built(rt.alloc(), &[(Kind::Allow, 0x01, 1, b"alice")])?;
-        let directory = child_of(rt.alloc(), &parent, ChildKind::Directory)?;
-        let file = child_of(rt.alloc(), &directory, ChildKind::File)?;
+        let parent = built(rt.alloc(), &[with_flags(ALICE, 0x01)])?;
+        let directory = child_of(rt.alloc(), &parent, Directory)?;
+        let file = child_of(rt.alloc(), &directory, File)?;
         assert!(rt; may_alice_read(&directory) == Some(false), "the directory");
         assert!(rt; may_alice_read(&file) == Some(true), "the file");
         Ok(())
-    }
-
-    #[test]
-    fn a_list_has_its_mode(rt: HostRuntime) {
-        assert!(rt; modes(&rt, rt.alloc()).is_ok());
     }
 }

@@ -2,6 +2,8 @@
 #![tactic(auto)]
 
 #[cfg(test)]
+mod ample;
+#[cfg(test)]
 mod bridge_tests;
 mod bridging;
 #[cfg(test)]
@@ -11,6 +13,8 @@ mod deciding;
 mod example;
 mod grant;
 mod groups;
+#[cfg(test)]
+mod harness;
 mod inherit;
 pub mod laws;
 mod mode;
