@@ -1,4 +1,3 @@
-pub mod PlaceLemmas
 pub mod PlainLanes
 pub mod PlainText
 pub mod Within

@@ -7,7 +7,6 @@
 -- Progress: how far a text that comes in pieces is judged
 -- Pulling: fields that are pulled from a source
 -- NameTable: a table of names as the code holds it
--- Places: where a byte stands first
 -- AceReading: what is read of lines of ACEs, and its fault
 pub mod Reading
 pub mod Cursor
@@ -17,4 +16,3 @@ pub mod AceReading
 pub mod Appending
 pub mod Progress
 pub mod Pulling
-pub mod Places

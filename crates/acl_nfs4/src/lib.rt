@@ -7,7 +7,6 @@ pub mod laws;
 mod limits;
 mod list;
 mod names;
-mod place;
 mod plain_ascii;
 #[cfg(test)]
 mod speed;

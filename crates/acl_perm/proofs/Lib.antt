@@ -3,6 +3,7 @@ pub mod Sets
 pub mod DeviceLemmas
 pub mod Orders
 pub mod Meetings
+pub mod PlaceLemmas
 pub mod Cuts
 pub mod PieceLemmas
 pub mod LineLemmas

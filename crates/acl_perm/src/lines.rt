@@ -14,6 +14,8 @@ ghost use Rattle.acl_perm.specs.Lines.{
   IsLineCut,
 };
 
+use crate::place::place_of;
+
 /// Some bytes of a line, and the column of the first of them. Columns count from 1.
 #[derive(Clone, Copy)]
 pub struct Piece<'a> {
@@ -38,7 +40,7 @@ impl<'a> Piece<'a> {
         requires { self.column + length self.bytes.now < 2 ^ 64 }
         ensures parts { IsCut separator (span_of self.entry) result }
     {
-        match find(self.bytes, separator) {
+        match place_of(self.bytes, separator) {
             None => (self, None),
             Some(place) => {
                 let first = Piece {
@@ -67,7 +69,7 @@ impl<'a> Piece<'a> {
 pub fn cut_line(text: &[u8]) -> (&[u8], Option<&[u8]>)
     ensures parts { IsLineCut text.now result }
 {
-    match find(text, b'\n') {
+    match place_of(text, b'\n') {
         None => (text, None),
         Some(place) => (&text[..place], Some(&text[place + 1..])),
     }
@@ -98,16 +100,10 @@ pub fn trimmed(bytes: &[u8]) -> &[u8]
 pub fn before_mark(bytes: &[u8], mark: u8) -> &[u8]
     ensures { result.now ≡ before_mark mark bytes.now }
 {
-    match find(bytes, mark) {
+    match place_of(bytes, mark) {
         Some(place) => &bytes[..place],
         None => bytes,
     }
-}
-
-fn find(bytes: &[u8], wanted: u8) -> Option<usize>
-    ensures { result ≡ position (λ b. b == wanted) bytes.now }
-{
-    bytes.iter().position(|b| *b == wanted)
 }
 
 fn is_blank(b: u8) -> bool

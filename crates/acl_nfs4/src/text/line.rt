@@ -13,10 +13,9 @@ use crate::limits::{MOST_ACES, MOST_WEIGHT};
 use crate::names::bit_names::set_within;
 use crate::names::flag_names::FLAGS;
 use crate::names::rights::RIGHTS;
-use crate::place::place_of;
 use crate::text::fault::AceTextFault;
 use crate::who::{WhoFault, judge};
-use acl_perm::{Flags, Kind, Mask, Profile, is_all_blank};
+use acl_perm::{Flags, Kind, Mask, Profile, is_all_blank, place_of};
 
 /// The fields of a line.
 #[derive(Clone, Copy)]

@@ -8,7 +8,7 @@ returns-in-None c =
     record {
       parts =
           line_none c.args.text.now
-          (subst (Says (λ b. eqb b 10) c.args.text.now) (sym c.find.ensures ∙ c.in-None.is)
+          (subst (Says (λ b. eqb b 10) c.args.text.now) (sym c.place_of.ensures ∙ c.in-None.is)
           (place (λ b. eqb b 10) c.args.text.now));
     }
 
@@ -16,6 +16,6 @@ pub returns-in-Some : goal.returns-in-Some
 returns-in-Some c =
     record {
       parts = line_some c.args.text.now c.in-Some.place
-          (subst (Says (λ b. eqb b 10) c.args.text.now) (sym c.find.ensures ∙ c.in-Some.is)
+          (subst (Says (λ b. eqb b 10) c.args.text.now) (sym c.place_of.ensures ∙ c.in-Some.is)
           (place (λ b. eqb b 10) c.args.text.now));
     }

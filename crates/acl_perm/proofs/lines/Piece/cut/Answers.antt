@@ -6,13 +6,13 @@ use Rattle.acl_perm.proofs.lines.Piece.cut.Goals as goal
 
 pub returns-in-None : goal.returns-in-None
 returns-in-None c =
-    let says = subst (Says (λ b. eqb b c.args.separator) c.args.self.bytes.now) (sym c.find.ensures ∙ c.in-None.is)
+    let says = subst (Says (λ b. eqb b c.args.separator) c.args.self.bytes.now) (sym c.place_of.ensures ∙ c.in-None.is)
     (place (λ b. eqb b c.args.separator) c.args.self.bytes.now) in
     record { parts = (cut_none c.args.separator (span_of c.args.self) says, refl) }
 
 pub returns-in-Some : goal.returns-in-Some
 returns-in-Some c =
-    let says = subst (Says (λ b. eqb b c.args.separator) c.args.self.bytes.now) (sym c.find.ensures ∙ c.in-Some.is)
+    let says = subst (Says (λ b. eqb b c.args.separator) c.args.self.bytes.now) (sym c.place_of.ensures ∙ c.in-Some.is)
     (place (λ b. eqb b c.args.separator) c.args.self.bytes.now) in
     let rest : ◌≡◌ {A = Span}
     (record {

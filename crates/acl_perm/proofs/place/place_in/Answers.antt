@@ -2,8 +2,8 @@ use Rattle.std.proofs.Common.{eqb, sym, ap, ◌∙◌, arith, w8}
 use lib.Count.{count_trailing_zeros}
 use lib.Lanes.{chunk}
 use Rattle.std.proofs.lemmas.Simd.{length-chunk, bitmask_splat, leading_from_mask_l, trailing_mask_l}
-use Rattle.acl_nfs4.proofs.PlaceLemmas.{counted}
-use Rattle.acl_nfs4.proofs.place.place_in.Goals as goal
+use Rattle.acl_perm.proofs.PlaceLemmas.{counted}
+use Rattle.acl_perm.proofs.place.place_in.Goals as goal
 
 pub returns-then-hits-eq0 : goal.returns-then-hits-eq0
 returns-then-hits-eq0 g c =

@@ -1,7 +1,7 @@
 //! The first place of a byte, which is looked for among many bytes at once.
 ghost use Rattle.std.specs.Prelude.{◌≡◌, ◌≤◌, ◌<◌, ◌+◌, ◌==◌, length, position};
 ghost use Rattle.std.specs.List.{position_or_len};
-ghost use Rattle.acl_nfs4.specs.internal.Places.{IsPlaceIn};
+ghost use Rattle.acl_perm.specs.Places.{IsPlaceIn};
 
 use std::simd::prelude::*;
 
@@ -56,7 +56,7 @@ fn place_in_long(bytes: &[u8], wanted: u8) -> usize
 }
 
 /// The first place of a byte, where it stands among these.
-pub(crate) fn place_of(bytes: &[u8], wanted: u8) -> Option<usize>
+pub fn place_of(bytes: &[u8], wanted: u8) -> Option<usize>
     ensures { result ≡ position (λ b. b == wanted) bytes.now }
 {
     let len = bytes.len();

@@ -1,6 +1,6 @@
 use Rattle.std.proofs.Common.{◌-◌, length, arith}
-use Rattle.acl_nfs4.proofs.PlaceLemmas.{first_place, last_place}
-use Rattle.acl_nfs4.proofs.place.place_in_long.Goals as goal
+use Rattle.acl_perm.proofs.PlaceLemmas.{first_place, last_place}
+use Rattle.acl_perm.proofs.place.place_in_long.Goals as goal
 
 pub returns-then-place-lt16 : goal.returns-then-place-lt16
 returns-then-place-lt16 c = first_place c.args.wanted c.args.bytes.now c.loop-at.at 16 c.place_in-place.result

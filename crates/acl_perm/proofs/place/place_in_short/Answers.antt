@@ -1,6 +1,6 @@
 use Rattle.std.proofs.Common.{◌∙◌, ◌-◌, ◌≡◌, ◌+◌, length, arith}
-use Rattle.acl_nfs4.proofs.PlaceLemmas.{first_place, last_place}
-use Rattle.acl_nfs4.proofs.place.place_in_short.Goals as goal
+use Rattle.acl_perm.proofs.PlaceLemmas.{first_place, last_place}
+use Rattle.acl_perm.proofs.place.place_in_short.Goals as goal
 
 pub returns-then-place-lt8 : goal.returns-then-place-lt8
 returns-then-place-lt8 c =
