@@ -4,8 +4,10 @@ use Rattle.acl_posix.proofs.entry_writer.put_qualifier.Goals as goal
 
 pub write_digits-requires : goal.write_digits-requires
 write_digits-requires c =
-    (omega (arith, id_short c.from.result (omega (arith, c.from.ensures, c.in-User.id.within)), c.requires.room), search rules)
+    let short = id_short c.from.result (omega (arith, c.from.ensures, c.in-User.id.within)) in
+    (omega (arith, short, c.requires.room), search rules)
 
 pub returns-in-User-clause-short : goal.returns-in-User-clause-short
 returns-in-User-clause-short c =
-    omega (arith, id_short c.from.result (omega (arith, c.from.ensures, c.in-User.id.within)), c.write_digits.ensures.start)
+    let short = id_short c.from.result (omega (arith, c.from.ensures, c.in-User.id.within)) in
+    omega (arith, short, c.write_digits.ensures.start)
