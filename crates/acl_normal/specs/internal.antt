@@ -14,6 +14,8 @@ pub mod Passes
 pub mod Shown
 -- the two classes of principals
 pub mod Classes
+-- the rights of a mask, one after the other
+pub mod NextRight
 -- where each right of a principal stands
 pub mod Cells
 -- how the rows of principals are numbered

@@ -1,15 +1,18 @@
 //! Rights of a number that stands for a set of rights.
-ghost use Rattle.std.specs.Prelude.{◌≡◌, ◌^◌, bit_or};
+ghost use Rattle.std.specs.Prelude.{◌≡◌, ◌^◌, ◌≤◌, bit_or, IfNone, IfSome};
 ghost use Rattle.acl_perm.specs.Bits.{has_bit};
 ghost use Rattle.acl_eval.specs.Scan.{without};
+ghost use Rattle.acl_normal.specs.internal.NextRight.{IsNextRight, LacksFrom};
 
 use acl_perm::Right;
 
-/// Whether the mask has the right.
-pub(crate) fn has(mask: u32, right: Right) -> bool
-    ensures { result ≡ has_bit mask right.bit }
+/// The first right of the mask at or above a bit.
+pub(crate) fn next_right(mask: u32, from: usize) -> Option<Right>
+    requires { from ≤ 21 }
+    ensures some { IfSome result (λ right. IsNextRight mask from right.bit) }
+    ensures none { IfNone result (LacksFrom mask from 21) }
 {
-    (mask >> right.bit) & 1 == 1
+    Right::new(from + (mask >> from).trailing_zeros() as usize)
 }
 
 /// The mask without the right.

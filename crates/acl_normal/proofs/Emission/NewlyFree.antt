@@ -1,5 +1,5 @@
 -- What becomes free when bits of a key are taken out.
-use Rattle.std.specs.Prelude.{◌≡◌, ℕ, ◌+◌, ◌/◌, ◌^◌, ◌<◌, ◌≤◌, Bool, true, false, ◌&&◌, ◌⊎◌, List, refl}
+use Rattle.std.specs.Prelude.{◌≡◌, ℕ, ◌+◌, ◌<◌, ◌≤◌, Bool, true, false, ◌&&◌, ◌⊎◌, List, refl}
 use Rattle.std.proofs.Common.{sym, ◌∙◌, ap, subst, arith, inl, inr, ⊎_elim}
 use Rattle.std.proofs.lemmas.Bool.{cases_eq, cases_lt}
 use Rattle.acl_perm.specs.Principal.{Principal, is_user}
@@ -9,7 +9,6 @@ use Rattle.acl_eval.specs.Column.{column}
 use Rattle.acl_perm.specs.Kind.{other_kind}
 use Rattle.acl_normal.specs.Keys.{Key}
 use Rattle.acl_normal.specs.Normal.{is_free}
-use Rattle.acl_normal.proofs.Unique.Bits.{no_more_bits}
 use Rattle.acl_normal.specs.internal.Ready.{Marked, Grows, Enters, Frees}
 
 -- what `Frees` says, of the bits below a place
@@ -95,17 +94,3 @@ frees_on_other k bits xs old new mid next n f e g =
 pub frees_all : (k : Key) (bits : ℕ) (xs : List Ace) (old new : Marked) (n : ℕ) → FreesBelow k bits xs old new n
     → 21 ≤ n → Frees k bits xs old new
 frees_all k bits xs old new n f l = record { grows = f.grows; all = λ q b h. f.all q b (omega (arith, h, l)) }
-
--- at all bits, where none is left from a place on
-pub frees_early : (k : Key) (bits : ℕ) (xs : List Ace) (old new : Marked) (n : ℕ) → FreesBelow k bits xs old new n
-    → bits / 2 ^ n ≡ 0 → Frees k bits xs old new
-frees_early k bits xs old new n f none = record {
-  grows = f.grows;
-  all = λ q b h has class free. ⊎_elim (λ l. f.all q b l has class free) (λ l. absurd (clash b has l)) (cases_lt b n);
-}
-  where
-    clash : (b : ℕ) → has_bit bits b ≡ true → n ≤ b → ⊥
-    clash b has l = cc (no_more_bits bits n b none l)
-
--- before the first right, and after the last
-pub ruleset frees_ends = (frees_nothing, frees_all)

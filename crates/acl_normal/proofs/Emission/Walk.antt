@@ -168,6 +168,34 @@ stands_free k u b xs q once class free = go (first_at b q xs) refl
         clash h = cc
     go (Some (j, i)) e = at j i e (kinds j (free_at_first b q xs j i once e).1)
 
+-- where all that waits is blocked, nothing is free
+all_blocked : (k : Kind) (u : Bool) (b : ℕ) (xs : List Ace) (old : Marked) → IsOnce (column xs b)
+    → ((i : ℕ) → waits k u b xs i ≡ true → is_blocked k u b xs i ≡ true) → Enters k u b xs old old
+all_blocked k u b xs old once blocked = record {
+  grows = record { kept = λ l i h. h; sound = λ l i h. inl h };
+  all = λ q class free. absurd (clash q (stands_free k u b xs q once class free));
+}
+  where
+    clash : (q : Principal) → StandsFree k u b xs q → ⊥
+    clash q s = let blocked_there = blocked s.place s.waits in let clear = s.clear in cc
+
+-- so where nothing waits
+pub nothing_waits : (k : Kind) (u : Bool) (b : ℕ) (xs : List Ace) (keys : List ℕ) (old : Marked) → IsOnce (column xs b)
+    → AreWaiting k u b xs keys → keys ≡ [] → Enters k u b xs old old
+nothing_waits k u b xs keys old once w e = all_blocked k u b xs old once
+    (λ i h. absurd (clash (sym h ∙ sym (w i) ∙ ap (list_any (is_at (nat_cmp i))) e)))
+  where
+    clash : true ≡ false → ⊥
+    clash h = cc
+
+-- and where the least place is blocked
+pub first_blocked : (k : Kind) (u : Bool) (b : ℕ) (xs : List Ace) (keys : List ℕ) (first : ℕ) (old : Marked)
+    → IsOnce (column xs b) → AreWaiting k u b xs keys
+    → ((i : ℕ) → list_any (is_at (nat_cmp i)) keys ≡ true → first ≤ i) → is_blocked k u b xs first ≡ true
+    → Enters k u b xs old old
+first_blocked k u b xs keys first old once w least blocked =
+    all_blocked k u b xs old once (λ i h. blocked_mono k u b xs first i (least i (w i ∙ h)) blocked)
+
 -- the walk over the places that wait, in order
 pub record Walks (k : Kind) (u : Bool) (b : ℕ) (xs : List Ace) (rest : List ℕ) (old new : Marked) : Type 0 where
   pub grows : Grows xs old new

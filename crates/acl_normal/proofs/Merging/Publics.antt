@@ -1,17 +1,20 @@
 -- What the public calls on merged rows say, from what those on one bit say.
 use Rattle.std.proofs.Common.{◌≡◌, ℕ, ◌+◌, ◌<◌, ◌≤◌, Bool, true, false, List, refl, sym, ◌∙◌, ap, subst, arith, ⊎_elim, inl, inr}
-use Rattle.std.specs.Prelude.{◌↔◌, ◌||◌, IsTrue}
+use Rattle.std.specs.Prelude.{◌↔◌, ◌||◌, IsTrue, Option, Some, None, IfSome, IfNone, option_map}
 use Rattle.std.proofs.lemmas.Bool.{cases_eq, cases_lt, false_from_ne_true}
 use Rattle.acl_perm.specs.Bits.{has_bit, IsMask}
 use Rattle.acl_perm.specs.Principal.{Principal}
 use Rattle.acl_perm.specs.declared.kind.Kind.{Kind}
+use Rattle.acl_perm.specs.declared.right.Right.{Right}
 use Rattle.acl_perm.specs.declared.kind.Kind.TheVariants.{Deny, Allow}
 use Rattle.acl_perm.proofs.Sets.{bits_from_mask}
 use Rattle.acl_nfs4.specs.Ace.{Ace}
 use Rattle.acl_eval.specs.Column.{column}
 use Rattle.acl_normal.specs.Left.{HasFree, IsLowest}
 use Rattle.acl_normal.specs.Normal.{is_free}
+use Rattle.acl_normal.specs.internal.NextRight.{IsNextRight, LacksFrom}
 use Rattle.acl_normal.proofs.Reduction.Reducing.{below}
+use Rattle.acl_normal.proofs.Unique.Bits.{no_bits_of_zero}
 
 -- a right is one of the first 21 bits
 pub right_below : (bits b : ℕ) → IsMask bits → has_bit bits b ≡ true → b < 21
@@ -53,6 +56,15 @@ some_kind list p bits b true a has e f h = (b, Deny, has, e)
 some_kind list p bits b false true has e f h = (b, Allow, has, f)
 some_kind list p bits b false false has e f h = absurd cc
 
+-- a bit that is not asked for
+pub none_free_absent : (list : List Ace) (p : Principal) (bits n : ℕ) → NoneFree list p bits n
+    → has_bit bits n ≡ false → NoneFree list p bits (n + 1)
+none_free_absent list p bits n before lacks =
+    none_free_more list p bits n before (λ has. absurd (clash (sym lacks ∙ has)))
+  where
+    clash : false ≡ true → ⊥
+    clash e = cc
+
 -- a bit that is free
 pub free_there : (list : List Ace) (p : Principal) (bits b : ℕ) → has_bit bits b ≡ true
     → free_either list p b ≡ true → IsTrue true ↔ HasFree list p bits
@@ -78,46 +90,33 @@ free_nowhere list p bits is none = (λ t. absurd cc, λ (b, kind, has, free). ab
 
 -- ---- the lowest right
 
--- the set has no bit below a place
-abbrev pub LacksBelow : ℕ → ℕ → Type 0
-LacksBelow bits n = (b : ℕ) → b < n → has_bit bits b ≡ false
-
--- below the first place there is none
-pub lacks_yet : (bits : ℕ) → LacksBelow bits 0
-lacks_yet bits b l = absurd (omega (arith, l))
-
--- one more that it hasn't
-pub lacks_more : (bits n : ℕ) → LacksBelow bits n → has_bit bits n ≡ false → LacksBelow bits (n + 1)
-lacks_more bits n before here b l = elim (cases_eq b n) [
-  | inl e ↦ ap (has_bit bits) e ∙ here
-  | inr other ↦ before b (⊎_elim (λ g. g) (λ g. absurd (other (omega (arith, g, l)))) (cases_lt b n))
-]
-
--- the first bit that it has is the lowest
-pub lowest_is : (bits n : ℕ) → LacksBelow bits n → has_bit bits n ≡ true → (b : ℕ) → IsLowest b bits → n ≡ b
-lowest_is bits n before here b (has, lacks) = ⊎_elim (λ g. absurd (above g))
-    (λ g. ⊎_elim (λ l. absurd (below_it l)) (λ l. omega (arith, l, g)) (cases_lt b n)) (cases_lt n b)
+-- the next right from bit 0 on is the lowest, and a set without a next has no lowest
+pub lowest_is : (bits : ℕ) (next : Option Right) → IsMask bits → IfSome next (λ right. IsNextRight bits 0 right.bit)
+    → IfNone next (LacksFrom bits 0 21) → (b : ℕ) → IsLowest b bits → option_map (λ right. right.bit) next ≡ Some b
+lowest_is bits None is some none b (has, before) =
+    absurd (clash (sym (none b (omega arith) (right_below bits b is has)) ∙ has))
   where
-    above : n < b → ⊥
-    above g = absurd (clash (sym (lacks n g) ∙ here))
-      where
-        clash : false ≡ true → ⊥
-        clash e = cc
-
-    below_it : b < n → ⊥
-    below_it g = absurd (clash (sym (before b g) ∙ has))
-      where
-        clash : false ≡ true → ⊥
-        clash e = cc
-
--- a set with a lowest right has one below the last place
-pub some_lowest : (bits : ℕ) → IsMask bits → LacksBelow bits 21 → (b : ℕ) → IsLowest b bits → ⊥
-some_lowest bits is lacks b (has, before) = absurd (clash (sym (lacks b (right_below bits b is has)) ∙ has))
+    clash : false ≡ true → ⊥
+    clash e = cc
+lowest_is bits (Some right) is some none b (has, before) =
+    ap Some (⊎_elim (λ g. absurd (above g))
+    (λ g. ⊎_elim (λ l. absurd (below_it l)) (λ l. omega (arith, l, g)) (cases_lt b right.bit)) (cases_lt right.bit b))
   where
     clash : false ≡ true → ⊥
     clash e = cc
 
--- the steps of the two loops over rights
-pub ruleset free_steps = (none_free_yet, none_free_more, free_there)
+    above : right.bit < b → ⊥
+    above g = clash (sym (before right.bit g) ∙ some.has)
 
-pub ruleset lowest_steps = (lacks_yet, lacks_more)
+    below_it : b < right.bit → ⊥
+    below_it g = clash (sym (some.lacks b (omega arith) g) ∙ has)
+
+-- the empty set has no next right
+pub no_lowest : (bits : ℕ) (next : Option Right) → IfSome next (λ right. IsNextRight bits 0 right.bit) → bits ≡ 0
+    → next ≡ None
+no_lowest bits None some none = refl
+no_lowest bits (Some right) some none =
+    absurd (clash (sym (ap (λ v. has_bit v right.bit) none ∙ no_bits_of_zero right.bit) ∙ some.has))
+  where
+    clash : false ≡ true → ⊥
+    clash e = cc

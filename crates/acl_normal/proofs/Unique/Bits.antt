@@ -1,15 +1,18 @@
 -- Single bits of a mask.
-use Rattle.std.specs.Prelude.{◌≡◌, ◌≢◌, ℕ, ◌+◌, ◌*◌, ◌/◌, ◌^◌, ◌<◌, ◌≤◌, true, false, ◌==◌, bit_and, refl}
-use Rattle.std.specs.Int.{bit_at}
-use Rattle.std.proofs.Common.{sym, ◌∙◌, ap, subst, arith, ⊎_elim}
-use Rattle.std.proofs.lemmas.Bool.{eqb-true, eqb-false, ne_eqb, cases_eq}
-use Rattle.std.proofs.lemmas.Nat.Bits.{bit_at_xor, bit_at_and, bit_at-pow_same, bit_at-pow_other, bit_at-lt, same_from_bits, bit_at-zero, bit_at_above}
-use Rattle.std.proofs.Math.Nat.{lt-div-mul-add}
-use Rattle.std.proofs.lemmas.Nat.{pow_pos}
+use Rattle.std.specs.Prelude.{◌≡◌, ◌≢◌, ◌⊎◌, ℕ, ◌+◌, ◌-◌, ◌/◌, ◌%◌, ◌^◌, ◌<◌, ◌≤◌, true, false, ◌==◌, Option, Some, None, IfNone, IsSome, bit_and, zero, suc, refl}
+use Rattle.std.specs.Int.Count.{trailing_of_zero}
+use Rattle.std.specs.Int.{bit_at, trailing_zeros, w32}
+use Rattle.std.proofs.Common.{sym, ◌∙◌, ap, subst, arith, inl, inr, ⊎_elim}
+use Rattle.std.proofs.lemmas.Bool.{eqb-true, eqb-false, ne_eqb, cases_eq, cases_lt}
+use Rattle.std.proofs.lemmas.Nat.Bits.{bit_at_xor, bit_at_and, bit_at-pow_same, bit_at-pow_other, bit_at-lt, same_from_bits, bit_at-zero, bit_at-trailing_zeros}
+use Rattle.std.proofs.Math.Nat.{div-le_self}
+use Rattle.std.proofs.lemmas.Nat.{shr-shr}
 use Rattle.acl_perm.specs.Bits.{has_bit}
 -- sets with the same bits are equal
 pub use Rattle.acl_perm.proofs.Sets.{same_set as masks_same}
+use Rattle.acl_perm.specs.declared.right.Right.{Right}
 use Rattle.acl_eval.specs.Scan.{without}
+use Rattle.acl_normal.specs.internal.NextRight.{IsNextRight, LacksFrom}
 
 -- no mask, no bit
 pub no_bits_of_zero : (b : ℕ) → has_bit 0 b ≡ false
@@ -59,12 +62,64 @@ no_bit m b h =
 pub no_bits : (m : ℕ) → ((b : ℕ) → has_bit m b ≡ false) → m ≡ 0
 no_bits m h = same_from_bits m 0 (λ b. no_bit m b (h b) ∙ sym (bit_at-zero b))
 
--- a number that is shifted to nothing has no bit more
-pub no_more_bits : (m n b : ℕ) → m / 2 ^ n ≡ 0 → n ≤ b → has_bit m b ≡ false
-no_more_bits m n b none l = ap (λ v. v == 1) (bit_at_above m n b below l)
+-- ---- the next right of a mask
+
+-- the bits of a number that is shifted
+shifted_bit : (m n i : ℕ) → bit_at (m / 2 ^ n) i ≡ bit_at m (n + i)
+shifted_bit m n i = ap (λ v. v % 2) (shr-shr m n i)
+
+-- from a bit on, the lowest bit of the rest is the first right
+pub first_right : (m n b : ℕ) → m < 2 ^ 32 → b ≡ n + trailing_zeros w32 (m / 2 ^ n) → b < 21 → IsNextRight m n b
+first_right m n b fits is low = go (cases_eq rest 0)
   where
-    below : m < 2 ^ n
-    below = less (2 ^ n) (subst (λ v. m < v * 2 ^ n + 2 ^ n) none (lt-div-mul-add {a = m} {b = 2 ^ n} (pow_pos n)))
+    rest : ℕ
+    rest = m / 2 ^ n
+
+    go : (rest ≡ 0) ⊎ (rest ≡ 0 → ⊥) → IsNextRight m n b
+    go (inl none) = absurd (omega (arith, is, low, ap (trailing_zeros w32) none ∙ trailing_of_zero 32))
+    go (inr some) =
+        let t = bit_at-trailing_zeros w32 rest (omega (arith, some)) (omega (arith, fits, div-le_self m (2 ^ n))) in
+        record {
+          has = ap (λ v. has_bit m v) is ∙ ap (λ v. v == 1) (sym (shifted_bit m n (trailing_zeros w32 rest)) ∙ t.1);
+          above = omega (arith, is);
+          lacks =
+              λ i from below. ap (λ v. has_bit m v) (split i from) ∙ ap (λ v. v == 1)
+              (sym (shifted_bit m n (i - n)) ∙ t.2 (i - n) (omega (arith, is, from, below)));
+        }
       where
-        less : (p : ℕ) → m < 0 * p + p → m < p
-        less p h = omega (arith, h)
+        split : (i : ℕ) → n ≤ i → i ≡ n + (i - n)
+        split i from = omega (arith, from)
+
+-- where the lowest bit of the rest is no right, none is left
+pub no_right_left : (m n : ℕ) (next : Option Right) → m < 2 ^ 32
+    → (n + trailing_zeros w32 (m / 2 ^ n) < 21 → IsSome next) → IfNone next (LacksFrom m n 21)
+no_right_left m n (Some right) fits some = tt
+no_right_left m n None fits some = λ i from below. ap (λ v. has_bit m v) (split i from)
+    ∙ ap (λ v. v == 1) (sym (shifted_bit m n (i - n)) ∙ none i from below (cases_eq rest 0))
+  where
+    rest : ℕ
+    rest = m / 2 ^ n
+
+    split : (i : ℕ) → n ≤ i → i ≡ n + (i - n)
+    split i from = omega (arith, from)
+
+    none : (i : ℕ) → n ≤ i → i < 21 → (rest ≡ 0) ⊎ (rest ≡ 0 → ⊥) → bit_at rest (i - n) ≡ 0
+    none i from below (inl e) = ap (λ v. bit_at v (i - n)) e ∙ bit_at-zero (i - n)
+    none i from below (inr d) =
+        let t = bit_at-trailing_zeros w32 rest (omega (arith, d)) (omega (arith, fits, div-le_self m (2 ^ n))) in
+        ⊎_elim (λ l. absurd (clash (some l))) (λ l. t.2 (i - n) (omega (arith, l, from, below)))
+        (cases_lt (n + trailing_zeros w32 rest) 21)
+      where
+        clash : IsSome {T = Right} None → ⊥
+        clash h = cc
+
+-- what goes on past each bit that a mask lacks goes on to its next right
+pub past_absent : (P : ℕ → Type 0) (m n b : ℕ) → ((i : ℕ) → P i → has_bit m i ≡ false → P (i + 1)) → n ≤ b
+    → LacksFrom m n b → P n → P b
+past_absent P m n b step from lacks start = subst P (omega (arith, from)) (go (b - n) (omega (arith, from)))
+  where
+    go : (k : ℕ) → n + k ≤ b → P (n + k)
+    go zero l = subst P (omega arith) start
+    go (suc k) l =
+        subst P (omega arith)
+        (step (n + k) (go k (omega (arith, l))) (lacks (n + k) (omega arith) (omega (arith, l))))

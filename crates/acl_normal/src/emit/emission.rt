@@ -14,6 +14,7 @@ ghost use Rattle.acl_normal.specs.Places.{key_here, nothing_left};
 ghost use Rattle.acl_normal.specs.internal.Ready.{Adds, Enters, FitsKeys, Frees, HoldsFree, marks};
 ghost use Rattle.acl_normal.specs.internal.Counts.{count_left};
 
+use crate::bits::next_right;
 use crate::class::Class;
 use crate::emit::ready::Ready;
 use crate::rows::merged::MergedRows;
@@ -73,8 +74,16 @@ fn enter(
         (marks (nothing_left rows.now) ready.new)) }
 {
     let _ = &rows.masks;
+    let waiting = rows.waiting_at(kind, class, right);
+    // Mostly none is free, which the first tells at less cost than an iterator.
+    let Some(first) = waiting.first() else {
+        return Ok(());
+    };
     let last = rows.last_clear(kind, class, right);
-    for place in rows.waiting_at(kind, class, right) {
+    if *first > last {
+        return Ok(());
+    }
+    for place in waiting {
         if *place > last {
             return Ok(());
         }
@@ -84,7 +93,6 @@ fn enter(
 }
 
 /// Marks what became free when rights of a key were taken out.
-#[tactic(auto, using(crate::proofs::Emission::NewlyFree::frees_ends))]
 fn free_after<'a>(
     rows: &MergedRows<'a>,
     at: Key<'a>,
@@ -98,17 +106,13 @@ fn free_after<'a>(
         (marks (nothing_left rows.now) ready.new)) }
 {
     let opposite = at.kind.other();
-    for bit in 0..Right::COUNT {
-        if mask.bits >> bit == 0 {
-            return Ok(());
+    let mut from = 0;
+    while let Some(right) = next_right(mask.bits, from) {
+        enter(rows, opposite, Class::Others, right, ready)?;
+        if !at.principal.is_user() {
+            enter(rows, opposite, Class::Users, right, ready)?;
         }
-        let right = Right { bit };
-        if mask.has(right) {
-            enter(rows, opposite, Class::Others, right, ready)?;
-            if !at.principal.is_user() {
-                enter(rows, opposite, Class::Users, right, ready)?;
-            }
-        }
+        from = right.bit + 1;
     }
     Ok(())
 }

@@ -8,7 +8,7 @@ ghost use Rattle.acl_normal.specs.Normal.{IsQuiet};
 ghost use Rattle.acl_normal.specs.internal.Rows.{AreRowNumbers, is_named, row_of};
 ghost use Rattle.acl_normal.specs.internal.Shown.{with_masks};
 
-use crate::bits::has;
+use crate::bits::next_right;
 use acl_nfs4::AceRef;
 use acl_perm::Right;
 use std::alloc::{AllocError, Global};
@@ -84,14 +84,10 @@ fn put_rights(cells: &mut Cells, rights: u32, place: u32)
     ensures { (b : ℕ) → place_in cells.new b
         ≡ cond (has_bit rights b) (Some place) (place_in cells.old b) }
 {
-    for bit in 0..Right::COUNT {
-        if rights >> bit == 0 {
-            return;
-        }
-        let right = Right { bit };
-        if has(rights, right) {
-            cells.put(right, Some(place));
-        }
+    let mut from = 0;
+    while let Some(right) = next_right(rights, from) {
+        cells.put(right, Some(place));
+        from = right.bit + 1;
     }
 }
 

@@ -16,7 +16,7 @@ ghost use Rattle.acl_normal.specs.Places.{first_at, is_blocked, key_here, kind_h
 ghost use Rattle.acl_normal.specs.internal.Rows.{AreRowNumbers, IsByPrincipal, IsNumberOf, IsRow, is_named};
 ghost use Rattle.acl_normal.specs.internal.Shown.{aces_in, with_masks};
 
-use crate::bits::cleared;
+use crate::bits::{cleared, next_right};
 use crate::class::Class;
 use crate::reduce::reduced_rows;
 use crate::rows::cells::{Cells, filled_cells};
@@ -60,19 +60,12 @@ impl<'a> Model for MergedRows<'a> {
 const NO_RIGHT: Right = Right { bit: 11 };
 
 // The lowest of some rights, if there are any.
-#[tactic(auto, using(crate::proofs::Merging::Publics::lowest_steps))]
 pub(crate) fn lowest(bits: Mask) -> Option<Right>
     ensures some { (bit : ℕ) → IsLowest bit bits.bits → option_map (λ right. right.bit) result
         ≡ Some bit }
     ensures none { bits.bits ≡ 0 → result ≡ None }
 {
-    for bit in 0..Right::COUNT {
-        let right = Right { bit };
-        if bits.has(right) {
-            return Some(right);
-        }
-    }
-    None
+    next_right(bits.bits, 0)
 }
 
 impl<'a> MergedRows<'a> {
@@ -101,15 +94,15 @@ impl<'a> MergedRows<'a> {
 
     /// Whether the principal has one of these rights in what is left and is free on it: no ACE before its own
     /// conflicts with that on the right. It takes no memory.
-    #[tactic(auto, using(crate::proofs::Merging::Publics::free_steps))]
     pub fn is_free(&self, p: Principal<'_>, bits: Mask) -> bool
         ensures { IsTrue result ↔ HasFree self.now (principal p.entry) bits.bits }
     {
-        for bit in 0..Right::COUNT {
-            let right = Right { bit };
-            if bits.has(right) && self.is_free_at(p, right) {
+        let mut from = 0;
+        while let Some(right) = next_right(bits.bits, from) {
+            if self.is_free_at(p, right) {
                 return true;
             }
+            from = right.bit + 1;
         }
         false
     }
@@ -286,14 +279,10 @@ impl<'a> MergedRows<'a> {
         requires { IsRow row (principal p) self.old }
         ensures { self.new ≡ take_out (principal p.entry) mask.bits self.old }
     {
-        for bit in 0..Right::COUNT {
-            if mask.bits >> bit == 0 {
-                return;
-            }
-            let right = Right { bit };
-            if mask.has(right) {
-                self.emit_bit(row, p, right);
-            }
+        let mut from = 0;
+        while let Some(right) = next_right(mask.bits, from) {
+            self.emit_bit(row, p, right);
+            from = right.bit + 1;
         }
     }
 

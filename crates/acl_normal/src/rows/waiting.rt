@@ -10,7 +10,7 @@ ghost use Rattle.acl_normal.specs.internal.Classes.{is_users};
 ghost use Rattle.acl_normal.specs.internal.Shown.{with_masks};
 ghost use Rattle.acl_normal.specs.internal.Waiting.{HoldWaiting, Notes};
 
-use crate::bits::has;
+use crate::bits::next_right;
 use crate::class::Class;
 use acl_nfs4::AceRef;
 use acl_perm::{Kind, Right};
@@ -55,15 +55,11 @@ fn note(
     ensures { OnOk result (Notes place kind (is_users class) mask
         lists.old.items lists.new.items) }
 {
-    for bit in 0..Right::COUNT {
-        if mask >> bit == 0 {
-            return Ok(());
-        }
-        let right = Right { bit };
-        if has(mask, right) {
-            let list = &mut lists[slot(kind, class, right)];
-            list.push(place)?;
-        }
+    let mut from = 0;
+    while let Some(right) = next_right(mask, from) {
+        let list = &mut lists[slot(kind, class, right)];
+        list.push(place)?;
+        from = right.bit + 1;
     }
     Ok(())
 }

@@ -1,45 +1,65 @@
-use Rattle.std.proofs.Common.{◌∙◌, sym, subst, true, false}
+use Rattle.std.proofs.Common.{◌∙◌, sym, subst, true, false, arith}
+use Rattle.acl_perm.specs.Kind.{other_kind}
 use Rattle.acl_normal.specs.Keys.{plain_key}
 use Rattle.acl_normal.specs.Places.{nothing_left}
 use Rattle.acl_normal.specs.internal.Ready.{Enters, marks}
-use Rattle.acl_normal.proofs.Emission.NewlyFree.{frees_early, frees_on_absent, frees_on_user, frees_on_other}
+use Rattle.acl_normal.proofs.Emission.NewlyFree.{FreesBelow, frees_nothing, frees_on_absent, frees_on_user, frees_on_other, frees_all}
+use Rattle.acl_normal.proofs.Unique.Bits.{past_absent}
 use Rattle.acl_normal.proofs.emit.emission.free_after.Goals as goal
-use Rattle.acl_normal.proofs.emit.emission.free_after.Goals.{then-has+in_ok-enter+then-not-is_user+in_ok-enter-2, then-has+in_ok-enter+else-not-is_user, else-has}
+use Rattle.acl_normal.proofs.emit.emission.free_after.Goals.{then-not-is_user+in_ok-enter-2, else-not-is_user}
 
-pub returns-then-mask-bit-eq0-clause-marks : goal.returns-then-mask-bit-eq0-clause-marks
-returns-then-mask-bit-eq0-clause-marks c =
-    frees_early (plain_key c.args.at) c.args.mask.bits c.args.rows.now _ _ c.loop-bit.bit c.loop-bit.invariant.0
-    c.if-mask-bit-eq0.true
+pub loop-right-init : goal.loop-right-init
+loop-right-init c = (
+  frees_nothing (plain_key c.args.at) c.args.mask.bits c.args.rows.now
+      (marks (nothing_left c.args.rows.now) c.args.ready.now),
+  c.requires,
+  omega arith,
+)
 
-pub loop-bit-preserved : goal.loop-bit-preserved
-loop-bit-preserved c =
+pub next_right-requires : goal.next_right-requires
+next_right-requires c = c.loop-right.invariant.2
+
+pub loop-right-smaller : goal.loop-right-smaller
+loop-right-smaller c = omega (arith, c.in-Some.ensures.some.above, c.in-Some.right.within)
+
+pub loop-right-preserved : goal.loop-right-preserved
+loop-right-preserved c =
     let at = plain_key c.args.at in
     let xs = c.args.rows.now in
-    let outline = nothing_left c.args.rows.now in
-    let bit = c.loop-bit.bit in
-    elim c.if-has.branch [
-      | then-has+in_ok-enter+then-not-is_user+in_ok-enter-2 w ↦ rw w.ready-is (
-        frees_on_other at c.args.mask.bits xs (marks outline c.args.ready.now) (marks outline c.loop-bit.ready)
-            (marks outline w.enter.new.ready) (marks outline w.enter-then-not-is_user.new.ready) bit
-            c.loop-bit.invariant.0
-            (subst (λ k. Enters k false bit xs (marks outline c.loop-bit.ready) (marks outline w.enter.new.ready))
-            c.other-opposite.ensures w.in_ok-enter.ensures.marks)
-            (subst (λ k. Enters k true bit xs (marks outline w.enter.new.ready)
-            (marks outline w.enter-then-not-is_user.new.ready)) c.other-opposite.ensures
-            w.in_ok-enter-2.ensures.marks),
+    let bits = c.args.mask.bits in
+    let bit = c.in-Some.right.bit in
+    let next = c.in-Some.ensures.some in
+    let shown = marks (nothing_left xs) in
+    let before : FreesBelow at bits xs (shown c.args.ready.now) (shown c.loop-right.ready) bit =
+    past_absent (FreesBelow at bits xs (shown c.args.ready.now) (shown c.loop-right.ready)) bits c.loop-right.from bit
+    (frees_on_absent at bits xs (shown c.args.ready.now) (shown c.loop-right.ready)) next.above next.lacks
+    c.loop-right.invariant.0 in
+    let others : Enters (other_kind at.1) false bit xs (shown c.loop-right.ready) (shown c.enter.new.ready) =
+    subst (λ k. Enters k false bit xs (shown c.loop-right.ready) (shown c.enter.new.ready)) c.other-opposite.ensures
+    c.in_ok-enter.ensures.marks in
+    elim c.if-not-is_user.branch [
+      | then-not-is_user+in_ok-enter-2 w ↦ rw w.ready-is (
+        frees_on_other at bits xs (shown c.args.ready.now) (shown c.loop-right.ready) (shown c.enter.new.ready)
+            (shown w.enter-then-not-is_user.new.ready) bit before others
+            (subst (λ k. Enters k true bit xs (shown c.enter.new.ready)
+            (shown w.enter-then-not-is_user.new.ready)) c.other-opposite.ensures w.in_ok-enter-2.ensures.marks),
         w.in_ok-enter-2.ensures.keys,
+        omega (arith, c.in-Some.right.within),
       )
-      | then-has+in_ok-enter+else-not-is_user w ↦ rw w.ready-is (
-        frees_on_user at c.args.mask.bits xs (marks outline c.args.ready.now) (marks outline c.loop-bit.ready)
-            (marks outline w.enter.new.ready) bit c.loop-bit.invariant.0
-            (sym w.is_user.ensures ∙ w.if-not-is_user.false)
-            (subst (λ k. Enters k false bit xs (marks outline c.loop-bit.ready) (marks outline w.enter.new.ready))
-            c.other-opposite.ensures w.in_ok-enter.ensures.marks),
-        w.in_ok-enter.ensures.keys,
-      )
-      | else-has w ↦ rw w.ready-is (
-        frees_on_absent at c.args.mask.bits xs (marks outline c.args.ready.now) (marks outline c.loop-bit.ready) bit
-            c.loop-bit.invariant.0 (sym c.has.ensures ∙ w.if-has.false),
-        c.loop-bit.invariant.1,
+      | else-not-is_user w ↦ rw w.ready-is (
+        frees_on_user at bits xs (shown c.args.ready.now) (shown c.loop-right.ready) (shown c.enter.new.ready) bit
+            before (sym c.is_user.ensures ∙ w.if-not-is_user.false) others,
+        c.in_ok-enter.ensures.keys,
+        omega (arith, c.in-Some.right.within),
       )
     ]
+
+pub returns-clause-marks : goal.returns-clause-marks
+returns-clause-marks c =
+    let shown = marks (nothing_left c.args.rows.now) in
+    frees_all (plain_key c.args.at) c.args.mask.bits c.args.rows.now _ _ 21
+    (past_absent (FreesBelow (plain_key c.args.at) c.args.mask.bits c.args.rows.now (shown c.args.ready.now)
+    (shown c.loop-right.ready)) c.args.mask.bits c.loop-right.from 21
+    (frees_on_absent (plain_key c.args.at) c.args.mask.bits c.args.rows.now (shown c.args.ready.now)
+    (shown c.loop-right.ready)) c.loop-right.invariant.2 c.in_default.ensures.none c.loop-right.invariant.0)
+    (omega arith)

@@ -1,11 +1,16 @@
+use Rattle.std.specs.Prelude.{◌-◌, ◌≤◌}
 use Rattle.acl_normal.specs.Keys.{plain_key}
 use Rattle.acl_normal.specs.Places.{nothing_left}
 use Rattle.acl_normal.specs.internal.Ready.{FitsKeys, marks}
 use Rattle.acl_normal.proofs.Emission.NewlyFree.{FreesBelow}
 use Rattle.acl_normal.proofs.emit.emission.free_after.Given as goal
 
-abbrev pub invariant-loop-bit : goal.invariant-loop-bit
-invariant-loop-bit l =
+abbrev pub invariant-loop-right : goal.invariant-loop-right
+invariant-loop-right l =
     FreesBelow (plain_key l.at) l.mask.bits l.rows (marks (nothing_left l.rows) l.fn.ready)
-    (marks (nothing_left l.rows) l.ready) l.bit ×
-    FitsKeys (nothing_left l.rows) l.ready
+    (marks (nothing_left l.rows) l.ready) l.from ×
+    FitsKeys (nothing_left l.rows) l.ready ×
+    (l.from ≤ 21)
+
+abbrev pub decreases-loop-right : goal.decreases-loop-right
+decreases-loop-right l = 21 - l.from

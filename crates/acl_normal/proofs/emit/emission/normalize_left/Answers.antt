@@ -14,7 +14,8 @@ returns-clause-grants c =
     (left_normal c.args.rows.now (emitted_aces c.in_ok-out.out.items) c.requires c.in_ok-out.ensures.emission).1
 
 pub returns-clause-only : goal.returns-clause-only
-returns-clause-only c = left_only c.args.rows.now (emitted_aces c.in_ok-out.out.items) c.requires c.in_ok-out.ensures.emission
+returns-clause-only c =
+    left_only c.args.rows.now (emitted_aces c.in_ok-out.out.items) c.requires c.in_ok-out.ensures.emission
 
 pub returns-clause-weight : goal.returns-clause-weight
 returns-clause-weight c =

@@ -1,4 +1,5 @@
-use Rattle.std.proofs.Common.{◌≡◌, ◌+◌, ◌∙◌, sym, ap, subst, arith}
+use Rattle.std.proofs.Common.{◌≡◌, ◌∙◌, sym, ap, arith, ⊎_elim}
+use Rattle.std.proofs.lemmas.Bool.{cases_lt}
 use Rattle.acl_perm.specs.Principal.{principal}
 use Rattle.acl_normal.specs.Places.{nothing_left, take_out}
 use Rattle.acl_normal.specs.internal.Ready.{low_bits}
@@ -6,38 +7,40 @@ use Rattle.acl_normal.proofs.Merging.CellsOf.{is_row_alike}
 use Rattle.acl_normal.proofs.Merging.BitsTaken.{take_zero, emit_more, emit_same, low_all}
 use Rattle.acl_normal.proofs.Merging.Publics.{no_right_above}
 use Rattle.acl_normal.proofs.Merging.Rows.{outline_taken}
-use Rattle.acl_normal.proofs.Unique.Bits.{no_more_bits}
+use Rattle.acl_normal.proofs.Unique.Bits.{past_absent}
 use Rattle.acl_normal.proofs.rows.merged.MergedRows.emit_row.Goals as goal
-use Rattle.acl_normal.proofs.rows.merged.MergedRows.emit_row.Goals.{then-has, else-has}
 
-pub loop-bit-init : goal.loop-bit-init
-loop-bit-init c = sym (take_zero (principal c.args.p) c.args.self.now)
+pub loop-right-init : goal.loop-right-init
+loop-right-init c = (sym (take_zero (principal c.args.p) c.args.self.now), omega arith)
+
+pub next_right-requires : goal.next_right-requires
+next_right-requires c = c.loop-right.invariant.1
 
 pub emit_bit-requires : goal.emit_bit-requires
 emit_bit-requires c =
-    is_row_alike c.args.row (principal c.args.p) c.args.self.now c.loop-bit.self
-    (sym (ap nothing_left c.loop-bit.invariant
-    ∙ outline_taken (principal c.args.p) (low_bits c.args.mask.bits c.loop-bit.bit) c.args.self.now))
+    is_row_alike c.args.row (principal c.args.p) c.args.self.now c.loop-right.self
+    (sym (ap nothing_left c.loop-right.invariant.0
+    ∙ outline_taken (principal c.args.p) (low_bits c.args.mask.bits c.loop-right.from) c.args.self.now))
     c.requires
 
-pub loop-bit-preserved : goal.loop-bit-preserved
-loop-bit-preserved c = elim c.if-has.branch [
-  | then-has w ↦ emit_more (principal c.args.p) c.args.mask.bits c.loop-bit.bit c.args.self.now c.loop-bit.self
-      c.if-has.self (sym c.has.ensures ∙ w.if-has.true) c.loop-bit.invariant (w.self-is ∙ w.emit_bit.ensures)
-  | else-has w ↦ subst (λ v. v ≡ take_out (principal c.args.p) (low_bits c.args.mask.bits (c.loop-bit.bit + 1))
-      c.args.self.now) (sym w.self-is) (emit_same (principal c.args.p) c.args.mask.bits c.loop-bit.bit c.args.self.now
-      c.loop-bit.self (sym c.has.ensures ∙ w.if-has.false) c.loop-bit.invariant)
-]
+pub loop-right-smaller : goal.loop-right-smaller
+loop-right-smaller c = omega (arith, c.in-Some.ensures.some.above, c.in-Some.right.within)
 
-pub returns-then-mask-bit-eq0 : goal.returns-then-mask-bit-eq0
-returns-then-mask-bit-eq0 c =
-    c.loop-bit.invariant ∙ ap (λ v. take_out (principal c.args.p) v c.args.self.now)
-    (low_all c.args.mask.bits c.loop-bit.bit (λ i l. no_more_bits c.args.mask.bits c.loop-bit.bit i
-    c.if-mask-bit-eq0.true l))
+pub loop-right-preserved : goal.loop-right-preserved
+loop-right-preserved c =
+    let p = principal c.args.p in
+    let mask = c.args.mask.bits in
+    let next = c.in-Some.ensures.some in (
+      emit_more p mask c.in-Some.right.bit c.args.self.now c.loop-right.self c.emit_bit.new.self next.has
+          (past_absent (λ n. c.loop-right.self ≡ take_out p (low_bits mask n) c.args.self.now) mask c.loop-right.from
+          c.in-Some.right.bit (λ n is lacks. emit_same p mask n c.args.self.now c.loop-right.self lacks is)
+          next.above next.lacks c.loop-right.invariant.0)
+          c.emit_bit.ensures,
+      omega (arith, c.in-Some.right.within),
+    )
 
 pub returns : goal.returns
 returns c =
-    let end : c.loop-bit.bit ≡ 21 = omega (arith, c.loop-bit-test.false, c.loop-bit.auto.bit-end) in
-    c.loop-bit.invariant ∙ ap (λ v. take_out (principal c.args.p) (low_bits c.args.mask.bits v) c.args.self.now) end
-    ∙ ap (λ v. take_out (principal c.args.p) v c.args.self.now)
-    (low_all c.args.mask.bits 21 (no_right_above c.args.mask.bits c.args.mask.within))
+    c.loop-right.invariant.0 ∙ ap (λ v. take_out (principal c.args.p) v c.args.self.now)
+    (low_all c.args.mask.bits c.loop-right.from (λ b l. ⊎_elim (λ below. c.in_default.ensures.none b l below)
+    (λ above. no_right_above c.args.mask.bits c.args.mask.within b above) (cases_lt b 21)))

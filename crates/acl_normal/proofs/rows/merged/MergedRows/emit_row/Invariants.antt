@@ -1,8 +1,12 @@
-use Rattle.std.proofs.Common.{◌≡◌}
+use Rattle.std.proofs.Common.{◌≡◌, ◌-◌, ◌≤◌}
 use Rattle.acl_perm.specs.Principal.{principal}
 use Rattle.acl_normal.specs.Places.{take_out}
 use Rattle.acl_normal.specs.internal.Ready.{low_bits}
 use Rattle.acl_normal.proofs.rows.merged.MergedRows.emit_row.Given as goal
 
-abbrev pub invariant-loop-bit : goal.invariant-loop-bit
-invariant-loop-bit l = l.self ≡ take_out (principal l.p) (low_bits l.mask.bits l.bit) l.fn.self
+abbrev pub invariant-loop-right : goal.invariant-loop-right
+invariant-loop-right l =
+    (l.self ≡ take_out (principal l.p) (low_bits l.mask.bits l.from) l.fn.self) × (l.from ≤ 21)
+
+abbrev pub decreases-loop-right : goal.decreases-loop-right
+decreases-loop-right l = 21 - l.from
