@@ -53,7 +53,8 @@ any_and p c (x ∷ xs) = ap (λ (z : Bool). (p x && c) || z) (any_and p c xs) �
 masked_bit : (o : Option ℕ) (n j want : ℕ) → want ≡ 2 ^ j → 0 < want → contains 7 want ≡ true
     → has_bit (bit_and n (unwrap_or o n)) j ≡ (contains n want && contains (unwrap_or o 7) want)
 masked_bit None n j want e pos all =
-    has_bit-and n n j ∙ and_twice (has_bit n j) ∙ sym (and_true_right (has_bit n j)) ∙ ap (λ (z : Bool). z && true) (sym (contains_single n j want e pos))
+    has_bit-and n n j ∙ and_twice (has_bit n j) ∙ sym (and_true_right (has_bit n j))
+    ∙ ap (λ (z : Bool). z && true) (sym (contains_single n j want e pos))
     ∙ ap (λ (z : Bool). contains n want && z) (sym all)
 masked_bit (Some m) n j want e pos all =
     has_bit-and n m j ∙ ap (λ (z : Bool). z && has_bit m j) (sym (contains_single n j want e pos))

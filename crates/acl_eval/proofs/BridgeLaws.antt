@@ -18,7 +18,7 @@ use Rattle.acl_eval.specs.Bridge.{image, bridge_list}
 use Rattle.acl_eval.specs.BridgeLaws.{by_name, IsAsked, IsAccess, GrantsSingles, KeepsGrants}
 use Rattle.acl_eval.proofs.Runs.{run_grants}
 use Rattle.acl_eval.proofs.Same.{only_bit}
-use Rattle.acl_eval.proofs.Images.{Stands, of_each, image_bit, rights, contains_single}
+use Rattle.acl_eval.proofs.Images.{Stands, same_answers, image_bit, rights, contains_single}
 use Rattle.acl_eval.proofs.ValidChecks.{mask_contains, plain, plain_check}
 use Rattle.acl_eval.proofs.Agree.{IsRight, agrees}
 
@@ -118,7 +118,7 @@ part want (suc (suc zero)) lt h = contains_single want 2 4 refl (omega arith) �
 part want (suc (suc (suc j))) lt h = absurd (omega (arith, lt))
 
 all_contain : (want : ℕ) → want < 8 → contains 7 want ≡ true
-all_contain = of_each (λ n. contains 7 n ≡ true) refl refl refl refl refl refl refl refl
+all_contain = same_answers 8 (contains 7) (λ n. true) refl
 
 -- what the check grants together, the list grants together
 pub keeps_grants : KeepsGrants

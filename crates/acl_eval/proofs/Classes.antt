@@ -13,7 +13,8 @@ use Rattle.acl_eval.specs.Settled.{settled}
 pub at_the_end : (test : Principal → Bool) (granted left bit : ℕ)
     → settled test granted left [] bit ≡ has_bit granted bit
 at_the_end test granted left bit =
-    ap (λ (x : Bool). has_bit granted bit || x) (and_false_right (has_bit left bit)) ∙ or_false_right (has_bit granted bit)
+    ap (λ (x : Bool). has_bit granted bit || x) (and_false_right (has_bit left bit))
+    ∙ or_false_right (has_bit granted bit)
 
 -- the same permissions, where the four bits are the same
 pub same_perm : (g h : ℕ → Bool) → g 0 ≡ h 0 → g 1 ≡ h 1 → g 2 ≡ h 2 → g 5 ≡ h 5 → perm_of g ≡ perm_of h

@@ -3,7 +3,7 @@ use Rattle.std.proofs.Common.{◌≡◌, ℕ, Bool, true, false, refl, sym, ap, 
 use Rattle.std.specs.Prelude.{bit_and, bit_or, not, Option, None, Some, ◌&&◌, ◌||◌}
 use Rattle.acl_perm.proofs.Bools.{and_true_right, and_false_right, or_true_right, or_false_right}
 use Rattle.acl_perm.proofs.Sets.{has_bit-and, has_bit-or}
-use Rattle.acl_perm.specs.Bits.{has_bit}
+use Rattle.acl_perm.specs.Bits.{has_bit, inherit_only}
 use Rattle.acl_eval.specs.declared.inherit.ChildKind.TheVariants.{File, Directory}
 use Rattle.acl_eval.specs.Inheritance.{child_flags, ends, goes_on, waits, file_inherit, directory_inherit, no_propagate_inherit}
 use Rattle.acl_eval.specs.InheritanceLaws.{IsByFlag}
@@ -22,30 +22,32 @@ beside n c k e = has_bit-or n c k ∙ ap (λ (b : Bool). has_bit n k || b) e ∙
 set : (n c k : ℕ) → has_bit c k ≡ true → has_bit (bit_or n c) k ≡ true
 set n c k e = has_bit-or n c k ∙ ap (λ (b : Bool). has_bit n k || b) e ∙ or_true_right (has_bit n k)
 
-ended : (flags : ℕ) → IsByFlag false flags (ends flags)
-ended flags = record {
-  file = cleared flags 0x70 0 refl;
-  directory = cleared flags 0x70 1 refl;
-  ends = cleared flags 0x70 2 refl;
-  waits = cleared flags 0x70 3 refl;
-  success = kept flags 0x70 4 refl;
-  failed = kept flags 0x70 5 refl;
-  group = kept flags 0x70 6 refl;
-  not_inherited = cleared flags 0x70 7 refl;
+-- of flags of which a set is kept, that has those that say nothing of inheritance
+by_part : (on : Bool) (flags c : ℕ) → has_bit (bit_and flags c) file_inherit ≡ (on && has_bit flags file_inherit)
+    → has_bit (bit_and flags c) directory_inherit ≡ (on && has_bit flags directory_inherit)
+    → has_bit (bit_and flags c) no_propagate_inherit ≡ false
+    → has_bit (bit_and flags c) inherit_only ≡ (on && not (has_bit flags directory_inherit))
+    → has_bit c 4 ≡ true → has_bit c 5 ≡ true → has_bit c 6 ≡ true → has_bit c 7 ≡ false
+    → IsByFlag on flags (bit_and flags c)
+by_part on flags c file directory ends waits success failed group inherited = record {
+  file = file;
+  directory = directory;
+  ends = ends;
+  waits = waits;
+  success = kept flags c 4 success;
+  failed = kept flags c 5 failed;
+  group = kept flags c 6 group;
+  not_inherited = cleared flags c 7 inherited;
 }
+
+ended : (flags : ℕ) → IsByFlag false flags (ends flags)
+ended flags = by_part false flags 0x70 (cleared flags 0x70 0 refl) (cleared flags 0x70 1 refl)
+    (cleared flags 0x70 2 refl) (cleared flags 0x70 3 refl) refl refl refl refl
 
 handed_on : (flags : ℕ) → has_bit flags no_propagate_inherit ≡ false → has_bit flags directory_inherit ≡ true
     → IsByFlag true flags (goes_on flags)
-handed_on flags n d = record {
-  file = kept flags 0x77 0 refl;
-  directory = kept flags 0x77 1 refl;
-  ends = kept flags 0x77 2 refl ∙ n;
-  waits = cleared flags 0x77 3 refl ∙ sym (ap not d);
-  success = kept flags 0x77 4 refl;
-  failed = kept flags 0x77 5 refl;
-  group = kept flags 0x77 6 refl;
-  not_inherited = cleared flags 0x77 7 refl;
-}
+handed_on flags n d = by_part true flags 0x77 (kept flags 0x77 0 refl) (kept flags 0x77 1 refl)
+    (kept flags 0x77 2 refl ∙ n) (cleared flags 0x77 3 refl ∙ sym (ap not d)) refl refl refl refl
 
 waiting : (flags : ℕ) → has_bit flags no_propagate_inherit ≡ false → has_bit flags directory_inherit ≡ false
     → IsByFlag true flags (waits flags)

@@ -1,40 +1,30 @@
 -- The bits of the image of permissions.
-use Rattle.std.proofs.Common.{◌≡◌, ℕ, zero, suc, ◌+◌, ◌-◌, ◌*◌, ◌^◌, ◌<◌, true, false, cond, eqb, List, [], ◌∷◌, refl, sym, ap, ◌∙◌, arith}
-use Rattle.std.specs.Prelude.{count_ones, bit_and, not, slice_index_or}
+use Rattle.std.proofs.Common.{◌≡◌, ℕ, zero, suc, ◌+◌, ◌-◌, ◌*◌, ◌^◌, ◌<◌, Bool, true, false, cond, eqb, ltb, List, [], ◌∷◌, refl, sym, ap, ◌∙◌, arith}
+use Rattle.std.specs.Prelude.{◌||◌, count_ones, bit_and, not}
 use Rattle.std.specs.Int.{bit_at, w8}
-use Rattle.std.proofs.lemmas.Bool.{true≢false}
+use Rattle.std.proofs.lemmas.Bool.{ltb-true, true≢false}
 use Rattle.std.proofs.lemmas.Nat.Bits.{and_pow, bit_at-lt}
-use Rattle.acl_perm.specs.Bits.{has_bit, IsMask}
+use Rattle.acl_perm.specs.Bits.{all_rights, has_bit, IsMask}
 use Rattle.acl_perm.proofs.Sets.{has_bit-above}
 use Rattle.acl_posix.specs.Check.{contains}
 use Rattle.acl_eval.specs.Bridge.{image}
 
--- what contains of the eight sets of permissions contains of each
-pub of_each : (P : ℕ → Type 0) → P 0 → P 1 → P 2 → P 3 → P 4 → P 5 → P 6 → P 7 → (p : ℕ) → p < 8 → P p
-of_each P a b c d e f g h zero lt = a
-of_each P a b c d e f g h (suc zero) lt = b
-of_each P a b c d e f g h (suc (suc zero)) lt = c
-of_each P a b c d e f g h (suc (suc (suc zero))) lt = d
-of_each P a b c d e f g h (suc (suc (suc (suc zero)))) lt = e
-of_each P a b c d e f g h (suc (suc (suc (suc (suc zero))))) lt = f
-of_each P a b c d e f g h (suc (suc (suc (suc (suc (suc zero)))))) lt = g
-of_each P a b c d e f g h (suc (suc (suc (suc (suc (suc (suc zero))))))) lt = h
-of_each P a b c d e f g h (suc (suc (suc (suc (suc (suc (suc (suc n)))))))) lt = absurd (omega (arith, lt))
+-- what a function answers of the numbers below n
+abbrev pub answers : {A : Type 0} → ℕ → (ℕ → A) → List A
+answers zero f = []
+answers (suc n) f = f 0 ∷ answers n (λ k. f (suc k))
+
+-- two functions with the same answers below n answer alike there
+pub same_answers : {A : Type 0} (n : ℕ) (f g : ℕ → A) → answers n f ≡ answers n g → (k : ℕ) → k < n → f k ≡ g k
+same_answers zero f g e k lt = absurd (omega (arith, lt))
+same_answers (suc n) f g e zero lt = cc
+same_answers (suc n) f g e (suc k) lt =
+    let others : answers n (λ k. f (suc k)) ≡ answers n (λ k. g (suc k)) = cc in
+    same_answers n (λ k. f (suc k)) (λ k. g (suc k)) others k (omega (arith, lt))
 
 -- the right is one of the permission: each image has it exactly if it is of a set with that permission
 pub record Stands (j b : ℕ) : Type 0 where
   pub same : (p : ℕ) → p < 8 → has_bit (image p) b ≡ has_bit p j
-
--- eight answers of a function, one for each set of permissions
-abbrev eight : {A : Type 0} → (ℕ → A) → List A
-eight f = f 0 ∷ f 1 ∷ f 2 ∷ f 3 ∷ f 4 ∷ f 5 ∷ f 6 ∷ f 7 ∷ []
-
--- two functions with the same eight answers answer alike
-same_eight : {A : Type 0} (f g : ℕ → A) → eight f ≡ eight g → (p : ℕ) → p < 8 → f p ≡ g p
-same_eight f g e = of_each (λ p. f p ≡ g p) (at 0) (at 1) (at 2) (at 3) (at 4) (at 5) (at 6) (at 7)
-  where
-    at : (k : ℕ) → slice_index_or (eight f) k (f 0) ≡ slice_index_or (eight g) k (f 0)
-    at k = ap (λ answers. slice_index_or answers k (f 0)) e
 
 -- READ_DATA is read, WRITE_DATA and APPEND_DATA are write, and EXECUTE is execute
 pub record Rights : Type 0 where
@@ -46,10 +36,10 @@ pub record Rights : Type 0 where
 pub rights : Rights
 unfolding image
 rights = record {
-  read_data = record { same = same_eight (λ p. has_bit (image p) 0) (λ p. has_bit p 2) refl };
-  write_data = record { same = same_eight (λ p. has_bit (image p) 1) (λ p. has_bit p 1) refl };
-  append_data = record { same = same_eight (λ p. has_bit (image p) 2) (λ p. has_bit p 1) refl };
-  execute = record { same = same_eight (λ p. has_bit (image p) 5) (λ p. has_bit p 0) refl };
+  read_data = record { same = same_answers 8 (λ p. has_bit (image p) 0) (λ p. has_bit p 2) refl };
+  write_data = record { same = same_answers 8 (λ p. has_bit (image p) 1) (λ p. has_bit p 1) refl };
+  append_data = record { same = same_answers 8 (λ p. has_bit (image p) 2) (λ p. has_bit p 1) refl };
+  execute = record { same = same_answers 8 (λ p. has_bit (image p) 5) (λ p. has_bit p 0) refl };
 }
 
 none_at : (b : ℕ) → ((p : ℕ) → p < 8 → has_bit (image p) b ≡ false) → (want : ℕ) → want < 8 → has_bit (image want) b
@@ -58,24 +48,24 @@ none_at b lacks want lt h = true≢false (sym h ∙ lacks want lt)
 
 image_lt : (p : ℕ) → p < 8 → image p < 64
 unfolding image
-image_lt = of_each (λ p. image p < 64) (omega arith) (omega arith) (omega arith) (omega arith) (omega arith)
-    (omega arith) (omega arith) (omega arith)
+image_lt p lt = ltb-true _ _ (same_answers 8 (λ p. ltb (image p) 64) (λ p. true) refl p lt)
 
 -- an image is a set of rights
 pub image_mask : (p : ℕ) → p < 8 → IsMask (image p)
 unfolding image
-image_mask = of_each (λ p. IsMask (image p)) refl refl refl refl refl refl refl refl
+image_mask = same_answers 8 (λ p. bit_and (image p) all_rights) image refl
 
 -- that of some permissions is not empty
 pub image_some : (p : ℕ) → p < 8 → eqb p 0 ≡ false → 0 < count_ones (image p)
 unfolding image lib.Count.ones
-image_some = of_each (λ p. eqb p 0 ≡ false → 0 < count_ones (image p)) (λ e. absurd cc) (λ e. omega arith)
-    (λ e. omega arith) (λ e. omega arith) (λ e. omega arith) (λ e. omega arith) (λ e. omega arith) (λ e. omega arith)
+image_some p lt some = ltb-true _ _
+    (sym (ap (λ (b : Bool). b || ltb 0 (count_ones (image p))) some)
+    ∙ same_answers 8 (λ p. eqb p 0 || ltb 0 (count_ones (image p))) (λ p. true) refl p lt)
 
 -- what is allowed and what is denied have four bits together
 pub four_bits : (p : ℕ) → p < 8 → count_ones (image p) + count_ones (image (7 - p)) ≡ 4
 unfolding image lib.Count.ones
-four_bits = of_each (λ p. count_ones (image p) + count_ones (image (7 - p)) ≡ 4) refl refl refl refl refl refl refl refl
+four_bits = same_answers 8 (λ p. count_ones (image p) + count_ones (image (7 - p))) (λ p. 4) refl
 
 -- and that of none is
 pub image_none : count_ones (image 0) ≡ 0
@@ -86,8 +76,8 @@ image_none = refl
 pub image_parts : (p : ℕ) → p < 8 → cond (eqb (bit_and p 4) 0) 0 1 + cond (eqb (bit_and p 2) 0) 0 6 + cond
     (eqb (bit_and p 1) 0) 0 32 ≡ image p
 unfolding image
-image_parts = of_each (λ p. cond (eqb (bit_and p 4) 0) 0 1 + cond (eqb (bit_and p 2) 0) 0 6 + cond
-    (eqb (bit_and p 1) 0) 0 32 ≡ image p) refl refl refl refl refl refl refl refl
+image_parts = same_answers 8 (λ p. cond (eqb (bit_and p 4) 0) 0 1 + cond (eqb (bit_and p 2) 0) 0 6 + cond
+    (eqb (bit_and p 1) 0) 0 32) image refl
 
 -- the other rights of a byte are of no image
 record Others : Type 0 where
@@ -99,10 +89,10 @@ record Others : Type 0 where
 others : Others
 unfolding image
 others = record {
-  third = same_eight (λ p. has_bit (image p) 3) (λ p. false) refl;
-  fourth = same_eight (λ p. has_bit (image p) 4) (λ p. false) refl;
-  sixth = same_eight (λ p. has_bit (image p) 6) (λ p. false) refl;
-  seventh = same_eight (λ p. has_bit (image p) 7) (λ p. false) refl;
+  third = same_answers 8 (λ p. has_bit (image p) 3) (λ p. false) refl;
+  fourth = same_answers 8 (λ p. has_bit (image p) 4) (λ p. false) refl;
+  sixth = same_answers 8 (λ p. has_bit (image p) 6) (λ p. false) refl;
+  seventh = same_answers 8 (λ p. has_bit (image p) 7) (λ p. false) refl;
 }
 
 -- which permission a right of an image is of
@@ -131,9 +121,9 @@ image_bit want (suc (suc (suc (suc (suc (suc (suc (suc b)))))))) lt h =
 
 -- what is not allowed is denied
 pub complement : (j p : ℕ) → j < 3 → p < 8 → has_bit (7 - p) j ≡ not (has_bit p j)
-complement zero p lt = same_eight (λ p. has_bit (7 - p) 0) (λ p. not (has_bit p 0)) refl p
-complement (suc zero) p lt = same_eight (λ p. has_bit (7 - p) 1) (λ p. not (has_bit p 1)) refl p
-complement (suc (suc zero)) p lt = same_eight (λ p. has_bit (7 - p) 2) (λ p. not (has_bit p 2)) refl p
+complement zero p lt = same_answers 8 (λ p. has_bit (7 - p) 0) (λ p. not (has_bit p 0)) refl p
+complement (suc zero) p lt = same_answers 8 (λ p. has_bit (7 - p) 1) (λ p. not (has_bit p 1)) refl p
+complement (suc (suc zero)) p lt = same_answers 8 (λ p. has_bit (7 - p) 2) (λ p. not (has_bit p 2)) refl p
 complement (suc (suc (suc j))) p lt = absurd (omega (arith, lt))
 
 by_digit : (d q : ℕ) → d < 2 → 0 < q → eqb (d * q) q ≡ eqb d 1

@@ -43,7 +43,8 @@ not_above name next h = by (slice_cmp nat_cmp name next) refl
 -- names of which each does not come after the next are in order
 pub in_order : (names : List (Bor (List ℕ))) (r : Bool)
     → IsAllAdjacentAnswer (λ (x : Bor (List ℕ)) (y : Bor (List ℕ)) (b : Bool). partial_le
-    (λ (x : Bor (List ℕ)) (y : Bor (List ℕ)). slice_partial_cmp (λ a b. Some (nat_cmp a b)) x.now y.now) x y ≡ b) names r
+    (λ (x : Bor (List ℕ)) (y : Bor (List ℕ)). slice_partial_cmp (λ a b. Some (nat_cmp a b)) x.now y.now) x y ≡ b)
+    names r
     → r ≡ true → AreInOrder names
 in_order names true each e k d low lt =
     not_above (slice_index_or names k d).now (slice_index_or names (k + 1) d).now (each k d lt)
