@@ -2,123 +2,89 @@
 //! exact, and where memory may be wanting, which is then an answer too and leaves a value as it was.
 
 use super::*;
+use Who::{Amy, Bob, Eve, Group, Guests, Mask, Ops, Other, Owner, Staff};
 use acl_perm::{Mode, Perm};
 use std::alloc::Global;
 use std::process::Abort;
 use std::test::Fail;
 
-type Row = (Tag, u8);
-
-const USER_5: Tag = Tag::User(Id { value: 5 });
-
-const USER_7: Tag = Tag::User(Id { value: 7 });
-
-const USER_1001: Tag = Tag::User(Id { value: 1001 });
-
-const GROUP_5: Tag = Tag::Group(Id { value: 5 });
-
-const GROUP_50: Tag = Tag::Group(Id { value: 50 });
-
-const GROUP_60: Tag = Tag::Group(Id { value: 60 });
-
-// `u::rw-,u:1001:rw-,g::r--,g:50:rw-,m::r--,o::r--`, in another order
-const SHARED: [Row; 6] = [
-    (Tag::Other, 4),
-    (Tag::Mask, 4),
-    (GROUP_50, 6),
-    (Tag::UserObj, 6),
-    (USER_1001, 6),
-    (Tag::GroupObj, 4),
-];
-
-// The same in canonical order, with these permissions of OTHER and of the mask
-const fn shared(mask: u8, other: u8) -> [Row; 6] {
-    [
-        (Tag::UserObj, 6),
-        (USER_1001, 6),
-        (Tag::GroupObj, 4),
-        (GROUP_50, 6),
-        (Tag::Mask, mask),
-        (Tag::Other, other),
-    ]
+// Whom an entry speaks of; the named users have the ids 5, 7 and 1001, and the named groups 5, 50 and 60.
+#[derive(Clone, Copy, Debug)]
+enum Who {
+    Owner,
+    Eve,
+    Bob,
+    Amy,
+    Group,
+    Guests,
+    Staff,
+    Ops,
+    Mask,
+    Other,
 }
 
+impl Who {
+    fn tag(self) -> Tag {
+        match self {
+            Owner => Tag::UserObj,
+            Eve => Tag::User(Id { value: 5 }),
+            Bob => Tag::User(Id { value: 7 }),
+            Amy => Tag::User(Id { value: 1001 }),
+            Group => Tag::GroupObj,
+            Guests => Tag::Group(Id { value: 5 }),
+            Staff => Tag::Group(Id { value: 50 }),
+            Ops => Tag::Group(Id { value: 60 }),
+            Mask => Tag::Mask,
+            Other => Tag::Other,
+        }
+    }
+}
+
+// Whom a list speaks of, and a digit of permissions for each.
+type Rows = (&'static [Who], &'static [u8]);
+
+// `u::rw-,u:1001:rw-,g::r--,g:50:rw-,m::r--,o::r--`, in another order
+const SHARED: Rows = (&[Other, Mask, Staff, Owner, Amy, Group], b"446664");
+
+// Whom it speaks of, in canonical order
+const ORDERED: &[Who] = &[Owner, Amy, Group, Staff, Mask, Other];
+
 // `u::rwx,g::---,g:50:r--,g:60:-w-,m::rw-,o::---`
-const TWO_GROUPS: [Row; 6] = [
-    (Tag::UserObj, 7),
-    (Tag::GroupObj, 0),
-    (GROUP_50, 4),
-    (GROUP_60, 2),
-    (Tag::Mask, 6),
-    (Tag::Other, 0),
-];
+const TWO_GROUPS: Rows = (&[Owner, Group, Staff, Ops, Mask, Other], b"704260");
 
 // `u::rwx,u:5:rwx,g::r-x,m::rwx,o::r-x`
-const DEFAULT: [Row; 5] = [
-    (Tag::UserObj, 7),
-    (USER_5, 7),
-    (Tag::GroupObj, 5),
-    (Tag::Mask, 7),
-    (Tag::Other, 5),
-];
+const DEFAULT: Rows = (&[Owner, Eve, Group, Mask, Other], b"77575");
 
 // `u::---,g::rwx,o::rwx`
-const NO_OWNER: [Row; 3] = [(Tag::UserObj, 0), (Tag::GroupObj, 7), (Tag::Other, 7)];
+const NO_OWNER: Rows = (&[Owner, Group, Other], b"077");
 
 // `u::rwx,g::rwx,m::r--,o::rwx`
-const MASKED: [Row; 4] = [
-    (Tag::UserObj, 7),
-    (Tag::GroupObj, 7),
-    (Tag::Mask, 4),
-    (Tag::Other, 7),
-];
+const MASKED: Rows = (&[Owner, Group, Mask, Other], b"7747");
 
 // `u::rwx,g::---,o::rwx`
-const NO_GROUP: [Row; 3] = [(Tag::UserObj, 7), (Tag::GroupObj, 0), (Tag::Other, 7)];
+const NO_GROUP: Rows = (&[Owner, Group, Other], b"707");
 
 // `u::rw-,u:7:r--,g::r--,o::---`
-const NO_MASK: [Row; 4] = [
-    (Tag::UserObj, 6),
-    (USER_7, 4),
-    (Tag::GroupObj, 4),
-    (Tag::Other, 0),
-];
+const NO_MASK: Rows = (&[Owner, Bob, Group, Other], b"6440");
 
 // `u::rw-,g::r--,m::r--,m::r--,o::---`
-const TWO_MASKS: [Row; 5] = [
-    (Tag::UserObj, 6),
-    (Tag::GroupObj, 4),
-    (Tag::Mask, 4),
-    (Tag::Mask, 4),
-    (Tag::Other, 0),
-];
+const TWO_MASKS: Rows = (&[Owner, Group, Mask, Mask, Other], b"64440");
 
 // `u::rw-,u:7:r--,u:7:r--,g::r--,m::r--,o::---`
-const TWO_USERS: [Row; 6] = [
-    (Tag::UserObj, 6),
-    (USER_7, 4),
-    (USER_7, 4),
-    (Tag::GroupObj, 4),
-    (Tag::Mask, 4),
-    (Tag::Other, 0),
-];
+const TWO_USERS: Rows = (&[Owner, Bob, Bob, Group, Mask, Other], b"644440");
 
 // `u::rw-,g:5:r--,g:5:r--,u::rw-`
-const TWO_REPEATS: [Row; 4] = [
-    (Tag::UserObj, 6),
-    (GROUP_5, 4),
-    (GROUP_5, 4),
-    (Tag::UserObj, 6),
-];
+const TWO_REPEATS: Rows = (&[Owner, Guests, Guests, Owner], b"6446");
 
 // `o::r--,g::r--,u:7:r--,g:5:r--,o::r--`
-const LATE_REPEAT: [Row; 5] = [
-    (Tag::Other, 4),
-    (Tag::GroupObj, 4),
-    (USER_7, 4),
-    (GROUP_5, 4),
-    (Tag::Other, 4),
-];
+const LATE_REPEAT: Rows = (&[Other, Group, Bob, Guests, Other], b"44444");
+
+// `u::rwx,g::r-x,o::---`
+const THREE: Rows = (&[Owner, Group, Other], b"750");
+
+fn perm_of(digit: u8) -> Option<Perm> {
+    Perm::new(digit.wrapping_sub(b'0'))
+}
 
 // Where the calls get their memory, and whether it may be wanting, which is then an answer to every row.
 #[derive(Clone, Copy)]
@@ -128,17 +94,30 @@ struct Memory {
 }
 
 impl Memory {
-    fn entries(self, rows: &[Row]) -> Result<Vec<Entry>, AclFault> {
+    fn ample(alloc: Global) -> Memory {
+        let is_ample = true;
+        Memory { alloc, is_ample }
+    }
+
+    fn scarce(alloc: Global) -> Memory {
+        let is_ample = false;
+        Memory { alloc, is_ample }
+    }
+
+    fn entries(self, (names, digits): Rows) -> Result<Vec<Entry>, AclFault> {
         let mut entries = Vec::new(self.alloc);
-        for (tag, bits) in rows {
-            if let Some(perm) = Perm::new(*bits) {
-                entries.push(Entry { tag: *tag, perm })?;
+        for (who, digit) in names.iter().zip(digits) {
+            if let Some(perm) = perm_of(*digit) {
+                entries.push(Entry {
+                    tag: who.tag(),
+                    perm,
+                })?;
             }
         }
         Ok(entries)
     }
 
-    fn acl(self, rows: &[Row]) -> Result<PosixAcl, AclFault> {
+    fn acl(self, rows: Rows) -> Result<PosixAcl, AclFault> {
         PosixAcl::from_entries(self.alloc, self.entries(rows)?)
     }
 
@@ -151,7 +130,7 @@ impl Memory {
         dir: bool,
     ) -> Result<PosixFile, AclFault> {
         if has_default {
-            let default = self.acl(&DEFAULT)?;
+            let default = self.acl(DEFAULT)?;
             Ok(create(self.alloc, Some(&default), mode, umask, dir)?)
         } else {
             Ok(create(self.alloc, None, mode, umask, dir)?)
@@ -163,19 +142,19 @@ impl Memory {
         !self.is_ample && fault == Some(AclFault::Memory)
     }
 
-    fn is_judged(self, rows: &[Row], fault: Option<AclFault>) -> bool {
+    fn is_judged(self, rows: Rows, fault: Option<AclFault>) -> bool {
         let found = self.acl(rows).err();
         found == fault || self.may_want(found)
     }
 
-    fn has_mode(self, rows: &[Row], mode: u16) -> bool {
+    fn has_mode(self, rows: Rows, mode: u16) -> bool {
         match self.acl(rows) {
             Ok(acl) => acl.mode().bits == mode,
             Err(fault) => self.may_want(Some(fault)),
         }
     }
 
-    fn is_answered(self, rows: &[Row], asker: Id, groups: &[Id], want: u8, granted: bool) -> bool {
+    fn is_answered(self, rows: Rows, asker: Id, groups: &[Id], want: u8, granted: bool) -> bool {
         let Some(want) = Perm::new(want) else {
             return false;
         };
@@ -193,31 +172,40 @@ impl Memory {
     }
 }
 
-fn has_rows(acl: &PosixAcl, rows: &[Row]) -> bool {
+fn has_rows(acl: &PosixAcl, (names, digits): Rows) -> bool {
     let entries = acl.entries();
-    entries.len() == rows.len()
-        && entries.iter().zip(rows).all(|(entry, row)| entry.tag == row.0
-            && entry.perm.bits == row.1)
+    entries.len() == names.len()
+        && entries
+            .iter()
+            .zip(names)
+            .all(|(entry, who)| entry.tag == who.tag())
+        && has_digits(entries, digits)
+}
+
+fn has_digits(entries: &[Entry], digits: &[u8]) -> bool {
+    entries.len() == digits.len()
+        && entries
+            .iter()
+            .zip(digits)
+            .all(|(entry, digit)| perm_of(*digit) == Some(entry.perm))
 }
 
 // ---- tables
 
-const THREE: [Row; 3] = [(Tag::UserObj, 7), (Tag::GroupObj, 5), (Tag::Other, 0)];
-
 fn lists<A: Abort>(rt: &A, memory: Memory) {
-    let table: [(&[Row], Option<AclFault>); 12] = [
-        (&SHARED, None),
-        (&TWO_GROUPS, None),
-        (&DEFAULT, None),
-        (&NO_OWNER, None),
-        (&MASKED, None),
-        (&THREE, None),
-        (&NO_MASK, Some(AclFault::Miss(Tag::Mask))),
-        (&TWO_MASKS, Some(AclFault::Multi(3))),
-        (&TWO_USERS, Some(AclFault::Duplicate(2))),
-        (&TWO_REPEATS, Some(AclFault::Duplicate(2))),
-        (&LATE_REPEAT, Some(AclFault::Multi(4))),
-        (&[], Some(AclFault::Miss(Tag::UserObj))),
+    let table: [(Rows, Option<AclFault>); 12] = [
+        (SHARED, None),
+        (TWO_GROUPS, None),
+        (DEFAULT, None),
+        (NO_OWNER, None),
+        (MASKED, None),
+        (THREE, None),
+        (NO_MASK, Some(AclFault::Miss(Tag::Mask))),
+        (TWO_MASKS, Some(AclFault::Multi(3))),
+        (TWO_USERS, Some(AclFault::Duplicate(2))),
+        (TWO_REPEATS, Some(AclFault::Duplicate(2))),
+        (LATE_REPEAT, Some(AclFault::Multi(4))),
+        ((&[], &[]), Some(AclFault::Miss(Tag::UserObj))),
     ];
     for (rows, fault) in table {
         assert!(rt; memory.is_judged(rows, fault), "of {rows:?}");
@@ -226,13 +214,13 @@ fn lists<A: Abort>(rt: &A, memory: Memory) {
 
 // Lists of which entries are left out.
 fn cut_lists<A: Abort>(rt: &A, memory: Memory) {
-    let table: [(&[Row], Tag); 6] = [
-        (&SHARED[..3], Tag::UserObj),
-        (&SHARED[..5], Tag::GroupObj),
-        (&SHARED[1..], Tag::Other),
-        (&THREE[..1], Tag::GroupObj),
-        (&THREE[..2], Tag::Other),
-        (&TWO_MASKS[..3], Tag::Other),
+    let table: [(Rows, Tag); 6] = [
+        ((&[Other, Mask, Staff], b"446"), Tag::UserObj),
+        ((&[Other, Mask, Staff, Owner, Amy], b"44666"), Tag::GroupObj),
+        ((&[Mask, Staff, Owner, Amy, Group], b"46664"), Tag::Other),
+        ((&[Owner], b"7"), Tag::GroupObj),
+        ((&[Owner, Group], b"75"), Tag::Other),
+        ((&[Owner, Group, Mask], b"644"), Tag::Other),
     ];
     for (rows, tag) in table {
         assert!(rt;
@@ -243,13 +231,13 @@ fn cut_lists<A: Abort>(rt: &A, memory: Memory) {
 }
 
 // Entries, their permissions, and what the mask leaves of them.
-const EFFECTIVE: [(Tag, u8, u8); 6] = [
-    (Tag::UserObj, 6, 6),
-    (USER_1001, 6, 4),
-    (Tag::GroupObj, 4, 4),
-    (GROUP_50, 6, 4),
-    (Tag::Mask, 4, 4),
-    (Tag::Other, 4, 4),
+const EFFECTIVE: [(Who, u8, u8); 6] = [
+    (Owner, 6, 6),
+    (Amy, 6, 4),
+    (Group, 4, 4),
+    (Staff, 6, 4),
+    (Mask, 4, 4),
+    (Other, 4, 4),
 ];
 
 fn is_effective(acl: &PosixAcl, tag: Tag, perm: u8, effective: u8) -> bool {
@@ -260,25 +248,28 @@ fn is_effective(acl: &PosixAcl, tag: Tag, perm: u8, effective: u8) -> bool {
 }
 
 fn effective_permissions<A: Abort>(rt: &A, memory: Memory) {
-    let acl = match memory.acl(&SHARED) {
+    let acl = match memory.acl(SHARED) {
         Ok(acl) => acl,
         Err(fault) => {
             assert!(rt; memory.may_want(Some(fault)));
             return;
         }
     };
-    assert!(rt; has_rows(&acl, &shared(4, 4)));
-    for (tag, perm, effective) in EFFECTIVE {
-        assert!(rt; is_effective(&acl, tag, perm, effective), "of {tag:?}");
+    assert!(rt; has_rows(&acl, (ORDERED, b"664644")));
+    for (who, perm, effective) in EFFECTIVE {
+        assert!(rt;
+            is_effective(&acl, who.tag(), perm, effective),
+            "of {who:?}"
+        );
     }
 }
 
 fn modes<A: Abort>(rt: &A, memory: Memory) {
-    let table: [(&[Row], u16); 4] = [
-        (&SHARED, 0o644),
-        (&MASKED, 0o747),
-        (&NO_OWNER, 0o077),
-        (&TWO_GROUPS, 0o760),
+    let table: [(Rows, u16); 4] = [
+        (SHARED, 0o644),
+        (MASKED, 0o747),
+        (NO_OWNER, 0o077),
+        (TWO_GROUPS, 0o760),
     ];
     for (rows, mode) in table {
         assert!(rt; memory.has_mode(rows, mode), "of mode {mode:o}");
@@ -286,13 +277,13 @@ fn modes<A: Abort>(rt: &A, memory: Memory) {
 }
 
 fn edits<A: Abort>(rt: &A, memory: Memory) {
-    match memory.acl(&SHARED) {
+    match memory.acl(SHARED) {
         Ok(mut acl) => {
             acl.chmod(Mode { bits: 0o660 });
-            assert!(rt; has_rows(&acl, &shared(6, 0)));
+            assert!(rt; has_rows(&acl, (ORDERED, b"664660")));
             acl.chmod(Mode { bits: 0o644 });
             assert!(rt; acl.calc_mask().is_ok());
-            assert!(rt; has_rows(&acl, &shared(6, 4)));
+            assert!(rt; has_rows(&acl, (ORDERED, b"664664")));
         }
         Err(fault) => assert!(rt; memory.may_want(Some(fault))),
     }
@@ -311,20 +302,20 @@ const OWNING: [Id; 1] = [OWNING_GROUP];
 
 fn requests<A: Abort>(rt: &A, memory: Memory) {
     // Entries, who asks, in which groups, for what, and whether it is granted.
-    let table: [(&[Row], Id, &[Id], u8, bool); 13] = [
-        (&TWO_GROUPS, USER_3, &BOTH, 6, false),
-        (&TWO_GROUPS, USER_3, &BOTH, 4, true),
-        (&TWO_GROUPS, USER_3, &BOTH, 2, true),
-        (&TWO_GROUPS, USER_3, &OWNING, 4, false),
-        (&MASKED, USER_3, &OWNING, 2, false),
-        (&MASKED, USER_3, &OWNING, 4, true),
-        (&MASKED, USER_3, &[], 2, true),
-        (&NO_GROUP, USER_3, &OWNING, 4, false),
-        (&NO_GROUP, USER_3, &BOTH, 7, true),
-        (&SHARED, Id { value: 1001 }, &BOTH, 2, false),
-        (&NO_OWNER, OWNER, &[], 4, false),
-        (&NO_OWNER, OWNER, &OWNING, 4, false),
-        (&NO_OWNER, OWNER, &OWNING, 0, true),
+    let table: [(Rows, Id, &[Id], u8, bool); 13] = [
+        (TWO_GROUPS, USER_3, &BOTH, 6, false),
+        (TWO_GROUPS, USER_3, &BOTH, 4, true),
+        (TWO_GROUPS, USER_3, &BOTH, 2, true),
+        (TWO_GROUPS, USER_3, &OWNING, 4, false),
+        (MASKED, USER_3, &OWNING, 2, false),
+        (MASKED, USER_3, &OWNING, 4, true),
+        (MASKED, USER_3, &[], 2, true),
+        (NO_GROUP, USER_3, &OWNING, 4, false),
+        (NO_GROUP, USER_3, &BOTH, 7, true),
+        (SHARED, Id { value: 1001 }, &BOTH, 2, false),
+        (NO_OWNER, OWNER, &[], 4, false),
+        (NO_OWNER, OWNER, &OWNING, 4, false),
+        (NO_OWNER, OWNER, &OWNING, 0, true),
     ];
     for (rows, asker, groups, want, granted) in table {
         assert!(rt;
@@ -334,20 +325,14 @@ fn requests<A: Abort>(rt: &A, memory: Memory) {
     }
 }
 
-const PLAIN: [Row; 3] = [(Tag::UserObj, 6), (Tag::GroupObj, 4), (Tag::Other, 4)];
+const PLAIN: Rows = (&[Owner, Group, Other], b"644");
 
-const CUT: [Row; 5] = [
-    (Tag::UserObj, 6),
-    (USER_5, 7),
-    (Tag::GroupObj, 5),
-    (Tag::Mask, 4),
-    (Tag::Other, 0),
-];
+const CUT: Rows = (&[Owner, Eve, Group, Mask, Other], b"67540");
 
-fn is_made(file: &PosixFile, access: &[Row], is_inherited: bool) -> bool {
+fn is_made(file: &PosixFile, access: Rows, is_inherited: bool) -> bool {
     has_rows(&file.access, access)
         && match &file.default {
-            Some(default) => is_inherited && has_rows(default, &DEFAULT),
+            Some(default) => is_inherited && has_rows(default, DEFAULT),
             None => !is_inherited,
         }
 }
@@ -355,11 +340,11 @@ fn is_made(file: &PosixFile, access: &[Row], is_inherited: bool) -> bool {
 // The ACLs of a new file or directory, with a umask that has no part where there is a default ACL.
 fn new_files<A: Abort>(rt: &A, memory: Memory) {
     // Whether there is a default ACL, mode and umask, whether a directory is made, and the access ACL of what is made.
-    let table: [(bool, u16, u16, bool, &[Row]); 4] = [
-        (true, 0o640, 0o077, false, &CUT),
-        (true, 0o640, 0o077, true, &CUT),
-        (false, 0o666, 0o022, false, &PLAIN),
-        (false, 0o666, 0o022, true, &PLAIN),
+    let table: [(bool, u16, u16, bool, Rows); 4] = [
+        (true, 0o640, 0o077, false, CUT),
+        (true, 0o640, 0o077, true, CUT),
+        (false, 0o666, 0o022, false, PLAIN),
+        (false, 0o666, 0o022, true, PLAIN),
     ];
     for (has_default, mode, umask, dir, access) in table {
         let (mode, umask) = (Mode { bits: mode }, Mode { bits: umask });
@@ -398,26 +383,30 @@ fn tables<A: Abort>(rt: &A, memory: Memory) {
 // ---- tests
 
 #[test]
-fn ample_tables(rt: HostRuntime) {
-    let memory = Memory {
-        alloc: rt.alloc(),
-        is_ample: true,
-    };
-    tables(&rt, memory);
+fn worked_lists_are_answered_or_memory_is_wanting(rt: HostRuntime) {
+    tables(&rt, Memory::scarce(rt.alloc()));
 }
 
 #[test]
-fn tables_where_memory_may_be_wanting(rt: HostRuntime) {
-    let memory = Memory {
-        alloc: rt.alloc(),
-        is_ample: false,
+fn a_mask_is_added_or_nothing_is(rt: HostRuntime) {
+    let memory = Memory::scarce(rt.alloc());
+    // A copy has no room to spare.
+    let Ok(Ok(mut acl)) = memory.acl(NO_OWNER).map(|acl| acl.copy(memory.alloc)) else {
+        return;
     };
-    tables(&rt, memory);
+    let is_added = acl.calc_mask().is_ok();
+    assert!(rt; acl.entries().len() == (if is_added { 4 } else { 3 }));
+}
+
+#[test]
+fn ids_end_below_4294967295(rt: HostRuntime) {
+    assert!(rt; Id::new(4294967295).is_none());
+    assert!(rt; Id::new(4294967294) == Some(Id { value: 4294967294 }));
 }
 
 // A list of a hundred entries.
 fn hundred(memory: Memory) -> Result<PosixAcl, AclFault> {
-    let mut entries = memory.entries(&DEFAULT)?;
+    let mut entries = memory.entries(DEFAULT)?;
     for value in 0..95 {
         entries.push(Entry {
             tag: Tag::Group(Id { value }),
@@ -429,48 +418,29 @@ fn hundred(memory: Memory) -> Result<PosixAcl, AclFault> {
 
 // A copy, which gets a mask.
 fn masked(memory: Memory) -> Result<PosixAcl, Fail> {
-    let acl = memory.acl(&NO_OWNER)?;
+    let acl = memory.acl(NO_OWNER)?;
     let mut added = acl.copy(memory.alloc)?;
     added.calc_mask()?;
     Ok(added)
 }
 
-// With memory a mask is added, and each copy of a list of any length is made.
-#[test]
-fn ample_copies_and_masks(rt: HostRuntime) -> Result<(), Fail> {
-    let memory = Memory {
-        alloc: rt.alloc(),
-        is_ample: true,
-    };
-    let copy = hundred(memory)?.copy(memory.alloc)?;
-    assert!(rt; copy.entries().len() == 100);
-    let added = masked(memory)?;
-    let wanted = [
-        (Tag::UserObj, 0),
-        (Tag::GroupObj, 7),
-        (Tag::Mask, 7),
-        (Tag::Other, 7),
-    ];
-    assert!(rt; has_rows(&added, &wanted));
-    Ok(())
-}
+// What is answered where memory is ample.
+mod ample {
+    use super::*;
 
-#[test]
-fn a_mask_is_added_or_nothing_is(rt: HostRuntime) {
-    let memory = Memory {
-        alloc: rt.alloc(),
-        is_ample: false,
-    };
-    // A copy has no room to spare.
-    let Ok(Ok(mut acl)) = memory.acl(&NO_OWNER).map(|acl| acl.copy(memory.alloc)) else {
-        return;
-    };
-    let is_added = acl.calc_mask().is_ok();
-    assert!(rt; acl.entries().len() == (if is_added { 4 } else { 3 }));
-}
+    #[test]
+    fn worked_lists_are_answered(rt: HostRuntime) {
+        tables(&rt, Memory::ample(rt.alloc()));
+    }
 
-#[test]
-fn ids_end_below_4294967295(rt: HostRuntime) {
-    assert!(rt; Id::new(4294967295).is_none());
-    assert!(rt; Id::new(4294967294) == Some(Id { value: 4294967294 }));
+    // Each copy of a list of any length is made, and a mask is added to it.
+    #[test]
+    fn copies_are_made_and_masks_added(rt: HostRuntime) -> Result<(), Fail> {
+        let memory = Memory::ample(rt.alloc());
+        let copy = hundred(memory)?.copy(memory.alloc)?;
+        assert!(rt; copy.entries().len() == 100);
+        let added = masked(memory)?;
+        assert!(rt; has_rows(&added, (&[Owner, Group, Mask, Other], b"0777")));
+        Ok(())
+    }
 }

@@ -1,5 +1,5 @@
-//! Texts of worked examples. A test that is refused memory ends quietly; a table named `ample` asserts that with memory
-//! left no call is refused.
+//! Texts of worked examples. A test that is refused memory ends quietly; those of the module `ample` assert that with
+//! memory left no call is refused.
 
 use super::*;
 use acl_perm::Counted;
@@ -100,16 +100,6 @@ const TEXTS: [(&[u8], Form, &[u8]); 13] = [
     ),
 ];
 
-// Each text with its three forms.
-#[test]
-fn ample_memory_for_texts(rt: HostRuntime) -> Result<(), Fail> {
-    let names = names_of(rt.alloc()).ok_or("names are added")?;
-    for (text, form, wanted) in TEXTS {
-        assert!(rt; is_read(rt.alloc(), &names, text, form, wanted));
-    }
-    Ok(())
-}
-
 fn is_refused(alloc: Global, names: &Names, text: &[u8], wanted: TextFault) -> bool {
     parse(alloc, text, names).err() == Some(wanted)
 }
@@ -189,19 +179,6 @@ const FAULTS: [(&[u8], TextFault); 30] = [
     (b"u:\xff:r", TextFault::UnknownName { line: 1, column: 3 }),
 ];
 
-// The first fault of each text, with its place.
-#[test]
-fn ample_memory_for_faults(rt: HostRuntime) -> Result<(), Fail> {
-    let names = names_of(rt.alloc()).ok_or("names are added")?;
-    for (text, wanted) in FAULTS {
-        assert!(rt; is_refused(rt.alloc(), &names, text, wanted), "{wanted}");
-    }
-    let nobody = Names::new(rt.alloc());
-    let unknown = TextFault::UnknownName { line: 5, column: 6 };
-    assert!(rt; is_refused(rt.alloc(), &nobody, LISTED, unknown));
-    Ok(())
-}
-
 // Whether what a text of twelve lines is refused for, if it is, is an invalid list or stands in one of its lines.
 fn is_judged(fault: Option<TextFault>) -> bool {
     match fault {
@@ -217,18 +194,6 @@ fn is_judged(fault: Option<TextFault>) -> bool {
         ) => line <= 12,
         Some(TextFault::Memory) => false,
     }
-}
-
-// Each beginning of what getfacl prints is judged.
-#[test]
-fn ample_beginnings(rt: HostRuntime) -> Result<(), Fail> {
-    let names = names_of(rt.alloc()).ok_or("names are added")?;
-    for len in 0..=LISTED.len() {
-        let (front, _) = LISTED.split_at(len.min(LISTED.len()));
-        let fault = parse(rt.alloc(), front, &names).err();
-        assert!(rt; is_judged(fault), "{len}");
-    }
-    Ok(())
 }
 
 // A text with one byte so many times over in it.
@@ -284,17 +249,6 @@ fn zeros_are_read(alloc: Global) -> bool {
 
 const ZEROS_READ: &[u8] = b"u::rw-,u:7:rw-,g::r--,g:50:rw-,m::r--,o::r--";
 
-// An id may have a thousand zeros in front, and not a thousand digits; a million commas are refused at the first.
-#[test]
-fn ample_long_texts(rt: HostRuntime) {
-    let alloc = rt.alloc();
-    assert!(rt; zeros_are_read(alloc));
-    let id = TextFault::Id { line: 1, column: 3 };
-    assert!(rt; is_refused_repeated(alloc, b"u:", b'9', 1000, b":r--", id));
-    let empty = TextFault::EmptyEntry { line: 1, column: 1 };
-    assert!(rt; is_refused_repeated(alloc, b"", b',', 1_000_000, b"", empty));
-}
-
 // Which names are added, and that a refused one changes nothing.
 fn add_each(rt: &impl Abort, names: &mut Names, one: Id, two: Id) {
     assert!(rt; names.add_user(b"", one) == Err(NameFault::EmptyName));
@@ -303,16 +257,6 @@ fn add_each(rt: &impl Abort, names: &mut Names, one: Id, two: Id) {
     assert!(rt; names.add_user(b"7a", two) == Err(NameFault::Taken));
     assert!(rt; names.add_group(b"7a", two) == Ok(()));
     assert!(rt; names.add_group(b"7a", two) == Err(NameFault::Taken));
-}
-
-#[test]
-fn ample_memory_for_names(rt: HostRuntime) -> Result<(), Fail> {
-    let mut names = Names::new(rt.alloc());
-    add_each(&rt, &mut names, Id { value: 1 }, Id { value: 2 });
-    let text = b"u::,u:7a:,g::,g:7a:,m::,o::";
-    let wanted = b"u::---,u:1:---,g::---,g:2:---,m::---,o::---";
-    assert!(rt; is_read(rt.alloc(), &names, text, Form::Short, wanted));
-    Ok(())
 }
 
 // A room of n bytes: the fault tells n, and the room holds the first n bytes of the text.
@@ -414,7 +358,7 @@ fn may_be_read(
 
 // Names, a text with them, and its forms, where memory may be wanting: it is an answer then, and no other is.
 #[test]
-fn texts_where_memory_may_be_wanting(rt: HostRuntime) {
+fn texts_are_read_and_written_or_memory_is_wanting(rt: HostRuntime) {
     let mut names = Names::new(rt.alloc());
     assert!(rt; add_names(&rt, &mut names).is_some());
     let has_both = names.user(b"bob").is_some() && names.group(b"staff ops").is_some();
@@ -427,5 +371,63 @@ fn texts_where_memory_may_be_wanting(rt: HostRuntime) {
             assert!(rt; (part, cause) == (Part::Access, Cause::Duplicate(2)));
         }
         Err(fault) => assert!(rt; fault == TextFault::Memory),
+    }
+}
+
+// What is answered where memory is ample.
+mod ample {
+    use super::*;
+
+    #[test]
+    fn each_text_is_read_and_written_again(rt: HostRuntime) -> Result<(), Fail> {
+        let names = names_of(rt.alloc()).ok_or("names are added")?;
+        for (text, form, wanted) in TEXTS {
+            assert!(rt; is_read(rt.alloc(), &names, text, form, wanted));
+        }
+        Ok(())
+    }
+
+    #[test]
+    fn the_first_fault_of_a_text_is_told(rt: HostRuntime) -> Result<(), Fail> {
+        let names = names_of(rt.alloc()).ok_or("names are added")?;
+        for (text, wanted) in FAULTS {
+            assert!(rt; is_refused(rt.alloc(), &names, text, wanted), "{wanted}");
+        }
+        let nobody = Names::new(rt.alloc());
+        let unknown = TextFault::UnknownName { line: 5, column: 6 };
+        assert!(rt; is_refused(rt.alloc(), &nobody, LISTED, unknown));
+        Ok(())
+    }
+
+    #[test]
+    fn each_beginning_of_a_text_is_judged(rt: HostRuntime) -> Result<(), Fail> {
+        let names = names_of(rt.alloc()).ok_or("names are added")?;
+        for len in 0..=LISTED.len() {
+            let (front, _) = LISTED.split_at(len.min(LISTED.len()));
+            let fault = parse(rt.alloc(), front, &names).err();
+            assert!(rt; is_judged(fault), "{len}");
+        }
+        Ok(())
+    }
+
+    // An id may have a thousand zeros in front, and not a thousand digits; a million commas are refused at the first.
+    #[test]
+    fn long_texts_are_judged(rt: HostRuntime) {
+        let alloc = rt.alloc();
+        assert!(rt; zeros_are_read(alloc));
+        let id = TextFault::Id { line: 1, column: 3 };
+        assert!(rt; is_refused_repeated(alloc, b"u:", b'9', 1000, b":r--", id));
+        let empty = TextFault::EmptyEntry { line: 1, column: 1 };
+        assert!(rt; is_refused_repeated(alloc, b"", b',', 1_000_000, b"", empty));
+    }
+
+    #[test]
+    fn names_are_added_once(rt: HostRuntime) -> Result<(), Fail> {
+        let mut names = Names::new(rt.alloc());
+        add_each(&rt, &mut names, Id { value: 1 }, Id { value: 2 });
+        let text = b"u::,u:7a:,g::,g:7a:,m::,o::";
+        let wanted = b"u::---,u:1:---,g::---,g:2:---,m::---,o::---";
+        assert!(rt; is_read(rt.alloc(), &names, text, Form::Short, wanted));
+        Ok(())
     }
 }
