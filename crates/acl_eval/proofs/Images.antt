@@ -33,6 +33,7 @@ pub record Rights : Type 0 where
   pub append_data : Stands 1 2
   pub execute : Stands 0 5
 
+-- each right is of its permission
 pub rights : Rights
 unfolding image
 rights = record {

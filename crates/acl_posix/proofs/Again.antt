@@ -90,25 +90,25 @@ pub qualifier_plain : (t : Tag) → IsTag t → Plain (qualifier_text t)
 qualifier_plain t h = digits_plain (row t).qualifier h
 
 -- what holds of each of the eight sets of permissions holds of all
-pub each_perm : (P : ℕ → Type 0) → P 0 → P 1 → P 2 → P 3 → P 4 → P 5 → P 6 → P 7 → (p : ℕ) → p < 8 → P p
-each_perm P a b c d e f g h zero lt = a
-each_perm P a b c d e f g h (suc zero) lt = b
-each_perm P a b c d e f g h (suc (suc zero)) lt = c
-each_perm P a b c d e f g h (suc (suc (suc zero))) lt = d
-each_perm P a b c d e f g h (suc (suc (suc (suc zero)))) lt = e
-each_perm P a b c d e f g h (suc (suc (suc (suc (suc zero))))) lt = f
-each_perm P a b c d e f g h (suc (suc (suc (suc (suc (suc zero)))))) lt = g
-each_perm P a b c d e f g h (suc (suc (suc (suc (suc (suc (suc zero))))))) lt = h
-each_perm P a b c d e f g h (suc (suc (suc (suc (suc (suc (suc (suc p)))))))) lt = absurd (omega arith)
+pub of_each : (P : ℕ → Type 0) → P 0 → P 1 → P 2 → P 3 → P 4 → P 5 → P 6 → P 7 → (p : ℕ) → p < 8 → P p
+of_each P a b c d e f g h zero lt = a
+of_each P a b c d e f g h (suc zero) lt = b
+of_each P a b c d e f g h (suc (suc zero)) lt = c
+of_each P a b c d e f g h (suc (suc (suc zero))) lt = d
+of_each P a b c d e f g h (suc (suc (suc (suc zero)))) lt = e
+of_each P a b c d e f g h (suc (suc (suc (suc (suc zero))))) lt = f
+of_each P a b c d e f g h (suc (suc (suc (suc (suc (suc zero)))))) lt = g
+of_each P a b c d e f g h (suc (suc (suc (suc (suc (suc (suc zero))))))) lt = h
+of_each P a b c d e f g h (suc (suc (suc (suc (suc (suc (suc (suc p)))))))) lt = absurd (omega arith)
 
 -- permissions are written in plain bytes
 pub perm_plain : (p : ℕ) → p < 8 → Plain (perm_text p)
-perm_plain = each_perm (λ p. Plain (perm_text p)) refl refl refl refl refl refl refl refl
+perm_plain = of_each (λ p. Plain (perm_text p)) refl refl refl refl refl refl refl refl
 
 -- permissions that are written read back
 pub perm_again : (p : ℕ) → p < 8 → permissions_of (perm_text p) ≡ Some p
 unfolding permissions_of
-perm_again = each_perm (λ p. permissions_of (perm_text p) ≡ Some p) refl refl refl refl refl refl refl refl
+perm_again = of_each (λ p. permissions_of (perm_text p) ≡ Some p) refl refl refl refl refl refl refl refl
 
 -- an id is digits alone, and its number is read
 number_again : (n : ℕ) → n < 4294967295 → (list_all is_ascii_digit (decimal n) ≡ true)
@@ -204,7 +204,7 @@ perm_alone p h =
 tab_trimmed : (p : ℕ) → p < 8 → trimmed (perm_text p ++ 9 ∷ []) ≡ perm_text p
 unfolding trimmed
 tab_trimmed =
-    each_perm (λ p. trimmed (perm_text p ++ 9 ∷ []) ≡ perm_text p) refl refl refl refl refl refl refl refl
+    of_each (λ p. trimmed (perm_text p ++ 9 ∷ []) ≡ perm_text p) refl refl refl refl refl refl refl refl
 
 -- no colon, as a test
 abbrev not_colon : ℕ → Bool
@@ -215,7 +215,7 @@ colon_free b h = elim (eqb b 58) as (λ t. not t ≡ true → t ≡ false) [ tru
 
 tab_no_colon : (p : ℕ) → p < 8 → list_all not_colon (perm_text p ++ 9 ∷ []) ≡ true
 tab_no_colon =
-    each_perm (λ p. list_all not_colon (perm_text p ++ 9 ∷ []) ≡ true) refl refl refl refl refl refl refl refl
+    of_each (λ p. list_all not_colon (perm_text p ++ 9 ∷ []) ≡ true) refl refl refl refl refl refl refl refl
 
 -- the same with a tab behind them
 pub perm_tab : (p : ℕ) → p < 8 → IsPermText p (perm_text p ++ 9 ∷ [])

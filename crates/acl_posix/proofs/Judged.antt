@@ -271,6 +271,16 @@ number_some (x ∷ xs) h = omega arith
 abbrev IdFault : Ids → List ℕ → ℕ → ℕ → TextFault → Type 0
 IdFault ids q line column fault = (of_id : ℕ → Tag) → by_qualifier ids q of_id line column ≡ Err fault
 
+named_told : (line : ℕ) (fields : EntryFields) (alone : Tag) (of_id : ℕ → Tag) (own ids : Ids) → ids ≡ own
+    → 0 < length (trimmed fields.qualifier.bytes) → (fault : TextFault)
+    → IdFault ids (trimmed fields.qualifier.bytes) line (start_of fields.qualifier) fault
+    → (read_named alone of_id own line fields.qualifier >>= (λ tag. ended line fields tag)) ≡ Err fault
+named_told line fields alone of_id own ids same some fault h =
+    let told : IdFault own (trimmed fields.qualifier.bytes) line (start_of fields.qualifier) fault =
+    subst (λ (x : Ids). IdFault x (trimmed fields.qualifier.bytes) line (start_of fields.qualifier) fault) same h in
+    ap (λ (r : Result Tag TextFault). r >>= (λ tag. ended line fields tag))
+    (named_some alone of_id own line fields.qualifier some ∙ told of_id)
+
 named_fault : (names : Table) (line : ℕ) (fields : EntryFields) (w : TagWord) (ids : Ids) → names_of names w ≡ Some ids
     → 0 < length (trimmed fields.qualifier.bytes) → (fault : TextFault)
     → IdFault ids (trimmed fields.qualifier.bytes) line (start_of fields.qualifier) fault
@@ -278,16 +288,10 @@ named_fault : (names : Table) (line : ℕ) (fields : EntryFields) (w : TagWord) 
 unfolding read_tag
 named_fault names line fields word.User ids e some fault h =
     let same : ids ≡ names.users = cc in
-    let told : IdFault names.users (trimmed fields.qualifier.bytes) line (start_of fields.qualifier) fault =
-    subst (λ (x : Ids). IdFault x (trimmed fields.qualifier.bytes) line (start_of fields.qualifier) fault) same h in
-    ap (λ (r : Result Tag TextFault). r >>= (λ tag. ended line fields tag))
-    (named_some user_obj (λ n. user n) names.users line fields.qualifier some ∙ told (λ n. user n))
+    named_told line fields user_obj (λ n. user n) names.users ids same some fault h
 named_fault names line fields word.Group ids e some fault h =
     let same : ids ≡ names.groups = cc in
-    let told : IdFault names.groups (trimmed fields.qualifier.bytes) line (start_of fields.qualifier) fault =
-    subst (λ (x : Ids). IdFault x (trimmed fields.qualifier.bytes) line (start_of fields.qualifier) fault) same h in
-    ap (λ (r : Result Tag TextFault). r >>= (λ tag. ended line fields tag))
-    (named_some group_obj (λ n. group n) names.groups line fields.qualifier some ∙ told (λ n. group n))
+    named_told line fields group_obj (λ n. group n) names.groups ids same some fault h
 named_fault names line fields word.Mask ids e some fault h = absurd cc
 named_fault names line fields word.Other ids e some fault h = absurd cc
 

@@ -17,8 +17,8 @@ pub data Tag : Type 0 where
   mask : Tag
   other : Tag
 
--- what there is to say of a tag: the place of its type in the canonical order, the name of the type in ASCII, its word in
--- a text, its qualifier, and whether the mask limits its entry, which is then one of the file group class
+-- what there is to say of a tag: the place of its type in the canonical order, the name of the type in ASCII, its word
+-- in a text, its qualifier, and whether the mask limits its entry, which is then one of the file group class
 pub record Row : Type 0 where
   pub rank : ℕ
   pub name : List ℕ

@@ -22,7 +22,9 @@ pub put_next-requires : goal.put_next-requires
 put_next-requires g c =
     let next = entry_next c.args.form c.args.part c.args.acl.now c.loop-entry.is_first c.args.entries.now
     c.loop-entry.entry-index c.entry-item.result c.masked_by.result.bits _ c.loop-entry-test.true
-    c.entry-item.is (line_from c.put_entry-start.new.line c.put_entry-start.result c.put_entry-start.array_long ∙ c.put_entry-start.ensures.text) (c.masked_by.ensures
+    c.entry-item.is
+    (line_from c.put_entry-start.new.line c.put_entry-start.result c.put_entry-start.array_long
+    ∙ c.put_entry-start.ensures.text) (c.masked_by.ensures
     ∙ ap (λ (m : Option ℕ). masked_by m (pair_of c.entry-item.result)) c.mask-mask.ensures) in
     next_fits c.args.done c.loop-entry.done _ _ _ _ _ _ c.loop-entry.invariant.out next c.requires.room
 
@@ -30,7 +32,9 @@ pub returns-in-Err-clause-written : goal.returns-in-Err-clause-written
 returns-in-Err-clause-written g c =
     let next = entry_next c.args.form c.args.part c.args.acl.now c.loop-entry.is_first c.args.entries.now
     c.loop-entry.entry-index c.entry-item.result c.masked_by.result.bits _ c.loop-entry-test.true
-    c.entry-item.is (line_from c.put_entry-start.new.line c.put_entry-start.result c.put_entry-start.array_long ∙ c.put_entry-start.ensures.text) (c.masked_by.ensures
+    c.entry-item.is
+    (line_from c.put_entry-start.new.line c.put_entry-start.result c.put_entry-start.array_long
+    ∙ c.put_entry-start.ensures.text) (c.masked_by.ensures
     ∙ ap (λ (m : Option ℕ). masked_by m (pair_of c.entry-item.result)) c.mask-mask.ensures) in
     let said = c.in-Err.ensures.written in
     out_cut c.args.done c.loop-entry.done c.in-Err.fault.written _ _ _ _ _ _ _ c.loop-entry.invariant.out next said.0
@@ -43,7 +47,9 @@ pub loop-entry-preserved : goal.loop-entry-preserved
 loop-entry-preserved g c =
     let next = entry_next c.args.form c.args.part c.args.acl.now c.loop-entry.is_first c.args.entries.now
     c.loop-entry.entry-index c.entry-item.result c.masked_by.result.bits _ c.loop-entry-test.true
-    c.entry-item.is (line_from c.put_entry-start.new.line c.put_entry-start.result c.put_entry-start.array_long ∙ c.put_entry-start.ensures.text) (c.masked_by.ensures
+    c.entry-item.is
+    (line_from c.put_entry-start.new.line c.put_entry-start.result c.put_entry-start.array_long
+    ∙ c.put_entry-start.ensures.text) (c.masked_by.ensures
     ∙ ap (λ (m : Option ℕ). masked_by m (pair_of c.entry-item.result)) c.mask-mask.ensures) in
     let said = c.in-Ok.ensures.written in
     record {
