@@ -7,7 +7,7 @@ pub mod MentionedNames
 pub mod Ordered
 pub mod FirstSet
 pub mod Numbers
-pub mod Lookup
+pub mod MentionedRows
 pub mod FirstPlaceLemmas
 pub mod PairGrants
 pub mod RowFacts

@@ -8,7 +8,7 @@ use Rattle.acl_eval.specs.Grant.{Grant, SameGrants, grants_bit}
 use Rattle.acl_nfs4.specs.Ace.{Ace}
 use Rattle.acl_nfs4.specs.Who.{principal_of}
 use Rattle.acl_normal.specs.Keys.{principal_eq}
-use Rattle.acl_normal.specs.SmallSituations.{is_among, small_situation}
+use Rattle.acl_normal.specs.SmallSituations.{small_situation}
 use Rattle.acl_perm.specs.Bits.{all_rights, has_bit}
 use Rattle.acl_perm.specs.Order.{principal_cmp, principal_name}
 use Rattle.acl_perm.specs.Overlap.{may_overlap}
@@ -24,10 +24,6 @@ abbrev pub mentioned_with : List Principal → List Ace → List Principal
 mentioned_with given [] = given
 mentioned_with given (a ∷ list) =
     mentioned_with (if is_mentioning a then insert_key principal_cmp given (principal_of a) else given) list
-
--- the same stand among the names, however often and in whatever order
-abbrev pub AreMentioned : List Principal → List Ace → List Principal → Type 0
-AreMentioned given list names = (p : Principal) → is_among p names ≡ is_among p (mentioned_with given list)
 
 -- the principals that two lists mention, in order, each once
 abbrev pub mentioned : List Ace → List Ace → List Principal

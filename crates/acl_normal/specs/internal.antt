@@ -42,5 +42,7 @@ pub mod SetSearch
 pub mod FirstPlaces
 -- tables that tell at once whether a row inverts another
 pub mod PlaceTables
+-- the principals that lists mention, by row and by number
+pub mod MentionedRows
 -- the sets of principals that the code of a comparison holds
 pub mod CodeSets

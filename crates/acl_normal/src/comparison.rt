@@ -62,7 +62,7 @@ pub fn compare(alloc: Global, first: &Acl, second: &Acl) -> Result<Option<Differ
     }
     let list = collect(alloc, first)?;
     let other = collect(alloc, second)?;
-    let whole = mentioned(alloc, &list, &other)?;
-    let found = find_set(alloc, &list, &other, &whole)?;
+    let (whole, whoms) = mentioned(alloc, &list, &other)?;
+    let found = find_set(alloc, &list, &other, &whole, &whoms)?;
     answer(alloc, &list, &other, &whole, found)
 }

@@ -4,7 +4,7 @@ use Rattle.std.specs.List.{AllByRecursion}
 use Rattle.std.specs.BTreeSet.{insert_key}
 use Rattle.std.specs.declared.cmp.Ordering.{Ordering}
 use Rattle.std.specs.declared.cmp.Ordering.TheVariants.{Less, Equal, Greater}
-use Rattle.std.proofs.Common.{sym, ◌∙◌, ap, subst, arith, ⊎_elim}
+use Rattle.std.proofs.Common.{sym, ap, subst, arith, ⊎_elim}
 use Rattle.std.proofs.lemmas.Bool.{or_left, or_right, or_cases, and_parts}
 use Rattle.acl_eval.specs.Column.{Column, column, takes_part}
 use Rattle.acl_nfs4.specs.Ace.{Ace}
@@ -58,42 +58,6 @@ among_insert_old (x ∷ ps) p q h = go (principal_cmp p x) refl (among_insert_ol
     go Equal e ih = rw e h
     go Greater e ih = rw e (⊎_elim (λ i. or_left _ _ i) (λ i. or_right (principal_eq q x) _ (ih i))
         (or_cases (principal_eq q x) (is_among q ps) h))
-
--- what is put in is there, and what was there
-pub among_insert : (ps : List Principal) (p q : Principal)
-    → is_among q (insert_key principal_cmp ps p) ≡ (principal_eq q p || is_among q ps)
-among_insert [] p q = refl
-among_insert (x ∷ ps) p q =
-    go (principal_cmp p x) refl (principal_eq q p) refl (principal_eq q x) refl (among_insert ps p q)
-  where
-    go : (o : Ordering) → principal_cmp p x ≡ o → (a : Bool) → principal_eq q p ≡ a → (b : Bool) → principal_eq q x ≡ b
-        → is_among q (insert_key principal_cmp ps p) ≡ (principal_eq q p || is_among q ps)
-        → is_among q (insert_key principal_cmp (x ∷ ps) p) ≡ (principal_eq q p || is_among q (x ∷ ps))
-    go Less e a f b g ih = rw e refl
-    go Equal e true f b g ih =
-        let same : principal_eq q x ≡ true = subst (λ v. principal_eq q v ≡ true) (principal_exact p x e) f in
-        rw (e, f, same) refl
-    go Equal e false f b g ih = rw (e, f) refl
-    go Greater e true f true g ih = rw (e, f, g) refl
-    go Greater e true f false g ih = rw (e, g, ih, f) refl
-    go Greater e false f true g ih = rw (e, f, g) refl
-    go Greater e false f false g ih = rw (e, g, ih, f) refl
-
--- where the same are given, the same are there with those of a list
-pub among_with : (xs : List Ace) (ps qs : List Principal) (q : Principal) → is_among q ps ≡ is_among q qs
-    → is_among q (mentioned_with ps xs) ≡ is_among q (mentioned_with qs xs)
-among_with [] ps qs q h = h
-among_with (a ∷ xs) ps qs q h = go (is_mentioning a) refl (λ ps qs. among_with xs ps qs q)
-  where
-    go : (b : Bool) → is_mentioning a ≡ b
-        → ((ps qs : List Principal) → is_among q ps ≡ is_among q qs
-        → is_among q (mentioned_with ps xs) ≡ is_among q (mentioned_with qs xs))
-        → is_among q (mentioned_with ps (a ∷ xs)) ≡ is_among q (mentioned_with qs (a ∷ xs))
-    go true e ih = rw e (ih (insert_key principal_cmp ps (principal_of a))
-        (insert_key principal_cmp qs (principal_of a))
-        (among_insert ps (principal_of a) q ∙ ap (λ v. principal_eq q (principal_of a) || v) h
-        ∙ sym (among_insert qs (principal_of a) q)))
-    go false e ih = rw e (ih ps qs h)
 
 -- what is below one is below those above it
 pub below_all : (p x : Principal) (ps : List Principal) → principal_cmp p x ≡ Less

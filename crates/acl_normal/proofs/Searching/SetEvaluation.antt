@@ -271,6 +271,3 @@ pub unused_denied : (list : List Ace) (set : List Principal) (rights bit : ℕ) 
     → has_bit rights bit ≡ false → is_granted_to list set bit ≡ false
 unused_denied list set rights bit h absent =
     ap (λ c. is_allow (verdict (λ r. is_among r (everyone ∷ set)) c)) (h.unused bit absent)
-
--- rights of both lists are rights of each
-pub ruleset rights_of_each = (rights_of_both, rights_of_second)

@@ -158,8 +158,8 @@ AlikeWith list other p rest bit k = may_overlap p (slice_index_or rest k everyon
 
 -- of two lists, whom each ACE names is known, and no ACE has a right past those of both
 pub record IsCompared (c : Compared) : Type 0 where
-  pub here : AreWhoms (principals c.whole.now) (list_of c.list.now) c.list_whoms.items
-  pub there : AreWhoms (principals c.whole.now) (list_of c.other.now) c.other_whoms.items
+  pub here : AreWhoms (principals c.whole.now) (list_of c.list.now) c.list_whoms.now
+  pub there : AreWhoms (principals c.whole.now) (list_of c.other.now) c.other_whoms.now
   pub here_rights : AreRightsOf (list_of c.list.now) c.rights.bits
   pub there_rights : AreRightsOf (list_of c.other.now) c.rights.bits
 

@@ -1,66 +1,159 @@
-//! The principals that lists mention.
-ghost use Rattle.std.specs.Prelude.{◌≡◌, ◌∷◌, [], ◌+◌, ◌<◌, ◌^◌, IfOk, OnOk, length};
+//! The principals that lists mention, by number: in order, each once.
+ghost use Rattle.std.specs.Prelude.{◌≡◌, ◌++◌, ◌<◌, ◌^◌, IfOk, OnOk, length, option_map, vec_len};
 ghost use Rattle.acl_perm.specs.Order.{principal_name};
 ghost use Rattle.acl_perm.specs.Principal.{principal};
 ghost use Rattle.acl_nfs4.specs.Ace.{ace};
-ghost use Rattle.acl_normal.specs.SmallSets.{AreMentioned, longest, mentioned as in_order};
+ghost use Rattle.acl_normal.specs.SmallSets.{longest, mentioned as in_order};
+ghost use Rattle.acl_normal.specs.internal.FirstPlaces.{AreWhoms};
+ghost use Rattle.acl_normal.specs.internal.MentionedRows.{AreByRow, AreMentionedRows, AreNumbers, mentioned_by, noted, whom_of, with_found};
 ghost use Rattle.acl_normal.specs.internal.Passes.{list_of};
-ghost use Rattle.acl_normal.specs.internal.SetSearch.{IsRising, principals};
+ghost use Rattle.acl_normal.specs.internal.Rows.{AreRowNumbers};
+ghost use Rattle.acl_normal.specs.internal.SetSearch.{principals};
 
+use super::rows::Whom;
 use super::small_set::is_same;
+use crate::rows::numbers::row_numbers;
 use acl_nfs4::AceRef;
 use acl_perm::Principal;
 use std::alloc::{AllocError, Global};
 
-// Adds the principal of an ACE that takes part, unless that is everyone.
-fn mention_one<'a>(names: &mut Vec<Principal<'a>>, item: &AceRef<'a>) -> Result<(), AllocError>
-    ensures { OnOk result (AreMentioned (principals names.old.items)
-        (ace item.now ∷ []) (principals names.new.items)) }
+/// Principals in order, and by row the number of the one that stands there, or of the next where none does.
+#[derive(Drop)]
+struct Numbers<'a> {
+    whole: Vec<Principal<'a>>,
+    by_row: Vec<usize>,
+}
+
+// Whom an ACE mentions: its principal, if it takes part and that isn't everyone.
+fn mentioned_by<'a>(item: &AceRef<'a>) -> Option<Principal<'a>>
+    ensures { option_map principal result ≡ mentioned_by (ace item.now) }
 {
     let p = item.principal();
-    if !item.flags.is_inherit_only() && !is_same(p, Principal::Everyone) {
-        names.push(p)?;
+    if item.flags.is_inherit_only() || is_same(p, Principal::Everyone) {
+        None
+    } else {
+        Some(p)
+    }
+}
+
+// Notes who is found in a row, if anyone is.
+fn note<'a>(table: &mut Vec<Option<Principal<'a>>>, row: usize, found: Option<Principal<'a>>)
+    requires { row < vec_len table.old }
+    ensures { table.new.items ≡ noted table.old.items row found.entry }
+{
+    if let Some(p) = found {
+        table[row] = Some(p);
+    }
+}
+
+// By row, the principals that the ACEs mention.
+#[tactic(auto, using(crate::proofs::Searching::MentionedRows::table_steps))]
+fn by_row<'a>(
+    alloc: Global,
+    aces: &[AceRef<'a>],
+    rows: &[usize],
+) -> Result<Vec<Option<Principal<'a>>>, AllocError>
+    requires { AreRowNumbers (list_of aces.now) rows.now }
+    ensures { IfOk result (λ table. AreByRow (list_of aces.now) (length aces.now) table.items) }
+{
+    let mut table = vec![in alloc; None; aces.len()]?;
+    for place in 0..aces.len() {
+        note(&mut table, rows[place], mentioned_by(&aces[place]));
+    }
+    Ok(table)
+}
+
+// Adds who is found, if anyone is.
+fn add<'a>(whole: &mut Vec<Principal<'a>>, found: Option<Principal<'a>>) -> Result<(), AllocError>
+    ensures { OnOk result (whole.new.items ≡ with_found whole.old.items found.entry) }
+{
+    if let Some(p) = found {
+        whole.push(p)?;
     }
     Ok(())
 }
 
-// Adds the principals that a list mentions, each as often as the list does.
-#[tactic(auto, using(crate::proofs::Searching::MentionedNames::adds_all))]
-fn mention<'a>(names: &mut Vec<Principal<'a>>, list: &[AceRef<'a>]) -> Result<(), AllocError>
-    ensures { OnOk result (AreMentioned (principals names.old.items)
-        (list_of list.now) (principals names.new.items)) }
+// The principals of a table, by number.
+fn numbers_of<'a>(alloc: Global, table: &[Option<Principal<'a>>]) -> Result<Numbers<'a>, AllocError>
+    ensures { IfOk result (λ n. AreNumbers table.now (length table.now)
+        (principals n.whole.items) n.by_row.items) }
 {
-    for item in list {
-        mention_one(names, item)?;
+    let mut whole = Vec::new(alloc);
+    let mut by_row = Vec::with_capacity(alloc, table.len())?;
+    for row in 0..table.len() {
+        by_row.push(whole.len())?;
+        add(&mut whole, table[row])?;
     }
-    Ok(())
+    Ok(Numbers { whole, by_row })
 }
 
-// Puts principals in order, each once.
-fn put_in_order(names: &mut Vec<Principal<'_>>) -> Result<(), AllocError>
-    ensures rising { OnOk result (IsRising (principals names.new.items)) }
-    ensures same { OnOk result (AreMentioned (principals names.old.items)
-        [] (principals names.new.items)) }
+// Whom an ACE names, where that number is its principal's.
+fn whom(item: &AceRef<'_>, number: usize) -> Whom
+    ensures { result ≡ whom_of (ace item.now) number }
 {
-    names.sort()?;
-    names.dedup();
-    Ok(())
+    if item.flags.is_inherit_only() {
+        Whom::Nobody
+    } else if is_same(item.principal(), Principal::Everyone) {
+        Whom::Everyone
+    } else {
+        Whom::One(number)
+    }
 }
 
-/// The principals that two lists mention, in order.
+// Whom each ACE names.
+#[tactic(auto, using(crate::proofs::Searching::MentionedRows::whoms_more))]
+fn whoms(
+    alloc: Global,
+    aces: &[AceRef<'_>],
+    rows: &[usize],
+    numbers: &Numbers<'_>,
+) -> Result<Vec<Whom>, AllocError>
+    requires { AreMentionedRows (list_of aces.now) rows.now
+        (principals numbers.now.whole.items) numbers.now.by_row.items }
+    ensures { IfOk result (λ whoms. AreWhoms (principals numbers.now.whole.items)
+        (list_of aces.now) whoms.items) }
+{
+    let mut whoms = Vec::with_capacity(alloc, aces.len())?;
+    for place in 0..aces.len() {
+        let number = numbers.by_row[rows[place]];
+        whoms.push(whom(&aces[place], number))?;
+    }
+    Ok(whoms)
+}
+
+// The ACEs of both lists.
+fn joined<'a>(
+    alloc: Global,
+    list: &[AceRef<'a>],
+    other: &[AceRef<'a>],
+) -> Result<Vec<AceRef<'a>>, AllocError>
+    ensures { IfOk result (λ aces. aces.items ≡ list.now ++ other.now) }
+{
+    let mut aces = Vec::with_capacity(alloc, list.len() + other.len())?;
+    aces.extend_from_slice(list)?;
+    aces.extend_from_slice(other)?;
+    Ok(aces)
+}
+
+/// The principals that two lists mention, in order, and whom of these each ACE names: of the first list, and then of
+/// the second. One sort puts all ACEs in the order of whom they name.
+#[tactic(auto, using(crate::proofs::Searching::MentionedRows::whole_ready))]
 pub(crate) fn mentioned<'a>(
     alloc: Global,
     list: &[AceRef<'a>],
     other: &[AceRef<'a>],
-) -> Result<Vec<Principal<'a>>, AllocError>
-    ensures { IfOk result (λ v. principals v.items
+) -> Result<(Vec<Principal<'a>>, Vec<Whom>), AllocError>
+    ensures whole { IfOk result (λ m. principals m.0.items
         ≡ in_order (list_of list.now) (list_of other.now)) }
+    ensures whoms { IfOk result (λ m. AreWhoms (principals m.0.items)
+        (list_of list.now ++ list_of other.now) m.1.items) }
 {
-    let mut names = Vec::new(alloc);
-    mention(&mut names, list)?;
-    mention(&mut names, other)?;
-    put_in_order(&mut names)?;
-    Ok(names)
+    let aces = joined(alloc, list, other)?;
+    let sorted = row_numbers(alloc, &aces)?;
+    let table = by_row(alloc, &aces, &sorted.rows)?;
+    let numbers = numbers_of(alloc, &table)?;
+    let whoms = whoms(alloc, &aces, &sorted.rows, &numbers)?;
+    Ok((numbers.whole, whoms))
 }
 
 // The length of a name, and 0 where there is none.

@@ -1,15 +1,11 @@
 //! Where two lists first speak of each principal.
-ghost use Rattle.std.specs.Prelude.{◌≡◌, ◌<◌, ◌≤◌, ◌∷◌, ℕ, IfNone, IfOk, IfSome, false, length, slice_index_or, true, vec_len};
-ghost use Rattle.acl_perm.specs.Bits.{has_bit};
-ghost use Rattle.acl_perm.specs.Principal.{everyone, principal};
+ghost use Rattle.std.specs.Prelude.{◌≡◌, ◌<◌, ◌≤◌, ℕ, IfOk, false, length, slice_index_or, true, vec_len};
 ghost use Rattle.acl_nfs4.specs.Ace.{ace};
 ghost use Rattle.acl_eval.specs.Grant.{is_allow};
-ghost use Rattle.acl_normal.specs.internal.FirstPlaces.{AreFirstFrom, AreRowsOf, AreWhoms, IsCompared, IsWhom, IsWithin, no_ace, put, stops, stops_at};
-ghost use Rattle.acl_normal.specs.SmallSituations.{is_among};
+ghost use Rattle.acl_normal.specs.internal.FirstPlaces.{AreFirstFrom, AreRowsOf, AreWhoms, IsCompared, IsWithin, no_ace, put, stops, stops_at};
 ghost use Rattle.acl_normal.specs.internal.Passes.{list_of};
-ghost use Rattle.acl_normal.specs.internal.SetSearch.{IsRising, principals};
+ghost use Rattle.acl_normal.specs.internal.SetSearch.{principals};
 
-use super::small_set::is_same;
 use acl_nfs4::AceRef;
 use acl_perm::{Mask, Principal, Right};
 use std::alloc::{AllocError, Global};
@@ -38,83 +34,14 @@ pub(crate) enum Whom {
 }
 
 /// Two lists, the principals that they mention in order, whom each ACE names of these, and the rights of all ACEs.
-#[derive(Drop)]
-pub(crate) struct Compared<'a> {
-    pub whole: &'a [Principal<'a>],
-    pub list: &'a [AceRef<'a>],
-    pub other: &'a [AceRef<'a>],
-    pub list_whoms: Vec<Whom>,
-    pub other_whoms: Vec<Whom>,
+#[derive(Clone, Copy)]
+pub(crate) struct Compared<'a, 'b> {
+    pub whole: &'b [Principal<'a>],
+    pub list: &'b [AceRef<'a>],
+    pub other: &'b [AceRef<'a>],
+    pub list_whoms: &'b [Whom],
+    pub other_whoms: &'b [Whom],
     pub rights: Mask,
-}
-
-// Whether the principal has the number.
-fn has_number(whole: &[Principal<'_>], p: Principal<'_>, i: usize) -> bool
-    ensures { result ≡ true → (i < length (principals whole.now))
-        × (principal p.entry ≡ slice_index_or (principals whole.now) i everyone) }
-{
-    i < whole.len() && is_same(p, whole[i])
-}
-
-// The number of a principal. The one that is guessed is tried first, as it costs much less than a search.
-fn number_of(whole: &[Principal<'_>], p: Principal<'_>, guess: usize) -> Option<usize>
-    requires { IsRising (principals whole.now) }
-    ensures found { IfSome result (λ i. (i < length (principals whole.now))
-        × (principal p.entry ≡ slice_index_or (principals whole.now) i everyone)) }
-    ensures missing { IfNone result (is_among (principal p.entry) (principals whole.now) ≡ false) }
-{
-    if has_number(whole, p, guess) {
-        return Some(guess);
-    }
-    match whole.binary_search(&p) {
-        Ok(i) => Some(i),
-        Err(_) => None,
-    }
-}
-
-// Whom an ACE names, where its number may be guessed.
-fn named_by(whole: &[Principal<'_>], item: &AceRef<'_>, guess: usize) -> Whom
-    requires { IsRising (principals whole.now) }
-    ensures { IsWhom (principals whole.now) (ace item.now) result }
-{
-    let p = item.principal();
-    if item.flags.is_inherit_only() {
-        Whom::Nobody
-    } else if is_same(p, Principal::Everyone) {
-        Whom::Everyone
-    } else {
-        match number_of(whole, p, guess) {
-            Some(i) => Whom::One(i),
-            None => Whom::Nobody,
-        }
-    }
-}
-
-// The number that the next ACE is guessed to name: lists often stand in the order of names.
-fn next_guess(whom: Whom, guess: usize) -> usize {
-    match whom {
-        Whom::One(i) => i.wrapping_add(1),
-        _ => guess,
-    }
-}
-
-/// Whom each ACE names.
-pub(crate) fn whoms(
-    alloc: Global,
-    whole: &[Principal<'_>],
-    list: &[AceRef<'_>],
-) -> Result<Vec<Whom>, AllocError>
-    requires { IsRising (principals whole.now) }
-    ensures { IfOk result (λ v. AreWhoms (principals whole.now) (list_of list.now) v.items) }
-{
-    let mut out = Vec::new(alloc);
-    let mut guess = 0;
-    for item in list {
-        let whom = named_by(whole, item, guess);
-        guess = next_guess(whom, guess);
-        out.push(whom)?;
-    }
-    Ok(out)
 }
 
 // Whether the ACE has the right, and is of everyone.
@@ -193,15 +120,15 @@ fn firsts(
     Ok(out)
 }
 
-impl Compared<'_> {
+impl Compared<'_, '_> {
     /// What both lists say first, on a right, of each principal.
     pub(crate) fn rows(&self, alloc: Global, right: Right) -> Result<Vec<Row>, AllocError>
         requires { IsCompared self.now }
         ensures { IfOk result (λ v. AreRowsOf self.now right.bit v.items) }
     {
         let whole = self.whole;
-        let here = firsts(alloc, whole, self.list, &self.list_whoms, right)?;
-        let there = firsts(alloc, whole, self.other, &self.other_whoms, right)?;
+        let here = firsts(alloc, whole, self.list, self.list_whoms, right)?;
+        let there = firsts(alloc, whole, self.other, self.other_whoms, right)?;
         let mut rows = Vec::new(alloc);
         for i in 0..whole.len() {
             rows.push(Row {

@@ -1,6 +1,6 @@
 //! The search for the first small set at which two lists grant otherwise, without going over all pairs.
-ghost use Rattle.std.specs.Prelude.{◌<◌, IfOk, length};
-ghost use Rattle.acl_normal.specs.internal.FirstPlaces.{IsAlikeAlone, IsCompared, IsFirstMember, IsFirstPartner, IsFirstSingle};
+ghost use Rattle.std.specs.Prelude.{◌++◌, ◌<◌, IfOk, length};
+ghost use Rattle.acl_normal.specs.internal.FirstPlaces.{AreWhoms, IsAlikeAlone, IsCompared, IsFirstMember, IsFirstPartner, IsFirstSingle};
 ghost use Rattle.acl_normal.specs.SmallSets.{small_sets};
 ghost use Rattle.acl_normal.specs.internal.CodeSets.{set_or_none};
 ghost use Rattle.acl_normal.specs.internal.Passes.{list_of};
@@ -8,13 +8,13 @@ ghost use Rattle.acl_normal.specs.internal.SetSearch.{Finds, IsRising, principal
 
 use super::evaluation::{grant_alike, rights_of};
 use super::inversions::{first_inverted, first_inverting, first_unlike};
-use super::rows::{Compared, whoms};
+use super::rows::{Compared, Whom};
 use super::small_set::SmallSet;
 use acl_nfs4::AceRef;
 use acl_perm::{Principal, Right};
 use std::alloc::{AllocError, Global};
 
-impl Compared<'_> {
+impl Compared<'_, '_> {
     // The first principal at which alone the lists differ, or the number of principals.
     #[tactic(auto, using(crate::proofs::Searching::RowFacts::least_start))]
     fn least_single(&self, alloc: Global) -> Result<usize, AllocError>
@@ -74,26 +74,30 @@ impl Compared<'_> {
 
 /// The first small set at which the lists differ. The first pair has as its lesser member the least principal of any
 /// pair at which they differ, whether the other comes before or behind it, and the least later one as the other.
-#[tactic(auto, using(crate::proofs::Searching::SetEvaluation::rights_of_each))]
-pub(crate) fn find_set<'a>(
+#[tactic(auto, using(crate::proofs::Searching::MentionedRows::compared_parts))]
+pub(crate) fn find_set<'a, 'b>(
     alloc: Global,
-    list: &[AceRef<'_>],
-    other: &[AceRef<'_>],
-    whole: &[Principal<'a>],
+    list: &'b [AceRef<'a>],
+    other: &'b [AceRef<'a>],
+    whole: &'b [Principal<'a>],
+    whoms: &'b [Whom],
 ) -> Result<Option<SmallSet<'a>>, AllocError>
-    requires { IsRising (principals whole.now) }
+    requires rising { IsRising (principals whole.now) }
+    requires whoms { AreWhoms (principals whole.now)
+        (list_of list.now ++ list_of other.now) whoms.now }
     ensures { IfOk result (λ r. Finds (list_of list.now) (list_of other.now)
         (small_sets (principals whole.now)) (set_or_none r)) }
 {
     if !grant_alike(list, other, SmallSet::Empty) {
         return Ok(Some(SmallSet::Empty));
     }
+    let (list_whoms, other_whoms) = whoms.split_at(list.len());
     let compared = Compared {
         whole,
         list,
         other,
-        list_whoms: whoms(alloc, whole, list)?,
-        other_whoms: whoms(alloc, whole, other)?,
+        list_whoms,
+        other_whoms,
         rights: rights_of(list).union(rights_of(other)),
     };
     let single = compared.least_single(alloc)?;

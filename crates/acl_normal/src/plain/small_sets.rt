@@ -127,7 +127,7 @@ pub fn compare(alloc: Global, first: &Acl, second: &Acl) -> Result<Option<Differ
 {
     let list = collect(alloc, first)?;
     let other = collect(alloc, second)?;
-    let whole = mentioned(alloc, &list, &other)?;
+    let (whole, _) = mentioned(alloc, &list, &other)?;
     let found = first_set(&list, &other, &whole);
     answer(alloc, &list, &other, &whole, found)
 }

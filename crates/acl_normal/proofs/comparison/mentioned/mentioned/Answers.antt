@@ -1,8 +1,7 @@
+use Rattle.acl_normal.proofs.Searching.MentionedRows.{whoms_ready}
 use Rattle.acl_normal.proofs.comparison.mentioned.mentioned.Goals as goal
-use Rattle.acl_normal.proofs.Searching.Ordered.{mentioned_all}
-use Rattle.acl_normal.specs.internal.Passes.{list_of}
 
-pub returns : goal.returns
-returns c = mentioned_all (list_of c.args.list.now) (list_of c.args.other.now) _ _ _ _ c.new-names.ensures.items
-    c.in_ok-mention.ensures c.in_ok-mention-2.ensures c.in_ok-put_in_order.ensures.rising
-    c.in_ok-put_in_order.ensures.same
+pub whoms-requires : goal.whoms-requires
+whoms-requires c = whoms_ready _ _ _ _ _ _ _ _ _ _ c.deref.ensures.value c.deref-2.ensures.value
+    c.deref-5.ensures.value c.deref-6.ensures.value c.deref-4.ensures.value c.in_ok-sorted.ensures.rows
+    c.in_ok-table.ensures c.in_ok-numbers.ensures

@@ -1,7 +1,15 @@
 use Rattle.std.proofs.Common.{arith}
 use Rattle.acl_normal.proofs.comparison.search.find_set.Goals as goal
 use Rattle.acl_normal.proofs.Searching.Assembly.{member_within, none_answer, pair_answer, partner_within, single_answer}
+use Rattle.acl_normal.proofs.Searching.MentionedRows.{whoms_cover}
 use Rattle.acl_normal.specs.internal.Passes.{list_of}
+use Rattle.acl_normal.specs.internal.SetSearch.{principals}
+
+pub split_at-requires : goal.split_at-requires
+split_at-requires c = omega (
+  arith,
+  whoms_cover (principals c.args.whole.now) c.args.list.now c.args.other.now c.args.whoms.now c.requires.whoms,
+)
 
 pub returns-then-single-whole : goal.returns-then-single-whole
 returns-then-single-whole c = single_answer _ _ c.args.whole.now _ _ c.if-not-grant_alike.ensures.alike
