@@ -16,12 +16,6 @@ loop-right-init c = (
   omega arith,
 )
 
-pub next_right-requires : goal.next_right-requires
-next_right-requires c = c.loop-right.invariant.2
-
-pub loop-right-smaller : goal.loop-right-smaller
-loop-right-smaller c = omega (arith, c.in-Some.ensures.some.above, c.in-Some.right.within)
-
 pub loop-right-preserved : goal.loop-right-preserved
 loop-right-preserved c =
     let at = plain_key c.args.at in

@@ -8,15 +8,9 @@ use Rattle.acl_normal.proofs.rows.cells.put_rights.Goals as goal
 pub loop-right-init : goal.loop-right-init
 loop-right-init c = (put_start c.args.rights c.args.place c.args.cells.now, omega arith)
 
-pub next_right-requires : goal.next_right-requires
-next_right-requires c = c.loop-right.invariant.1
-
 pub put-requires-clause-right : goal.put-requires-clause-right
 put-requires-clause-right c =
     right_cell c.in-Some.right.bit (c.requires.rights c.in-Some.right.bit c.in-Some.ensures.some.has)
-
-pub loop-right-smaller : goal.loop-right-smaller
-loop-right-smaller c = omega (arith, c.in-Some.ensures.some.above, c.in-Some.right.within)
 
 pub loop-right-preserved : goal.loop-right-preserved
 loop-right-preserved c =

@@ -9,12 +9,6 @@ pub loop-right-init : goal.loop-right-init
 loop-right-init c =
     (notes_start c.args.place c.args.kind (is_users c.args.class) c.args.mask c.args.lists.now.items, omega arith)
 
-pub next_right-requires : goal.next_right-requires
-next_right-requires c = c.loop-right.invariant.1
-
-pub loop-right-smaller : goal.loop-right-smaller
-loop-right-smaller c = omega (arith, c.in-Some.ensures.some.above, c.in-Some.right.within)
-
 pub loop-right-preserved : goal.loop-right-preserved
 loop-right-preserved c =
     let lists = c.loop-right.lists in

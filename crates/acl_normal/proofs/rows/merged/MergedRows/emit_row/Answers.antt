@@ -13,18 +13,12 @@ use Rattle.acl_normal.proofs.rows.merged.MergedRows.emit_row.Goals as goal
 pub loop-right-init : goal.loop-right-init
 loop-right-init c = (sym (take_zero (principal c.args.p) c.args.self.now), omega arith)
 
-pub next_right-requires : goal.next_right-requires
-next_right-requires c = c.loop-right.invariant.1
-
 pub emit_bit-requires : goal.emit_bit-requires
 emit_bit-requires c =
     is_row_alike c.args.row (principal c.args.p) c.args.self.now c.loop-right.self
     (sym (ap nothing_left c.loop-right.invariant.0
     ∙ outline_taken (principal c.args.p) (low_bits c.args.mask.bits c.loop-right.from) c.args.self.now))
     c.requires
-
-pub loop-right-smaller : goal.loop-right-smaller
-loop-right-smaller c = omega (arith, c.in-Some.ensures.some.above, c.in-Some.right.within)
 
 pub loop-right-preserved : goal.loop-right-preserved
 loop-right-preserved c =

@@ -7,16 +7,10 @@ use Rattle.acl_normal.proofs.rows.merged.MergedRows.is_free.Goals as goal
 pub loop-right-init : goal.loop-right-init
 loop-right-init c = (none_free_yet c.args.self.now (principal c.args.p) c.args.bits.bits, omega arith)
 
-pub next_right-requires : goal.next_right-requires
-next_right-requires c = c.loop-right.invariant.1
-
 pub returns-then-is_free_at : goal.returns-then-is_free_at
 returns-then-is_free_at c =
     free_there c.args.self.now (principal c.args.p) c.args.bits.bits c.in-Some.right.bit c.in-Some.ensures.some.has
     (sym c.is_free_at.ensures ∙ c.if-is_free_at.true)
-
-pub loop-right-smaller : goal.loop-right-smaller
-loop-right-smaller c = omega (arith, c.in-Some.ensures.some.above, c.in-Some.right.within)
 
 pub loop-right-preserved : goal.loop-right-preserved
 loop-right-preserved c =
