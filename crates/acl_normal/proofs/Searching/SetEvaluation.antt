@@ -1,9 +1,10 @@
 -- What a list grants to a small set of principals, as the code finds it: for all rights at once.
 use Rattle.std.specs.Prelude.{◌==◌, ◌≡◌, ◌≢◌, ◌↔◌, ℕ, ◌<◌, ◌≤◌, ◌+◌, ◌^◌, Bool, true, false, not, ◌&&◌, ◌||◌, cond, IsTrue, List, ◌∷◌, refl, drop, length, slice_index_or}
+use Rattle.std.specs.Bool.{OnFalse}
 use Rattle.std.specs.Int.{bit_at, trailing_zeros, w32}
 use Rattle.std.proofs.Common.{sym, ◌∙◌, ap, subst, arith}
 use Rattle.std.proofs.lemmas.Nat.Bits.{bit_at-trailing_zeros}
-use Rattle.std.proofs.lemmas.Bool.{false≢true, false_from_ne_true, ne_eqb, or_parts}
+use Rattle.std.proofs.lemmas.Bool.{eq-eqb, false≢true, false_from_ne_true, ne_eqb, or_parts}
 use Rattle.std.proofs.lemmas.List.{at_drop_more, drop_all}
 use Rattle.acl_eval.specs.Column.{column, takes_part, verdict}
 use Rattle.acl_eval.specs.Grant.{is_allow}
@@ -161,14 +162,18 @@ both_ways true false = refl
 both_ways false true = refl
 both_ways false false = refl
 
+-- what one mask has and the other doesn't, either way round
+pub unlike_is : (m n less more result : ℕ) → IsDifference m n less → IsDifference n m more → IsUnion less more result
+    → (bit : ℕ) → has_bit result bit ≡ differ (has_bit m bit) (has_bit n bit)
+unlike_is m n less more result d e u bit =
+    u bit ∙ rw (d bit, e bit) (both_ways (has_bit m bit) (has_bit n bit))
+
 -- what one list grants and the other doesn't is what they differ on
-pub differing_are : (list other : List Ace) (set : List Principal) (m n less more result : ℕ)
-    → AreGranted list set m → AreGranted other set n → IsDifference m n less → IsDifference n m more
-    → IsUnion less more result → AreDiffering list other set result
-differing_are list other set m n less more result h i d e u = record {
-  bits = λ bit.
-      u bit ∙ rw (d bit, e bit, h.bits bit, i.bits bit)
-      (both_ways (is_granted_to list set bit) (is_granted_to other set bit));
+pub differing_are : (list other : List Ace) (set : List Principal) (m n result : ℕ)
+    → AreGranted list set m → AreGranted other set n
+    → ((bit : ℕ) → has_bit result bit ≡ differ (has_bit m bit) (has_bit n bit)) → AreDiffering list other set result
+differing_are list other set m n result h i is = record {
+  bits = λ bit. is bit ∙ rw (h.bits bit, i.bits bit) refl;
 }
 
 -- no right differs exactly if the lists grant alike
@@ -185,6 +190,15 @@ none_differ list other set rights within h = (
         let same = alike bit (bits_from_mask rights bit within has) in
         false≢true (sym (differ_itself (is_granted_to other set bit))
         ∙ ap (λ v. differ v (is_granted_to other set bit)) (sym same) ∙ sym (h.bits bit) ∙ has)
+
+-- the same of the test for zero
+pub tells_unlike : (list other : List Ace) (set : List Principal) (rights : ℕ) → IsMask rights
+    → AreDiffering list other set rights → OnFalse (rights == 0) (GrantAlikeTo list other set → ⊥)
+tells_unlike list other set rights within h = go (rights == 0) refl
+  where
+    go : (t : Bool) → (rights == 0) ≡ t → OnFalse t (GrantAlikeTo list other set → ⊥)
+    go true e = tt
+    go false e = λ alike. false≢true (sym e ∙ eq-eqb rights 0 ((none_differ list other set rights within h).1 alike))
 
 -- the number of zeros at the end of a set that isn't empty is its lowest bit
 pub lowest_is : (rights : ℕ) → rights ≢ 0 → IsMask rights → IsLowest rights (trailing_zeros w32 rights)

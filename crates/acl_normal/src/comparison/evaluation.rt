@@ -1,11 +1,12 @@
 //! What a list grants where just the principals of a set match, and everyone: all rights at once.
-ghost use Rattle.std.specs.Prelude.{◌≡◌, ◌≢◌, ◌↔◌, ◌^◌};
+ghost use Rattle.std.specs.Prelude.{◌≡◌, ◌≢◌, ◌^◌, ℕ};
 ghost use Rattle.std.specs.Bool.{OnFalse, OnTrue};
 ghost use Rattle.std.specs.Int.{trailing_zeros, w32};
 ghost use Rattle.acl_nfs4.specs.Ace.{ace};
+ghost use Rattle.acl_perm.specs.Bits.{has_bit};
 ghost use Rattle.acl_normal.specs.internal.CodeSets.{set_of};
 ghost use Rattle.acl_normal.specs.internal.Passes.{list_of};
-ghost use Rattle.acl_normal.specs.internal.SetSearch.{AreDiffering, AreGranted, AreRightsOf, GrantAlikeTo, HasBitsOf, IsLowest};
+ghost use Rattle.acl_normal.specs.internal.SetSearch.{AreGranted, AreRightsOf, GrantAlikeTo, HasBitsOf, IsLowest, differ};
 
 use super::small_set::SmallSet;
 use acl_nfs4::AceRef;
@@ -39,15 +40,10 @@ pub(crate) fn granted(list: &[AceRef<'_>], set: SmallSet<'_>) -> Mask
     granted
 }
 
-/// The rights on which the lists differ there.
-pub(crate) fn differing(list: &[AceRef<'_>], other: &[AceRef<'_>], set: SmallSet<'_>) -> Mask
-    ensures rights { AreDiffering (list_of list.now) (list_of other.now)
-        (set_of set.entry) result.bits }
-    ensures none { result.bits ≡ 0
-        ↔ GrantAlikeTo (list_of list.now) (list_of other.now) (set_of set.entry) }
+/// The rights that just one of two masks has.
+pub(crate) fn unlike(here: Mask, there: Mask) -> Mask
+    ensures { (bit : ℕ) → has_bit result.bits bit ≡ differ (has_bit here.bits bit) (has_bit there.bits bit) }
 {
-    let here = granted(list, set);
-    let there = granted(other, set);
     here.difference(there).union(there.difference(here))
 }
 
@@ -58,7 +54,7 @@ pub(crate) fn grant_alike(list: &[AceRef<'_>], other: &[AceRef<'_>], set: SmallS
     ensures differ { OnFalse result
         (GrantAlikeTo (list_of list.now) (list_of other.now) (set_of set.entry) → ⊥) }
 {
-    differing(list, other, set).bits() == 0
+    unlike(granted(list, set), granted(other, set)).bits() == 0
 }
 
 // The lowest bit of a number that has one.

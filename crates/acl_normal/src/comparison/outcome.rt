@@ -11,7 +11,7 @@ ghost use Rattle.acl_normal.specs.internal.Passes.{list_of};
 ghost use Rattle.acl_normal.specs.internal.SetSearch.{Finds, GrantAlikeTo, IsLowestDifference, principals};
 
 use super::Difference;
-use super::evaluation::{differing, granted, lowest};
+use super::evaluation::{granted, lowest, unlike};
 use super::mentioned::longest_of;
 use super::situation::{groups_in, owner_in, owning_group_in, user_in};
 use super::small_set::SmallSet;
@@ -32,14 +32,15 @@ fn difference_at(
     ensures bit { IfOk result (λ d. IsLowestDifference (list_of list.now) (list_of other.now)
         (set_of set.entry) d.bit.bits d.first_grants) }
 {
-    let bit = lowest(differing(list, other, set));
+    let here = granted(list, set);
+    let bit = lowest(unlike(here, granted(other, set)));
     Ok(Difference {
         owner: owner_in(alloc, set, n)?,
         group: owning_group_in(alloc, set, n)?,
         user: user_in(alloc, set, n)?,
         groups: groups_in(alloc, set, n)?,
         bit,
-        first_grants: granted(list, set).contains(bit),
+        first_grants: here.contains(bit),
     })
 }
 
