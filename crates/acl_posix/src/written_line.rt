@@ -70,6 +70,7 @@ pub(crate) fn written_line(text: &[u8]) -> Option<WrittenLine<'_>>
     Some(WrittenLine { part, entry, rest })
 }
 
+#[inline(always)]
 fn entry_before(bytes: &[u8]) -> Option<EntryBefore<'_>>
     ensures { IfSome result (λ line.
         IsEntryBefore bytes.now (pair_of line.entry) line.rest.now) }
@@ -94,6 +95,7 @@ fn behind<'a>(bytes: &'a [u8], beginning: &[u8]) -> Option<&'a [u8]>
     bytes.strip_prefix(beginning)
 }
 
+#[inline(always)]
 fn fields_before(bytes: &[u8]) -> Option<FieldsBefore<'_>>
     ensures { IfSome result (λ fields.
         AreFieldsBefore bytes.now fields.id.value fields.perm.bits fields.rest.now) }
