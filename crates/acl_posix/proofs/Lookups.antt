@@ -198,6 +198,18 @@ perm_found E l i es e same at =
     find_at E l i (pair_of e) at ∙ ap (λ (ps : List (Tag × ℕ)). Some (get_or ps i (pair_of e)).1) (sym same)
     ∙ ap (λ (p : Tag × ℕ). Some p.1) (get_or-map pair_of es i e (pair_of e) (place_within E l i es same at))
 
+-- what the entry at some place has is what its tag has
+pub entry_found : (E : Entries) (l : Tag) (i : ℕ) (es : List Entry) (e : Entry) → pairs es ≡ fin.entries E
+    → i < length es → e ≡ get_or es i e → tag_of e.tag ≡ l → fin.get E l ≡ Some e.perm.bits
+entry_found E l i es e same lt at is =
+    let len = length-tags es in
+    let keys : tags (pairs es) ≡ fin.keys E = ap (λ (ps : List (Tag × ℕ)). tags ps) same in
+    let place : IsAt (tags (pairs es)) l i = record {
+      in_range = omega (arith, len);
+      has = tag_read es i e l lt ∙ ap (λ (x : Entry). tag_of x.tag) (sym at) ∙ is;
+    } in
+    perm_found E l i es e same (subst (λ ls. IsAt ls l i) keys place) ∙ ap (λ (x : Entry). Some x.perm.bits) (sym at)
+
 -- a tag with a place has an entry
 pub present_at : (E : Entries) (l : Tag) (i : ℕ) → IsAt (fin.keys E) l i → IsSome (fin.get E l)
 present_at E l i at = ap is_some (find_at E l i (l, 0) at)

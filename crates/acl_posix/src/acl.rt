@@ -133,7 +133,7 @@ impl PosixAcl {
     }
 
     /// The permissions of an entry that MASK leaves: of a USER, GROUP_OBJ or GROUP entry those that MASK has too, where
-    /// there is one, and of any other entry all. No memory; logarithmic time.
+    /// there is one, and of any other entry all. No memory; constant time.
     pub fn effective(&self, entry: Entry) -> Perm
         ensures { result.bits ≡ effective_of self.now (pair_of entry) }
     {
@@ -144,6 +144,13 @@ impl PosixAcl {
     pub(crate) fn mask(&self) -> Option<Perm>
         ensures { option_map (λ perm. perm.bits) result ≡ set.get self.now mask }
     {
+        let entries = self.entries.as_slice();
+        // Where there is one, it stands before the last, which is OTHER.
+        if let Some(entry) = entries.get(entries.len().saturating_sub(2)) {
+            if let Tag::Mask = entry.tag {
+                return Some(entry.perm);
+            }
+        }
         self.entries.get(Tag::Mask)
     }
 
