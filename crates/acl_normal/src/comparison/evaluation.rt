@@ -42,7 +42,8 @@ pub(crate) fn granted(list: &[AceRef<'_>], set: SmallSet<'_>) -> Mask
 
 /// The rights that just one of two masks has.
 pub(crate) fn unlike(here: Mask, there: Mask) -> Mask
-    ensures { (bit : ℕ) → has_bit result.bits bit ≡ differ (has_bit here.bits bit) (has_bit there.bits bit) }
+    ensures { (bit : ℕ) → has_bit result.bits bit
+        ≡ differ (has_bit here.bits bit) (has_bit there.bits bit) }
 {
     here.difference(there).union(there.difference(here))
 }
