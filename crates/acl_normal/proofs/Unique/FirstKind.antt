@@ -69,28 +69,26 @@ first_within m n c k s h w =
 abbrev pub IsClique : (Principal → Bool) → Type 0
 IsClique m = (p q : Principal) → m p ≡ true → m q ≡ true → may_overlap p q ≡ true
 
+-- what is found in a column is not missed in an alike one
+not_missed : (m : Principal → Bool) (c d : Column) (k : Kind) → IsAlike c d → first_kind m c ≡ Some k
+    → first_kind m d ≡ None → ⊥
+not_missed m c d k a h i =
+    let s = splits_at m c k h in
+    let p : Principal = s.principal in
+    let w : IsWithin (is_either p p) m = either_within m p p s.passes s.passes in
+    let found = first_within m (is_either p p) c k s (either_first p p) w in
+    let missed = none_within m (is_either p p) d i w in
+    let both = a p p (overlaps_itself p) in
+    cc
+
 -- alike columns have the same first key among principals that all overlap
 pub alike_agree : (m : Principal → Bool) (c d : Column) → IsClique m → IsAlike c d → first_kind m c ≡ first_kind m d
 alike_agree m c d q a = go (first_kind m c) (first_kind m d) refl refl
   where
     go : (x y : Option Kind) → first_kind m c ≡ x → first_kind m d ≡ y → first_kind m c ≡ first_kind m d
     go None None h i = h ∙ sym i
-    go (Some j) None h i =
-        let s = splits_at m c j h in
-        let p : Principal = s.principal in
-        let w : IsWithin (is_either p p) m = either_within m p p s.passes s.passes in
-        let found = first_within m (is_either p p) c j s (either_first p p) w in
-        let missed = none_within m (is_either p p) d i w in
-        let both = a p p (overlaps_itself p) in
-        cc
-    go None (Some k) h i =
-        let s = splits_at m d k i in
-        let p : Principal = s.principal in
-        let w : IsWithin (is_either p p) m = either_within m p p s.passes s.passes in
-        let found = first_within m (is_either p p) d k s (either_first p p) w in
-        let missed = none_within m (is_either p p) c h w in
-        let both = a p p (overlaps_itself p) in
-        cc
+    go (Some j) None h i = absurd (not_missed m c d j a h i)
+    go None (Some k) h i = absurd (not_missed m d c k (λ p q o. sym (a p q o)) i h)
     go (Some j) (Some k) h i =
         let s = splits_at m c j h in
         let t = splits_at m d k i in

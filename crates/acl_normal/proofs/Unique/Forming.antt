@@ -29,7 +29,8 @@ use Rattle.acl_normal.proofs.Emission.Drained.{some_below}
 use Rattle.acl_normal.proofs.Emission.Leaving.{masks_of_quiet}
 use Rattle.acl_normal.proofs.Unique.ListColumns.{column-append, no_other_bits}
 use Rattle.acl_normal.proofs.Reduction.Reducing.{below, only_one}
-use Rattle.acl_normal.proofs.Unique.Unique.{who_is, who_of, column_with}
+use Rattle.acl_normal.specs.internal.Ready.{who_for}
+use Rattle.acl_normal.proofs.Unique.Unique.{who_is, column_with}
 
 -- the ACE of a list that is a key of a column
 pub record IsSource (b : ℕ) (xs : List Ace) (e : Key) : Type 0 where
@@ -137,7 +138,7 @@ own_source source xs l a r t is = elim (some_below a.mask 21) [
     clash h = cc
 
 same_who : (a s : Ace) → ace_key s ≡ ace_key a → a.who ≡ s.who
-same_who a s e = sym (who_is a) ∙ ap (λ k. who_of k.0) (sym e) ∙ who_is s
+same_who a s e = sym (who_is a) ∙ ap (λ k. who_for k.0) (sym e) ∙ who_is s
 
 -- a set of bits that are bits of another is within it
 within_from : (set n : ℕ) → ((b : ℕ) → has_bit n b ≡ true → has_bit set b ≡ true) → IsWithin set n

@@ -32,27 +32,26 @@ one_of_names a (x ∷ names) h i =
     ⊎_elim (λ e. subst (λ v. IsName v) (sym (bytes_eq_same a x e)) h.0) (λ e. one_of_names a names h.1 e)
     (or_cases (bytes_eq a x) (is_one_of a names) i)
 
+-- what can't lack being a name is one
+name_unless : (a : List ℕ) → ((IsName a → ⊥) → ⊥) → IsName a
+name_unless a h = go (nat_lt 0 (length a) && are_bytes a) refl
+  where
+    go : (b : Bool) → (nat_lt 0 (length a) && are_bytes a) ≡ b → IsName a
+    go true e = (Decides-is_name a).0 e
+    go false e = absurd (h (not_from_Decides _ (Decides-is_name a) e))
+
 -- a key of an irreducible column has a name, since no situation has another
 key_named : (c l r : Column) (p : Principal) (k : Kind) → IsIrreducible c → c ≡ l ++ (p, k) ∷ r → HasName p
 key_named c l r owner k irr is = tt
 key_named c l r group k irr is = tt
 key_named c l r everyone k irr is = tt
-key_named c l r (user a) k irr is = go (nat_lt 0 (length a) && are_bytes a) refl
-  where
-    go : (b : Bool) → (nat_lt 0 (length a) && are_bytes a) ≡ b → IsName a
-    go true e = (Decides-is_name a).0 e
-    go false e =
-        absurd (not_needless c l r (user a) k irr is
-        (λ s valid none at. absurd (not_from_Decides _ (Decides-is_name a) e
-        (subst (λ v. IsName v) (bytes_eq_same s.user_name a at) valid.user_name))))
-key_named c l r (group_named a) k irr is = go (nat_lt 0 (length a) && are_bytes a) refl
-  where
-    go : (b : Bool) → (nat_lt 0 (length a) && are_bytes a) ≡ b → IsName a
-    go true e = (Decides-is_name a).0 e
-    go false e =
-        absurd (not_needless c l r (group_named a) k irr is
-        (λ s valid none at. absurd (not_from_Decides _ (Decides-is_name a) e
-        (one_of_names a s.groups (recursion_from_All IsName s.groups valid.groups) at))))
+key_named c l r (user a) k irr is =
+    name_unless a (λ e. not_needless c l r (user a) k irr is
+    (λ s valid none at. absurd (e (subst (λ v. IsName v) (bytes_eq_same s.user_name a at) valid.user_name))))
+key_named c l r (group_named a) k irr is =
+    name_unless a (λ e. not_needless c l r (group_named a) k irr is
+    (λ s valid none at. absurd (e
+    (one_of_names a s.groups (recursion_from_All IsName s.groups valid.groups) at))))
 
 named_after : (c l d : Column) → IsIrreducible c → c ≡ l ++ d → HaveNames d
 named_after c l [] irr is = tt

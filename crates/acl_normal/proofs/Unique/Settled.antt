@@ -194,45 +194,49 @@ witness_first c Deny p q s w =
     rest true b h = refl
     rest false b h = h
 
+place_after : (c : Column) (d : Kind) (l : Column) (p : Principal) (k : Kind) (r : Column) → Place c d l p k r
+    → first_kind (is_either p p) r ≡ None
+place_after c d l p k r h = once_after l p k r (subst (λ v. IsOnce v) h.is h.once)
+
+-- among its principal, another that is not before it and everyone, the key is the first, and without it what is after it
+found_first : (c : Column) (d : Kind) (l : Column) (p : Principal) (k : Kind) (r : Column) → Place c d l p k r
+    → (q : Principal) → first_kind (is_either q q) l ≡ None
+    → (first_kind (is_either_or_everyone p q) c ≡ Some k)
+    × (first_kind (is_either_or_everyone p q) (l ++ r) ≡ first_kind (is_either q everyone) r)
+found_first c d l p k r h q q_lack =
+    let front : first_kind (is_either_or_everyone p q) l ≡ None =
+    among_both p q l (place_before c d l p k r h) ∙ alone q everyone l q_lack ∙ place_no_everyone c d l p k r h in (
+      ap (first_kind (is_either_or_everyone p q)) h.is ∙ stop_at (is_either_or_everyone p q) l r p k front
+          (or_everyone_first p q),
+      append_none (is_either_or_everyone p q) l r front ∙ among_both p q r (place_after c d l p k r h),
+    )
+
 -- at a key of the other kind than the default the column without it decides otherwise
 other_kind_needed : (c : Column) (d : Kind) (l : Column) (p : Principal) (k : Kind) (r : Column) → Place c d l p k r
     → verdict (is_either_or_everyone p p) c ≡ verdict (is_either_or_everyone p p) (l ++ r) → k ≡ d
 other_kind_needed c d l p k r h same =
-    let lack = place_before c d l p k r h in
     let none_all = place_no_everyone c d l p k r h in
-    let after = once_after l p k r (subst (λ v. IsOnce v) h.is h.once) in
-    let front : first_kind (is_either_or_everyone p p) l ≡ None =
-    among_both p p l lack ∙ alone p everyone l lack ∙ none_all in
-    let mine =
-    ap (first_kind (is_either_or_everyone p p)) h.is ∙ stop_at (is_either_or_everyone p p) l r p k front
-    (or_everyone_first p p) in
+    let found = found_first c d l p k r h p (place_before c d l p k r h) in
     let skip : is_either everyone everyone p ≡ false = or_from _ _ h.not_everyone h.not_everyone in
-    let rest = append_none (is_either_or_everyone p p) l r front ∙ among_both p p r after ∙ alone p everyone r after in
+    let rest = found.1 ∙ alone p everyone r (place_after c d l p k r h) in
     let whole =
     ap (first_kind (is_either everyone everyone)) h.is ∙ skip_to (is_either everyone everyone) l r p k none_all
     skip in
-    ap (λ o. unwrap_or o Deny) (sym mine) ∙ same ∙ ap (λ o. unwrap_or o Deny) (rest ∙ sym whole)
+    ap (λ o. unwrap_or o Deny) (sym found.0) ∙ same ∙ ap (λ o. unwrap_or o Deny) (rest ∙ sym whole)
     ∙ settled_default c d h.settled
 
 default_kind_needed : (c : Column) (d : Kind) (l : Column) (p : Principal) (r : Column) → Place c d l p d r
     → (q : Principal) → IsWitness c d p q
     → verdict (is_either_or_everyone p q) c ≡ verdict (is_either_or_everyone p q) (l ++ r) → ⊥
 default_kind_needed c d l p r h q w same =
-    let lack = place_before c d l p d r h in
     let none_all = place_no_everyone c d l p d r h in
-    let after = once_after l p d r (subst (λ v. IsOnce v) h.is h.once) in
-    let front : first_kind (is_either_or_everyone p q) l ≡ None =
-    among_both p q l lack ∙ alone q everyone l q_lack ∙ none_all in
-    let mine =
-    ap (first_kind (is_either_or_everyone p q)) h.is ∙ stop_at (is_either_or_everyone p q) l r p d front
-    (or_everyone_first p q) in
+    let found = found_first c d l p d r h q q_lack in
     let skip : is_either q everyone p ≡ false = or_from _ _ apart h.not_everyone in
-    let rest = append_none (is_either_or_everyone p q) l r front ∙ among_both p q r after in
     let whole =
     ap (first_kind (is_either q everyone)) h.is
     ∙ skip_to (is_either q everyone) l r p d (alone q everyone l q_lack ∙ none_all) skip in
-    kinds_clash d (sym (ap (λ o. unwrap_or o Deny) (sym mine) ∙ same
-    ∙ ap (λ o. unwrap_or o Deny) (rest ∙ sym whole ∙ witness_first c d p q h.settled w)))
+    kinds_clash d (sym (ap (λ o. unwrap_or o Deny) (sym found.0) ∙ same
+    ∙ ap (λ o. unwrap_or o Deny) (found.1 ∙ sym whole ∙ witness_first c d p q h.settled w)))
   where
     q_lack : first_kind (is_either q q) l ≡ None
     q_lack = go (first_kind (is_either q q) l) refl

@@ -40,6 +40,18 @@ only_split : (P : Principal → Type 0) (m : Principal → Bool) (c : Column) (k
     → HasOnly P c → P s.principal
 only_split P m c k s h = only_at P s.before s.after s.principal k (subst (λ v. HasOnly P v) s.is h)
 
+-- where one of them has a key that passes and the other has none, its own principal is such a pair
+one_found : (P : Principal → Type 0) (m : Principal → Bool) (c d : Column) (k : Kind) → m everyone ≡ true
+    → HasOnly P c → AgreeWhere P c d → first_kind m c ≡ Some k → first_kind m d ≡ None → verdict m c ≡ verdict m d
+one_found P m c d k e oc a h i =
+    let s = splits_at m c k h in
+    let p : Principal = s.principal in
+    let w : IsWithin (is_either_or_everyone p p) m = either_or_everyone_within m p p s.passes s.passes e in
+    let found = first_within m (is_either_or_everyone p p) c k s (or_everyone_first p p) w in
+    let missed = none_within m (is_either_or_everyone p p) d i w in
+    let both = a p p (only_split P m c k s oc) (only_split P m c k s oc) (overlaps_itself p) in
+    grind arith
+
 -- columns that agree at their own pairs agree at every clique with everyone
 own_pairs_agree : (P : Principal → Type 0) (m : Principal → Bool) (c d : Column) → IsClique m → m everyone ≡ true
     → HasOnly P c → HasOnly P d → AgreeWhere P c d → verdict m c ≡ verdict m d
@@ -47,22 +59,8 @@ own_pairs_agree P m c d q e oc od a = go (first_kind m c) (first_kind m d) refl 
   where
     go : (x y : Option Kind) → first_kind m c ≡ x → first_kind m d ≡ y → verdict m c ≡ verdict m d
     go None None h i = grind arith
-    go (Some j) None h i =
-        let s = splits_at m c j h in
-        let p : Principal = s.principal in
-        let w : IsWithin (is_either_or_everyone p p) m = either_or_everyone_within m p p s.passes s.passes e in
-        let found = first_within m (is_either_or_everyone p p) c j s (or_everyone_first p p) w in
-        let missed = none_within m (is_either_or_everyone p p) d i w in
-        let both = a p p (only_split P m c j s oc) (only_split P m c j s oc) (overlaps_itself p) in
-        grind arith
-    go None (Some k) h i =
-        let s = splits_at m d k i in
-        let p : Principal = s.principal in
-        let w : IsWithin (is_either_or_everyone p p) m = either_or_everyone_within m p p s.passes s.passes e in
-        let found = first_within m (is_either_or_everyone p p) d k s (or_everyone_first p p) w in
-        let missed = none_within m (is_either_or_everyone p p) c h w in
-        let both = a p p (only_split P m d k s od) (only_split P m d k s od) (overlaps_itself p) in
-        grind arith
+    go (Some j) None h i = one_found P m c d j e oc a h i
+    go None (Some k) h i = sym (one_found P m d c k e od (λ p r hp hr o. sym (a p r hp hr o)) i h)
     go (Some j) (Some k) h i =
         let s = splits_at m c j h in
         let t = splits_at m d k i in
@@ -130,6 +128,16 @@ covers P p q n hp hq sp sq o = go (principal_eq p everyone) refl (principal_eq q
         first : (r : Principal) → is_among r (x ∷ []) ≡ true → is_among r (x ∷ x ∷ []) ≡ true
         first r h = ⊎_elim (λ e. or_left _ _ e) (λ e. absurd (false≢true e)) (or_cases (principal_eq r x) false h)
 
+    covers_alone : (x : Principal) → P x → length (principal_name x) < n → principal_eq x everyone ≡ false
+        → ((r : Principal) → is_among r (everyone ∷ x ∷ []) ≡ is_either_or_everyone p q r) → Covers P p q n
+    covers_alone x hx sx e same = record {
+      set = x ∷ [];
+      small = one x hx e;
+      short = (sx, tt);
+      one_user = alone x;
+      same = same;
+    }
+
     go : (b : Bool) → principal_eq p everyone ≡ b → (t : Bool) → principal_eq q everyone ≡ t → (w : Ordering)
         → principal_cmp p q ≡ w → Covers P p q n
     go true e true f w g = record {
@@ -142,24 +150,12 @@ covers P p q n hp hq sp sq o = go (principal_eq p everyone) refl (principal_eq q
           (subst (λ v. is_among r (everyone ∷ []) ≡ is_either_or_everyone everyone v r)
           (sym (principal_eq_same q everyone f)) (h1 (principal_eq r everyone)));
     }
-    go true e false f w g = record {
-      set = q ∷ [];
-      small = one q hq f;
-      short = (sq, tt);
-      one_user = alone q;
-      same =
-          λ r. subst (λ v. is_among r (everyone ∷ q ∷ []) ≡ is_either_or_everyone v q r)
-          (sym (principal_eq_same p everyone e)) (h2 (principal_eq r everyone) (principal_eq r q));
-    }
-    go false e true f w g = record {
-      set = p ∷ [];
-      small = one p hp e;
-      short = (sp, tt);
-      one_user = alone p;
-      same =
-          λ r. subst (λ v. is_among r (everyone ∷ p ∷ []) ≡ is_either_or_everyone p v r)
-          (sym (principal_eq_same q everyone f)) (h3 (principal_eq r everyone) (principal_eq r p));
-    }
+    go true e false f w g =
+        covers_alone q hq sq f (λ r. subst (λ v. is_among r (everyone ∷ q ∷ []) ≡ is_either_or_everyone v q r)
+        (sym (principal_eq_same p everyone e)) (h2 (principal_eq r everyone) (principal_eq r q)))
+    go false e true f w g =
+        covers_alone p hp sp e (λ r. subst (λ v. is_among r (everyone ∷ p ∷ []) ≡ is_either_or_everyone p v r)
+        (sym (principal_eq_same q everyone f)) (h3 (principal_eq r everyone) (principal_eq r p)))
     go false e false f Less g = record {
       set = p ∷ q ∷ [];
       small = two p q hp hq e f o g;
@@ -167,25 +163,15 @@ covers P p q n hp hq sp sq o = go (principal_eq p everyone) refl (principal_eq q
       one_user = one_user p q o;
       same = λ r. reorder (principal_eq r p) (principal_eq r q) (principal_eq r everyone);
     }
-    go false e false f Equal g = record {
-      set = p ∷ [];
-      small = one p hp e;
-      short = (sp, tt);
-      one_user = alone p;
-      same =
-          λ r. subst (λ v. is_among r (everyone ∷ p ∷ []) ≡ is_either_or_everyone p v r) (principal_exact p q g)
-          (h4 (principal_eq r everyone) (principal_eq r p));
-    }
+    go false e false f Equal g =
+        covers_alone p hp sp e (λ r. subst (λ v. is_among r (everyone ∷ p ∷ []) ≡ is_either_or_everyone p v r)
+        (principal_exact p q g) (h4 (principal_eq r everyone) (principal_eq r p)))
     go false e false f Greater g = record {
       set = q ∷ p ∷ [];
-      small = two q p hq hp f e (overlaps_back p q o)
-          (principal_greater p q g);
-      short =
-          (sq, (sp, tt));
-      one_user =
-          one_user q p (overlaps_back p q o);
-      same =
-          λ r. h5 (principal_eq r everyone) (principal_eq r p) (principal_eq r q);
+      small = two q p hq hp f e (overlaps_back p q o) (principal_greater p q g);
+      short = (sq, (sp, tt));
+      one_user = one_user q p (overlaps_back p q o);
+      same = λ r. h5 (principal_eq r everyone) (principal_eq r p) (principal_eq r q);
     }
 
 -- columns that agree in each small situation of their principals agree in every situation

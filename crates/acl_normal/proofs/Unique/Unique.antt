@@ -14,6 +14,7 @@ use Rattle.acl_normal.specs.Keys.{principal_eq, Key, ace_key, compare_keys}
 use Rattle.acl_normal.specs.internal.Alike.{is_either, IsAlike}
 use Rattle.acl_normal.specs.Normal.{HasNoEmptyMask, is_free, IsOrdered, HasNormalFlags, flags_for, IsNormal}
 use Rattle.acl_normal.specs.internal.Emissions.{IsOnce}
+use Rattle.acl_normal.specs.internal.Ready.{who_for}
 use Rattle.acl_normal.proofs.Unique.Names.{bytes_eq_same, either_first, principal_eq_itself, overlaps_itself}
 use Rattle.acl_normal.proofs.Unique.Columns.{column_first}
 use Rattle.acl_perm.proofs.Sets.{same_set}
@@ -23,22 +24,14 @@ use Rattle.acl_normal.proofs.Unique.Free.{once_from_clean, kind_eq_itself, same_
 use Rattle.acl_normal.proofs.Unique.Keys.{key_antisymmetric}
 use Rattle.acl_normal.proofs.Unique.ListColumns.{irreducible_column, alike_columns}
 
--- the who of a principal
-abbrev pub who_of : Principal → List ℕ
-who_of owner = owner_name
-who_of (user a) = a
-who_of group = group_name
-who_of (group_named a) = a
-who_of everyone = everyone_name
-
 -- the who of an ACE is that of its principal
-pub who_is : (a : Ace) → who_of (principal_of a) ≡ a.who
+pub who_is : (a : Ace) → who_for (principal_of a) ≡ a.who
 who_is a = go (bytes_eq a.who owner_name) refl (bytes_eq a.who group_name) refl (bytes_eq a.who everyone_name) refl
     (has_bit a.flags identifier_group) refl
   where
     go : (o : Bool) → bytes_eq a.who owner_name ≡ o → (g : Bool) → bytes_eq a.who group_name ≡ g
         → (e : Bool) → bytes_eq a.who everyone_name ≡ e → (f : Bool) → has_bit a.flags identifier_group ≡ f
-        → who_of (principal_of a) ≡ a.who
+        → who_for (principal_of a) ≡ a.who
     go true h g i e j f k = rw h (sym (bytes_eq_same _ _ h))
     go false h true i e j f k = rw (h, i) (sym (bytes_eq_same _ _ i))
     go false h false i true j f k = rw (h, i, j) (sym (bytes_eq_same _ _ j))
@@ -58,7 +51,7 @@ aces_same a b fa fb keys masks =
     let principals : principal_of a ≡ principal_of b = ap (λ k. k.0) keys in
     let kinds : a.kind ≡ b.kind = ap (λ k. k.1) keys in
     let flags : a.flags ≡ b.flags = fa ∙ ap (λ v. flags_for v) principals ∙ sym fb in
-    let whos : a.who ≡ b.who = sym (who_is a) ∙ ap (λ v. who_of v) principals ∙ who_is b in
+    let whos : a.who ≡ b.who = sym (who_is a) ∙ ap (λ v. who_for v) principals ∙ who_is b in
     λ i. record { kind = kinds i; flags = flags i; mask = masks i; who = whos i }
 
 -- the column of a list that begins with a key with normal flags
