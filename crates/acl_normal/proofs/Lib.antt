@@ -5,5 +5,6 @@ pub mod Merging
 pub mod Emission
 pub mod Reduction
 pub mod Searching
+pub mod RowPlaces
 pub mod Tables
 pub mod Vectors

@@ -14,5 +14,4 @@ pub mod WaitingPlaces
 pub mod FilledCells
 pub mod Heads
 pub mod RowNumbers
-pub mod Few
 pub mod Publics

@@ -28,6 +28,8 @@ pub mod Heads
 pub mod RowNumbers
 -- what the fields of merged rows are to the list that is left
 pub mod Merged
+-- what the fields of what remains are to the list that is left
+pub mod Remaining
 -- the keys that have a free bit, by number
 pub mod Ready
 -- what the fields of those numbers are to their bits

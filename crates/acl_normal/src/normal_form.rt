@@ -13,7 +13,7 @@ ghost use Rattle.acl_normal.specs.NormalForm.{IsNormalFormOf, Normalises};
 ghost use Rattle.acl_normal.specs.internal.Ready.{who_for};
 
 use crate::emit::emission::{Emitted, normalize_left};
-use crate::reduce::reduced_rows;
+use crate::reduce::remaining;
 use acl_nfs4::{AceRef, Acl, AclView, Fault, Reason};
 use acl_perm::{Counted, Flags, Principal, Profile};
 use std::alloc::{AllocError, Global};
@@ -100,7 +100,7 @@ pub(crate) fn form_of<'a>(alloc: Global, list: &'a Acl) -> Result<Vec<Emitted<'a
     ensures { IfOk result (λ form. IsNormalFormOf list.now (emitted_aces form.items)) }
 {
     let _accepted = list.aces();
-    let mut rows = reduced_rows(alloc, list)?;
+    let mut rows = remaining(alloc, list)?;
     let form = normalize_left(alloc, &mut rows)?;
     Ok(form)
 }

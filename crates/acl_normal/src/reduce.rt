@@ -1,5 +1,5 @@
 //! A list without the bits that play no part.
-ghost use Rattle.std.specs.Prelude.{◌≡◌, ℕ, ◌<◌, false, [], length, IfOk, vec_len};
+ghost use Rattle.std.specs.Prelude.{◌≡◌, ℕ, ◌<◌, ◌^◌, false, [], length, IfOk, vec_len};
 ghost use Rattle.acl_perm.specs.Bits.{all_rights, has_bit};
 ghost use Rattle.acl_perm.specs.Profile.{full};
 ghost use Rattle.acl_nfs4.specs.Spelling.{IsAccepted};
@@ -9,18 +9,19 @@ ghost use Rattle.acl_normal.specs.Left.{IsTidy, KeepsFirsts, left};
 ghost use Rattle.acl_normal.specs.Normal.{IsIrreducibleList};
 ghost use Rattle.acl_normal.specs.Places.{nothing_left};
 ghost use Rattle.acl_normal.specs.internal.Plain.{reduced};
-ghost use Rattle.acl_normal.specs.internal.Rows.{AreRowNumbers};
+ghost use Rattle.acl_normal.specs.internal.Rows.{AreRowNumbers, IsByPrincipal};
 ghost use Rattle.acl_normal.specs.internal.Shown.{aces_in, with_masks};
 
 pub(crate) mod collected;
 mod first;
 mod needless;
 
+use crate::emit::remaining::Remaining;
 use crate::reduce::collected::collect;
 use crate::reduce::first::first_masks;
 use crate::reduce::needless::drop_needless;
 use crate::rows::merged::MergedRows;
-use crate::rows::numbers::row_numbers;
+use crate::rows::numbers::{RowNumbers, row_numbers};
 use acl_nfs4::{AceRef, Acl};
 use std::alloc::{AllocError, Global};
 
@@ -53,17 +54,73 @@ pub(crate) fn reduced_masks(
     Ok(masks)
 }
 
+/// The ACEs of a list, the masks that are left of them, and the rows of their principals.
+#[derive(Drop)]
+struct Reduced<'a> {
+    aces: Vec<AceRef<'a>>,
+    masks: Vec<u32>,
+    numbers: RowNumbers,
+}
+
+// A list, without what no situation needs.
+fn reduced_list<'a>(alloc: Global, list: &'a Acl) -> Result<Reduced<'a>, AllocError>
+    ensures few { IfOk result (λ r. vec_len r.aces < 2 ^ 32) }
+    ensures places { IfOk result (λ r. vec_len r.masks ≡ vec_len r.aces) }
+    ensures tidy { IfOk result (λ r. IsTidy (with_masks r.aces.items r.masks.items)) }
+    ensures rights { IfOk result (λ r. (b : ℕ) → has_bit all_rights b ≡ false
+        → column (with_masks r.aces.items r.masks.items) b ≡ []) }
+    ensures rows { IfOk result (λ r.
+        AreRowNumbers (with_masks r.aces.items r.masks.items) r.numbers.rows.items) }
+    ensures order { IfOk result (λ r.
+        IsByPrincipal (with_masks r.aces.items r.masks.items) r.numbers.order.items) }
+    ensures outline { IfOk result (λ r.
+        nothing_left (with_masks r.aces.items r.masks.items) ≡ nothing_left list.now) }
+    ensures columns { IfOk result (λ r. (b : ℕ) → b < 21
+        → column (with_masks r.aces.items r.masks.items) b ≡ reduced (column list.now b)) }
+    ensures firsts { IfOk result (λ r.
+        KeepsFirsts list.now (with_masks r.aces.items r.masks.items)) }
+    ensures grants { IfOk result (λ r.
+        SameGrants all_rights list.now (with_masks r.aces.items r.masks.items)) }
+    ensures irreducible { IfOk result (λ r.
+        IsIrreducibleList (left (with_masks r.aces.items r.masks.items))) }
+{
+    let aces = collect(alloc, list)?;
+    let numbers = row_numbers(alloc, &aces)?;
+    let masks = reduced_masks(alloc, &aces, &numbers.rows)?;
+    Ok(Reduced {
+        aces,
+        masks,
+        numbers,
+    })
+}
+
 /// The rows of a list, without what no situation needs.
 pub(crate) fn reduced_rows<'a>(alloc: Global, list: &'a Acl) -> Result<MergedRows<'a>, AllocError>
     ensures outline { IfOk result (λ rows. nothing_left rows ≡ nothing_left list.now) }
+    ensures firsts { IfOk result (λ rows. KeepsFirsts list.now rows) }
+    ensures grants { IfOk result (λ rows. SameGrants all_rights list.now rows) }
+    ensures irreducible { IfOk result (λ rows. IsIrreducibleList (left rows)) }
+{
+    let Reduced {
+        aces,
+        masks,
+        numbers,
+    } = reduced_list(alloc, list)?;
+    MergedRows::of(alloc, aces, masks, numbers)
+}
+
+/// What is to be emitted of a list: all of it but what no situation needs.
+pub(crate) fn remaining<'a>(alloc: Global, list: &'a Acl) -> Result<Remaining<'a>, AllocError>
     ensures columns { IfOk result (λ rows. (b : ℕ) → b < 21 → column rows b
         ≡ reduced (column list.now b)) }
     ensures firsts { IfOk result (λ rows. KeepsFirsts list.now rows) }
     ensures grants { IfOk result (λ rows. SameGrants all_rights list.now rows) }
     ensures irreducible { IfOk result (λ rows. IsIrreducibleList (left rows)) }
 {
-    let aces = collect(alloc, list)?;
-    let numbers = row_numbers(alloc, &aces)?;
-    let masks = reduced_masks(alloc, &aces, &numbers.rows)?;
-    MergedRows::of(alloc, aces, masks, numbers)
+    let Reduced {
+        aces,
+        masks,
+        numbers,
+    } = reduced_list(alloc, list)?;
+    Remaining::of(alloc, aces, masks, numbers)
 }

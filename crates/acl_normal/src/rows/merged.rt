@@ -1,5 +1,5 @@
 //! What is left of a list, by rows and by places that wait.
-ghost use Rattle.std.specs.Prelude.{◌≡◌, ℕ, ◌*◌, ◌<◌, ◌≤◌, ◌^◌, true, false, not, ◌||◌, [], length, vec_len, ◌↔◌, IfNone, IfOk, IfSome, IsTrue, OnOk, None, Some, option_map};
+ghost use Rattle.std.specs.Prelude.{◌≡◌, ℕ, ◌*◌, ◌<◌, ◌≤◌, ◌^◌, true, false, not, ◌||◌, [], length, vec_len, ◌↔◌, IfNone, IfOk, IfSome, IsTrue, None, Some, option_map};
 ghost use Rattle.std.specs.Ordering.{nat_cmp};
 ghost use Rattle.std.specs.BTreeSet.{contains};
 ghost use Rattle.acl_perm.specs.Bits.{all_rights, has_bit};
@@ -7,14 +7,13 @@ ghost use Rattle.acl_perm.specs.Principal.{Principal as Who, principal};
 ghost use Rattle.acl_perm.specs.declared.kind.Kind.TheVariants.{Deny, Allow};
 ghost use Rattle.acl_eval.specs.Column.{column};
 ghost use Rattle.acl_eval.specs.Grant.{SameGrants};
-ghost use Rattle.acl_normal.specs.internal.Cells.{ArePlaces, first_place};
+ghost use Rattle.acl_normal.specs.internal.Cells.{first_place};
 ghost use Rattle.acl_normal.specs.internal.Classes.{is_users};
 ghost use Rattle.acl_normal.specs.Left.{HasFree, IsLowest, IsTidy, KeepsFirsts, left};
 ghost use Rattle.acl_normal.specs.Normal.{IsIrreducibleList, is_free};
-ghost use Rattle.acl_normal.specs.Keys.{plain_key};
-ghost use Rattle.acl_normal.specs.Places.{first_at, is_blocked, key_here, kind_here, nothing_left, principal_here, take_out, waits, waits_before};
-ghost use Rattle.acl_normal.specs.internal.Rows.{AreRowNumbers, IsByPrincipal, IsNumberOf, IsRow, is_named};
-ghost use Rattle.acl_normal.specs.internal.Shown.{aces_in, with_masks};
+ghost use Rattle.acl_normal.specs.Places.{first_at, is_blocked, kind_here, nothing_left, take_out, waits, waits_before};
+ghost use Rattle.acl_normal.specs.internal.Rows.{AreRowNumbers, IsByPrincipal, IsRow, is_named};
+ghost use Rattle.acl_normal.specs.internal.Shown.{with_masks};
 
 use crate::bits::{cleared, next_right};
 use crate::class::Class;
@@ -23,7 +22,7 @@ use crate::rows::cells::{Cells, filled_cells};
 use crate::rows::numbers::{RowNumbers, find_row};
 use crate::rows::waiting::{slot, waiting_sets};
 use acl_nfs4::{AceRef, Acl};
-use acl_perm::{Key, Kind, Mask, Principal, Right};
+use acl_perm::{Kind, Mask, Principal, Right};
 use std::alloc::{AllocError, Global};
 use std::collections::BTreeSet;
 use std::marker::Model;
@@ -125,7 +124,7 @@ impl<'a> MergedRows<'a> {
     }
 
     /// The places of the ACEs of a type and a class that wait with a right.
-    pub(crate) fn waiting_at(&self, kind: Kind, class: Class, right: Right) -> &BTreeSet<usize>
+    fn waiting_at(&self, kind: Kind, class: Class, right: Right) -> &BTreeSet<usize>
         ensures { (i : ℕ) → contains nat_cmp result.now i
             ≡ waits kind (is_users class) right.bit self.now i }
     {
@@ -146,7 +145,7 @@ impl<'a> MergedRows<'a> {
     }
 
     /// The last place where an ACE of a type and a class with a right has nothing before it that conflicts with it.
-    pub(crate) fn last_clear(&self, kind: Kind, class: Class, right: Right) -> usize
+    fn last_clear(&self, kind: Kind, class: Class, right: Right) -> usize
         ensures clear { (place : ℕ) → place ≤ result
             → is_blocked kind (is_users class) right.bit self.now place ≡ false }
         ensures blocked { (place : ℕ) → result < place → place < 2 ^ 64
@@ -174,60 +173,13 @@ impl<'a> MergedRows<'a> {
         }
     }
 
-    /// The principal and the type of the ACE at a place.
-    pub(crate) fn key_at(&self, place: usize) -> Key<'a>
-        requires { place < length self.now }
-        ensures { plain_key result ≡ key_here self.now place }
-    {
-        let aces = &self.aces;
-        let ace = aces[place];
-        Key {
-            principal: ace.principal(),
-            kind: ace.kind,
-        }
-    }
-
     /// The type of the ACE at a place.
-    pub(crate) fn kind_at(&self, place: usize) -> Kind
+    fn kind_at(&self, place: usize) -> Kind
         requires { place < length self.now }
         ensures { result ≡ kind_here self.now place }
     {
         let aces = &self.aces;
         aces[place].kind
-    }
-
-    /// The key of a number.
-    #[tactic(auto, using(crate::proofs::Emission::Marks::number_rank))]
-    pub(crate) fn key_of(&self, number: usize) -> Key<'a>
-        requires { number < 2 * length self.now }
-        ensures { IsNumberOf self.now number (plain_key result) }
-    {
-        let first = self.key_at(self.order[number / 2]);
-        let kind = if number % 2 == 0 {
-            Kind::Deny
-        } else {
-            Kind::Allow
-        };
-        Key {
-            principal: first.principal,
-            kind,
-        }
-    }
-
-    /// How many ACEs the source has.
-    pub(crate) fn len(&self) -> usize
-        ensures { result ≡ length self.now }
-    {
-        let aces = &self.aces;
-        aces.len()
-    }
-
-    /// The row of the principal that the ACE at a place names.
-    pub(crate) fn row_at(&self, place: usize) -> usize
-        requires { place < length self.now }
-        ensures { IsRow result (principal_here self.now place) self.now }
-    {
-        self.rows[place]
     }
 
     /// The row of a principal, if an ACE names it.
@@ -249,22 +201,6 @@ impl<'a> MergedRows<'a> {
         }
     }
 
-    /// By row, the place of the ACE that still waits with a right.
-    pub(crate) fn places(
-        &self,
-        alloc: Global,
-        right: Right,
-    ) -> Result<Vec<Option<usize>>, AllocError>
-        ensures count { IfOk result (λ places. vec_len places ≡ length self.now) }
-        ensures places { IfOk result (λ places. ArePlaces right.bit self.now places.items) }
-    {
-        let mut places = Vec::with_capacity(alloc, self.len())?;
-        for row in 0..self.len() {
-            places.push(self.place_in(row, right))?;
-        }
-        Ok(places)
-    }
-
     /// The type of the principal's ACE with the right, and its place.
     pub(crate) fn source(&self, p: Principal<'_>, right: Right) -> Option<(Kind, usize)>
         ensures { result ≡ first_at right.bit (principal p.entry) self.now }
@@ -275,7 +211,7 @@ impl<'a> MergedRows<'a> {
     }
 
     /// Takes rights of the principal of a row out.
-    pub(crate) fn emit_row(&mut self, row: usize, p: Principal<'_>, mask: Mask)
+    fn emit_row(&mut self, row: usize, p: Principal<'_>, mask: Mask)
         requires { IsRow row (principal p) self.old }
         ensures { self.new ≡ take_out (principal p.entry) mask.bits self.old }
     {

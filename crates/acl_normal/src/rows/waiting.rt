@@ -64,8 +64,8 @@ fn note(
     Ok(())
 }
 
-// The places that wait, in order.
-fn waiting_places(
+/// The places that wait, in order.
+pub(crate) fn waiting_places(
     alloc: Global,
     aces: &[AceRef<'_>],
     masks: &[u32],
