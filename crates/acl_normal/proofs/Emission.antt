@@ -1,7 +1,8 @@
 pub mod SoFar
 pub mod Marks
-pub mod Heaped
 pub mod Few
+pub mod Levels
+pub mod Numbered
 pub mod Walk
 pub mod NewlyFree
 pub mod Filled

@@ -32,8 +32,10 @@ pub mod Merged
 pub mod Remaining
 -- the keys that have a free bit, by number
 pub mod Ready
--- what the fields of those numbers are to their bits
-pub mod Heaped
+-- sets of numbers as bits of words in levels
+pub mod Levels
+-- what the fields of the ready keys are to their bits
+pub mod Numbered
 -- an ACE of a normal form as it is made
 pub mod Emitted
 -- which bits are needed, told from masks

@@ -3,17 +3,16 @@ ghost use Rattle.std.specs.Prelude.{◌≡◌, ◌≢◌, ℕ, ◌*◌, ◌^◌,
 ghost use Rattle.acl_normal.specs.internal.Ready.{IsLeastReady};
 
 use crate::bits::with;
+use crate::emit::number_set::NumberSet;
 use acl_perm::Right;
 use std::alloc::{AllocError, Global};
-use std::cmp::Reverse;
-use std::collections::BinaryHeap;
 use std::marker::Model;
 
-/// The keys that have a free bit, by number: their free bits, and the numbers that have some, least first.
+/// The keys that have a free bit, by number: their free bits, and the set of the numbers that have some.
 #[derive(Drop)]
 pub(crate) struct Ready {
     bits: Vec<u32>,
-    numbers: BinaryHeap<Reverse<usize>>,
+    numbers: NumberSet,
 }
 
 /// The number of a key, and its free bits.
@@ -28,11 +27,11 @@ impl Model for Ready {
 
     ghost Value = { List ℕ };
 
-    ghost use Rattle.acl_normal.specs.internal.Heaped.{bits_of, IsHeaped};
+    ghost use Rattle.acl_normal.specs.internal.Numbered.{bits_of, AreNumbered};
 
     ghost view = { bits_of };
 
-    ghost invariant = { IsHeaped };
+    ghost invariant = { AreNumbered };
 }
 
 impl Ready {
@@ -43,7 +42,7 @@ impl Ready {
     {
         Ok(Ready {
             bits: Vec::from_elem(alloc, 0, 2 * rows)?,
-            numbers: BinaryHeap::new(alloc),
+            numbers: NumberSet::new(alloc, 2 * rows)?,
         })
     }
 
@@ -55,7 +54,7 @@ impl Ready {
     {
         let bits = self.bits[number];
         if bits == 0 {
-            self.numbers.push(Reverse(number))?;
+            self.numbers.insert(number);
         }
         self.bits[number] = with(bits, right);
         Ok(())
@@ -67,7 +66,7 @@ impl Ready {
         ensures taken { IfSome result (λ key. self.new ≡ slice_set self.old key.number 0) }
         ensures none { IfNone result ((n : ℕ) → slice_index_or self.old n 0 ≡ 0) }
     {
-        let Reverse(number) = self.numbers.pop()?;
+        let number = self.numbers.take_least()?;
         let bits = self.bits[number];
         self.bits[number] = 0;
         Some(Numbered { number, bits })

@@ -1,43 +1,14 @@
-use Rattle.std.proofs.Common.{◌≡◌, heap_items, slice_index_or, ◌∙◌, sym, subst, arith, refl}
-use Rattle.std.proofs.lemmas.Grind.{get_or_default_zero}
-use Rattle.acl_normal.specs.internal.Ready.{IsLeastReady}
-use Rattle.acl_normal.proofs.Emission.Heaped.{heap_popped, popped_least, popped_some}
+use Rattle.std.proofs.Common.{refl}
 use Rattle.acl_normal.proofs.Emission.Marks.{number_within}
+use Rattle.acl_normal.proofs.Emission.Numbered.{set_some, set_turned}
 use Rattle.acl_normal.proofs.emit.ready.Ready.pop.Goals as goal
-
-pub index-bits-requires : goal.index-bits-requires
-index-bits-requires c = omega (
-  arith,
-  number_within c.self.inside.bits.items c.in_ok-number.field-0.0
-      (popped_some _ _ _ _ _ c.self.invariant refl c.in_ok-number.ensures.permutation),
-  c.self.inside.bits.ok,
-)
-
-pub index_mut-requires : goal.index_mut-requires
-index_mut-requires c = omega (
-  arith,
-  number_within c.self.inside.bits.items c.in_ok-number.field-0.0
-      (popped_some _ _ _ _ _ c.self.invariant refl c.in_ok-number.ensures.permutation),
-  c.self.inside.bits.ok,
-)
+use Rattle.std.proofs.Common.{false}
 
 pub invariant_of-self-2 : goal.invariant_of-self-2
 invariant_of-self-2 c =
-    heap_popped c.self.inside.bits.items _ (heap_items c.self.inside.numbers) (heap_items c.pop.new.self)
-    c.in_ok-number.field-0 c.in_ok-number.field-0.0 c.self.invariant refl c.in_ok-number.ensures.permutation
-    c.in_ok-number.ensures.heap_order refl
-
-pub returns-clause-least : goal.returns-clause-least
-returns-clause-least c =
-    let n = c.in_ok-number.field-0.0 in
-    let items = c.self.inside.bits.items in
-    let some = popped_some _ _ _ _ _ c.self.invariant refl c.in_ok-number.ensures.permutation in
-    let found : c.index-bits.result.now ≡ slice_index_or items n 0 =
-    c.index-bits.ensures ∙ get_or_default_zero items n c.index-bits.result.now (number_within items n some) in
-    subst (λ v. IsLeastReady v n c.index-bits.result.now) c.self.view_is (record {
-      is = found;
-      some = λ none. some (sym found ∙ none);
-      least =
-          λ m other. popped_least items (heap_items c.self.inside.numbers) (heap_items c.pop.new.self)
-          c.in_ok-number.field-0 n m c.self.invariant refl c.in_ok-number.ensures.heap_order other;
-    })
+    let bits = c.self.inside.bits.items in
+    let number = c.in_ok-number.number in
+    set_turned bits _ c.self.inside.numbers c.take_least.new.self number 0 false c.self.invariant
+    (number_within bits number
+    (set_some bits c.self.inside.numbers number c.self.invariant c.in_ok-number.ensures.least.in_set))
+    refl c.in_ok-number.ensures.room c.in_ok-number.ensures.has refl
