@@ -1,5 +1,5 @@
 //! What an engine answers.
-ghost use Rattle.std.specs.Prelude.{◌≡◌};
+ghost use Rattle.std.specs.Prelude.{◌≡◌, ◌↔◌, true};
 ghost use Rattle.aclck.specs.Answer.{cause_of, decision_line, is_refusal};
 
 use acl_nfs4::{AceTextFault, Fault, ReadFault, WriteFault};
@@ -12,6 +12,15 @@ use thiserror::Error;
 pub enum Outcome {
     Yes,
     No,
+}
+
+impl Outcome {
+    /// The answer that something is granted, or is not.
+    pub(crate) fn of(is_granted: bool) -> Outcome
+        ensures { (result ≡ Outcome.Yes) ↔ (is_granted ≡ true) }
+    {
+        if is_granted { Outcome::Yes } else { Outcome::No }
+    }
 }
 
 /// Why a command did not run to its end.

@@ -1,16 +1,17 @@
 //! `bridge`: the NFSv4 list that stands for a POSIX ACL.
-ghost use Rattle.std.specs.Prelude.{◌≡◌, ◌⊎◌, IfErr, IfOk, true};
-ghost use Rattle.acl_nfs4.specs.Spelling.{spelling};
+ghost use Rattle.std.specs.Prelude.{◌≡◌, ◌⊎◌, IfErr, IfOk};
+ghost use Rattle.acl_perm.specs.Profile.{full};
+ghost use Rattle.acl_nfs4.specs.Spelling.{IsAccepted, Xdr, spelling};
+ghost use Rattle.acl_eval.specs.Bridge.{bridge_list};
 ghost use Rattle.aclck.specs.Run.{Runs, of_text};
-ghost use Rattle.aclck.specs.Answer.{is_refusal};
-ghost use Rattle.aclck.specs.Bridge.{BridgeAnswer, Bridges, IsBridgeRefusal};
+ghost use Rattle.aclck.specs.Bridge.{BridgeAnswer};
 
 use crate::answer::{Outcome, RunFault};
 use crate::input::posix::read_file;
 use acl_eval::{BridgeFault, bridge};
 use acl_nfs4::Acl;
-use acl_perm::{Sink, Source, read_all};
-use acl_posix::Names;
+use acl_perm::{Sink, Source};
+use acl_posix::{Names, PosixFile};
 use std::alloc::Global;
 
 /// The word that names the command.
@@ -28,20 +29,20 @@ pub fn run_bridge<S: Source, K: Sink>(
         S.remaining S.failure_count source.old source.new
         K.contents K.failure_count sink.old sink.new result }
 {
-    let input = read_all(alloc, source)?;
-    let list = bridged(alloc, input, names)?;
+    let file = read_file(alloc, source, names)?;
+    let list = bridged(alloc, &file)?;
+    drop(file);
     list.encode(sink)?;
     Ok(Outcome::Yes)
 }
 
 // The list that stands for the access ACL of the file.
-fn bridged(alloc: Global, input: Vec<u8>, names: &Names) -> Result<Acl, RunFault>
-    ensures made { IfOk result (λ list. Bridges names.now input.items (spelling list)) }
+fn bridged(alloc: Global, file: &PosixFile) -> Result<Acl, RunFault>
+    ensures made { IfOk result (λ list.
+        Xdr full (bridge_list file.now.access) (spelling list)) }
     ensures refused { IfErr result (λ e. (e ≡ RunFault.Memory)
-        ⊎ ((is_refusal e ≡ true) × IsBridgeRefusal names.now input.items e)) }
+        ⊎ ((e ≡ RunFault.Limits) × (IsAccepted full (bridge_list file.now.access) → ⊥))) }
 {
-    let file = read_file(alloc, &input, names)?;
-    drop(input);
     match bridge(alloc, &file.access) {
         Ok(list) => Ok(list),
         Err(BridgeFault::Limits) => Err(RunFault::Limits),

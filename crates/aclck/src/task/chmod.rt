@@ -1,11 +1,9 @@
 //! `chmod`: the canonical text of a file with its mode set.
-ghost use Rattle.std.specs.Prelude.{◌≡◌, ◌⊎◌, IfErr, IfOk, option_and_then, option_map, true};
+ghost use Rattle.std.specs.Prelude.{◌≡◌, IfOk, option_and_then, option_map};
 ghost use Rattle.clap.specs.Words.{found_of, rows_of};
 ghost use Rattle.aclck.specs.Run.{Runs, of_text};
 ghost use Rattle.aclck.specs.Line.{Reads};
 ghost use Rattle.aclck.specs.Values.{mode_value};
-ghost use Rattle.aclck.specs.Answer.{is_refusal};
-ghost use Rattle.aclck.specs.PosixAnswer.{IsPosixFault, Writes};
 ghost use Rattle.aclck.specs.Chmod.{ChmodAnswer, chmod_held, chmod_in, chmod_text};
 
 use crate::answer::{Outcome, RunFault};
@@ -13,10 +11,10 @@ use crate::input::posix::{canonical, read_file};
 use crate::line::{Argument, LineFault, text_of};
 use crate::words::names::names_in;
 use crate::words::values::mode_value;
-use acl_perm::{Mode, Sink, Source, put_all, read_all};
-use acl_posix::Names;
+use acl_perm::{Mode, Sink, Source, put_all};
+use acl_posix::{Names, PosixFile};
 use clap::ArgMatches;
-use std::alloc::Global;
+use std::alloc::{AllocError, Global};
 
 /// The word that names the command.
 pub(crate) const WORD: &str = "chmod";
@@ -62,21 +60,16 @@ pub fn run_chmod<S: Source, K: Sink>(
         S.remaining S.failure_count source.old source.new
         K.contents K.failure_count sink.old sink.new result }
 {
-    let input = read_all(alloc, source)?;
-    let text = with_mode(alloc, input, mode, names)?;
+    let file = read_file(alloc, source, names)?;
+    let text = with_mode(alloc, file, mode)?;
     put_all(sink, text.as_slice())?;
     Ok(Outcome::Yes)
 }
 
 // The canonical text of the file with its mode set.
-fn with_mode(alloc: Global, input: Vec<u8>, mode: Mode, names: &Names) -> Result<Vec<u8>, RunFault>
-    ensures made { IfOk result (λ text.
-        Writes names.now (chmod_text mode.bits) input.items text.items) }
-    ensures refused { IfErr result (λ e. (e ≡ RunFault.Memory)
-        ⊎ ((is_refusal e ≡ true) × IsPosixFault names.now input.items e)) }
+fn with_mode(alloc: Global, mut file: PosixFile, mode: Mode) -> Result<Vec<u8>, AllocError>
+    ensures { IfOk result (λ text. text.items ≡ chmod_text mode.bits file) }
 {
-    let mut file = read_file(alloc, &input, names)?;
-    drop(input);
     file.access.chmod(mode);
-    Ok(canonical(alloc, &file)?)
+    canonical(alloc, &file)
 }

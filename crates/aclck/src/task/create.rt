@@ -1,10 +1,8 @@
 //! `create`: the canonical text of a new object.
-ghost use Rattle.std.specs.Prelude.{◌≡◌, ◌⊎◌, IfErr, IfOk, true};
+ghost use Rattle.std.specs.Prelude.{◌≡◌, IfOk};
 ghost use Rattle.clap.specs.Words.{found_of, rows_of};
 ghost use Rattle.aclck.specs.Run.{Runs, of_text};
 ghost use Rattle.aclck.specs.Line.{Reads};
-ghost use Rattle.aclck.specs.Answer.{is_refusal};
-ghost use Rattle.aclck.specs.PosixAnswer.{IsPosixFault, Writes};
 ghost use Rattle.aclck.specs.Create.{CreateAnswer, create_held, create_in, created_text};
 
 use crate::answer::{Outcome, RunFault};
@@ -12,10 +10,10 @@ use crate::input::posix::{canonical, read_file};
 use crate::line::{Argument, LineFault, is_set, text_of};
 use crate::task::chmod::mode_in;
 use crate::words::names::names_in;
-use acl_perm::{Mode, Sink, Source, put_all, read_all};
-use acl_posix::{Names, create};
+use acl_perm::{Mode, Sink, Source, put_all};
+use acl_posix::{Names, PosixFile, create};
 use clap::ArgMatches;
-use std::alloc::Global;
+use std::alloc::{AllocError, Global};
 
 /// The word that names the command.
 pub(crate) const WORD: &str = "create";
@@ -75,8 +73,8 @@ pub fn run_create<S: Source, K: Sink>(
         S.remaining S.failure_count source.old source.new
         K.contents K.failure_count sink.old sink.new result }
 {
-    let input = read_all(alloc, source)?;
-    let text = created(alloc, input, mode, umask, dir, names)?;
+    let parent = read_file(alloc, source, names)?;
+    let text = created(alloc, parent, mode, umask, dir)?;
     put_all(sink, text.as_slice())?;
     Ok(Outcome::Yes)
 }
@@ -84,19 +82,14 @@ pub fn run_create<S: Source, K: Sink>(
 // The canonical text of the new object.
 fn created(
     alloc: Global,
-    input: Vec<u8>,
+    parent: PosixFile,
     mode: Mode,
     umask: Mode,
     dir: bool,
-    names: &Names,
-) -> Result<Vec<u8>, RunFault>
-    ensures made { IfOk result (λ text.
-        Writes names.now (created_text mode.bits umask.bits dir) input.items text.items) }
-    ensures refused { IfErr result (λ e. (e ≡ RunFault.Memory)
-        ⊎ ((is_refusal e ≡ true) × IsPosixFault names.now input.items e)) }
+) -> Result<Vec<u8>, AllocError>
+    ensures { IfOk result (λ text. text.items ≡ created_text mode.bits umask.bits dir parent) }
 {
-    let parent = read_file(alloc, &input, names)?;
-    drop(input);
     let file = create(alloc, parent.default.as_ref(), mode, umask, dir)?;
-    Ok(canonical(alloc, &file)?)
+    let text = canonical(alloc, &file)?;
+    Ok(text)
 }

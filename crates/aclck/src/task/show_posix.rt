@@ -1,17 +1,15 @@
 //! `show-posix`: the text of a file in a form.
-ghost use Rattle.std.specs.Prelude.{◌≡◌, ◌⊎◌, IfErr, IfOk, option_and_then, option_map, true};
+ghost use Rattle.std.specs.Prelude.{◌≡◌, option_and_then, option_map};
 ghost use Rattle.clap.specs.Words.{found_of, rows_of};
 ghost use Rattle.aclck.specs.Run.{Runs, of_text};
 ghost use Rattle.aclck.specs.Line.{Reads};
-ghost use Rattle.aclck.specs.Answer.{is_refusal};
-ghost use Rattle.aclck.specs.PosixAnswer.{IsPosixFault, Writes};
-ghost use Rattle.aclck.specs.ShowPosix.{ShowPosixAnswer, form_text, form_value, show_posix_held, show_posix_in};
+ghost use Rattle.aclck.specs.ShowPosix.{ShowPosixAnswer, form_value, show_posix_held, show_posix_in};
 
 use crate::answer::{Outcome, RunFault};
 use crate::input::posix::{read_file, text_in};
 use crate::line::{Argument, LineFault, text_of};
 use crate::words::names::names_in;
-use acl_perm::{Sink, Source, put_all, read_all};
+use acl_perm::{Sink, Source, put_all};
 use acl_posix::{Form, Names};
 use clap::ArgMatches;
 use std::alloc::Global;
@@ -74,19 +72,9 @@ pub fn run_show_posix<S: Source, K: Sink>(
         S.remaining S.failure_count source.old source.new
         K.contents K.failure_count sink.old sink.new result }
 {
-    let input = read_all(alloc, source)?;
-    let text = shown(alloc, input, form, names)?;
+    let file = read_file(alloc, source, names)?;
+    let text = text_in(alloc, &file, form)?;
+    drop(file);
     put_all(sink, text.as_slice())?;
     Ok(Outcome::Yes)
-}
-
-// The text in the form.
-fn shown(alloc: Global, input: Vec<u8>, form: Form, names: &Names) -> Result<Vec<u8>, RunFault>
-    ensures made { IfOk result (λ text. Writes names.now (form_text form) input.items text.items) }
-    ensures refused { IfErr result (λ e. (e ≡ RunFault.Memory)
-        ⊎ ((is_refusal e ≡ true) × IsPosixFault names.now input.items e)) }
-{
-    let file = read_file(alloc, &input, names)?;
-    drop(input);
-    Ok(text_in(alloc, &file, form)?)
 }
