@@ -1,7 +1,7 @@
 //! Bridged lists, row by row, and how many entries a list takes.
-use super::harness::{ALLOW, AceRow, DENY, built, kept, passes};
+use super::harness::{kept, passes};
 use super::*;
-use acl_nfs4::{Acl, PushFault};
+use acl_nfs4::{Acl, PushFault, parse_text};
 use acl_perm::{Mask, Perm};
 use acl_posix::{Entry, Id, Names, PosixAcl, PosixFile, Tag, parse};
 use std::alloc::Global;
@@ -15,56 +15,53 @@ fn acl_of(alloc: Global, text: &[u8]) -> Result<PosixAcl, PushFault> {
 
 const TWO_GROUPS: &[u8] = b"u::rwx,g::---,g:50:r--,g:60:-w-,m::rw-,o::---";
 
-const TWO_GROUPS_LIST: [AceRow; 6] = [
-    (ALLOW, 0, 0x27, b"OWNER@"),
-    (ALLOW, 0x40, 0x01, b"50"),
-    (ALLOW, 0x40, 0x06, b"60"),
-    (DENY, 0, 0x27, b"GROUP@"),
-    (DENY, 0x40, 0x26, b"50"),
-    (DENY, 0x40, 0x21, b"60"),
-];
+const TWO_GROUPS_LIST: &[u8] = b"ALLOW - READ_DATA|WRITE_DATA|APPEND_DATA|EXECUTE OWNER@
+ALLOW GROUP READ_DATA 50
+ALLOW GROUP WRITE_DATA|APPEND_DATA 60
+DENY - READ_DATA|WRITE_DATA|APPEND_DATA|EXECUTE GROUP@
+DENY GROUP WRITE_DATA|APPEND_DATA|EXECUTE 50
+DENY GROUP READ_DATA|EXECUTE 60
+";
 
-const PLAIN_LIST: [AceRow; 5] = [
-    (ALLOW, 0, 0x07, b"OWNER@"),
-    (DENY, 0, 0x20, b"OWNER@"),
-    (ALLOW, 0, 0x01, b"GROUP@"),
-    (DENY, 0, 0x26, b"GROUP@"),
-    (ALLOW, 0, 0x01, b"EVERYONE@"),
-];
+const PLAIN_LIST: &[u8] = b"ALLOW - READ_DATA|WRITE_DATA|APPEND_DATA OWNER@
+DENY - EXECUTE OWNER@
+ALLOW - READ_DATA GROUP@
+DENY - WRITE_DATA|APPEND_DATA|EXECUTE GROUP@
+ALLOW - READ_DATA EVERYONE@
+";
 
-const IDS_LIST: [AceRow; 8] = [
-    (ALLOW, 0, 0x27, b"OWNER@"),
-    (ALLOW, 0, 0x01, b"0"),
-    (DENY, 0, 0x26, b"0"),
-    (ALLOW, 0, 0x01, b"4294967294"),
-    (DENY, 0, 0x26, b"4294967294"),
-    (ALLOW, 0, 0x01, b"GROUP@"),
-    (DENY, 0, 0x26, b"GROUP@"),
-    (ALLOW, 0, 0x20, b"EVERYONE@"),
-];
+const IDS_LIST: &[u8] = b"ALLOW - READ_DATA|WRITE_DATA|APPEND_DATA|EXECUTE OWNER@
+ALLOW - READ_DATA 0
+DENY - WRITE_DATA|APPEND_DATA|EXECUTE 0
+ALLOW - READ_DATA 4294967294
+DENY - WRITE_DATA|APPEND_DATA|EXECUTE 4294967294
+ALLOW - READ_DATA GROUP@
+DENY - WRITE_DATA|APPEND_DATA|EXECUTE GROUP@
+ALLOW - EXECUTE EVERYONE@
+";
 
-// An ACL, its list, and the mode of that, whose group digit is what MASK leaves of GROUP_OBJ.
-static LISTS: [(&[u8], &[AceRow], u16); 3] = [
-    (TWO_GROUPS, &TWO_GROUPS_LIST, 0o700),
-    (b"u::rw-,g::r--,o::r--", &PLAIN_LIST, 0o644),
+// An ACL, its list as a text, and the mode of that, whose group digit is what MASK leaves of GROUP_OBJ.
+static LISTS: [(&[u8], &[u8], u16); 3] = [
+    (TWO_GROUPS, TWO_GROUPS_LIST, 0o700),
+    (b"u::rw-,g::r--,o::r--", PLAIN_LIST, 0o644),
     (
         b"u::rwx,u:0:rwx,u:4294967294:r-x,g::rwx,m::r--,o::--x",
-        &IDS_LIST,
+        IDS_LIST,
         0o741,
     ),
 ];
 
-fn has_list(alloc: Global, acl: &PosixAcl, aces: &[AceRow], mode: u16) -> Result<bool, PushFault> {
-    let wanted = built(alloc, aces)?;
+fn has_list(alloc: Global, acl: &PosixAcl, text: &[u8], mode: u16) -> Result<bool, PushFault> {
+    let wanted = kept(parse_text(alloc, text))?;
     let list = kept(bridge(alloc, acl))?;
     Ok(list == wanted && mode_of(list.aces()).bits() == mode)
 }
 
 /// Each ACL has the list of its row, and that its mode.
 pub fn lists(rt: &impl Abort, alloc: Global) -> Result<(), PushFault> {
-    for (text, aces, mode) in LISTS {
+    for (text, list, mode) in LISTS {
         let acl = acl_of(alloc, text)?;
-        assert!(rt; has_list(alloc, &acl, aces, mode)?);
+        assert!(rt; has_list(alloc, &acl, list, mode)?);
     }
     Ok(())
 }

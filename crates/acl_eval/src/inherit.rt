@@ -1,9 +1,9 @@
 //! What a new object inherits.
-ghost use Rattle.std.specs.Prelude.{◌≡◌, ◌∷◌, ◌++◌, [], IfOk, OnOk, IsTrue, option_map};
+ghost use Rattle.std.specs.Prelude.{◌≡◌, IfOk, IsTrue, option_map};
 ghost use Rattle.acl_perm.specs.Bits.{has_bit, inherit_only};
-ghost use Rattle.acl_perm.specs.Profile.{Profile, full};
+ghost use Rattle.acl_perm.specs.Profile.{Profile};
 ghost use Rattle.acl_nfs4.specs.Ace.{ace};
-ghost use Rattle.acl_nfs4.specs.Spelling.{Fits, IsAccepted};
+ghost use Rattle.acl_nfs4.specs.Spelling.{Fits};
 ghost use Rattle.acl_eval.specs.Inheritance.{child_flags, children};
 
 use acl_nfs4::{AceRef, Acl, Flags};

@@ -4,7 +4,6 @@ ghost use Rattle.acl_perm.specs.Bits.{all_rights, has_bit};
 ghost use Rattle.acl_perm.specs.Principal.{Principal as PrincipalOf, principal};
 ghost use Rattle.acl_nfs4.specs.Ace.{Ace, ace};
 ghost use Rattle.acl_nfs4.specs.Who.{principal_of};
-ghost use Rattle.acl_eval.specs.Column.{takes_part};
 ghost use Rattle.acl_eval.specs.ListMode.{is_for_group, is_for_others, is_for_owner, mode_of_list, perm_of};
 ghost use Rattle.acl_eval.specs.Settled.{settled};
 

@@ -1,6 +1,6 @@
 //! Checks over many ACEs, to count their instructions: `bench/calls` runs each test alone.
 
-ghost use Rattle.std.specs.Prelude.{◌≡◌, ◌<◌};
+ghost use Rattle.std.specs.Prelude.{◌<◌};
 
 use super::*;
 use acl_nfs4::AclView;

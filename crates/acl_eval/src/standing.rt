@@ -3,7 +3,6 @@ ghost use Rattle.std.specs.Prelude.{◌≡◌, ◌≤◌, length};
 ghost use Rattle.acl_perm.specs.Principal.{group, owner, principal};
 ghost use Rattle.acl_perm.specs.Situation.{matches};
 ghost use Rattle.acl_nfs4.specs.Ace.{ace};
-ghost use Rattle.acl_nfs4.specs.Who.{principal_of};
 ghost use Rattle.acl_eval.specs.Situation.{situation, user_of};
 ghost use Rattle.acl_eval.specs.Names.{last_of};
 ghost use Rattle.acl_eval.specs.Scan.{speaks};

@@ -1,22 +1,16 @@
 -- A value from a source, of which no byte too many is taken.
-use Rattle.std.proofs.Common.{◌≡◌, ℕ, List, [], ◌++◌, length, Option, None, Some, Result, Ok, Err, sym, ap, subst, ◌∙◌, arith, inl, inr}
+use Rattle.std.proofs.Common.{◌≡◌, ℕ, List, [], ◌++◌, length, Option, None, Some, Result, Ok, Err, sym, ap, subst, ◌∙◌, inl, inr}
 use Rattle.std.specs.Io.KnownBytes.{Consumes, IsAtEnd}
 use Rattle.std.proofs.lemmas.List.{append-nil}
 use Rattle.acl_perm.specs.Profile.{Profile}
 use Rattle.acl_nfs4.specs.Ace.{Ace}
 use Rattle.acl_nfs4.specs.Spelling.{Xdr}
 use Rattle.acl_nfs4.specs.Within.{IsProfile}
-use Rattle.acl_nfs4.specs.Fault.{Stage, IsFault, refuses}
-use Rattle.acl_nfs4.specs.Fault.Stage.{count as at_count, kind as at_kind, flags as at_flags, mask as at_mask, len as at_len, who as at_who, padding as at_padding}
-use Rattle.acl_nfs4.specs.Fields.{unless, who_reason}
-use Rattle.acl_nfs4.specs.Who.{who_fault}
-use Rattle.std.specs.Prelude.{option_map}
-use Rattle.acl_nfs4.specs.declared.who.WhoFault.{WhoFault}
-use Rattle.acl_nfs4.specs.declared.who.WhoFault.TheVariants as who
+use Rattle.acl_nfs4.specs.Fault.{IsFault}
 use Rattle.acl_nfs4.specs.Stream.{Decodes, IsOrFails, FaultsOrFails}
 use Rattle.acl_nfs4.specs.declared.xdr.fault.Fault.{Fault}
 use Rattle.acl_nfs4.specs.declared.xdr.fault.Reason.{Reason}
-use Rattle.acl_nfs4.specs.declared.xdr.fault.Reason.TheVariants.{Truncated, Read}
+use Rattle.acl_nfs4.specs.declared.xdr.fault.Reason.TheVariants.{Truncated}
 use Rattle.acl_nfs4.proofs.Body.{one}
 use Rattle.acl_nfs4.proofs.OneFault.{value_or_fault}
 use Rattle.acl_nfs4.proofs.Pieces.{fault_stays}
@@ -75,22 +69,3 @@ refused p None new given result ok c d input o r e f = absurd cc
 refused p (Some known) None given result ok c d input o r e f = absurd c
 refused p (Some known) (Some left) given result ok c d input o r e f = is_refused p input given left result o r ok
     (sym (some_is _ _ e) ∙ c) d f
-
--- ---- no field is refused as a failed read
-
-no_such_reason : (fault : Option WhoFault) (bytes : List ℕ) → unless (option_map who_reason fault) bytes ≡ Err Read → ⊥
-no_such_reason None bytes e = absurd cc
-no_such_reason (Some who.Length) bytes e = absurd cc
-no_such_reason (Some who.Utf8) bytes e = absurd cc
-no_such_reason (Some who.Control) bytes e = absurd cc
-no_such_reason (Some who.Special) bytes e = absurd cc
-
--- no field refuses what it holds as a failed read
-pub never_read : (p : Profile) (s : Stage) (bytes : List ℕ) → refuses p s bytes Read → ⊥
-never_read p at_count bytes h = grind arith
-never_read p (at_kind n list) bytes h = grind arith
-never_read p (at_flags n list k) bytes h = grind arith
-never_read p (at_mask n list k f) bytes h = grind arith
-never_read p (at_len n list k f m) bytes h = grind arith
-never_read p (at_who n list k f m l) bytes h = no_such_reason (who_fault bytes) bytes h
-never_read p (at_padding n list k f m w) bytes h = grind arith

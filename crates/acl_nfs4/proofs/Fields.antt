@@ -228,6 +228,11 @@ who_len_is n m e =
     let b = len_bounds n g.0 in
     (same, omega (arith, same, b.0), omega (arith, same, b.1))
 
+-- a length that is accepted is one that a who may have
+pub who_len_some : (n m : ℕ) → who_len_of n ≡ Ok m → is_no_who_len m ≡ false
+who_len_some n m e =
+    subst (λ (z : ℕ). is_no_who_len z ≡ false) (who_len_is n m e).0 (guard_ok (is_no_who_len n) _ _ m e).0
+
 -- a length that a who may have is accepted
 pub who_len_again : (n : ℕ) → 1 ≤ n → n ≤ longest_who → who_len_of n ≡ Ok n
 who_len_again n some short =

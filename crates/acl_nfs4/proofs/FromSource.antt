@@ -1,39 +1,41 @@
 -- Fields that are pulled from a source: where each stands in the text, and what it comes to.
-use Rattle.std.proofs.Common.{◌≡◌, ◌≢◌, ◌⊎◌, ℕ, ◌+◌, ◌<◌, ◌≤◌, List, [], ◌∷◌, ◌++◌, length, take, drop, Option, Result, Ok, Err, refl, sym, ap, subst, ◌∙◌, append_assoc, arith, inl, inr}
+use Rattle.std.proofs.Common.{◌≡◌, ◌≢◌, ◌⊎◌, ℕ, ◌+◌, ◌-◌, ◌<◌, ◌≤◌, List, [], ◌∷◌, ◌++◌, length, take, drop, Option, Result, Ok, Err, refl, sym, ap, subst, ◌∙◌, append_assoc, append-nil, arith, inl, inr}
 use Rattle.std.proofs.lemmas.List.{length-append, length-take, take-append-le, take_all, drop_at, drop-take}
 use Rattle.std.proofs.lemmas.Nat.{be_bytes_4}
 use Rattle.std.proofs.Math.Seq.{take-append-add}
 use borrow.Rule.Slice.PartMut.{put_mid, post_of}
-use Rattle.std.specs.Prelude.{count_ones}
+use Rattle.std.specs.Prelude.{count_ones, replicate}
 use Rattle.std.specs.List.{flat_map}
-use Rattle.std.specs.Prelude.{IsErrAnd}
 use Rattle.std.specs.Io.KnownBytes.{Consumes, IsAtEnd}
+use Rattle.std.proofs.KnownBytes.{Consumes-nil, Consumes-trans}
 use Rattle.acl_perm.specs.Devices.{one_more}
 use Rattle.acl_perm.specs.Profile.{Profile}
 use Rattle.acl_nfs4.specs.Ace.{Ace}
 use Rattle.acl_nfs4.specs.internal.Body.{Spells, aces_of}
 use Rattle.acl_nfs4.specs.Owned.{IsOwned}
 use Rattle.acl_nfs4.specs.Limits.{most_weight}
-use Rattle.acl_nfs4.specs.Spelling.{word, weight, piece, spelling, Xdr}
+use Rattle.acl_nfs4.specs.Spelling.{word, kind_number, pad_len, weight, piece, spelling, Xdr}
 use Rattle.acl_nfs4.specs.Stream.{Decodes}
 use Rattle.acl_nfs4.specs.Within.{IsProfile}
-use Rattle.acl_nfs4.specs.Fault.Stage.{kind as at_kind}
+use Rattle.acl_nfs4.specs.Fault.Stage.{kind as at_kind, flags as at_flags, mask as at_mask, len as at_len, who as at_who, padding as at_padding}
+use Rattle.acl_nfs4.specs.Fault.Border.{flagged, masked, measured, named, padded, typed}
+use Rattle.acl_nfs4.specs.Who.{IsWho}
 use Rattle.acl_nfs4.specs.Fault.{Stage, Border, Breaks, IsFault, IsFirstFault, IsOwed, refuses, size}
-use Rattle.acl_nfs4.specs.Fields.{number, padding_of}
+use Rattle.acl_nfs4.specs.Fields.{number, kind_of, flags_of, mask_of, who_len_of, who_of, padding_of}
 use Rattle.acl_nfs4.specs.internal.Progress.{IsBytes}
-use Rattle.acl_nfs4.specs.internal.Pulling.{Draws, FromKind, Holds, IsFilled, IsLacking, IsTaken, IsWord, Pulls, Stops}
+use Rattle.acl_nfs4.specs.internal.Pulling.{HasAce, IsDrawn, IsFilled, IsHalted, IsLacking, IsNext, IsTaken, IsWord, Stops}
+use Rattle.acl_perm.specs.declared.kind.Kind.{Kind}
 use Rattle.acl_nfs4.specs.internal.Reading.{Gives, Placed}
 use Rattle.acl_nfs4.specs.declared.xdr.fault.Fault.{Fault}
 use Rattle.acl_nfs4.specs.declared.xdr.fault.Reason.{Reason}
 use Rattle.acl_nfs4.specs.declared.xdr.fault.Reason.TheVariants.{Truncated, Read}
 use Rattle.acl_nfs4.specs.declared.xdr.pulling.Pulled.{Pulled}
-use Rattle.acl_nfs4.proofs.Fields.{IsBytes-drop, IsBytes-take}
+use Rattle.acl_nfs4.proofs.Fields.{IsBytes-drop, IsBytes-take, flags_are, kind_is, mask_is, padding_is, who_is, who_len_is}
 use Rattle.acl_nfs4.proofs.Body.{is_body, aces_of-flat_map}
 use Rattle.acl_nfs4.proofs.Completion.{shape}
 use Rattle.acl_nfs4.proofs.Faults.{weight-push}
-use Rattle.acl_nfs4.proofs.OneFault.{never_truncated}
+use Rattle.acl_nfs4.proofs.OneFault.{never_read, never_truncated}
 use Rattle.acl_nfs4.proofs.Within.{in_full}
-use Rattle.acl_nfs4.proofs.Decoding.{never_read}
 
 -- ---- the room
 
@@ -65,20 +67,24 @@ field_is old room piece held size inside e long =
     let front : length (take held old) ≡ held = omega (arith, length-take held old, inside) in
     sym (drop-take held size room) ∙ ap (drop held) e ∙ drop_at (take held old) piece held front
 
+-- bytes between two places of a room are as many as lie there
+pub filled_len : {held l : ℕ} {room new bytes : List ℕ} {before after : ℕ}
+    → IsFilled held (held + l - held) room new bytes before after → length bytes ≡ l
+filled_len h = omega (arith, h.long)
+
 -- a word is spelled by its bytes
-pub is_word : (held size : ℕ) (old new piece : List ℕ) (before after n : ℕ) → held ≤ length old → size ≡ 4
+pub is_word : (held size : ℕ) (old new piece : List ℕ) (before after n : ℕ) → size ≡ 4
     → IsFilled held size old new piece before after → n ≡ number (take 4 (drop held new))
     → IsWord held old new piece before after n
-is_word held size old new piece before after n inside four f e =
-    let room : take (held + 4) new ≡ take held old ++ piece = ap (λ (k : ℕ). take (held + k) new) (sym four) ∙ f.room in
+is_word held size old new piece before after n four f e =
     let long : length piece ≡ 4 = f.long ∙ four in
-    let field : take 4 (drop held new) ≡ piece = field_is old new piece held 4 inside room long in
-    let is : number piece ≡ n = sym (e ∙ ap number field) in
+    let is : number piece ≡ n =
+    sym (e ∙ ap number (ap (λ (k : ℕ). take k (drop held new)) (sym four) ∙ f.stands)) in
     record {
       long = long;
       number_is = is;
       spelled = be_bytes_4 piece n long f.bytes (sym is);
-      room = room;
+      room = ap (λ (k : ℕ). take (held + k) new) (sym four) ∙ f.room;
       kept = f.kept;
     }
 
@@ -139,38 +145,187 @@ refusal view offset (Ok x) value f placed gives = absurd cc
 refusal view offset (Err r) value f placed gives = (r, gives, cc)
 
 -- what an accepted field is
-pub acceptance : {X A : Type 0} (view : X → A) (offset : ℕ) (judged : Result X Reason) (value : Result A Reason) (x : X)
+pub accepted : {X A : Type 0} (view : X → A) (offset : ℕ) (judged : Result X Reason) (value : Result A Reason) (x : X)
     → Placed offset judged (Ok x) → Gives view judged value → value ≡ Ok (view x)
-acceptance view offset (Ok y) value x placed gives = gives ∙ ap (λ (z : _). Ok (view z)) cc
-acceptance view offset (Err r) value x placed gives = absurd cc
+accepted view offset (Ok y) value x placed gives = gives ∙ ap (λ (z : _). Ok (view z)) cc
+accepted view offset (Err r) value x placed gives = absurd cc
 
--- a field that stops ends the ACE
-pub draws_err : (held : ℕ) (old left : Option (List ℕ)) (before after : ℕ) (room new : List ℕ)
-    (Says : List ℕ → Option (List ℕ) → ℕ → ℕ → Result Pulled Fault → Type 0) (result : Result Pulled Fault) (f : Fault)
-    (given : List ℕ) → IsErrAnd result (λ e. e ≡ f) → Consumes old left given → Says given left before after (Err f)
-    → Draws held old left before after room new Says result
-draws_err held old left before after room new Says (Ok x) f given e c s = absurd e
-draws_err held old left before after room new Says (Err d) f given e c s =
-    subst (λ (z : Fault). Draws held old left before after room new Says (Err z)) (sym e) (given, c, tt, s)
+-- ---- the fields of an ACE, one after the other
 
--- ---- from one field to the next
+-- no field of the ACE is there
+pub begun : {p : Profile} {offset total : ℕ} {old : Option (List ℕ)} {before : ℕ} (room : List ℕ)
+    → IsDrawn p offset total (λ n list. at_kind n list) 0 old old before before room []
+begun {p} {offset} {total} {old} room = record {
+  taken = Consumes-nil old;
+  front = refl;
+  long = refl;
+  kept = refl;
+  leads = λ n list text next. subst (λ (t : List ℕ). Border p (at_kind n list) t) (sym (append-nil text)) next.border;
+}
 
--- what follows a field stands behind it
-pub holds_on : (held more : ℕ) (old mid new piece given : List ℕ) (result : Result Pulled Fault)
-    → take more mid ≡ take held old ++ piece → Holds more mid new given result
-    → Holds held old new (piece ++ given) result
-holds_on held more old mid new piece given (Ok x) e h =
-    (h.0 ∙ ap (λ (t : List ℕ). t ++ given) e ∙ append_assoc (take held old) piece given, h.1)
-holds_on held more old mid new piece given (Err f) e h = tt
+-- one more field is there
+field_drawn : {p : Profile} {offset total held : ℕ} {old here left : Option (List ℕ)} {before mid after : ℕ}
+    {room new given bytes : List ℕ} (s t : ℕ → List Ace → Stage) (more : ℕ) (spelled : List ℕ)
+    → IsDrawn p offset total s held old here before mid room given → Consumes here left bytes
+    → held + length bytes ≡ more → take more new ≡ take held room ++ bytes → after ≡ mid → spelled ≡ bytes
+    → ((n : ℕ) (list : List Ace) (text front : List ℕ) → IsNext p offset total n list text → Border p (s n list) front
+    → Border p (t n list) (front ++ spelled))
+    → IsDrawn p offset total t more old left before after new (given ++ bytes)
+field_drawn {p} {given = given} {bytes = bytes} s t more spelled d taken long front kept is leads = record {
+  taken = Consumes-trans _ _ _ _ _ d.taken taken;
+  front = front ∙ ap (λ (x : List ℕ). x ++ bytes) d.front;
+  long = omega (arith, length-append given bytes, d.long, long);
+  kept = kept ∙ d.kept;
+  leads = λ n list text next. subst (λ (x : List ℕ). Border p (t n list) x)
+      (ap (λ (x : List ℕ). (text ++ given) ++ x) is ∙ append_assoc text given bytes)
+      (leads n list text (text ++ given) next (d.leads n list text next));
+}
 
--- a field and what follows it
-pub pulls_on : (p : Profile) (n : ℕ) (list : List Ace) (text piece given : List ℕ) (left : Option (List ℕ))
-    (before mid after : ℕ) (result : Result Pulled Fault) → mid ≡ before
-    → Pulls p n list ((text ++ piece) ++ given) left mid after result
-    → Pulls p n list (text ++ (piece ++ given)) left before after result
-pulls_on p n list text piece given left before mid after result kept h =
-    subst (λ (t : List ℕ). Pulls p n list t left before after result) (append_assoc text piece given)
-    (subst (λ (k : ℕ). Pulls p n list ((text ++ piece) ++ given) left k after result) kept h)
+-- one more word is there
+word_drawn : {p : Profile} {offset total held : ℕ} {old here left : Option (List ℕ)} {before mid after n : ℕ}
+    {room new given bytes : List ℕ} (s t : ℕ → List Ace → Stage) (z : ℕ)
+    → IsDrawn p offset total s held old here before mid room given → Consumes here left bytes
+    → IsWord held room new bytes mid after n → n ≡ z
+    → ((n : ℕ) (list : List Ace) (text front : List ℕ) → IsNext p offset total n list text → Border p (s n list) front
+    → Border p (t n list) (front ++ word z))
+    → IsDrawn p offset total t (held + 4) old left before after new (given ++ bytes)
+word_drawn {held = held} s t z d taken h is leads =
+    field_drawn s t (held + 4) (word z) d taken (omega (arith, h.long)) h.room h.kept (ap word (sym is) ∙ h.spelled)
+    leads
+
+-- the type is there
+pub kind_drawn : {p : Profile} {offset total : ℕ} {old here left : Option (List ℕ)} {before mid after n : ℕ}
+    {room new given bytes : List ℕ} (k : Kind)
+    → IsDrawn p offset total (λ n list. at_kind n list) 0 old here before mid room given → Consumes here left bytes
+    → IsWord 0 room new bytes mid after n → kind_of n ≡ Ok k
+    → IsDrawn p offset total (λ n list. at_flags n list k) 4 old left before after new (given ++ bytes)
+kind_drawn {n = n} k d taken h is =
+    word_drawn (λ n list. at_kind n list) (λ n list. at_flags n list k) (kind_number k) d taken h (kind_is n k is)
+    (λ n list text front next b. typed n list k front b next.fewer)
+
+-- the flags are there
+pub flags_drawn : {p : Profile} {offset total : ℕ} {old here left : Option (List ℕ)} {before mid after n : ℕ}
+    {room new given bytes : List ℕ} (k : Kind) (f : ℕ)
+    → IsDrawn p offset total (λ n list. at_flags n list k) 4 old here before mid room given → Consumes here left bytes
+    → IsWord 4 room new bytes mid after n → flags_of p n ≡ Ok f
+    → IsDrawn p offset total (λ n list. at_mask n list k f) 8 old left before after new (given ++ bytes)
+flags_drawn {p} {n = n} k f d taken h is =
+    let a = flags_are p n f is in
+    word_drawn (λ n list. at_flags n list k) (λ n list. at_mask n list k f) f d taken h a.0
+    (λ n list text front next b. flagged n list k f front b a.1)
+
+-- the mask is there
+pub mask_drawn : {p : Profile} {offset total : ℕ} {old here left : Option (List ℕ)} {before mid after n : ℕ}
+    {room new given bytes : List ℕ} (k : Kind) (f m : ℕ)
+    → IsDrawn p offset total (λ n list. at_mask n list k f) 8 old here before mid room given → Consumes here left bytes
+    → IsWord 8 room new bytes mid after n → mask_of p total n ≡ Ok m
+    → IsDrawn p offset total (λ n list. at_len n list k f m) 12 old left before after new (given ++ bytes)
+mask_drawn {p} {total = total} {n = n} k f m d taken h is =
+    let a = mask_is p total n m is in
+    word_drawn (λ n list. at_mask n list k f) (λ n list. at_len n list k f m) m d taken h a.0
+    (λ n list text front next b. masked n list k f m front b a.1 (omega (arith, next.heavy, a.2)))
+
+-- the type and the flags are there
+pub flags_behind : {p : Profile} {offset total : ℕ} {old left : Option (List ℕ)} {before mid after x y : ℕ}
+    {mid_room new : List ℕ} {k : Kind} {f : ℕ} (room : List ℕ) (one : Option (List ℕ))
+    → (a : (bytes : List ℕ) × Consumes old one bytes × IsWord 0 room mid_room bytes before mid x)
+    → (b : (bytes : List ℕ) × Consumes one left bytes × IsWord 4 mid_room new bytes mid after y)
+    → kind_of x ≡ Ok k → flags_of p y ≡ Ok f
+    → IsDrawn p offset total (λ n list. at_mask n list k f) 8 old left before after new (a.0 ++ b.0)
+flags_behind {k = k} {f = f} room one a b kind flags =
+    flags_drawn k f (kind_drawn k (begun room) a.1 a.2 kind) b.1 b.2 flags
+
+-- the type, the flags and the mask are there
+pub mask_behind : {p : Profile} {offset total : ℕ} {old left : Option (List ℕ)} {before mid late after x y z : ℕ}
+    {one_room two_room new : List ℕ} {k : Kind} {f m : ℕ} (room : List ℕ) (one two : Option (List ℕ))
+    → (a : (bytes : List ℕ) × Consumes old one bytes × IsWord 0 room one_room bytes before mid x)
+    → (b : (bytes : List ℕ) × Consumes one two bytes × IsWord 4 one_room two_room bytes mid late y)
+    → (d : (bytes : List ℕ) × Consumes two left bytes × IsWord 8 two_room new bytes late after z)
+    → kind_of x ≡ Ok k → flags_of p y ≡ Ok f → mask_of p total z ≡ Ok m
+    → IsDrawn p offset total (λ n list. at_len n list k f m) 12 old left before after new ((a.0 ++ b.0) ++ d.0)
+mask_behind {k = k} {f = f} {m = m} room one two a b d kind flags mask =
+    mask_drawn k f m (flags_behind room one a b kind flags) d.1 d.2 mask
+
+-- the length of the who is there
+pub len_drawn : {p : Profile} {offset total : ℕ} {old here left : Option (List ℕ)} {before mid after n : ℕ}
+    {room new given bytes : List ℕ} (k : Kind) (f m l : ℕ)
+    → IsDrawn p offset total (λ n list. at_len n list k f m) 12 old here before mid room given
+    → Consumes here left bytes → IsWord 12 room new bytes mid after n → who_len_of n ≡ Ok l
+    → IsDrawn p offset total (λ n list. at_who n list k f m l) 16 old left before after new (given ++ bytes)
+len_drawn {n = n} k f m l d taken h is =
+    let a = who_len_is n l is in
+    word_drawn (λ n list. at_len n list k f m) (λ n list. at_who n list k f m l) l d taken h a.0
+    (λ n list text front next b. measured n list k f m l front b a.1 a.2)
+
+-- the who is there
+pub who_drawn : {p : Profile} {offset total : ℕ} {old here left : Option (List ℕ)} {before mid after l : ℕ}
+    {room new given bytes who : List ℕ} {k : Kind} {f m : ℕ}
+    → IsDrawn p offset total (λ n list. at_who n list k f m l) 16 old here before mid room given
+    → Consumes here left bytes → IsFilled 16 (16 + l - 16) room new bytes mid after → who_of bytes ≡ Ok who
+    → IsDrawn p offset total (λ n list. at_padding n list k f m bytes) (16 + l) old left before after new
+    (given ++ bytes)
+who_drawn {p} {l = l} {new = new} {bytes = bytes} {who = who} {k = k} {f = f} {m = m} d taken h is =
+    let a = who_is bytes who is in
+    let long : length bytes ≡ l = omega (arith, h.long) in
+    field_drawn (λ n list. at_who n list k f m l) (λ n list. at_padding n list k f m bytes) (16 + l) bytes d taken
+    (omega (arith, long)) (ap (λ (z : ℕ). take z new) (omega arith) ∙ h.room) h.kept refl
+    (λ n list text front next b. named n list k f m bytes front
+    (subst (λ (z : ℕ). Border p (at_who n list k f m z) front) (sym long) b) (subst IsWho (sym a.0) a.1))
+
+-- the padding is there, and with it the ACE
+pub padding_drawn : {p : Profile} {offset total held : ℕ} {old here left : Option (List ℕ)} {before mid after : ℕ}
+    {room new given : List ℕ} (k : Kind) (f m more : ℕ) (who bytes : List ℕ)
+    → IsDrawn p offset total (λ n list. at_padding n list k f m who) held old here before mid room given
+    → Consumes here left bytes → length bytes ≡ pad_len (length who) → held + length bytes ≡ more
+    → take more new ≡ take held room ++ bytes → after ≡ mid → padding_of bytes ≡ Ok tt
+    → IsDrawn p offset total (λ n list. at_kind n (list ++ record { kind = k; flags = f; mask = m; who = who } ∷ []))
+    more old left before after new (given ++ bytes)
+padding_drawn k f m more who bytes d taken long end room kept is =
+    field_drawn (λ n list. at_padding n list k f m who)
+    (λ n list. at_kind n (list ++ record { kind = k; flags = f; mask = m; who = who } ∷ [])) more
+    (replicate (pad_len (length who)) 0) d taken end room kept
+    (ap (λ (z : ℕ). replicate z 0) (sym long) ∙ sym (padding_is bytes tt is))
+    (λ n list text front next b. padded n list k f m who front b)
+
+-- ---- where the decoder stops in an ACE
+
+-- the source ends or fails inside the field that stands next
+pub lacking : {p : Profile} {offset total held wanted place : ℕ} {old here left : Option (List ℕ)}
+    {before mid after : ℕ} {room given bytes : List ℕ} {f : Fault} {s : ℕ → List Ace → Stage}
+    → IsDrawn p offset total s held old here before mid room given → Consumes here left bytes
+    → IsLacking place wanted bytes left mid after f → place ≡ offset + held
+    → ((n : ℕ) (list : List Ace) → length list < n → IsOwed (s n list) × (wanted ≡ size (s n list)))
+    → IsHalted p offset total old left before after f
+lacking {p} {offset} {total} {held} {left = left} {before = before} {after = after} {given = given} {bytes = bytes}
+    {f = f} {s = s} d taken l at stands = record {
+      given = given ++ bytes;
+      taken = Consumes-trans _ _ _ _ _ d.taken taken;
+      stops = λ n list text next.
+          let owed = stands n list next.fewer in
+          subst (λ (t : List ℕ). Stops p t left before after f) (append_assoc text given bytes)
+          (subst (λ (k : ℕ). Stops p ((text ++ given) ++ bytes) left k after f) d.kept
+          (lacks p (s n list) (text ++ given) bytes _ _ left _ after f (d.leads n list text next) owed.0
+          (omega (arith, length-append text given, d.long, next.here, at)) owed.1 l));
+    }
+
+-- the field that stands next is whole and refused
+pub rejected : {p : Profile} {offset total held place : ℕ} {old here left : Option (List ℕ)} {before mid after : ℕ}
+    {room given : List ℕ} {f : Fault} {s : ℕ → List Ace → Stage} (r : Reason) (bytes : List ℕ)
+    → IsDrawn p offset total s held old here before mid room given → Consumes here left bytes → after ≡ mid
+    → f ≡ record { offset = place; reason = r } → place ≡ offset + held → 0 < length bytes
+    → ((n : ℕ) (list : List Ace) → length list < n → weight list ≡ total
+    → IsOwed (s n list) × (length bytes ≡ size (s n list)) × refuses p (s n list) bytes r)
+    → IsHalted p offset total old left before after f
+rejected {p} {offset} {total} {held} {place} {left = left} {before = before} {after = after} {given = given} {f = f}
+    {s = s} r bytes d taken kept is at some stands = record {
+      given = given ++ bytes;
+      taken = Consumes-trans _ _ _ _ _ d.taken taken;
+      stops = λ n list text next.
+          let owed = stands n list next.fewer next.heavy in
+          subst (λ (t : List ℕ). Stops p t left before after f) (append_assoc text given bytes)
+          (refused p (s n list) (text ++ given) bytes place left before after f r (d.leads n list text next) owed.0
+          (omega (arith, length-append text given, d.long, next.here, at)) owed.1 some owed.2 is (kept ∙ d.kept));
+    }
 
 -- some bytes are padding that is refused
 pub some_padding : (bytes : List ℕ) (r : Reason) → padding_of bytes ≡ Err r → 0 < length bytes
@@ -213,32 +368,36 @@ taken_len : (p : Profile) (n seen total : ℕ) (body text : List ℕ) → IsTake
     → length text ≡ 4 + length body
 taken_len p n seen total body text t = ap length t.parts ∙ length-append (word n) body
 
+-- the next ACE may stand behind what was taken
+taken_next : (p : Profile) (n seen total offset : ℕ) (body text : List ℕ) → (t : IsTaken p n seen total body text)
+    → seen < n → offset ≡ 4 + length body → IsNext p offset total n t.list text
+taken_next p n seen total offset body text t lt at = record {
+  border = t.border;
+  fewer = omega (arith, t.long, lt);
+  here = omega (arith, taken_len p n seen total body text t, at);
+  heavy = t.heavy;
+}
+
 -- one more ACE is taken
-pub taken_on : (p : Profile) (n seen total offset : ℕ) (body text given : List ℕ) (left : Option (List ℕ))
+pub taken_on : (p : Profile) (n seen total offset : ℕ) (body text room : List ℕ) (old left : Option (List ℕ))
     (before after : ℕ) (x : Pulled) → IsTaken p n seen total body text → seen < n → offset ≡ 4 + length body
-    → FromKind p offset total given left before after (Ok x)
-    → IsTaken p n (seen + 1) (total + x.bits) (body ++ given) (text ++ given) × (after ≡ before)
-taken_on p n seen total offset body text given left before after x t lt at from =
-    let a = from n t.list text t.border (omega (arith, t.long, lt))
-    (omega (arith, taken_len p n seen total body text t, at)) t.heavy in (
-      record {
-        list = t.list ++ a.0 ∷ [];
-        border = a.1;
-        long = omega (arith, t.long, length-append t.list (a.0 ∷ []));
-        heavy = sym (weight-push t.list a.0) ∙ ap (λ (k : ℕ). k + count_ones a.0.mask) t.heavy
-            ∙ ap (λ (k : ℕ). total + k) a.2;
-        parts = ap (λ (y : List ℕ). y ++ given) t.parts ∙ append_assoc (word n) body given;
-      },
-      a.3,
-    )
+    → (h : HasAce p offset total old left before after room x)
+    → IsTaken p n (seen + 1) (total + x.bits) (body ++ h.given) (text ++ h.given)
+taken_on p n seen total offset body text room old left before after x t lt at h = record {
+  list = t.list ++ h.ace ∷ [];
+  border = h.drawn.leads n t.list text (taken_next p n seen total offset body text t lt at);
+  long = omega (arith, t.long, length-append t.list (h.ace ∷ []));
+  heavy = sym (weight-push t.list h.ace) ∙ ap (λ (k : ℕ). k + count_ones h.ace.mask) t.heavy
+      ∙ ap (λ (k : ℕ). total + k) h.bits;
+  parts = ap (λ (y : List ℕ). y ++ h.given) t.parts ∙ append_assoc (word n) body h.given;
+}
 
 -- or the decoder stops
-pub taken_stops : (p : Profile) (n seen total offset : ℕ) (body text given : List ℕ) (left : Option (List ℕ))
+pub taken_stops : (p : Profile) (n seen total offset : ℕ) (body text : List ℕ) (old left : Option (List ℕ))
     (before after : ℕ) (f : Fault) → IsTaken p n seen total body text → seen < n → offset ≡ 4 + length body
-    → FromKind p offset total given left before after (Err f) → Decodes p (text ++ given) (IsAtEnd left) (Err f)
-taken_stops p n seen total offset body text given left before after f t lt at from =
-    stops_given p (text ++ given) left before after f (from n t.list text t.border (omega (arith, t.long, lt))
-    (omega (arith, taken_len p n seen total body text t, at)) t.heavy)
+    → (h : IsHalted p offset total old left before after f) → Stops p (text ++ h.given) left before after f
+taken_stops p n seen total offset body text old left before after f t lt at h =
+    h.stops n t.list text (taken_next p n seen total offset body text t lt at)
 
 -- all ACEs were taken
 pub taken_all : (p : Profile) (n total : ℕ) (body text : List ℕ) → IsProfile p → IsTaken p n n total body text

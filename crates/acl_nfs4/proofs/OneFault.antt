@@ -1,5 +1,5 @@
 -- A text has at most one fault, and none where a value stands at its front.
-use Rattle.std.proofs.Common.{◌≡◌, ℕ, ◌+◌, ◌<◌, ◌≤◌, List, [], ◌++◌, length, take, Err, refl, sym, ap, subst, ◌∙◌, arith, inl, inr}
+use Rattle.std.proofs.Common.{◌≡◌, ◌⊎◌, ℕ, ◌+◌, ◌<◌, ◌≤◌, List, [], ◌++◌, length, take, Err, refl, sym, ap, subst, ◌∙◌, arith, inl, inr}
 use Rattle.std.specs.Prelude.{Option, None, Some, option_map}
 use Rattle.std.proofs.lemmas.Bool.{cases_lt}
 use Rattle.std.proofs.Math.Seq.{take-append-add}
@@ -15,7 +15,7 @@ use Rattle.acl_nfs4.specs.Fields.{unless, who_reason}
 use Rattle.acl_nfs4.specs.Who.{who_fault}
 use Rattle.acl_nfs4.specs.declared.who.WhoFault.{WhoFault}
 use Rattle.acl_nfs4.specs.declared.who.WhoFault.TheVariants as who
-use Rattle.acl_nfs4.specs.declared.xdr.fault.Reason.TheVariants.{Truncated}
+use Rattle.acl_nfs4.specs.declared.xdr.fault.Reason.TheVariants.{Truncated, Read}
 use Rattle.acl_nfs4.specs.Fault.IsWholeFault.{of_value, behind}
 use Rattle.acl_nfs4.specs.declared.xdr.fault.Fault.{Fault}
 use Rattle.acl_nfs4.specs.declared.xdr.fault.Reason.{Reason}
@@ -24,24 +24,37 @@ use Rattle.acl_nfs4.proofs.Body.{apart, one, value_of}
 use Rattle.acl_nfs4.proofs.Faults.{err_is}
 use Rattle.acl_nfs4.proofs.Resume.{answers_fault}
 
--- no who is refused as cut short
-pub no_such_reason : (fault : Option WhoFault) (bytes : List ℕ)
-    → unless (option_map who_reason fault) bytes ≡ Err Truncated → ⊥
-no_such_reason None bytes e = absurd cc
-no_such_reason (Some who.Length) bytes e = absurd cc
-no_such_reason (Some who.Utf8) bytes e = absurd cc
-no_such_reason (Some who.Control) bytes e = absurd cc
-no_such_reason (Some who.Special) bytes e = absurd cc
+-- a reason of the source, and of no field
+abbrev pub IsOfSource : Reason → Type 0
+IsOfSource r = (r ≡ Truncated) ⊎ (r ≡ Read)
+
+-- no who is refused by such a reason
+no_such_reason : (fault : Option WhoFault) (bytes : List ℕ) (r : Reason) → IsOfSource r
+    → unless (option_map who_reason fault) bytes ≡ Err r → ⊥
+no_such_reason None bytes r s e = absurd cc
+no_such_reason (Some who.Length) bytes r s e = elim s [ inl t ↦ absurd cc | inr t ↦ absurd cc ]
+no_such_reason (Some who.Utf8) bytes r s e = elim s [ inl t ↦ absurd cc | inr t ↦ absurd cc ]
+no_such_reason (Some who.Control) bytes r s e = elim s [ inl t ↦ absurd cc | inr t ↦ absurd cc ]
+no_such_reason (Some who.Special) bytes r s e = elim s [ inl t ↦ absurd cc | inr t ↦ absurd cc ]
+
+-- no field refuses what it holds so
+never_of_source : (profile : Profile) (s : Stage) (bytes : List ℕ) (r : Reason) → IsOfSource r
+    → refuses profile s bytes r → ⊥
+never_of_source profile at_count bytes r o h = grind (arith, o)
+never_of_source profile (at_kind n list) bytes r o h = grind (arith, o)
+never_of_source profile (at_flags n list k) bytes r o h = grind (arith, o)
+never_of_source profile (at_mask n list k f) bytes r o h = grind (arith, o)
+never_of_source profile (at_len n list k f m) bytes r o h = grind (arith, o)
+never_of_source profile (at_who n list k f m l) bytes r o h = no_such_reason (who_fault bytes) bytes r o h
+never_of_source profile (at_padding n list k f m w) bytes r o h = grind (arith, o)
 
 -- no field refuses what it holds as cut short
 pub never_truncated : (profile : Profile) (s : Stage) (bytes : List ℕ) → refuses profile s bytes Truncated → ⊥
-never_truncated profile at_count bytes h = grind arith
-never_truncated profile (at_kind n list) bytes h = grind arith
-never_truncated profile (at_flags n list k) bytes h = grind arith
-never_truncated profile (at_mask n list k f) bytes h = grind arith
-never_truncated profile (at_len n list k f m) bytes h = grind arith
-never_truncated profile (at_who n list k f m l) bytes h = no_such_reason (who_fault bytes) bytes h
-never_truncated profile (at_padding n list k f m w) bytes h = grind arith
+never_truncated profile s bytes = never_of_source profile s bytes Truncated (inl refl)
+
+-- no field refuses what it holds as a failed read
+pub never_read : (profile : Profile) (s : Stage) (bytes : List ℕ) → refuses profile s bytes Read → ⊥
+never_read profile s bytes = never_of_source profile s bytes Read (inr refl)
 
 kept_front : (bytes front rest : List ℕ) (o k : ℕ) → bytes ≡ front ++ rest → length front ≡ o
     → take (o + k) bytes ≡ front ++ take k rest

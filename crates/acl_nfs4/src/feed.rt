@@ -9,6 +9,8 @@ ghost use Rattle.acl_perm.specs.Profile.{Profile as Allowed, full, profile_of};
 ghost use Rattle.acl_nfs4.specs.Stream.{FedExactly, Feeds, Finishes, IsCut, IsSmall, more};
 ghost use Rattle.acl_nfs4.specs.Fault.{IsFault};
 ghost use Rattle.acl_nfs4.specs.declared.xdr.fault.Reason.TheVariants.{Truncated};
+ghost use Rattle.acl_nfs4.specs.declared.feed.Stage.TheVariants.{Refused};
+ghost use Rattle.acl_nfs4.specs.declared.feed.fed.Fed.TheVariants.{Refused as FedRefused};
 ghost use Rattle.acl_nfs4.specs.internal.Progress.{IsFeed, IsProgress, Judged, standing};
 
 use crate::feed::fed::Fed;
@@ -95,6 +97,23 @@ struct Step {
     fed: Fed,
 }
 
+impl Step {
+    // The text is refused, and so is what comes after it.
+    fn refused(fault: Fault, progress: Progress) -> Step
+        ensures { result ≡ record {
+          stage = Refused fault;
+          progress = progress;
+          fed = FedRefused fault;
+        } }
+    {
+        Step {
+            stage: Stage::Refused(fault),
+            progress,
+            fed: Fed::Refused(fault),
+        }
+    }
+}
+
 // One more piece of a text that is cut short.
 fn advance(text: &mut Text, piece: &[u8], from: Progress, profile: Profile) -> Step
     requires progress { IsProgress (profile_of profile) text.old from }
@@ -110,11 +129,7 @@ fn advance(text: &mut Text, piece: &[u8], from: Progress, profile: Profile) -> S
                 offset: 0,
                 reason: Reason::Memory,
             };
-            Step {
-                stage: Stage::Refused(fault),
-                progress: from,
-                fed: Fed::Refused(fault),
-            }
+            Step::refused(fault, from)
         }
         Ok(()) => {
             let reach = judge(text, from, profile);
@@ -137,11 +152,7 @@ fn advance(text: &mut Text, piece: &[u8], from: Progress, profile: Profile) -> S
                         progress,
                         fed: Fed::More,
                     },
-                    _ => Step {
-                        stage: Stage::Refused(fault),
-                        progress,
-                        fed: Fed::Refused(fault),
-                    },
+                    _ => Step::refused(fault, progress),
                 },
             }
         }

@@ -19,6 +19,16 @@ fn text(alloc: Global) -> Result<Vec<u8>, AllocError> {
     Ok(text)
 }
 
+// A call that is timed. A feed takes pieces of 4,096 bytes, or single ones.
+#[derive(Clone, Copy)]
+enum Call {
+    Parse,
+    Decode,
+    Feed,
+    FeedBytes,
+    Encode,
+}
+
 // How often, of so many times, the list is found in the text.
 fn parsed(text: &[u8], times: usize) -> usize {
     (0..times)
@@ -26,29 +36,33 @@ fn parsed(text: &[u8], times: usize) -> usize {
         .count()
 }
 
-// How often it is read from a source, or memory is wanted.
+// Whether the list is given, or memory wanted.
+fn is_given(answer: Result<Acl, Fault>) -> bool {
+    match answer {
+        Ok(list) => list.len() == 65_536,
+        Err(fault) => fault.reason == Reason::Memory,
+    }
+}
+
+// How often it is read from a source.
 fn decoded(alloc: Global, text: &[u8], times: usize) -> usize {
     (0..times)
-        .filter(|_| match decode(alloc, &mut Counted::new(text)) {
-            Ok(list) => list.len() == 65_536,
-            Err(fault) => fault.reason == Reason::Memory,
-        })
+        .filter(|_| is_given(decode(alloc, &mut Counted::new(text))))
         .count()
 }
 
-// How often it is taken in pieces, or memory is wanted.
+fn fed_once(alloc: Global, text: &[u8], size: usize) -> Result<Acl, Fault> {
+    let mut feed = Feed::new(alloc);
+    for piece in text.chunks(size.max(1)) {
+        let _ = feed.feed(piece);
+    }
+    feed.finish()
+}
+
+// How often it is taken in pieces.
 fn fed(alloc: Global, text: &[u8], size: usize, times: usize) -> usize {
     (0..times)
-        .filter(|_| {
-            let mut feed = Feed::new(alloc);
-            for piece in text.chunks(size.max(1)) {
-                let _ = feed.feed(piece);
-            }
-            match feed.finish() {
-                Ok(list) => list.len() == 65_536,
-                Err(fault) => fault.reason == Reason::Memory,
-            }
-        })
+        .filter(|_| is_given(fed_once(alloc, text, size)))
         .count()
 }
 
@@ -65,79 +79,72 @@ fn encoded(alloc: Global, text: &[u8], times: usize) -> usize {
         .count()
 }
 
+// Whether a call does what it should, each of so many times, where there is memory for the text.
+fn goes_well(alloc: Global, call: Call, times: usize) -> bool {
+    let Ok(text) = text(alloc) else {
+        return true;
+    };
+    let done = match call {
+        Call::Parse => parsed(&text, times),
+        Call::Decode => decoded(alloc, &text, times),
+        Call::Feed => fed(alloc, &text, 4096, times),
+        Call::FeedBytes => fed(alloc, &text, 1, times),
+        Call::Encode => encoded(alloc, &text, times),
+    };
+    text.len() == 1_572_868 && done == times
+}
+
 #[test]
 fn input(rt: HostRuntime) {
-    if let Ok(text) = text(rt.alloc()) {
-        assert!(rt; text.len() == 1_572_868);
-    }
+    assert!(rt; goes_well(rt.alloc(), Call::Parse, 0));
 }
 
 #[test]
 fn parse_once(rt: HostRuntime) {
-    if let Ok(text) = text(rt.alloc()) {
-        assert!(rt; parsed(&text, 1) == 1);
-    }
+    assert!(rt; goes_well(rt.alloc(), Call::Parse, 1));
 }
 
 #[test]
 fn parse_often(rt: HostRuntime) {
-    if let Ok(text) = text(rt.alloc()) {
-        assert!(rt; parsed(&text, 10) == 10);
-    }
+    assert!(rt; goes_well(rt.alloc(), Call::Parse, 10));
 }
 
 #[test]
 fn decode_once(rt: HostRuntime) {
-    if let Ok(text) = text(rt.alloc()) {
-        assert!(rt; decoded(rt.alloc(), &text, 1) == 1);
-    }
+    assert!(rt; goes_well(rt.alloc(), Call::Decode, 1));
 }
 
 #[test]
 fn decode_often(rt: HostRuntime) {
-    if let Ok(text) = text(rt.alloc()) {
-        assert!(rt; decoded(rt.alloc(), &text, 10) == 10);
-    }
+    assert!(rt; goes_well(rt.alloc(), Call::Decode, 10));
 }
 
 #[test]
 fn feed_once(rt: HostRuntime) {
-    if let Ok(text) = text(rt.alloc()) {
-        assert!(rt; fed(rt.alloc(), &text, 4096, 1) == 1);
-    }
+    assert!(rt; goes_well(rt.alloc(), Call::Feed, 1));
 }
 
 #[test]
 fn feed_often(rt: HostRuntime) {
-    if let Ok(text) = text(rt.alloc()) {
-        assert!(rt; fed(rt.alloc(), &text, 4096, 10) == 10);
-    }
+    assert!(rt; goes_well(rt.alloc(), Call::Feed, 10));
 }
 
 #[test]
 fn feed_bytes(rt: HostRuntime) {
-    if let Ok(text) = text(rt.alloc()) {
-        assert!(rt; fed(rt.alloc(), &text, 1, 1) == 1);
-    }
+    assert!(rt; goes_well(rt.alloc(), Call::FeedBytes, 1));
 }
 
 #[test]
 fn encode_none(rt: HostRuntime) {
-    if let Ok(text) = text(rt.alloc()) {
-        assert!(rt; encoded(rt.alloc(), &text, 0) == 0);
-    }
+    assert!(rt; goes_well(rt.alloc(), Call::Encode, 0));
 }
 
 #[test]
 fn encode_once(rt: HostRuntime) {
-    if let Ok(text) = text(rt.alloc()) {
-        assert!(rt; encoded(rt.alloc(), &text, 1) == 1);
-    }
+    assert!(rt; goes_well(rt.alloc(), Call::Encode, 1));
 }
 
 #[test]
 fn encode_often(rt: HostRuntime) {
-    if let Ok(text) = text(rt.alloc()) {
-        assert!(rt; encoded(rt.alloc(), &text, 10) == 10);
-    }
+    assert!(rt; goes_well(rt.alloc(), Call::Encode, 10));
 }

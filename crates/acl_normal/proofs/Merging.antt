@@ -1,6 +1,4 @@
 pub mod Order
-pub mod CellsOf
-pub mod FromCells
 pub mod PairParts
 pub mod Waits
 pub mod Quiet
@@ -11,8 +9,7 @@ pub mod BitTaken
 pub mod BitsTaken
 pub mod Rows
 pub mod WaitingPlaces
-pub mod FilledCells
+pub mod FirstPlaces
 pub mod Heads
 pub mod RowNumbers
-pub mod Few
 pub mod Publics

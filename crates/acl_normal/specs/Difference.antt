@@ -1,6 +1,10 @@
 -- What a difference of two lists shows (this library's own type).
-use Rattle.std.specs.Prelude.{map}
+use Rattle.std.specs.Prelude.{◌↔◌, IfSome, IsNone, List, Option, map}
+use Rattle.acl_eval.specs.Grant.{SameGrants}
+use Rattle.acl_nfs4.specs.Ace.{Ace}
+use Rattle.acl_normal.specs.SmallSets.{IsFirstDifference, TellsApart}
 use Rattle.acl_normal.specs.declared.comparison.Difference.{Difference}
+use Rattle.acl_perm.specs.Bits.{all_rights}
 use Rattle.acl_perm.specs.Situation.{Situation}
 
 -- the situation that a difference names
@@ -11,3 +15,9 @@ situation_of d = record {
   user_name = d.user.items;
   groups = map (λ g. g.items) d.groups.items;
 }
+
+-- what a comparison tells of two lists: nothing exactly if they grant the same, else their first difference
+pub record IsComparison (list other : List Ace) (told : Option Difference) : Type 0 where
+  pub same : IsNone told ↔ SameGrants all_rights list other
+  pub first : IfSome told (λ d. IsFirstDifference list other (situation_of d) d.bit.bits d.first_grants)
+  pub requester : IfSome told (λ d. TellsApart list other (situation_of d) d.bit.bits d.first_grants)

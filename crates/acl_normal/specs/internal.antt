@@ -4,6 +4,8 @@
 pub mod Alike
 -- the keys that play a part, without a look at any situation
 pub mod Plain
+-- what is left of a list without bits that play no part
+pub mod Reduced
 -- lists that are put into order key by key
 pub mod Emissions
 -- how many keys the columns of a list have
@@ -16,9 +18,7 @@ pub mod Shown
 pub mod Classes
 -- the rights of a mask, one after the other
 pub mod NextRight
--- where each right of a principal stands
-pub mod Cells
--- how the rows of principals are numbered
+-- how the rows of principals are numbered, and where each right of theirs stands
 pub mod Rows
 -- lists of the places that wait
 pub mod Waiting
@@ -26,8 +26,10 @@ pub mod Waiting
 pub mod Heads
 -- what is sorted for the numbers of rows
 pub mod RowNumbers
--- what the fields of merged rows are to the list that is left
+-- what the sets of places of merged rows are to the list that is left
 pub mod Merged
+-- what the fields of what remains are to the list that is left
+pub mod Remaining
 -- the keys that have a free bit, by number
 pub mod Ready
 -- what the fields of those numbers are to their bits

@@ -1,15 +1,16 @@
 //! The table of one right: what the normal form says of it, and where that comes from.
-ghost use Rattle.std.specs.Prelude.{◌≡◌, ◌<◌, ℕ, List, [], All, IfOk, IsOkAnd, OnOk, length};
+ghost use Rattle.std.specs.Prelude.{◌≡◌, ◌<◌, ℕ, List, [], All, IfOk, IsOkAnd, OnOk, length, vec_len};
 ghost use Rattle.acl_nfs4.specs.Ace.{Ace};
 ghost use Rattle.acl_nfs4.specs.Who.{principal_of};
-ghost use Rattle.acl_normal.specs.internal.Cells.{ArePlaces, first_place};
 ghost use Rattle.acl_normal.specs.internal.Emitted.{StandInRows, emitted_ace, emitted_aces};
 ghost use Rattle.acl_normal.specs.Left.{IsLowest};
+ghost use Rattle.acl_normal.specs.internal.Rows.{ArePlaces, first_place};
 ghost use Rattle.acl_normal.specs.Tables.{AddsRow, AreRows, HasKey, IsTable, with_bit};
 
 use crate::emit::emission::{Emitted, normalize_left};
+use crate::emit::remaining::Remaining;
 use crate::normal_form::ace_of;
-use crate::reduce::reduced_rows;
+use crate::reduce::remaining;
 use crate::rows::merged::lowest;
 use acl_nfs4::Acl;
 use acl_perm::{Kind, Mask, Right};
@@ -40,11 +41,27 @@ pub fn table(alloc: Global, list: &Acl, bit: Mask) -> Result<Vec<Row>, AllocErro
         return Ok(Vec::new(alloc));
     };
     let _accepted = list.aces();
-    let mut rows = reduced_rows(alloc, list)?;
-    let places = rows.places(alloc, right)?;
+    let mut rows = remaining(alloc, list)?;
+    let places = places(alloc, &rows, right)?;
     let form = normalize_left(alloc, &mut rows)?;
     let table = rows_of(alloc, &places, &form, right)?;
     Ok(table)
+}
+
+// By row, the place of the ACE that has the right.
+fn places(
+    alloc: Global,
+    rows: &Remaining<'_>,
+    right: Right,
+) -> Result<Vec<Option<usize>>, AllocError>
+    ensures count { IfOk result (λ places. vec_len places ≡ length rows.now) }
+    ensures places { IfOk result (λ places. ArePlaces right.bit rows.now places.items) }
+{
+    let mut places = Vec::with_capacity(alloc, rows.len())?;
+    for row in 0..rows.len() {
+        places.push(rows.place_in(row, right))?;
+    }
+    Ok(places)
 }
 
 // The rows of the ACEs that have the right, by the places of their principals.

@@ -1,6 +1,5 @@
 //! Rights of a number that stands for a set of rights.
 ghost use Rattle.std.specs.Prelude.{◌≡◌, ◌^◌, ◌≤◌, bit_or, IfNone, IfSome};
-ghost use Rattle.acl_perm.specs.Bits.{has_bit};
 ghost use Rattle.acl_eval.specs.Scan.{without};
 ghost use Rattle.acl_normal.specs.internal.NextRight.{IsNextRight, LacksFrom};
 
@@ -15,11 +14,11 @@ pub(crate) fn next_right(mask: u32, from: usize) -> Option<Right>
     Right::new(from + (mask >> from).trailing_zeros() as usize)
 }
 
-/// The mask without the right.
-pub(crate) fn cleared(mask: u32, right: Right) -> u32
-    ensures { result ≡ without mask (2 ^ right.bit) }
+/// The mask of one right.
+pub(crate) fn alone(right: Right) -> u32
+    ensures { result ≡ 2 ^ right.bit }
 {
-    mask ^ (mask & (1 << right.bit))
+    1 << right.bit
 }
 
 /// The mask with the right.

@@ -1,5 +1,5 @@
 //! The normal form of a list of ACEs.
-ghost use Rattle.std.specs.Prelude.{◌≡◌, ◌⊎◌, ◌↔◌, ◌∷◌, ◌++◌, [], ℕ, List, Err, IfErr, IfOk, IsOk, IsTrue, OnOk};
+ghost use Rattle.std.specs.Prelude.{◌≡◌, ◌⊎◌, ◌↔◌, [], ℕ, List, Err, IfErr, IfOk, IsOk, IsTrue};
 ghost use Rattle.acl_perm.specs.Principal.{principal};
 ghost use Rattle.acl_perm.specs.Profile.{full, profile_of};
 ghost use Rattle.acl_nfs4.specs.Ace.{Ace, ace};
@@ -13,7 +13,7 @@ ghost use Rattle.acl_normal.specs.NormalForm.{IsNormalFormOf, Normalises};
 ghost use Rattle.acl_normal.specs.internal.Ready.{who_for};
 
 use crate::emit::emission::{Emitted, normalize_left};
-use crate::reduce::reduced_rows;
+use crate::reduce::remaining;
 use acl_nfs4::{AceRef, Acl, AclView, Fault, Reason};
 use acl_perm::{Counted, Flags, Principal, Profile};
 use std::alloc::{AllocError, Global};
@@ -100,7 +100,7 @@ pub(crate) fn form_of<'a>(alloc: Global, list: &'a Acl) -> Result<Vec<Emitted<'a
     ensures { IfOk result (λ form. IsNormalFormOf list.now (emitted_aces form.items)) }
 {
     let _accepted = list.aces();
-    let mut rows = reduced_rows(alloc, list)?;
+    let mut rows = remaining(alloc, list)?;
     let form = normalize_left(alloc, &mut rows)?;
     Ok(form)
 }

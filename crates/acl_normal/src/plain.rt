@@ -1,7 +1,7 @@
 //! The normal form and the comparison in a plain way, as a measure for tests: each ACE is held against all others, and
 //! all small situations are gone over.
 
-ghost use Rattle.std.specs.Prelude.{◌≡◌, IfOk};
+ghost use Rattle.std.specs.Prelude.{IfOk};
 ghost use Rattle.acl_perm.specs.Profile.{full};
 ghost use Rattle.acl_nfs4.specs.Spelling.{IsAccepted};
 ghost use Rattle.acl_normal.specs.NormalForm.{IsNormalFormOf};

@@ -1,6 +1,5 @@
 //! What is left of a list while its normal form is made, by principal and by place.
 
-pub(crate) mod cells;
 mod heads;
 pub(crate) mod merged;
 pub(crate) mod numbers;

@@ -1,5 +1,6 @@
 //! Worked rows, and the calls held against the plain bodies.
 
+mod ample;
 mod comparison;
 mod five_forms;
 mod harness;

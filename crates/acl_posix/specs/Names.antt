@@ -1,5 +1,5 @@
 -- Tables of names: the ids of users and of groups, and which names may be added. This library's own.
-use Rattle.std.specs.Prelude.{ℕ, ◌≡◌, ◌==◌, not, ◌&&◌, Bool, List, length, Option, Some, None, IfSome, refl, if◌then◌else◌}
+use Rattle.std.specs.Prelude.{ℕ, ◌≡◌, ◌==◌, not, ◌&&◌, Bool, List, length, Option, Some, None, IfSome, Result, OnOk, OnErr, IfErr, refl, if◌then◌else◌}
 use Rattle.std.specs.List.{list_all}
 use Rattle.std.specs.Char.{is_ascii_digit}
 use Rattle.std.specs.Ordering.{nat_cmp}
@@ -64,3 +64,16 @@ IsNameFault ids name faults.EmptyName = name_fault ids name ≡ Some faults.Empt
 IsNameFault ids name faults.DigitsOnly = name_fault ids name ≡ Some faults.DigitsOnly
 IsNameFault ids name faults.Taken = name_fault ids name ≡ Some faults.Taken
 IsNameFault ids name faults.Memory = name_fault ids name ≡ None
+
+-- a call that adds a name to one half of a table, which is these ids before it: the table before and after it, and what
+-- it is with the name
+pub record AddsName (ids : Ids) (name : List ℕ) (before after with_name : Table) (r : Result (Unit {0}) NameFault)
+    : Type 0 where
+  -- the name is added, and nothing else
+  pub added : OnOk r (after ≡ with_name)
+  -- it was free to be added
+  pub free : OnOk r (name_fault ids name ≡ None)
+  -- a refusal says why it is not added
+  pub fault : IfErr r (IsNameFault ids name)
+  -- and leaves the table as it was
+  pub kept : OnErr r (after ≡ before)

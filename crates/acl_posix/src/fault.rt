@@ -1,9 +1,6 @@
 //! Why entries are no valid list.
-ghost use Rattle.std.specs.Prelude.{◌≡◌};
-ghost use Rattle.acl_posix.specs.declared.fault.AclFault.TheVariants.{Memory};
 
 use crate::tag::Tag;
-use std::alloc::{AllocError, AllocFailed};
 use thiserror::Error;
 
 /// Why a list of entries is no valid ACL (acl(5), "VALID ACLs"). Places count from 0.
@@ -21,20 +18,4 @@ pub enum AclFault {
     /// Memory ran out.
     #[error("out of memory")]
     Memory,
-}
-
-impl From<AllocError> for AclFault {
-    ghost from_gives = { λ _ fault. fault ≡ Memory };
-
-    fn from(_error: AllocError) -> AclFault {
-        AclFault::Memory
-    }
-}
-
-impl<T: Drop> From<AllocFailed<T>> for AclFault {
-    ghost from_gives = { λ _ fault. fault ≡ Memory };
-
-    fn from(_error: AllocFailed<T>) -> AclFault {
-        AclFault::Memory
-    }
 }

@@ -13,6 +13,7 @@ mod form;
 mod id;
 pub mod laws;
 mod look_up;
+mod memory;
 mod names;
 mod parser;
 mod piece;

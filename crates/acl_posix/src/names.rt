@@ -2,12 +2,11 @@
 ghost use Rattle.std.specs.Prelude.{◌≡◌, IfErr, None, OnErr, OnOk, option_map};
 ghost use Rattle.std.specs.FinMap as fin;
 ghost use Rattle.acl_posix.specs.internal.NameMaps.{ids_of};
-ghost use Rattle.acl_posix.specs.Names.{name_fault, no_names, with_group, with_user, IsNameFault, IsTable};
-ghost use Rattle.acl_posix.specs.declared.names.NameFault.TheVariants.{Memory};
+ghost use Rattle.acl_posix.specs.Names.{name_fault, no_names, with_group, with_user, AddsName, IsNameFault, IsTable};
 
 use crate::field::is_number;
 use crate::id::Id;
-use std::alloc::{AllocError, AllocFailed, Global};
+use std::alloc::Global;
 use std::collections::BTreeMap;
 use std::marker::Model;
 use thiserror::Error;
@@ -27,22 +26,6 @@ pub enum NameFault {
     /// Memory ran out.
     #[error("out of memory")]
     Memory,
-}
-
-impl From<AllocError> for NameFault {
-    ghost from_gives = { λ _ fault. fault ≡ Memory };
-
-    fn from(_error: AllocError) -> NameFault {
-        NameFault::Memory
-    }
-}
-
-impl<T: Drop> From<AllocFailed<T>> for NameFault {
-    ghost from_gives = { λ _ fault. fault ≡ Memory };
-
-    fn from(_error: AllocFailed<T>) -> NameFault {
-        NameFault::Memory
-    }
 }
 
 /// The names of users and of groups with their ids, by which a text may call them. Clauses see it as two finite maps.
@@ -80,10 +63,8 @@ impl Names {
     /// Adds a user name. A name that is refused leaves the table as it was. Logarithmic time; one string, and a node of
     /// the map.
     pub fn add_user(&mut self, name: &[u8], id: Id) -> Result<(), NameFault>
-        ensures added { OnOk result (self.new ≡ with_user self.old name.now id.value) }
-        ensures free { OnOk result (name_fault self.old.users name.now ≡ None) }
-        ensures fault { IfErr result (IsNameFault self.old.users name.now) }
-        ensures kept { OnErr result (self.new ≡ self.old) }
+        ensures adds { AddsName self.old.users name.now self.old self.new
+            (with_user self.old name.now id.value) result }
         ensures table { IsTable self.new }
     {
         add(self.alloc, &mut self.users, name, id)
@@ -92,10 +73,8 @@ impl Names {
     /// Adds a group name. A name that is refused leaves the table as it was. Logarithmic time; one string, and a node
     /// of the map.
     pub fn add_group(&mut self, name: &[u8], id: Id) -> Result<(), NameFault>
-        ensures added { OnOk result (self.new ≡ with_group self.old name.now id.value) }
-        ensures free { OnOk result (name_fault self.old.groups name.now ≡ None) }
-        ensures fault { IfErr result (IsNameFault self.old.groups name.now) }
-        ensures kept { OnErr result (self.new ≡ self.old) }
+        ensures adds { AddsName self.old.groups name.now self.old self.new
+            (with_group self.old name.now id.value) result }
         ensures table { IsTable self.new }
     {
         add(self.alloc, &mut self.groups, name, id)

@@ -6,45 +6,50 @@ use super::*;
 use acl_perm::Perm;
 use std::alloc::{AllocError, Global};
 
-// The entries without qualifier, and `count` users and groups each: in canonical order where `step` is 1, and with
-// their ids in no order where it is a large prime.
+// The step between ids that are in no order; with a step of 1 they are in canonical order.
+const LARGE_PRIME: u32 = 7919;
+
+fn push(entries: &mut Vec<Entry>, tag: Tag) -> Result<(), AllocError> {
+    let perm = Perm::ALL;
+    entries.push(Entry { tag, perm })?;
+    Ok(())
+}
+
+// Users or groups with the ids below a number, one step after the other.
+fn push_each(
+    entries: &mut Vec<Entry>,
+    is_group: bool,
+    count: u32,
+    step: u32,
+) -> Result<(), AllocError>
+    requires { 0 < count }
+{
+    for number in 0..count {
+        if let Some(id) = Id::new(number.wrapping_mul(step) % count) {
+            push(
+                entries,
+                if is_group {
+                    Tag::Group(id)
+                } else {
+                    Tag::User(id)
+                },
+            )?;
+        }
+    }
+    Ok(())
+}
+
+// The entries without qualifier, and `count` users and groups each.
 fn many(alloc: Global, count: u32, step: u32) -> Result<Vec<Entry>, AllocError>
     requires { 0 < count }
 {
-    let perm = Perm::ALL;
     let mut entries = Vec::new(alloc);
-    entries.push(Entry {
-        tag: Tag::UserObj,
-        perm,
-    })?;
-    for number in 0..count {
-        if let Some(id) = Id::new(number.wrapping_mul(step) % count) {
-            entries.push(Entry {
-                tag: Tag::User(id),
-                perm,
-            })?;
-        }
-    }
-    entries.push(Entry {
-        tag: Tag::GroupObj,
-        perm,
-    })?;
-    for number in 0..count {
-        if let Some(id) = Id::new(number.wrapping_mul(step) % count) {
-            entries.push(Entry {
-                tag: Tag::Group(id),
-                perm,
-            })?;
-        }
-    }
-    entries.push(Entry {
-        tag: Tag::Mask,
-        perm,
-    })?;
-    entries.push(Entry {
-        tag: Tag::Other,
-        perm,
-    })?;
+    push(&mut entries, Tag::UserObj)?;
+    push_each(&mut entries, false, count, step)?;
+    push(&mut entries, Tag::GroupObj)?;
+    push_each(&mut entries, true, count, step)?;
+    push(&mut entries, Tag::Mask)?;
+    push(&mut entries, Tag::Other)?;
     Ok(entries)
 }
 
@@ -68,58 +73,64 @@ fn granted(acl: &PosixAcl) -> usize {
         .count()
 }
 
+// Whether an ACL holds so many entries, where memory is there.
+fn holds(alloc: Global, count: u32, step: u32, len: usize) -> bool
+    requires { 0 < count }
+{
+    match acl_of(alloc, count, step) {
+        Ok(acl) => acl.entries().len() == len,
+        Err(_) => true,
+    }
+}
+
+// Whether each of the ten thousand checks of an ACL grants, where memory is there.
+fn grants_all(alloc: Global, count: u32) -> bool
+    requires { 0 < count }
+{
+    match acl_of(alloc, count, LARGE_PRIME) {
+        Ok(acl) => granted(&acl) == 10000,
+        Err(_) => true,
+    }
+}
+
 #[test]
 fn entries_1000(rt: HostRuntime) {
-    if let Ok(entries) = many(rt.alloc(), 498, 7919) {
-        assert!(rt; entries.len() == 1000);
-    }
+    let entries = many(rt.alloc(), 498, LARGE_PRIME);
+    assert!(rt; entries.map_or(true, |entries| entries.len() == 1000));
 }
 
 #[test]
 fn entries_10000(rt: HostRuntime) {
-    if let Ok(entries) = many(rt.alloc(), 4998, 7919) {
-        assert!(rt; entries.len() == 10000);
-    }
+    let entries = many(rt.alloc(), 4998, LARGE_PRIME);
+    assert!(rt; entries.map_or(true, |entries| entries.len() == 10000));
 }
 
 #[test]
 fn ordered_1000(rt: HostRuntime) {
-    if let Ok(acl) = acl_of(rt.alloc(), 498, 1) {
-        assert!(rt; acl.entries().len() == 1000);
-    }
+    assert!(rt; holds(rt.alloc(), 498, 1, 1000));
 }
 
 #[test]
 fn ordered_10000(rt: HostRuntime) {
-    if let Ok(acl) = acl_of(rt.alloc(), 4998, 1) {
-        assert!(rt; acl.entries().len() == 10000);
-    }
+    assert!(rt; holds(rt.alloc(), 4998, 1, 10000));
 }
 
 #[test]
 fn shuffled_1000(rt: HostRuntime) {
-    if let Ok(acl) = acl_of(rt.alloc(), 498, 7919) {
-        assert!(rt; acl.entries().len() == 1000);
-    }
+    assert!(rt; holds(rt.alloc(), 498, LARGE_PRIME, 1000));
 }
 
 #[test]
 fn shuffled_10000(rt: HostRuntime) {
-    if let Ok(acl) = acl_of(rt.alloc(), 4998, 7919) {
-        assert!(rt; acl.entries().len() == 10000);
-    }
+    assert!(rt; holds(rt.alloc(), 4998, LARGE_PRIME, 10000));
 }
 
 #[test]
 fn check_1000(rt: HostRuntime) {
-    if let Ok(acl) = acl_of(rt.alloc(), 498, 7919) {
-        assert!(rt; granted(&acl) == 10000);
-    }
+    assert!(rt; grants_all(rt.alloc(), 498));
 }
 
 #[test]
 fn check_10000(rt: HostRuntime) {
-    if let Ok(acl) = acl_of(rt.alloc(), 4998, 7919) {
-        assert!(rt; granted(&acl) == 10000);
-    }
+    assert!(rt; grants_all(rt.alloc(), 4998));
 }

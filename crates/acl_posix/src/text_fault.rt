@@ -1,10 +1,8 @@
 //! Why a text spells no file.
 ghost use Rattle.std.specs.Prelude.{◌≡◌};
 ghost use Rattle.acl_posix.specs.TextFault.{part_name};
-ghost use Rattle.acl_posix.specs.declared.text_fault.TextFault.TheVariants.{Memory};
 
 use crate::tag::Tag;
-use std::alloc::{AllocError, AllocFailed};
 use thiserror::Error;
 
 /// A part of a text: the entries of the access ACL, or those of the default ACL.
@@ -72,20 +70,4 @@ pub enum TextFault {
     /// Memory ran out.
     #[error("out of memory")]
     Memory,
-}
-
-impl From<AllocError> for TextFault {
-    ghost from_gives = { λ _ fault. fault ≡ Memory };
-
-    fn from(_error: AllocError) -> TextFault {
-        TextFault::Memory
-    }
-}
-
-impl<T: Drop> From<AllocFailed<T>> for TextFault {
-    ghost from_gives = { λ _ fault. fault ≡ Memory };
-
-    fn from(_error: AllocFailed<T>) -> TextFault {
-        TextFault::Memory
-    }
 }

@@ -204,12 +204,8 @@ fn repeated(
     count: usize,
     after: &[u8],
 ) -> Result<Vec<u8>, AllocError> {
-    let mut text = Vec::from_slice(alloc, before)?;
-    for _ in 0..count {
-        text.push(byte)?;
-    }
-    text.extend_from_slice(after)?;
-    Ok(text)
+    let part = [byte].repeat(alloc, count)?;
+    [before, &part, after].concat(alloc)
 }
 
 // Whether this text, which has a byte so many times over in it, is refused so.

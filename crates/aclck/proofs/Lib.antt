@@ -9,7 +9,8 @@ pub mod ListInputLemmas
 pub mod CommandLemmas
 mod Vectors
 pub mod ListTextLemmas
-pub mod TwoListLemmas
+pub mod InputLemmas
 pub mod NormalFormLemmas
 pub mod PathLemmas
 pub mod CompareLemmas
+pub mod ToldLemmas

@@ -1,8 +1,8 @@
 -- What a list that is read from pulls takes of its input.
-use Rattle.std.proofs.Common.{◌≡◌, ◌≢◌, ◌⊎◌, ℕ, ◌+◌, ◌-◌, ◌^◌, ◌<◌, ◌≤◌, List, [], ◌++◌, length, take, drop, Option, None, Some, Result, Ok, Err, true, refl, sym, ap, subst, ◌∙◌, append_assoc, arith, inl, inr}
+use Rattle.std.proofs.Common.{◌≡◌, ◌≢◌, ◌⊎◌, ℕ, ◌+◌, ◌-◌, ◌^◌, ◌<◌, ◌≤◌, List, [], ◌++◌, length, take, drop, Option, Result, Ok, Err, true, refl, sym, ap, subst, ◌∙◌, append_assoc, arith, inl, inr}
 use Rattle.std.specs.Prelude.{IfErr, IfOk}
 use Rattle.std.specs.Io.KnownBytes.{Consumes, IsAtEnd}
-use Rattle.std.proofs.KnownBytes.{Consumes-kept, Consumes-nil, Consumes-trans, Consumes-whole}
+use Rattle.std.proofs.KnownBytes.{Consumes-kept, Consumes-nil, Consumes-trans}
 use Rattle.std.proofs.Math.Seq.{take-append-add, take-length}
 use Rattle.std.proofs.lemmas.Bool.{cases_lt}
 use Rattle.std.proofs.lemmas.List.{append-nil, length-append, length-take, take-append-drop, take-append-le, take-take}
@@ -10,8 +10,7 @@ use Rattle.acl_perm.specs.Profile.{Profile}
 use Rattle.acl_nfs4.specs.Ace.{Ace}
 use Rattle.acl_nfs4.specs.Within.{IsProfile}
 use Rattle.acl_nfs4.specs.Spelling.{Xdr}
-use Rattle.acl_nfs4.specs.Fault.{Border, Breaks, IsFault, IsFirstFault, IsWholeFault, Stage, refuses, size}
-use Rattle.acl_nfs4.specs.Fault.IsWholeFault.{behind, of_value}
+use Rattle.acl_nfs4.specs.Fault.{Border, Breaks, IsFault, IsFirstFault, Stage, refuses, size}
 use Rattle.acl_nfs4.specs.Fault.Stage.{count as at_count, kind as at_kind, flags as at_flags, mask as at_mask, len as at_len, who as at_who, padding as at_padding}
 use Rattle.acl_nfs4.specs.internal.Progress.{IsBytes}
 use Rattle.acl_nfs4.specs.internal.Reading.{Gives, value_at}
@@ -19,7 +18,7 @@ use Rattle.acl_nfs4.specs.Stream.{Finishes, IsCut, Refuses, Standing}
 use Rattle.acl_nfs4.specs.Stream.Standing.{done, more}
 use Rattle.acl_nfs4.specs.declared.xdr.fault.Fault.{Fault}
 use Rattle.acl_nfs4.specs.declared.xdr.fault.Reason.{Reason}
-use Rattle.acl_nfs4.specs.declared.xdr.fault.Reason.TheVariants.{Memory, TrailingBytes, Truncated}
+use Rattle.acl_nfs4.specs.declared.xdr.fault.Reason.TheVariants.{Memory, Truncated}
 use Rattle.acl_nfs4.proofs.Completion.{begins, who_bounds as stage_bounds}
 use Rattle.acl_nfs4.proofs.Body.{is_found}
 use Rattle.acl_nfs4.proofs.Exactly.{one_reason}
@@ -27,11 +26,9 @@ use Rattle.acl_nfs4.proofs.Faults.{is_fault}
 use Rattle.acl_nfs4.proofs.Held.{short_rest}
 use Rattle.acl_nfs4.proofs.Lengths.{spelling_short}
 use Rattle.acl_nfs4.proofs.OneFault.{never_truncated, value_or_fault}
-use Rattle.acl_nfs4.proofs.Pieces.{breaks_whole, fault_stays}
-use Rattle.aclck.specs.Answer.{IsXdrFault, is_read}
-use Rattle.aclck.specs.ListInput.{RefusalEnds, TakesLittle, TakesOpen, ValueEnds, piece_len}
-use Rattle.aclck.specs.internal.Reading.{EndsNot, HasInput, IsNotRead, ReadsLittle, ReadsNone, ReadsPart, ReadsValue, told}
-use Rattle.aclck.specs.declared.answer.RunFault.TheVariants as fault
+use Rattle.acl_nfs4.proofs.Pieces.{breaks_whole}
+use Rattle.aclck.specs.ListInput.{ListEnds, RefusalEnds, ValueEnds, piece_len}
+use Rattle.aclck.specs.internal.Reading.{EndsNot, ReadsLittle, ReadsNone, ReadsPart, ReadsValue, is_failed_pull}
 use Rattle.aclck.specs.declared.input.xdr.ListFault.{ListFault}
 use Rattle.aclck.specs.declared.input.xdr.ListFault.TheVariants as unread
 use Rattle.aclck.specs.declared.input.xdr.Value.{Value}
@@ -75,7 +72,7 @@ gives_itself (Err f) = refl
 
 -- the end of the value that a text begins with, or of its refused field
 abbrev pub Ends : Profile → List ℕ → Type 0
-Ends p text = (end : ℕ) × (ValueEnds p text end ⊎ RefusalEnds p text end)
+Ends p text = (end : ℕ) × ListEnds p text end
 
 ends_as : (p : Profile) (text : List ℕ) (r : Result (List Ace × ℕ) Fault) → IsBytes text
     → Gives (λ x. (x.0, x.1)) r (value_at p text) → Ends p text
@@ -338,7 +335,7 @@ none_little p left old new unread.Memory h = h
 
 -- where a read failed, what came is cut short
 pub none_part : (p : Profile) (left : List ℕ) (old new : Option (List ℕ)) (e : ListFault) → ReadsNone p left old new e
-    → is_read (told e) ≡ true → ReadsPart p left old new
+    → is_failed_pull e ≡ true → ReadsPart p left old new
 none_part p left old new (unread.Refused f) h r = absurd cc
 none_part p left old new unread.Read h r = h
 none_part p left old new unread.Memory h r = absurd cc
@@ -362,157 +359,7 @@ past_end len left mid new unread.Memory h = absurd h
 
 -- and where a read failed, nothing
 pub end_kept : (len : ℕ) (left : List ℕ) (mid new : Option (List ℕ)) (e : ListFault) → EndsNot len left mid new e
-    → is_read (told e) ≡ true → (left ≡ []) × Consumes mid new []
+    → is_failed_pull e ≡ true → (left ≡ []) × Consumes mid new []
 end_kept len left mid new (unread.Refused f) h r = absurd cc
 end_kept len left mid new unread.Read h r = (h.0, Consumes-kept mid mid new [] (Consumes-nil mid) h.1)
 end_kept len left mid new unread.Memory h r = absurd h
-
--- ---- a whole input
-
--- what holds of the bytes that were taken, with those that are left, holds of an input
-pub input_found : (Holds : List ℕ → Type 0) (given : List ℕ) (old new : Option (List ℕ)) → Consumes old new given
-    → ((left : List ℕ) → (IsAtEnd new → left ≡ []) → Holds (given ++ left)) → HasInput Holds old
-input_found Holds given None new c h = record { input = given ++ []; is_input = tt; holds = h [] (λ _. refl) }
-input_found Holds given (Some known) None c h = absurd c
-input_found Holds given (Some known) (Some left) c h =
-    record { input = known; is_input = refl; holds = subst Holds (sym c) (h left (λ e. e)) }
-
--- a value and nothing behind it
-whole_text : (p : Profile) (text given after : List ℕ) (list : List Ace) → Xdr p list text
-    → given ≡ text ++ after → after ≡ [] → Xdr p list given
-whole_text p text given after list x e none =
-    subst (λ (y : List ℕ). Xdr p list y)
-    (sym (e ∙ ap (λ (y : List ℕ). text ++ y) none ∙ append-nil text)) x
-
--- the input is what was read of it
-pub list_found : (p : Profile) (list : List Ace) (text given after : List ℕ) (old mid new : Option (List ℕ))
-    → Xdr p list text → given ≡ text ++ after → after ≡ [] → Consumes old mid given → Consumes mid new []
-    → IsAtEnd new → HasInput (λ input. Xdr p list input) old
-list_found p list text given after old mid new x e none c d end =
-    let all = Consumes-trans old mid new given [] c d in
-    let is : Xdr p list (given ++ []) = subst (λ (y : List ℕ). Xdr p list y) (sym (append-nil given))
-    (whole_text p text given after list x e none) in
-    record {
-      input = given ++ [];
-      is_input = Consumes-whole old new (given ++ []) (λ bytes. given ++ [] ≡ bytes) all end refl;
-      holds = is;
-    }
-
--- a value, and little behind it
-pub value_near : (p : Profile) (list : List Ace) (text after given others : List ℕ) (old mid new : Option (List ℕ))
-    → Xdr p list text → given ≡ text ++ after → Consumes old mid given → Consumes mid new others
-    → length (after ++ others) ≤ piece_len → TakesLittle p old new
-value_near p list text after given others old mid new x e c d near = record {
-  given = given ++ others;
-  end = length text;
-  taken = Consumes-trans old mid new given others c d;
-  is_end = inl (record {
-    list = list;
-    spelled = subst (λ (y : List ℕ). Xdr p list y) (sym (ap (λ (y : List ℕ). take (length text) (y ++ others)) e
-        ∙ ap (λ (y : List ℕ). take (length text) y) (append_assoc text after others)
-        ∙ take-append-le (length text) text (after ++ others) (omega arith) ∙ take-length text)) x;
-  });
-  near = omega (
-    arith,
-    near,
-    ap length e,
-    length-append given others,
-    length-append text after,
-    length-append after others,
-  );
-}
-
--- the bytes behind the first
-regroup : (a b c d : List ℕ) → ((a ++ b) ++ c) ++ d ≡ a ++ ((b ++ c) ++ d)
-regroup a b c d = simp append_assoc
-
--- a beginning that is refused, or all of an input that is cut short
-pub still_has : (p : Profile) (given left : List ℕ) (f : Fault) (end : ℕ)
-    (h : IsFirstFault p given f.offset end f.reason) → Breaks p h.stage h.rest h.more f.reason
-    → (f.reason ≡ Truncated → left ≡ [])
-    → IsFault p (given ++ left) f.offset f.reason
-still_has p given left f end h (inl b) all =
-    subst (λ (x : List ℕ). IsFault p x f.offset f.reason)
-    (sym (ap (λ (x : List ℕ). given ++ x) (all b.2) ∙ append-nil given)) (end, h)
-still_has p given left f end h (inr b) all =
-    fault_stays p given left f.offset f.reason (end, h)
-    (λ e. never_truncated p h.stage _ (subst (λ (r : Reason). refuses p h.stage (take (size h.stage) h.rest) r) e b.2))
-
--- why a value was not read is why a list was not
-pub not_read : (p : Profile) (old mid : Option (List ℕ)) (e : ListFault) → ReadsNone p [] old mid e
-    → IsNotRead p old (told e)
-not_read p old mid (unread.Refused f) h =
-    input_found (λ input. IsXdrFault p input (fault.Nfs f)) h.given old mid h.taken (λ left end. record {
-      found = f;
-      is = refl;
-      has = of_value f.offset f.reason
-          (still_has p h.given left f h.end h.has h.has.breaks (λ t. end (h.all t)));
-    })
-not_read p old mid unread.Read h = tt
-not_read p old mid unread.Memory h = tt
-
--- and then little was taken
-pub none_near : (p : Profile) (old mid : Option (List ℕ)) (e : ListFault) → ReadsNone p [] old mid e
-    → TakesLittle p old mid
-none_near p old mid e h =
-    let little = none_little p [] old mid e h in
-    record {
-      given = little.given;
-      end = little.end;
-      taken = little.taken;
-      is_end = elim little.is_end [ inl v ↦ inl v.value | inr r ↦ inr r ];
-      near = little.near;
-    }
-
--- and where a read failed, a text that is cut short
-pub none_open : (p : Profile) (old mid : Option (List ℕ)) (e : ListFault) → ReadsNone p [] old mid e
-    → is_read (told e) ≡ true → TakesOpen p old mid
-none_open p old mid e h r =
-    let part = none_part p [] old mid e h r in
-    record { given = part.given; taken = part.taken; is_open = inl part.cut }
-
--- an input that goes on behind its value
-trailing : (p : Profile) (list : List Ace) (text after given others : List ℕ) (len : ℕ) → Xdr p list text
-    → given ≡ text ++ after → 0 < length (after ++ others) → len ≡ length text → (left : List ℕ)
-    → IsWholeFault p ((given ++ others) ++ left) len TrailingBytes
-trailing p list text after given others len x e some is left =
-    rw is (behind list text ((after ++ others) ++ left) x
-    (ap (λ (y : List ℕ). (y ++ others) ++ left) e ∙ regroup text after others left)
-    (omega (arith, some, length-append (after ++ others) left)))
-
--- why an input does not end behind a list is why a list was not read
-pub ends_not : (p : Profile) (list : List Ace) (text after given : List ℕ) (old mid new : Option (List ℕ)) (len : ℕ)
-    (e : ListFault) → Xdr p list text → given ≡ text ++ after → Consumes old mid given → len ≡ length text
-    → EndsNot len after mid new e → IsNotRead p old (told e)
-ends_not p list text after given old mid new len (unread.Refused f) x e c is h =
-    rw h.0 (input_found _ (given ++ h.1.given) old new (Consumes-trans old mid new given h.1.given c h.1.taken)
-    (λ left end. record {
-      found = record { offset = len; reason = TrailingBytes };
-      is = refl;
-      has = trailing p list text after given h.1.given len x e h.1.some is left;
-    }))
-ends_not p list text after given old mid new len unread.Read x e c is h = tt
-ends_not p list text after given old mid new len unread.Memory x e c is h = tt
-
--- and then little was taken
-pub ends_near : (p : Profile) (list : List Ace) (text after given : List ℕ) (old mid new : Option (List ℕ)) (len : ℕ)
-    (e : ListFault) → Xdr p list text → given ≡ text ++ after → Consumes old mid given → EndsNot len after mid new e
-    → TakesLittle p old new
-ends_near p list text after given old mid new len e x is c h =
-    let past = past_end len after mid new e h in
-    value_near p list text after given past.given old mid new x is c past.taken past.near
-
--- and where a read failed, one value and nothing behind it
-pub ends_open : (p : Profile) (list : List Ace) (text after given : List ℕ) (old mid new : Option (List ℕ)) (len : ℕ)
-    (e : ListFault) → Xdr p list text → given ≡ text ++ after → Consumes old mid given → EndsNot len after mid new e
-    → is_read (told e) ≡ true → TakesOpen p old new
-ends_open p list text after given old mid new len e x is c h r =
-    let kept = end_kept len after mid new e h r in
-    record {
-      given = given ++ [];
-      taken = Consumes-trans old mid new given [] c kept.1;
-      is_open = inr (
-        list,
-        subst (λ (y : List ℕ). Xdr p list y) (sym (append-nil given)) (whole_text p text given after list x is kept.0),
-      );
-    }

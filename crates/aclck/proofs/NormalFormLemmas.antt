@@ -15,10 +15,8 @@ use Rattle.acl_normal.specs.Normal.{IsNormal}
 use Rattle.acl_normal.specs.NormalForm.{IsNormalFormOf, Normalises}
 use Rattle.acl_normal.proofs.Unique.Spelled.{IsForm, form_of, forms_tell}
 use Rattle.acl_normal.proofs.Unique.Unique.{unique}
-use Rattle.acl_posix.specs.Texts.{canonical_text}
-use Rattle.acl_posix.proofs.Whole.{apart, back, canonical_reads}
 use Rattle.aclck.specs.Answer.{done}
-use Rattle.aclck.specs.Headline.{Headline}
+use Rattle.aclck.specs.Laws.{TellsListsApart}
 use Rattle.aclck.specs.Normalize.{NormalizeAnswer}
 use Rattle.aclck.specs.declared.answer.Outcome.TheVariants as outcome
 
@@ -33,18 +31,18 @@ form_is : (p : Profile) (list : List Ace) (x a : List ℕ) → IsProfile p → X
 form_is p list x a is read h = subst (λ source. IsForm p source h.form) (one_of p h.source list x is h.read read)
     (form_of p h.source h.form is h.read.accepted h.is_form)
 
+-- what equal texts tell, other texts that are equal to these tell
+pub told_by : {Same : Type 0} (a b one two : List ℕ) → a ≡ one → b ≡ two → (one ≡ two) ↔ Same → (a ≡ b) ↔ Same
+told_by a b one two e f law = (λ equal. law.0 (sym e ∙ equal ∙ f), λ same. e ∙ law.1 same ∙ sym f)
+
 -- two lists get equal bytes exactly if they grant the same
-pub bytes_tell : (p : Profile) (list other : List Ace) (x y a b : List ℕ) → IsProfile p → Xdr p list x → Xdr p other y
-    → Normalises p x a → Normalises p y b → (a ≡ b) ↔ SameGrants p.masks list other
+pub bytes_tell : TellsListsApart Normalises SameGrants
 bytes_tell p list other x y a b is read read_other h k =
-    let law = forms_tell p list other h.form k.form is (form_is p list x a is read h)
-    (form_is p other y b is read_other k) in (
-      λ e. law.0 (sym h.spelled.spelled ∙ e ∙ k.spelled.spelled),
-      λ same. h.spelled.spelled ∙ law.1 same ∙ sym k.spelled.spelled,
-    )
+    told_by a b (spelling h.form) (spelling k.form) h.spelled.spelled k.spelled.spelled
+    (forms_tell p list other h.form k.form is (form_is p list x a is read h) (form_is p other y b is read_other k))
 
 -- the list that was written grants what the list that was read grants
-form_grants : (p : Profile) (list form : List Ace) (x a : List ℕ) → IsProfile p → Xdr p list x → Xdr p form a
+pub form_grants : (p : Profile) (list form : List Ace) (x a : List ℕ) → IsProfile p → Xdr p list x → Xdr p form a
     → Normalises p x a → SameGrants p.masks list form
 form_grants p list form x a is read written h = subst (SameGrants p.masks list)
     (one_of p h.form form a is h.spelled written) (IsForm.grants (form_is p list x a is read h))
@@ -61,6 +59,24 @@ own_form list normal accepted = record {
   itself = λ is. refl;
 }
 
+-- the spelling of the normal form of a list that is read is written
+pub normalises : (p : Profile) (source form : List Ace) (x : List ℕ) → Xdr p source x → IsNormalFormOf source form
+    → IsAccepted p form → Normalises p x (spelling form)
+normalises p source form x read is_form accepted = record {
+  source = source;
+  form = form;
+  read = read;
+  is_form = is_form;
+  spelled = record { accepted = accepted; spelled = refl };
+}
+
+-- and of itself
+pub own_bytes : (p : Profile) (form : List Ace) → IsNormal form → IsAccepted full form → IsAccepted p form
+    → Normalises p (spelling form) (spelling form)
+own_bytes p form normal accepted taken =
+    normalises p form form (spelling form) (record { accepted = taken; spelled = refl }) (own_form form normal accepted)
+    taken
+
 -- the bytes that are written are written of themselves, and no others
 pub twice : (p : Profile) (x a b : List ℕ) → IsProfile p → Normalises p x a → Normalises p a b ↔ (b ≡ a)
 twice p x a b is h = (
@@ -68,13 +84,10 @@ twice p x a b is h = (
       let read : k.source ≡ h.form = one_of p k.source h.form a is k.read h.spelled in
       let same : k.form ≡ k.source = k.is_form.itself (subst IsNormal (sym read) h.is_form.normal) in
       k.spelled.spelled ∙ ap spelling (same ∙ read) ∙ sym h.spelled.spelled,
-  λ e. record {
-    source = h.form;
-    form = h.form;
-    read = h.spelled;
-    is_form = own_form h.form h.is_form.normal h.is_form.accepted;
-    spelled = subst (Xdr p h.form) (sym e) h.spelled;
-  },
+  λ e.
+      let same : spelling h.form ≡ a = sym h.spelled.spelled in
+      subst (λ y. Normalises p a y) (sym e) (subst (λ y. Normalises p y y) same
+      (own_bytes p h.form h.is_form.normal h.is_form.accepted h.spelled.accepted)),
 )
 
 -- the spelling of the normal form of a list that was read is the answer
@@ -83,25 +96,6 @@ pub written_form : (profile : CodeProfile) → profile.flags.bits ≤ 255 → (s
     → NormalizeAnswer (profile_of profile) x (done outcome.Yes (spelling form))
 written_form profile le source form x read is_form = (
   refl,
-  record {
-    source = source;
-    form = form;
-    read = read;
-    is_form = is_form;
-    spelled = record {
-      accepted = (form_of (profile_of profile) source form (code_profile profile le) read.accepted is_form).accepted;
-      spelled = refl;
-    };
-  },
+  normalises (profile_of profile) source form x read is_form
+      (form_of (profile_of profile) source form (code_profile profile le) read.accepted is_form).accepted,
 )
-
--- the parts together
-pub headline_holds : Headline
-headline_holds = record {
-  equal_bytes = bytes_tell;
-  same_grants = form_grants;
-  twice_is_once = twice;
-  one_text = apart canonical_text canonical_reads;
-  reads_back = λ names file other is. back (canonical_text file.access file.default) names file other
-      (canonical_reads names file is);
-}

@@ -1,6 +1,5 @@
 -- Bytes of five normal forms.
-use Rattle.std.proofs.Common.{◌≡◌, ◌≤◌, ℕ, List, refl, sym, subst, ◌∙◌}
-use Rattle.std.specs.Prelude.{◌↔◌}
+use Rattle.std.proofs.Common.{◌≤◌, ℕ, List, refl, subst}
 use Rattle.acl_perm.specs.Bits.{all_rights}
 use Rattle.acl_perm.specs.Profile.{Profile, profile_of}
 use Rattle.acl_perm.specs.declared.profile.Profile.{Profile as CodeProfile}
@@ -16,10 +15,11 @@ use Rattle.acl_normal.specs.Paths.{SameAtEveryPath}
 use Rattle.acl_normal.specs.declared.five_forms.FiveForms.{FiveForms}
 use Rattle.acl_normal.proofs.Inheritance.FiveFormLemmas.{all_accepted, joined_tell}
 use Rattle.aclck.specs.Answer.{done}
-use Rattle.aclck.specs.Headline.{GrantAtPaths, HeadlineOverPaths}
+use Rattle.aclck.specs.Headline.{GrantAtPaths}
+use Rattle.aclck.specs.Laws.{TellsListsApart}
 use Rattle.aclck.specs.Normalize.{IsFiveForms, NormalisesAtPaths, NormalizeInheritAnswer}
 use Rattle.aclck.specs.declared.answer.Outcome.TheVariants as outcome
-use Rattle.aclck.proofs.NormalFormLemmas.{one_of, own_form}
+use Rattle.aclck.proofs.NormalFormLemmas.{one_of, own_bytes, told_by}
 
 -- the list that was read is the one whose five were written
 of_read : (p : Profile) (list : List Ace) (x a : List ℕ) → IsProfile p → Xdr p list x → (h : NormalisesAtPaths p x a)
@@ -28,15 +28,11 @@ of_read p list x a is read h =
     subst (λ source. AreFormsOf source h.forms) (one_of p h.source list x is h.read read) h.are_forms
 
 -- two lists get equal bytes exactly if they grant the same at every path
-pub paths_tell : (p : Profile) (list other : List Ace) (x y a b : List ℕ) → IsProfile p → Xdr p list x
-    → Xdr p other y → NormalisesAtPaths p x a → NormalisesAtPaths p y b
-    → (a ≡ b) ↔ SameAtEveryPath p.masks list other
+pub paths_tell : TellsListsApart NormalisesAtPaths SameAtEveryPath
 paths_tell p list other x y a b is read read_other h k =
-    let law = joined_tell p list other h.forms k.forms is read.accepted (of_read p list x a is read h)
-    read_other.accepted (of_read p other y b is read_other k) in (
-      λ e. law.0 (sym h.spelled ∙ e ∙ k.spelled),
-      λ same. h.spelled ∙ law.1 same ∙ sym k.spelled,
-    )
+    told_by a b (five_spellings h.forms) (five_spellings k.forms) h.spelled k.spelled
+    (joined_tell p list other h.forms k.forms is read.accepted (of_read p list x a is read h)
+    read_other.accepted (of_read p other y b is read_other k))
 
 -- lists that grant the same grant the same rights of a profile
 part_of_rights : (p : Profile) (list other : List Ace) → IsProfile p → SameGrants all_rights list other
@@ -45,7 +41,7 @@ part_of_rights p list other is same s valid request within =
     same s valid request (λ k h. bits_from_mask p.masks k is.masks (within k h))
 
 -- each of the five grants what stands at its path grants
-grants_at_paths : (p : Profile) (list : List Ace) (x a : List ℕ) → IsProfile p → Xdr p list x
+pub grants_at_paths : (p : Profile) (list : List Ace) (x a : List ℕ) → IsProfile p → Xdr p list x
     → (h : NormalisesAtPaths p x a) → GrantAtPaths p.masks list h.forms
 grants_at_paths p list x a is read h =
     let five = of_read p list x a is read h in record {
@@ -57,16 +53,9 @@ grants_at_paths p list x a is read h =
     }
 
 -- an accepted normal form is its own
-own_bytes : (p : Profile) (source form : List Ace) → IsNormalFormOf source form → IsAccepted p form
+form_own : (p : Profile) (source form : List Ace) → IsNormalFormOf source form → IsAccepted p form
     → Normalises p (spelling form) (spelling form)
-own_bytes p source form h accepted =
-    let xdr : Xdr p form (spelling form) = record { accepted = accepted; spelled = refl } in record {
-      source = form;
-      form = form;
-      read = xdr;
-      is_form = own_form form h.normal h.accepted;
-      spelled = xdr;
-    }
+form_own p source form h = own_bytes p form h.normal h.accepted
 
 -- and so is each of the five
 pub forms_own : (p : Profile) (x a : List ℕ) → IsProfile p → NormalisesAtPaths p x a → IsFiveForms p a
@@ -76,14 +65,14 @@ forms_own p x a is h =
       forms = h.forms;
       parts = h.spelled;
       own = (
-        own_bytes p _ _ five.object taken.object,
+        form_own p _ _ five.object taken.object,
         (
-          own_bytes p _ _ five.file taken.file,
+          form_own p _ _ five.file taken.file,
           (
-            own_bytes p _ _ five.directory taken.directory,
+            form_own p _ _ five.directory taken.directory,
             (
-              own_bytes p _ _ five.file_in_directory taken.file_in_directory,
-              (own_bytes p _ _ five.directory_in_directory taken.directory_in_directory, tt),
+              form_own p _ _ five.file_in_directory taken.file_in_directory,
+              (form_own p _ _ five.directory_in_directory taken.directory_in_directory, tt),
             ),
           ),
         ),
@@ -105,11 +94,3 @@ written_forms profile le source forms x read are_forms = (
     spelled = refl;
   },
 )
-
--- the parts together
-pub headline_over_paths_holds : HeadlineOverPaths
-headline_over_paths_holds = record {
-  equal_bytes = paths_tell;
-  same_grants = grants_at_paths;
-  twice_is_once = forms_own;
-}

@@ -1,5 +1,5 @@
 -- Inputs of `show-posix` that get one text.
-use Rattle.std.proofs.Common.{◌≡◌, ◌∙◌, List, ℕ, ap, sym}
+use Rattle.std.proofs.Common.{◌≡◌, ◌∙◌, List, ℕ, ap}
 use Rattle.acl_posix.specs.Grammar.{Reads}
 use Rattle.acl_posix.specs.Names.{Table}
 use Rattle.acl_posix.specs.Texts.{canonical_text}
@@ -8,6 +8,7 @@ use Rattle.acl_posix.proofs.Limits.{file_of_text}
 use Rattle.acl_posix.proofs.Settled.{one_file}
 use Rattle.acl_posix.proofs.Whole.{apart, canonical_reads}
 use Rattle.aclck.specs.Laws.{ShowPosixTellsApart, ShowsCanonical}
+use Rattle.aclck.proofs.NormalFormLemmas.{told_by}
 
 -- the text that is shown is that of the file that the input spells
 text_of_file : (t : Table) (x a : List ℕ) (f : PosixFile) → Reads x t f → ShowsCanonical t x a
@@ -18,7 +19,6 @@ text_of_file t x a f h shows = shows.1.is ∙ ap (λ (k : PosixFile). canonical_
 -- two inputs get one text exactly if their sets of entries are equal
 pub told_apart : ShowPosixTellsApart
 told_apart t u x y a b f g ht hu rf rg sa sb =
-    let first = text_of_file t x a f rf sa in
-    let second = text_of_file u y b g rg sb in
-    let law = apart canonical_text canonical_reads f g (file_of_text x t f ht rf) (file_of_text y u g hu rg) in
-    (λ same. law.0 (sym first ∙ same ∙ second), λ equal. first ∙ law.1 equal ∙ sym second)
+    told_by a b (canonical_text f.access f.default) (canonical_text g.access g.default) (text_of_file t x a f rf sa)
+    (text_of_file u y b g rg sb)
+    (apart canonical_text canonical_reads f g (file_of_text x t f ht rf) (file_of_text y u g hu rg))

@@ -9,29 +9,19 @@ use Rattle.clap.specs.Walk.{is_early_multiple}
 use Rattle.acl_perm.proofs.Bools.{not_true}
 use Rattle.aclck.specs.Line.{Term, any_words, app_from, default, flag, is_rest, is_sound, optional, required, rule_from}
 
-simple_rules : (terms : List Term) → list_all (λ a. a.is_simple) (map rule_from terms) ≡ true
-simple_rules [] = refl
-simple_rules (required name ∷ ts) = simple_rules ts
-simple_rules (optional name ∷ ts) = simple_rules ts
-simple_rules (default name value ∷ ts) = simple_rules ts
-simple_rules (flag name ∷ ts) = simple_rules ts
-simple_rules (any_words ∷ ts) = simple_rules ts
+-- all rules are simple, as they are and where they stand, and there they are free
+abbrev ArePlain : List Rule → List Rule → Type 0
+ArePlain rules standing = (list_all (λ a. a.is_simple) rules ≡ true)
+    × (list_all (λ a. a.is_simple) standing ≡ true)
+    × (list_all (λ a. a.is_free) standing ≡ true)
 
-simple_filled : (terms : List Term) (i : ℕ) → list_all (λ a. a.is_simple) (filled_from i (map rule_from terms)) ≡ true
-simple_filled [] i = refl
-simple_filled (required name ∷ ts) i = simple_filled ts _
-simple_filled (optional name ∷ ts) i = simple_filled ts _
-simple_filled (default name value ∷ ts) i = simple_filled ts _
-simple_filled (flag name ∷ ts) i = simple_filled ts _
-simple_filled (any_words ∷ ts) i = simple_filled ts _
-
-free_filled : (terms : List Term) (i : ℕ) → list_all (λ a. a.is_free) (filled_from i (map rule_from terms)) ≡ true
-free_filled [] i = refl
-free_filled (required name ∷ ts) i = free_filled ts _
-free_filled (optional name ∷ ts) i = free_filled ts _
-free_filled (default name value ∷ ts) i = free_filled ts _
-free_filled (flag name ∷ ts) i = free_filled ts _
-free_filled (any_words ∷ ts) i = free_filled ts _
+all_plain : (terms : List Term) (i : ℕ) → ArePlain (map rule_from terms) (filled_from i (map rule_from terms))
+all_plain [] i = (refl, refl, refl)
+all_plain (required name ∷ ts) i = all_plain ts _
+all_plain (optional name ∷ ts) i = all_plain ts _
+all_plain (default name value ∷ ts) i = all_plain ts _
+all_plain (flag name ∷ ts) i = all_plain ts _
+all_plain (any_words ∷ ts) i = all_plain ts _
 
 none_early : (terms : List Term) (i n : ℕ) → list_any is_rest terms ≡ false
     → list_any (is_early_multiple n) (filled_from i (map rule_from terms)) ≡ false
@@ -81,5 +71,5 @@ pub is_free_from : (name : Text) (terms : List Term) → is_sound terms ≡ true
     → is_simple_and_free (app_from name terms) ≡ true
 unfolding app_from
 is_free_from name terms sound =
-    shape _ _ _ _ (simple_rules terms) (simple_filled terms 1)
-    (one_early terms (placed (filled_from 1 (map rule_from terms))) sound refl) (free_filled terms 1)
+    let plain = all_plain terms 1 in
+    shape _ _ _ _ plain.0 plain.1 (one_early terms (placed (filled_from 1 (map rule_from terms))) sound refl) plain.2

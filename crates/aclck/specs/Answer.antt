@@ -6,6 +6,7 @@ use Rattle.acl_perm.specs.declared.whole.ReadFault.{ReadFault}
 use Rattle.acl_perm.specs.declared.whole.ReadFault.TheVariants as read
 use Rattle.acl_nfs4.specs.Fault.{IsWholeFault}
 use Rattle.acl_nfs4.specs.declared.xdr.fault.Fault.{Fault}
+use Rattle.acl_nfs4.specs.declared.xdr.fault.Reason.{Reason}
 use Rattle.aclck.specs.declared.answer.Cause.{Cause}
 use Rattle.aclck.specs.declared.answer.Cause.TheVariants as cause
 use Rattle.aclck.specs.declared.answer.Outcome.{Outcome}
@@ -25,11 +26,15 @@ abbrev pub decision_line : Outcome → List ℕ
 decision_line outcome.Yes = codes "granted" ++ 10 ∷ []
 decision_line outcome.No = codes "denied" ++ 10 ∷ []
 
--- the fault is one that these bytes have as one list of the profile and nothing more
-pub record IsXdrFault (p : Profile) (input : List ℕ) (f : RunFault) : Type 0 where
+-- the fault is one that a list or lists have, in this sense of having one
+pub record IsListFault (Has : ℕ → Reason → Type 0) (f : RunFault) : Type 0 where
   pub found : Fault
   pub is : f ≡ fault.Nfs found
-  pub has : IsWholeFault p input found.offset found.reason
+  pub has : Has found.offset found.reason
+
+-- the fault is one that these bytes have as one list of the profile and nothing more
+abbrev pub IsXdrFault : Profile → List ℕ → RunFault → Type 0
+IsXdrFault p input = IsListFault (IsWholeFault p input)
 
 -- ---- faults
 
@@ -43,26 +48,24 @@ cause_of fault.Read = cause.Source
 cause_of (fault.Write w) = cause.Sink w
 cause_of fault.Memory = cause.Memory
 
+-- one of four, by whose a fault is: the input's, the source's, the sink's, or want of memory
+abbrev pub by_cause : {X : Type 0} → X → X → X → X → Cause → X
+by_cause input source sink memory cause.Input = input
+by_cause input source sink memory cause.Source = source
+by_cause input source sink memory (cause.Sink w) = sink
+by_cause input source sink memory cause.Memory = memory
+
 -- it is the input's
 abbrev pub is_input : Cause → Bool
-is_input cause.Input = true
-is_input cause.Source = false
-is_input (cause.Sink w) = false
-is_input cause.Memory = false
+is_input = by_cause true false false false
 
 -- it is the source's
 abbrev pub is_source : Cause → Bool
-is_source cause.Input = false
-is_source cause.Source = true
-is_source (cause.Sink w) = false
-is_source cause.Memory = false
+is_source = by_cause false true false false
 
 -- it is the sink's
 abbrev pub is_sink : Cause → Bool
-is_sink cause.Input = false
-is_sink cause.Source = false
-is_sink (cause.Sink w) = true
-is_sink cause.Memory = false
+is_sink = by_cause false false true false
 
 -- the fault is the input's
 abbrev pub is_refusal : RunFault → Bool

@@ -9,15 +9,13 @@ use Rattle.acl_nfs4.specs.BitNames.{first_name}
 use Rattle.acl_nfs4.specs.Fault.{IsFault, IsWholeFault}
 use Rattle.acl_nfs4.specs.Rights.{rights}
 use Rattle.acl_nfs4.specs.Spelling.{Xdr}
-use Rattle.acl_nfs4.specs.declared.xdr.fault.Fault.{Fault}
 use Rattle.acl_nfs4.specs.declared.xdr.fault.Reason.{Reason}
 use Rattle.acl_eval.specs.Grant.{SameGrants}
 use Rattle.acl_normal.specs.SmallSets.{IsFirstDifference}
-use Rattle.aclck.specs.Answer.{Answer, done, refused}
+use Rattle.aclck.specs.Answer.{Answer, IsListFault, done, refused}
 use Rattle.aclck.specs.declared.answer.Outcome.{Outcome}
 use Rattle.aclck.specs.declared.answer.Outcome.TheVariants as outcome
 use Rattle.aclck.specs.declared.answer.RunFault.{RunFault}
-use Rattle.aclck.specs.declared.answer.RunFault.TheVariants as fault
 use Rattle.aclck.specs.Definition.{Definition, of_profile}
 use Rattle.aclck.specs.Run.{of_two}
 
@@ -40,10 +38,8 @@ pub data IsFaultOfTwo (p : Profile) (input : List ℕ) : ℕ → Reason → Type
       → IsFaultOfTwo p input (length first + offset) r
 
 -- the fault is one that the input has
-pub record IsRefusedTwo (p : Profile) (input : List ℕ) (f : RunFault) : Type 0 where
-  pub found : Fault
-  pub is : f ≡ fault.Nfs found
-  pub has : IsFaultOfTwo p input found.offset found.reason
+abbrev pub IsRefusedTwo : Profile → List ℕ → RunFault → Type 0
+IsRefusedTwo p input = IsListFault (IsFaultOfTwo p input)
 
 -- ---- the text
 

@@ -12,13 +12,13 @@ use Rattle.acl_normal.specs.Paths.{SameAtEveryPath, at, below, here}
 use Rattle.acl_normal.specs.declared.five_forms.FiveForms.{FiveForms}
 use Rattle.acl_posix.specs.TextLaws.{ReadsBack, TellsApart}
 use Rattle.acl_posix.specs.Texts.{canonical_text}
+use Rattle.aclck.specs.Laws.{TellsListsApart}
 use Rattle.aclck.specs.Normalize.{IsFiveForms, NormalisesAtPaths}
 
 -- the headline, part by part
 pub record Headline : Type 0 where
   -- two NFSv4 lists normalise to equal bytes exactly if, in every situation and for every mask, both grant or both deny
-  pub equal_bytes : (p : Profile) (list other : List Ace) (x y a b : List ℕ) → IsProfile p → Xdr p list x
-      → Xdr p other y → Normalises p x a → Normalises p y b → (a ≡ b) ↔ SameGrants p.masks list other
+  pub equal_bytes : TellsListsApart Normalises SameGrants
   -- the normal form grants what its source grants
   pub same_grants : (p : Profile) (list form : List Ace) (x a : List ℕ) → IsProfile p → Xdr p list x → Xdr p form a
       → Normalises p x a → SameGrants p.masks list form
@@ -42,9 +42,7 @@ pub record GrantAtPaths (rights : ℕ) (list : List Ace) (forms : FiveForms) : T
 pub record HeadlineOverPaths : Type 0 where
   -- the five normal forms of two lists have equal bytes exactly if, at every path, in every situation and for every
   -- mask, both grant or both deny
-  pub equal_bytes : (p : Profile) (list other : List Ace) (x y a b : List ℕ) → IsProfile p → Xdr p list x
-      → Xdr p other y → NormalisesAtPaths p x a → NormalisesAtPaths p y b
-      → (a ≡ b) ↔ SameAtEveryPath p.masks list other
+  pub equal_bytes : TellsListsApart NormalisesAtPaths SameAtEveryPath
   -- each of the five grants what stands at its path grants
   pub same_grants : (p : Profile) (list : List Ace) (x a : List ℕ) → IsProfile p → Xdr p list x
       → (five : NormalisesAtPaths p x a) → GrantAtPaths p.masks list five.forms

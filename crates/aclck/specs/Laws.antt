@@ -43,24 +43,25 @@ ShowUndoesEncode = (p : Profile) (input bytes text : List ℕ) (list : List Ace)
     → EncodeAnswer p input (done outcome.Yes bytes)
     → ShowNfsAnswer p bytes (done outcome.Yes text) ↔ (text ≡ ace_text list)
 
--- two inputs, each of which spells a list of a profile, get equal bytes from `normalize` exactly if in every situation,
--- for every mask within the profile, both lists grant or both deny
+-- two inputs, each of which spells a list of a profile, get equal bytes exactly if the lists are the same to the rights
+-- of the profile
+abbrev pub TellsListsApart : (Profile → List ℕ → List ℕ → Type 0) → (ℕ → List Ace → List Ace → Type 0) → Type 0
+TellsListsApart Gets Same = (p : Profile) (list other : List Ace) (x y a b : List ℕ) → IsProfile p → Xdr p list x
+    → Xdr p other y → Gets p x a → Gets p y b → (a ≡ b) ↔ Same p.masks list other
+
+-- `normalize` tells lists apart by what they grant: in every situation, for every mask within the profile, both lists
+-- grant or both deny
 abbrev pub NormalizeTellsApart : Type 0
-NormalizeTellsApart = (p : Profile) (list other : List Ace) (x y a b : List ℕ) → IsProfile p → Xdr p list x
-    → Xdr p other y → NormalizeAnswer p x (done outcome.Yes a) → NormalizeAnswer p y (done outcome.Yes b)
-    → (a ≡ b) ↔ SameGrants p.masks list other
+NormalizeTellsApart = TellsListsApart (λ p x a. NormalizeAnswer p x (done outcome.Yes a)) SameGrants
 
 -- what `normalize` makes of bytes is what it makes of that, and nothing else is
 abbrev pub NormalizeTwice : Type 0
 NormalizeTwice = (p : Profile) (x a b : List ℕ) → IsProfile p → NormalizeAnswer p x (done outcome.Yes a)
     → NormalizeAnswer p a (done outcome.Yes b) ↔ (b ≡ a)
 
--- two inputs, each of which spells a list of a profile, get equal bytes from `normalize --inherit` exactly if at every
--- path of creations, in every situation, for every mask within the profile, both lists grant or both deny
+-- `normalize --inherit` tells lists apart by what they grant at every path of creations
 abbrev pub NormalizeInheritTellsApart : Type 0
-NormalizeInheritTellsApart = (p : Profile) (list other : List Ace) (x y a b : List ℕ) → IsProfile p → Xdr p list x
-    → Xdr p other y → NormalizeInheritAnswer p x (done outcome.Yes a) → NormalizeInheritAnswer p y (done outcome.Yes b)
-    → (a ≡ b) ↔ SameAtEveryPath p.masks list other
+NormalizeInheritTellsApart = TellsListsApart (λ p x a. NormalizeInheritAnswer p x (done outcome.Yes a)) SameAtEveryPath
 
 -- what it makes of bytes is five lists, one behind the other, of each of which `normalize` makes the same bytes
 abbrev pub NormalizeInheritGivesForms : Type 0

@@ -3,7 +3,6 @@ pub mod Values
 pub mod NameWords
 pub mod Answer
 pub mod ListInput
-pub mod TwoLists
 pub mod Run
 pub mod ProfileArgument
 pub mod Definition

@@ -4,8 +4,7 @@ use Rattle.std.specs.Io.KnownBytes.{IsAtEnd}
 use Rattle.acl_perm.specs.Devices.{failures_after}
 use Rattle.acl_perm.specs.Profile.{Profile}
 use Rattle.aclck.specs.Answer.{Answer, Ran, has_read_failed, has_write_failed, is_read, is_refusal, is_write}
-use Rattle.aclck.specs.ListInput.{TakesLittle, TakesOpen}
-use Rattle.aclck.specs.TwoLists.{TakesLittleOfTwo, TakesOpenOfTwo}
+use Rattle.aclck.specs.ListInput.{TakesLittle, TakesLittleOfTwo, TakesOpen, TakesOpenOfTwo}
 use Rattle.aclck.specs.declared.answer.Outcome.{Outcome}
 use Rattle.aclck.specs.declared.answer.RunFault.{RunFault}
 

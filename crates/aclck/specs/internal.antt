@@ -1,5 +1,9 @@
 -- What only the code and its proofs need (this library's own).
 -- Reading: how one list and two are read from pulls
+-- Files: why the file of a text was not read
+-- Telling: how much of a text was written
 -- Compared: the text and the outcome of what `acl_normal` answers
 pub mod Reading
+pub mod Files
+pub mod Telling
 pub mod Compared

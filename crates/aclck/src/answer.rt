@@ -1,8 +1,11 @@
 //! What an engine answers.
-ghost use Rattle.std.specs.Prelude.{◌≡◌};
+ghost use Rattle.std.specs.Prelude.{◌≡◌, ◌↔◌, true};
+ghost use Rattle.acl_nfs4.specs.Spelling.{spelling};
 ghost use Rattle.aclck.specs.Answer.{cause_of, decision_line, is_refusal};
+ghost use Rattle.aclck.specs.internal.Telling.{Tells};
 
-use acl_nfs4::{AceTextFault, Fault, ReadFault, WriteFault};
+use acl_nfs4::{AceTextFault, Acl, Fault, ReadFault, WriteFault};
+use acl_perm::{Sink, put_all};
 use acl_posix::TextFault;
 use std::alloc::AllocError;
 use thiserror::Error;
@@ -12,6 +15,19 @@ use thiserror::Error;
 pub enum Outcome {
     Yes,
     No,
+}
+
+impl Outcome {
+    /// The answer that something is granted, or is not.
+    pub(crate) fn of(is_granted: bool) -> Outcome
+        ensures { (result ≡ Outcome.Yes) ↔ (is_granted ≡ true) }
+    {
+        if is_granted {
+            Outcome::Yes
+        } else {
+            Outcome::No
+        }
+    }
 }
 
 /// Why a command did not run to its end.
@@ -115,4 +131,25 @@ pub(crate) fn decision_line(outcome: Outcome) -> &'static [u8]
         Outcome::Yes => b"granted\n",
         Outcome::No => b"denied\n",
     }
+}
+
+/// Writes a text, after which a command ends with this outcome.
+pub(crate) fn tell<K: Sink>(
+    sink: &mut K,
+    outcome: Outcome,
+    text: &[u8],
+) -> Result<Outcome, RunFault>
+    ensures { Tells outcome text.now K.contents K.failure_count sink.old sink.new result }
+{
+    put_all(sink, text)?;
+    Ok(outcome)
+}
+
+/// Writes the bytes that spell a list, after which a command ends with Yes.
+pub(crate) fn tell_list<K: Sink>(sink: &mut K, list: &Acl) -> Result<Outcome, RunFault>
+    ensures { Tells Outcome.Yes (spelling list.now)
+        K.contents K.failure_count sink.old sink.new result }
+{
+    list.encode(sink)?;
+    Ok(Outcome::Yes)
 }

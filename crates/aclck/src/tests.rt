@@ -15,5 +15,6 @@ mod nfs_text;
 mod normalize;
 mod posix;
 mod posix_faults;
+mod scarce;
 mod table;
 mod texts;

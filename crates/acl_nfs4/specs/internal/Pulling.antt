@@ -1,19 +1,22 @@
 -- Fields that are pulled from a source one after the other: words that this library's code needs. No public clause
 -- cites them.
-use Rattle.std.specs.Prelude.{◌≡◌, ◌≢◌, ◌⊎◌, ℕ, ◌+◌, ◌<◌, ◌≤◌, List, ◌∷◌, [], ◌++◌, length, take, Option, Result, Ok, Err, count_ones}
+use Rattle.std.specs.Prelude.{◌≡◌, ◌≢◌, ◌⊎◌, ℕ, ◌+◌, ◌<◌, ◌≤◌, List, ◌∷◌, [], ◌++◌, length, take, drop, Option, Result, Ok, Err, count_ones, false}
 use Rattle.std.specs.Io.KnownBytes.{Consumes, IsAtEnd}
 use Rattle.acl_perm.specs.Devices.{one_more}
-use Rattle.acl_perm.specs.Profile.{Profile}
+use Rattle.acl_perm.specs.Profile.{Profile, profile_of}
 use Rattle.acl_perm.specs.declared.kind.Kind.{Kind}
 use Rattle.acl_nfs4.specs.Ace.{Ace}
 use Rattle.acl_nfs4.specs.Spelling.{word, weight}
 use Rattle.acl_nfs4.specs.Fields.{number}
-use Rattle.acl_nfs4.specs.Fault.{Border, IsFault, IsFirstFault}
-use Rattle.acl_nfs4.specs.Fault.Stage.{kind as at_kind, flags as at_flags, mask as at_mask, len as at_len, who as at_who, padding as at_padding}
+use Rattle.acl_nfs4.specs.Fault.{Border, IsFault, IsFirstFault, Stage}
+use Rattle.acl_nfs4.specs.Fault.Stage.{kind as at_kind, who as at_who}
 use Rattle.acl_nfs4.specs.internal.Progress.{IsBytes}
 use Rattle.acl_nfs4.specs.declared.xdr.fault.Fault.{Fault}
 use Rattle.acl_nfs4.specs.declared.xdr.fault.Reason.TheVariants.{Truncated, Read}
+use Rattle.acl_nfs4.specs.declared.xdr.pulling.NextAce.{NextAce}
 use Rattle.acl_nfs4.specs.declared.xdr.pulling.Pulled.{Pulled}
+use Rattle.acl_nfs4.specs.declared.xdr.pulling.Words.{Words}
+use Rattle.acl_nfs4.specs.Who.{is_no_who_len}
 
 -- a source ended here, or failed, after it gave less than so many bytes; its failures are counted before and after
 pub record IsLacking (offset size : ℕ) (piece : List ℕ) (left : Option (List ℕ)) (before after : ℕ) (f : Fault)
@@ -26,6 +29,7 @@ pub record IsLacking (offset size : ℕ) (piece : List ℕ) (left : Option (List
 pub record IsFilled (held size : ℕ) (old new piece : List ℕ) (before after : ℕ) : Type 0 where
   pub long : length piece ≡ size
   pub room : take (held + size) new ≡ take held old ++ piece
+  pub stands : take size (drop held new) ≡ piece
   pub bytes : IsBytes piece
   pub kept : after ≡ before
 
@@ -55,62 +59,64 @@ Stops p text left before after f =
     ⊎ (IsFirstFault p text f.offset (length text) f.reason × (f.reason ≢ Truncated) × (f.reason ≢ Read)
     × (after ≡ before)))
 
--- a decoder that took just this text, in which these ACEs stand before the one being read, has one more, or stops
-abbrev pub Pulls : Profile → ℕ → List Ace → List ℕ → Option (List ℕ) → ℕ → ℕ → Result Pulled Fault → Type 0
-Pulls p n list text left before after (Ok x) =
-    (a : Ace) × Border p (at_kind n (list ++ a ∷ [])) text × (count_ones a.mask ≡ x.bits) × (after ≡ before)
-Pulls p n list text left before after (Err f) = Stops p text left before after f
+-- where the next ACE may stand: behind this text, in which these are before it, of the number that is told
+pub record IsNext (p : Profile) (offset total n : ℕ) (list : List Ace) (text : List ℕ) : Type 0 where
+  pub border : Border p (at_kind n list) text
+  pub fewer : length list < n
+  pub here : length text ≡ offset
+  pub heavy : weight list ≡ total
 
--- the ACE stands at the front of the room, the last bytes of it behind those that were held
-abbrev pub Holds : ℕ → List ℕ → List ℕ → List ℕ → Result Pulled Fault → Type 0
-Holds held room new given (Ok x) = (take x.len new ≡ take held room ++ given) × (x.len ≤ length new)
-Holds held room new given (Err f) = Unit {0}
+-- a source gave the fields of an ACE up to a stage: they are the first bytes of the room, and no pull failed
+pub record IsDrawn (p : Profile) (offset total : ℕ) (stage : ℕ → List Ace → Stage) (held : ℕ)
+    (old left : Option (List ℕ)) (before after : ℕ) (room given : List ℕ) : Type 0 where
+  pub taken : Consumes old left given
+  pub front : take held room ≡ given
+  pub long : length given ≡ held
+  pub kept : after ≡ before
+  pub leads : (n : ℕ) (list : List Ace) (text : List ℕ) → IsNext p offset total n list text
+      → Border p (stage n list) (text ++ given)
 
--- what a source and a room come to where an ACE is read on from so many held bytes: the bytes that were given, and what
--- is said of them
-abbrev pub Draws : ℕ → Option (List ℕ) → Option (List ℕ) → ℕ → ℕ → List ℕ → List ℕ
-    → (List ℕ → Option (List ℕ) → ℕ → ℕ → Result Pulled Fault → Type 0) → Result Pulled Fault → Type 0
-Draws held old left before after room new Says result =
-    (given : List ℕ) × Consumes old left given × Holds held room new given result × Says given left before after result
+-- a source gave a part of an ACE, and there the decoder stops
+pub record IsHalted (p : Profile) (offset total : ℕ) (old left : Option (List ℕ)) (before after : ℕ) (f : Fault)
+    : Type 0 where
+  pub given : List ℕ
+  pub taken : Consumes old left given
+  pub stops : (n : ℕ) (list : List Ace) (text : List ℕ) → IsNext p offset total n list text
+      → Stops p (text ++ given) left before after f
 
--- from the padding on, behind any text up to there
-abbrev pub FromPadding : ℕ → ℕ → ℕ → List ℕ → Option (List ℕ) → ℕ → ℕ → Result Pulled Fault → Type 0
-FromPadding offset len bits given left before after result =
-    (p : Profile) (n : ℕ) (list : List Ace) (k : Kind) (f m : ℕ) (who text : List ℕ)
-    → Border p (at_padding n list k f m who) text → length who ≡ len → length text ≡ offset + 16 + len
-    → count_ones m ≡ bits → Pulls p n list (text ++ given) left before after result
+-- a source gave the four words of an ACE
+pub record HasWords (p : Profile) (offset total : ℕ) (old left : Option (List ℕ)) (before after : ℕ) (room : List ℕ)
+    (x : Words) : Type 0 where
+  pub kind : Kind
+  pub flags : ℕ
+  pub mask : ℕ
+  pub given : List ℕ
+  pub drawn : IsDrawn p offset total (λ n list. at_who n list kind flags mask x.len) 16 old left before after room given
+  pub some : is_no_who_len x.len ≡ false
+  pub bits : count_ones mask ≡ x.bits
 
--- from the who on
-abbrev pub FromWho : ℕ → ℕ → ℕ → List ℕ → Option (List ℕ) → ℕ → ℕ → Result Pulled Fault → Type 0
-FromWho offset len bits given left before after result =
-    (p : Profile) (n : ℕ) (list : List Ace) (k : Kind) (f m : ℕ) (text : List ℕ)
-    → Border p (at_who n list k f m len) text → length text ≡ offset + 16 → count_ones m ≡ bits
-    → Pulls p n list (text ++ given) left before after result
+-- a source gave a whole ACE
+pub record HasAce (p : Profile) (offset total : ℕ) (old left : Option (List ℕ)) (before after : ℕ) (room : List ℕ)
+    (x : Pulled) : Type 0 where
+  pub ace : Ace
+  pub given : List ℕ
+  pub drawn : IsDrawn p offset total (λ n list. at_kind n (list ++ ace ∷ [])) x.len old left before after room given
+  pub bits : count_ones ace.mask ≡ x.bits
+  pub inside : x.len ≤ length room
 
--- from the length of the who on
-abbrev pub FromLen : ℕ → ℕ → List ℕ → Option (List ℕ) → ℕ → ℕ → Result Pulled Fault → Type 0
-FromLen offset bits given left before after result =
-    (p : Profile) (n : ℕ) (list : List Ace) (k : Kind) (f m : ℕ) (text : List ℕ)
-    → Border p (at_len n list k f m) text → length text ≡ offset + 12 → count_ones m ≡ bits
-    → Pulls p n list (text ++ given) left before after result
+-- what comes of asking for the four words of an ACE
+abbrev pub DrawsWords : NextAce → Option (List ℕ) → Option (List ℕ) → ℕ → ℕ → List ℕ → Result Words Fault → Type 0
+DrawsWords next old left before after room (Ok x) =
+    HasWords (profile_of next.profile) next.offset next.weight old left before after room x
+DrawsWords next old left before after room (Err f) =
+    IsHalted (profile_of next.profile) next.offset next.weight old left before after f
 
--- from the mask on, by a profile and after ACEs of this weight
-abbrev pub FromMask : Profile → ℕ → ℕ → List ℕ → Option (List ℕ) → ℕ → ℕ → Result Pulled Fault → Type 0
-FromMask p offset w given left before after result =
-    (n : ℕ) (list : List Ace) (k : Kind) (f : ℕ) (text : List ℕ) → Border p (at_mask n list k f) text
-    → length text ≡ offset + 8 → weight list ≡ w → Pulls p n list (text ++ given) left before after result
-
--- from the flags on
-abbrev pub FromFlags : Profile → ℕ → ℕ → List ℕ → Option (List ℕ) → ℕ → ℕ → Result Pulled Fault → Type 0
-FromFlags p offset w given left before after result =
-    (n : ℕ) (list : List Ace) (k : Kind) (text : List ℕ) → Border p (at_flags n list k) text
-    → length text ≡ offset + 4 → weight list ≡ w → Pulls p n list (text ++ given) left before after result
-
--- a whole ACE
-abbrev pub FromKind : Profile → ℕ → ℕ → List ℕ → Option (List ℕ) → ℕ → ℕ → Result Pulled Fault → Type 0
-FromKind p offset w given left before after result =
-    (n : ℕ) (list : List Ace) (text : List ℕ) → Border p (at_kind n list) text → length list < n
-    → length text ≡ offset → weight list ≡ w → Pulls p n list (text ++ given) left before after result
+-- what comes of asking for an ACE
+abbrev pub DrawsAce : NextAce → Option (List ℕ) → Option (List ℕ) → ℕ → ℕ → List ℕ → Result Pulled Fault → Type 0
+DrawsAce next old left before after room (Ok x) =
+    HasAce (profile_of next.profile) next.offset next.weight old left before after room x
+DrawsAce next old left before after room (Err f) =
+    IsHalted (profile_of next.profile) next.offset next.weight old left before after f
 
 -- a decoder has taken just this text: the word of their number, and so many whole ACEs of that weight, which its body
 -- holds

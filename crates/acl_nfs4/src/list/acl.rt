@@ -1,16 +1,15 @@
 //! The owned list.
-ghost use Rattle.std.specs.Prelude.{◌≡◌, ◌+◌, ◌<◌, ◌≤◌, ◌↔◌, count_ones, IsTrue, IfErr, IfOk, OnOk, OnErr, None, option_map};
+ghost use Rattle.std.specs.Prelude.{◌≡◌, ◌+◌, ◌<◌, ◌≤◌, ◌↔◌, count_ones, IsTrue, IfErr, IfOk, OnOk, OnErr, None};
 ghost use Rattle.std.specs.Prelude.{[], ◌∷◌, ◌++◌, length, replicate};
 ghost use Rattle.acl_nfs4.specs.Ace.{ace};
 ghost use Rattle.acl_nfs4.specs.Spelling.{piece, word, kind_number, IsAccepted, Fits};
 ghost use Rattle.acl_nfs4.specs.Spelling as spelled;
 ghost use Rattle.acl_nfs4.specs.Owned.{same_list};
-ghost use Rattle.acl_nfs4.specs.Push.{who_refusal, push_refusal, PushAnswers};
+ghost use Rattle.acl_nfs4.specs.Push.{push_refusal, PushAnswers};
 ghost use Rattle.acl_nfs4.specs.declared.list.push_fault.PushFault.TheVariants.{Memory};
 ghost use Rattle.acl_nfs4.specs.internal.Appending.{Extended};
 ghost use Rattle.acl_nfs4.specs.Limits.{most_aces, most_weight, longest_who};
-ghost use Rattle.acl_nfs4.specs.internal.Reading.{Judges};
-ghost use Rattle.acl_nfs4.specs.Who.{IsWho, who_fault};
+ghost use Rattle.acl_nfs4.specs.Who.{IsWho};
 ghost use Rattle.acl_nfs4.specs.Within.{IsWithin};
 ghost use Rattle.acl_perm.specs.Profile.{full, profile_of};
 
@@ -18,7 +17,7 @@ use crate::ace::AceRef;
 use crate::limits::{MOST_ACES, MOST_WEIGHT};
 use crate::list::aces::Aces;
 use crate::list::push_fault::PushFault;
-use crate::who::{WhoFault, judge};
+use crate::who::judge;
 use crate::xdr::view::AclView;
 use acl_perm::{Kind, Profile};
 use byteorder::{BigEndian, ByteOrder};
@@ -150,7 +149,7 @@ impl Acl {
         if self.weight + bits > MOST_WEIGHT {
             return Err(PushFault::TooHeavy);
         }
-        judge_who(item.who)?;
+        judge(item.who)?;
         match self.append(item) {
             Ok(()) => Ok(()),
             Err(_) => Err(PushFault::Memory),
@@ -181,26 +180,6 @@ impl Acl {
         self.count += 1;
         self.weight += item.mask.bits().count_ones();
         Ok(())
-    }
-}
-
-fn judge_who(who: &[u8]) -> Result<(), PushFault>
-    ensures { Judges result (option_map who_refusal (who_fault who.now)) }
-{
-    match judge(who) {
-        Ok(()) => Ok(()),
-        Err(fault) => Err(who_refusal(fault)),
-    }
-}
-
-fn who_refusal(fault: WhoFault) -> PushFault
-    ensures { result ≡ who_refusal fault }
-{
-    match fault {
-        WhoFault::Length => PushFault::WhoLength,
-        WhoFault::Utf8 => PushFault::WhoUtf8,
-        WhoFault::Control => PushFault::WhoControl,
-        WhoFault::Special => PushFault::SpecialWho,
     }
 }
 

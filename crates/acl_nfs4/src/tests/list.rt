@@ -1,5 +1,7 @@
 //! Rows of owned lists: what is pushed, written and compared.
 
+use super::harness::{is_told, kept};
+use crate::PushFault::{Memory, SpecialWho, TooHeavy, TooManyAces, WhoControl, WhoLength, WhoUtf8};
 use crate::*;
 use std::alloc::{AllocError, Global};
 use std::process::Abort;
@@ -104,19 +106,6 @@ fn shows(aces: Aces<'_>, rows: &[Row]) -> bool {
     at == rows.len()
 }
 
-// Tables answer Memory where they meet it. Each runs twice: once with Memory for an answer, and in a test named
-// `ample` without.
-fn passes(answer: Result<(), PushFault>) -> bool {
-    matches!(answer, Ok(()) | Err(PushFault::Memory))
-}
-
-fn kept<T>(answer: Result<T, AllocError>) -> Result<T, PushFault> {
-    match answer {
-        Ok(value) => Ok(value),
-        Err(_) => Err(PushFault::Memory),
-    }
-}
-
 // Whether each way through a list shows these rows, and tells how many there are.
 fn is_gone_through(list: &Acl, rows: &[Row]) -> bool {
     let aces = list.into_iter();
@@ -124,8 +113,8 @@ fn is_gone_through(list: &Acl, rows: &[Row]) -> bool {
     aces.len() == rows.len() && shows(aces, rows) && again.is_ok_and(|again| shows(again, rows))
 }
 
-// A copy is the same list.
-fn copies(rt: &impl Abort, alloc: Global) -> Result<(), PushFault> {
+/// A copy is the same list.
+pub fn a_copy_is_the_same_list(rt: &impl Abort, alloc: Global) -> Result<(), PushFault> {
     for rows in LISTS {
         let list = built(alloc, rows)?;
         let copy = kept(list.copy(alloc))?;
@@ -134,11 +123,6 @@ fn copies(rt: &impl Abort, alloc: Global) -> Result<(), PushFault> {
         assert!(rt; is_gone_through(&list, rows));
     }
     Ok(())
-}
-
-#[test]
-fn a_copy_is_the_same_list(rt: HostRuntime) {
-    assert!(rt; passes(copies(&rt, rt.alloc())));
 }
 
 fn viewed(
@@ -161,19 +145,17 @@ fn viewed(
     Ok(())
 }
 
-// A list from a view is what the view shows.
-fn views(rt: &impl Abort, alloc: Global) -> Result<(), PushFault> {
+/// A list from a view is what the view shows.
+pub fn a_list_from_a_view_is_what_the_view_shows(
+    rt: &impl Abort,
+    alloc: Global,
+) -> Result<(), PushFault> {
     for rows in LISTS {
         let bytes = kept(spelled(alloc, rows))?;
         let expected = built(alloc, rows)?;
         viewed(rt, alloc, rows, &bytes, &expected)?;
     }
     Ok(())
-}
-
-#[test]
-fn a_list_from_a_view_is_what_the_view_shows(rt: HostRuntime) {
-    assert!(rt; passes(views(&rt, rt.alloc())));
 }
 
 // What is answered where an ACE with this mask and who is pushed, and what the list then shows.
@@ -188,7 +170,7 @@ fn pushed(
     let mut list = built(alloc, &[EVERYONE])?;
     if let Some(ace) = item(row) {
         let pushed = list.push(ace);
-        if pushed == Err(PushFault::Memory) {
+        if pushed == Err(Memory) {
             return pushed;
         }
         assert!(rt; pushed == answer);
@@ -199,16 +181,16 @@ fn pushed(
     Ok(())
 }
 
-// A push is judged by its who.
-fn pushes(rt: &impl Abort, alloc: Global) -> Result<(), PushFault> {
+/// A push is judged by its who.
+pub fn a_push_is_judged_by_its_who(rt: &impl Abort, alloc: Global) -> Result<(), PushFault> {
     let rows: [(&'static [u8], Result<(), PushFault>); 9] = [
-        (b"", Err(PushFault::WhoLength)),
+        (b"", Err(WhoLength)),
         (&[b'a'; 1024], Ok(())),
-        (&[0xff; 1025], Err(PushFault::WhoLength)),
-        (b"\xff\x09", Err(PushFault::WhoUtf8)),
-        (b"\x09@", Err(PushFault::WhoControl)),
-        (b"\xc3\xa9\x7f", Err(PushFault::WhoControl)),
-        (b"owner@", Err(PushFault::SpecialWho)),
+        (&[0xff; 1025], Err(WhoLength)),
+        (b"\xff\x09", Err(WhoUtf8)),
+        (b"\x09@", Err(WhoControl)),
+        (b"\xc3\xa9\x7f", Err(WhoControl)),
+        (b"owner@", Err(SpecialWho)),
         (b"OWNER@x", Ok(())),
         (b"OWNER@", Ok(())),
     ];
@@ -216,11 +198,6 @@ fn pushes(rt: &impl Abort, alloc: Global) -> Result<(), PushFault> {
         pushed(rt, alloc, 1, who, answer)?;
     }
     Ok(())
-}
-
-#[test]
-fn a_push_is_judged_by_its_who(rt: HostRuntime) {
-    assert!(rt; passes(pushes(&rt, rt.alloc())));
 }
 
 #[test]
@@ -252,7 +229,11 @@ fn fitted(list: &Acl) -> [bool; 3] {
     ]
 }
 
-fn fitting(rt: &impl Abort, alloc: Global) -> Result<(), PushFault> {
+/// A list fits the profiles that its bits are within.
+pub fn a_list_fits_the_profile_of_its_bits(
+    rt: &impl Abort,
+    alloc: Global,
+) -> Result<(), PushFault> {
     for (flags, mask, profiles) in PROFILES {
         let rows = [
             (Kind::Allow, 0, 0, b"a".as_slice()),
@@ -263,11 +244,6 @@ fn fitting(rt: &impl Abort, alloc: Global) -> Result<(), PushFault> {
         assert!(rt; fitted(&list) == profiles, "{flags} {mask}");
     }
     Ok(())
-}
-
-#[test]
-fn a_list_fits_the_profile_of_its_bits(rt: HostRuntime) {
-    assert!(rt; passes(fitting(&rt, rt.alloc())));
 }
 
 // A list with so many of the same ACE.
@@ -296,8 +272,8 @@ fn copied(rt: &impl Abort, alloc: Global, list: &Acl) -> Result<(), AllocError> 
 fn heavy_list(rt: &impl Abort, alloc: Global) -> Result<(), PushFault> {
     let mut heavy = repeated(alloc, 4_096, (Kind::Allow, 0, 0x001f_07ff, b"a"))?;
     assert!(rt; heavy.weight() == 65_536);
-    assert!(rt; pushed_nameless(&mut heavy, 1) == Some(Err(PushFault::TooHeavy)));
-    assert!(rt; pushed_nameless(&mut heavy, 0) == Some(Err(PushFault::WhoLength)));
+    assert!(rt; pushed_nameless(&mut heavy, 1) == Some(Err(TooHeavy)));
+    assert!(rt; pushed_nameless(&mut heavy, 0) == Some(Err(WhoLength)));
     assert!(rt; heavy.len() == 4_096);
     Ok(())
 }
@@ -316,49 +292,23 @@ fn full_from_view(alloc: Global, bytes: &[u8]) -> Result<Acl, Fail> {
 }
 
 static LINES: [(PushFault, &str); 7] = [
-    (PushFault::TooManyAces, "TooManyAces"),
-    (PushFault::TooHeavy, "TooHeavy"),
-    (PushFault::WhoLength, "WhoLength"),
-    (PushFault::WhoUtf8, "WhoUtf8"),
-    (PushFault::WhoControl, "WhoControl"),
-    (PushFault::SpecialWho, "SpecialWho"),
-    (PushFault::Memory, "Memory"),
+    (TooManyAces, "TooManyAces"),
+    (TooHeavy, "TooHeavy"),
+    (WhoLength, "WhoLength"),
+    (WhoUtf8, "WhoUtf8"),
+    (WhoControl, "WhoControl"),
+    (SpecialWho, "SpecialWho"),
+    (Memory, "Memory"),
 ];
-
-fn is_line(alloc: Global, fault: PushFault, line: &str) -> bool {
-    fault
-        .to_string(alloc)
-        .is_ok_and(|text| text.as_str() == line)
-}
 
 mod ample {
     use super::*;
-
-    #[test]
-    fn a_copy_is_the_same_list(rt: HostRuntime) {
-        assert!(rt; copies(&rt, rt.alloc()).is_ok());
-    }
-
-    #[test]
-    fn a_list_from_a_view_is_what_the_view_shows(rt: HostRuntime) {
-        assert!(rt; views(&rt, rt.alloc()).is_ok());
-    }
-
-    #[test]
-    fn a_push_is_judged_by_its_who(rt: HostRuntime) {
-        assert!(rt; pushes(&rt, rt.alloc()).is_ok());
-    }
-
-    #[test]
-    fn a_list_fits_the_profile_of_its_bits(rt: HostRuntime) {
-        assert!(rt; fitting(&rt, rt.alloc()).is_ok());
-    }
 
     // What is judged before the who: the number of ACEs, and then the weight.
     #[test]
     fn a_full_list_takes_no_more(rt: HostRuntime) -> Result<(), PushFault> {
         let mut list = repeated(rt.alloc(), 65_536, (Kind::Allow, 0, 0, b"a"))?;
-        assert!(rt; pushed_nameless(&mut list, 1) == Some(Err(PushFault::TooManyAces)));
+        assert!(rt; pushed_nameless(&mut list, 1) == Some(Err(TooManyAces)));
         assert!(rt; list.len() == 65_536);
         assert!(rt; list.weight() == 0);
         assert!(rt; copied(&rt, rt.alloc(), &list).is_ok());
@@ -387,7 +337,7 @@ mod ample {
     #[test]
     fn each_refusal_has_its_line(rt: HostRuntime) {
         for (fault, line) in LINES {
-            assert!(rt; is_line(rt.alloc(), fault, line), "{line}");
+            assert!(rt; is_told(rt.alloc(), &fault, line) == Ok(true), "{line}");
         }
     }
 }

@@ -1,5 +1,6 @@
 //! Rows of bytes that are a list or have a fault.
 
+use super::harness::{is_told, kept};
 use crate::*;
 use std::alloc::{AllocError, Global};
 use std::process::Abort;
@@ -126,8 +127,8 @@ fn weighed(rt: &impl Abort, bytes: &[u8], profile: Profile, count: u32, expected
     assert!(rt; found == expected, "{count}");
 }
 
-// The weight of a list is limited, after the bits of its masks.
-fn weights(rt: &impl Abort, alloc: Global) -> Result<(), AllocError> {
+/// The weight of a list is limited, after the bits of its masks.
+pub fn the_weight_of_a_list_is_limited(rt: &impl Abort, alloc: Global) -> Result<(), PushFault> {
     for (profile, count, mask, expected) in [
         (Profile::FULL, 4_096, 0x001f_07ff, None),
         (
@@ -150,15 +151,10 @@ fn weights(rt: &impl Abort, alloc: Global) -> Result<(), AllocError> {
             fault(131_080, Reason::TooHeavy),
         ),
     ] {
-        let bytes = repeated(alloc, count, mask)?;
+        let bytes = kept(repeated(alloc, count, mask))?;
         weighed(rt, &bytes, profile, count, expected);
     }
     Ok(())
-}
-
-#[test]
-fn the_weight_of_a_list_is_limited(rt: HostRuntime) {
-    let _ = weights(&rt, rt.alloc());
 }
 
 // Whether a list is judged so under the narrow profile, and is one under the full one.
@@ -205,12 +201,6 @@ static LINES: [(Reason, &str); 15] = [
     (Reason::Memory, "Memory at byte 7"),
 ];
 
-fn is_line(alloc: Global, fault: Fault, line: &str) -> bool {
-    fault
-        .to_string(alloc)
-        .is_ok_and(|text| text.as_str() == line)
-}
-
 static MASKS: [(&str, Option<u32>); 10] = [
     ("-", Some(0)),
     ("READ_DATA", Some(1)),
@@ -236,15 +226,10 @@ mod ample {
     use super::*;
 
     #[test]
-    fn the_weight_of_a_list_is_limited(rt: HostRuntime) {
-        assert!(rt; weights(&rt, rt.alloc()).is_ok());
-    }
-
-    #[test]
     fn each_fault_has_its_line(rt: HostRuntime) {
         for (reason, line) in LINES {
             let fault = Fault { offset: 7, reason };
-            assert!(rt; is_line(rt.alloc(), fault, line), "{line}");
+            assert!(rt; is_told(rt.alloc(), &fault, line) == Ok(true), "{line}");
         }
     }
 }

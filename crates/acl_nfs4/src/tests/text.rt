@@ -1,5 +1,6 @@
 //! Rows of texts that are a list or have a fault.
 
+use super::harness::is_told;
 use crate::*;
 use std::alloc::{AllocError, Global};
 use std::process::Abort;
@@ -101,34 +102,41 @@ fn is_written(list: &Acl, text: &[u8]) -> bool {
     fault.is_none() && size == text.len() && room.starts_with(text)
 }
 
-fn read_all_spelled(rt: &impl Abort, alloc: Global, is_ample: bool) {
+// Whether a text spells the list that is written so, or memory is wanted.
+fn spells(alloc: Global, text: &[u8], written: &[u8]) -> Result<bool, PushFault> {
+    match parse_text(alloc, text) {
+        Ok(list) => Ok(is_written(&list, written)),
+        Err(AceTextFault::Memory) => Err(PushFault::Memory),
+        Err(_) => Ok(false),
+    }
+}
+
+// Whether a text is refused with this line, or for want of memory.
+fn is_refused(alloc: Global, text: &[u8], line: &str) -> Result<bool, PushFault> {
+    match parse_text(alloc, text) {
+        Ok(_) => Ok(false),
+        Err(AceTextFault::Memory) => Err(PushFault::Memory),
+        Err(fault) => is_told(alloc, &fault, line),
+    }
+}
+
+/// Texts spell their lists.
+pub fn texts_spell_their_lists(rt: &impl Abort, alloc: Global) -> Result<(), PushFault> {
     for (text, written) in &SPELLED {
-        match parse_text(alloc, text) {
-            Ok(list) => assert!(rt; is_written(&list, written)),
-            Err(fault) => assert!(rt; !is_ample && fault == AceTextFault::Memory),
-        }
+        assert!(rt; spells(alloc, text, written)?);
     }
+    Ok(())
 }
 
-fn read_all_refused(rt: &impl Abort, alloc: Global, is_ample: bool) {
+/// Texts that spell no list are refused.
+pub fn texts_that_spell_no_list_are_refused(
+    rt: &impl Abort,
+    alloc: Global,
+) -> Result<(), PushFault> {
     for (text, line) in &REFUSED {
-        let Err(fault) = parse_text(alloc, text) else {
-            assert!(rt; false, "a list");
-            continue;
-        };
-        match fault.to_string(alloc) {
-            Ok(told) => assert!(rt;
-                told.as_str() == *line || !is_ample && fault == AceTextFault::Memory
-            ),
-            Err(_) => assert!(rt; !is_ample),
-        }
+        assert!(rt; is_refused(alloc, text, line)?, "{line}");
     }
-}
-
-#[test]
-fn texts_spell_their_lists_or_are_refused(rt: HostRuntime) {
-    read_all_spelled(&rt, rt.alloc(), false);
-    read_all_refused(&rt, rt.alloc(), false);
+    Ok(())
 }
 
 // How many ACEs a text spells within a profile.
@@ -150,51 +158,72 @@ fn each_write_of_a_text_fails_in_turn(rt: HostRuntime) {
     }
 }
 
-// So many times one line.
-fn repeated(alloc: Global, count: u32, line: &[u8]) -> Result<Vec<u8>, AllocError> {
-    let mut text = Vec::new(alloc);
-    for _ in 0..count {
-        text.extend_from_slice(line)?;
-    }
-    Ok(text)
-}
-
 // How many ACEs a text spells, and their weight.
 fn size_of(alloc: Global, text: &[u8]) -> Result<(usize, u32), AceTextFault> {
     let list = parse_text(alloc, text)?;
     Ok((list.len(), list.weight()))
 }
 
-fn too_many(rt: &impl Abort, alloc: Global) -> Result<(), AllocError> {
-    let mut text = repeated(alloc, 65_536, b"ALLOW - READ_DATA a\n")?;
-    assert!(rt; size_of(alloc, &text) == Ok((65_536, 65_536)));
-    text.extend_from_slice(b"x\n")?;
-    let (line, column) = (65_537, 1);
-    assert!(rt; size_of(alloc, &text) == Err(AceTextFault::TooManyAces { line, column }));
-    Ok(())
-}
+// Parts of a text, each so many times over, the size of the list that it spells, what is added to it, and the fault
+// that it has then.
+type Long = (
+    &'static [(usize, &'static [u8])],
+    (usize, u32),
+    &'static [u8],
+    AceTextFault,
+);
 
-fn too_heavy(rt: &impl Abort, alloc: Global) -> Result<(), AllocError> {
-    let mut text = repeated(alloc, 32_768, b"ALLOW - READ_DATA|READ_DATA|EXECUTE a\n")?;
-    assert!(rt; size_of(alloc, &text) == Ok((32_768, 65_536)));
-    text.extend_from_slice(b"ALLOW - EXECUTE ")?;
-    let (line, column) = (32_769, 9);
-    assert!(rt; size_of(alloc, &text) == Err(AceTextFault::TooHeavy { line, column }));
-    Ok(())
-}
+// The limits of a list, at the line that passes them.
+static PAST_LIMITS: [Long; 2] = [
+    (
+        &[(65_536, b"ALLOW - READ_DATA a\n")],
+        (65_536, 65_536),
+        b"x\n",
+        AceTextFault::TooManyAces {
+            line: 65_537,
+            column: 1,
+        },
+    ),
+    (
+        &[(32_768, b"ALLOW - READ_DATA|READ_DATA|EXECUTE a\n")],
+        (32_768, 65_536),
+        b"ALLOW - EXECUTE ",
+        AceTextFault::TooHeavy {
+            line: 32_769,
+            column: 9,
+        },
+    ),
+];
 
-fn long_lines(rt: &impl Abort, alloc: Global) -> Result<(), AllocError> {
-    let mut text = repeated(alloc, 500, b"# comment ")?;
-    text.extend_from_slice(b"\nALLOW - ")?;
-    for _ in 0..500u32 {
-        text.extend_from_slice(b"READ_DATA|")?;
+static LONG_LINES: [Long; 1] = [(
+    &[
+        (500, b"# comment "),
+        (1, b"\nALLOW - "),
+        (500, b"READ_DATA|"),
+        (1, b"EXECUTE a"),
+    ],
+    (1, 2),
+    b"@",
+    AceTextFault::SpecialWho {
+        line: 2,
+        column: 5_017,
+    },
+)];
+
+fn text_of(alloc: Global, parts: &[(usize, &[u8])]) -> Result<Vec<u8>, AllocError> {
+    let mut text = Vec::new(alloc);
+    for (count, part) in parts {
+        text.extend_from_slice(&part.repeat(alloc, *count)?)?;
     }
-    text.extend_from_slice(b"EXECUTE a")?;
-    assert!(rt; size_of(alloc, &text) == Ok((1, 2)));
-    text.extend_from_slice(b"@")?;
-    let (line, column) = (2, 5_017);
-    assert!(rt; size_of(alloc, &text) == Err(AceTextFault::SpecialWho { line, column }));
-    Ok(())
+    Ok(text)
+}
+
+// Whether a text spells a list of its size, and has its fault once more is added.
+fn is_long(alloc: Global, (parts, size, added, fault): Long) -> Result<bool, AllocError> {
+    let mut text = text_of(alloc, parts)?;
+    let is_list = size_of(alloc, &text) == Ok(size);
+    text.extend_from_slice(added)?;
+    Ok(is_list && size_of(alloc, &text) == Err(fault))
 }
 
 #[test]
@@ -219,12 +248,6 @@ fn the_name_of_a_bit_is_its_first(rt: HostRuntime) {
 mod ample {
     use super::*;
 
-    #[test]
-    fn texts_spell_their_lists_or_are_refused(rt: HostRuntime) {
-        read_all_spelled(&rt, rt.alloc(), true);
-        read_all_refused(&rt, rt.alloc(), true);
-    }
-
     // A name outside the profile is no name there.
     #[test]
     fn a_profile_refuses_the_names_that_it_lacks(rt: HostRuntime) {
@@ -239,15 +262,17 @@ mod ample {
         assert!(rt; spelled_within(rt.alloc(), retention, Profile::NARROW) == Err(mask));
     }
 
-    // The limits of a list, at the line that passes them.
     #[test]
     fn texts_past_the_limits_are_refused(rt: HostRuntime) {
-        assert!(rt; too_many(&rt, rt.alloc()).is_ok());
-        assert!(rt; too_heavy(&rt, rt.alloc()).is_ok());
+        for row in PAST_LIMITS {
+            assert!(rt; is_long(rt.alloc(), row) == Ok(true), "{}", row.3);
+        }
     }
 
     #[test]
     fn lines_pass_4096_bytes(rt: HostRuntime) {
-        assert!(rt; long_lines(&rt, rt.alloc()).is_ok());
+        for row in LONG_LINES {
+            assert!(rt; is_long(rt.alloc(), row) == Ok(true), "{}", row.3);
+        }
     }
 }

@@ -1,10 +1,9 @@
 //! The text of a list, to a sink.
-ghost use Rattle.std.specs.Prelude.{◌≡◌, ◌+◌, ◌*◌, ◌^◌, ◌<◌, ◌≤◌, ◌++◌, ◌↔◌, IfErr, OnErr, OnOk, List, length, take, true};
+ghost use Rattle.std.specs.Prelude.{◌≡◌, ◌+◌, ◌*◌, ◌^◌, ◌<◌, ◌≤◌, ◌++◌, ◌↔◌, OnErr, OnOk, List, length, true};
 ghost use Rattle.std.specs.List.{join_with_byte, list_all};
-ghost use Rattle.std.specs.Io.KnownBytes.{Appends};
 ghost use Rattle.arrayvec.specs.ArrayVec.{array_vec_len};
 ghost use Rattle.acl_perm.specs.Devices.{one_more};
-ghost use Rattle.acl_perm.specs.Pieces.{WritesFrom};
+ghost use Rattle.acl_perm.specs.Pieces.{Writes, WritesFrom};
 ghost use Rattle.acl_perm.specs.Profile.{full};
 ghost use Rattle.acl_nfs4.specs.Ace.{Ace, ace};
 ghost use Rattle.acl_nfs4.specs.AceText.{IsAceText, ace_line, ace_text, kind_name};
@@ -134,18 +133,11 @@ impl Acl {
     /// bits. The first put that fails ends it: `written` bytes went out, and nothing is tried again. No memory; time
     /// linear in the text.
     pub fn write_text<S: Sink>(&self, sink: &mut S) -> Result<(), WriteFault>
-        ensures ok { OnOk result (Appends (S.contents sink.old) (S.contents sink.new)
-            (ace_text self.now)) }
+        ensures written { Writes S.contents S.failure_count sink.old sink.new
+            (ace_text self.now) result }
         // What is written spells this list and no other.
         ensures again { (other : List Ace) → IsAceText full other (ace_text self.now)
             ↔ (other ≡ self.now) }
-        ensures none_failed { OnOk result (S.failure_count sink.new ≡ S.failure_count sink.old) }
-
-        ensures err { IfErr result (λ fault. Appends (S.contents sink.old) (S.contents sink.new)
-            (take fault.written (ace_text self.now))) }
-        ensures short { IfErr result (λ fault. fault.written < length (ace_text self.now)) }
-        ensures failed { OnErr result (S.failure_count sink.new
-            ≡ one_more (S.failure_count sink.old)) }
     {
         match put_lines(sink, self.aces()) {
             Ok(_) => Ok(()),

@@ -13,7 +13,7 @@ ghost use Rattle.acl_nfs4.specs.Stream.{Decodes, FaultsOrFails, IsOrFails};
 use crate::list::acl::Acl;
 use crate::xdr::fault::{Fault, Reason};
 use crate::xdr::judges;
-use crate::xdr::pulling::{ROOM, pull_ace, word};
+use crate::xdr::pulling::{NextAce, ROOM, pull_ace, word};
 use crate::xdr::reading::placed;
 use acl_perm::{Profile, Source};
 use std::alloc::Global;
@@ -89,7 +89,12 @@ fn read_value<S: Source>(alloc: Global, source: &mut S, profile: Profile) -> Res
     let mut body = Vec::new(alloc);
     let mut weight = 0;
     for _ in 0..count {
-        let ace = pull_ace(source, &mut room, 4 + body.len(), weight, profile)?;
+        let next = NextAce {
+            offset: 4 + body.len(),
+            weight,
+            profile,
+        };
+        let ace = pull_ace(source, &mut room, next)?;
         match body.extend_from_slice(&room[..ace.len]) {
             Ok(()) => weight += ace.bits,
             Err(_) => {

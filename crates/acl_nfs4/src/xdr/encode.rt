@@ -1,7 +1,7 @@
 //! The owned list as bytes.
-ghost use Rattle.std.specs.Prelude.{◌≡◌, ◌<◌, ◌^◌, ℕ, List, IfErr, OnErr, OnOk, length, take};
+ghost use Rattle.std.specs.Prelude.{◌≡◌, ◌<◌, ◌^◌, ℕ, List, OnOk, length};
 ghost use Rattle.std.specs.Io.KnownBytes.{Appends};
-ghost use Rattle.acl_perm.specs.Devices.{one_more};
+ghost use Rattle.acl_perm.specs.Pieces.{Writes};
 ghost use Rattle.acl_perm.specs.Profile.{Profile, full};
 ghost use Rattle.acl_nfs4.specs.Spelling.{Xdr, spelling};
 
@@ -23,20 +23,13 @@ impl Acl {
     /// Writes the bytes that spell the list (RFC 4506 over RFC 8881, section 6.2.1), without memory. The first write
     /// that fails ends it: `written` bytes went out, and nothing is tried again.
     pub fn encode<K: Sink>(&self, sink: &mut K) -> Result<(), WriteFault>
-        ensures ok { OnOk result (Appends (K.contents sink.old) (K.contents sink.new)
-            (spelling self.now)) }
+        ensures written { Writes K.contents K.failure_count sink.old sink.new
+            (spelling self.now) result }
         // What was read as this list is written as it was read.
         ensures read { (p : Profile) (text : List ℕ) → Xdr p self.now text
             → OnOk result (Appends (K.contents sink.old) (K.contents sink.new) text) }
         // What is written is a spelling, which is read again as this list.
         ensures again { Xdr full self.now (spelling self.now) }
-        ensures none_failed { OnOk result (K.failure_count sink.new ≡ K.failure_count sink.old) }
-
-        ensures err { IfErr result (λ fault. Appends (K.contents sink.old) (K.contents sink.new)
-            (take fault.written (spelling self.now))) }
-        ensures short { IfErr result (λ fault. fault.written < length (spelling self.now)) }
-        ensures failed { OnErr result (K.failure_count sink.new
-            ≡ one_more (K.failure_count sink.old)) }
     {
         let mut count = [0u8; 4];
         BigEndian::write_u32(&mut count, self.count);

@@ -1,11 +1,8 @@
 //! The fields of an ACE from a source, one after the other.
-ghost use Rattle.std.specs.Prelude.{◌≡◌, ◌+◌, ◌-◌, ◌<◌, ◌≤◌, ◌^◌, ℕ, List, length, false};
+ghost use Rattle.std.specs.Prelude.{◌≡◌, ◌+◌, ◌-◌, ◌<◌, ◌≤◌, ◌^◌, ℕ, List, length};
 ghost use Rattle.std.specs.Io.KnownBytes.{Consumes};
-ghost use Rattle.acl_perm.specs.Profile.{profile_of};
 ghost use Rattle.acl_nfs4.specs.Limits.{most_weight};
-ghost use Rattle.acl_nfs4.specs.internal.Pulling.{Draws, Fills, FillsWord};
-ghost use Rattle.acl_nfs4.specs.internal.Pulling.{FromFlags, FromKind, FromLen, FromMask, FromPadding, FromWho};
-ghost use Rattle.acl_nfs4.specs.Who.{is_no_who_len};
+ghost use Rattle.acl_nfs4.specs.internal.Pulling.{DrawsAce, DrawsWords, Fills, FillsWord};
 
 use crate::limits::LONGEST_WHO;
 use crate::list::aces::word_in;
@@ -78,133 +75,79 @@ pub(crate) fn word<S: Source>(
     Ok(word_in(room, held))
 }
 
-// The rest of an ACE that begins at the offset, from its padding on.
-#[inline(always)]
-fn from_padding<S: Source>(
-    source: &mut S,
-    room: &mut [u8],
-    offset: usize,
+/// Where the next ACE begins, how many bits the masks of those before it have, and what it may have.
+#[derive(Clone, Copy)]
+pub(crate) struct NextAce {
+    pub offset: usize,
+    pub weight: u32,
+    pub profile: Profile,
+}
+
+// What the four words of an ACE say of the rest: the length of its who, and how many bits its mask has.
+#[derive(Clone, Copy)]
+struct Words {
     len: usize,
     bits: u32,
-) -> Result<Pulled, Fault>
-    requires room { length room.old ≡ 1040 }
-    requires fits { offset + 1040 < 2 ^ 64 }
-    requires some { is_no_who_len len ≡ false }
-    ensures { Draws (16 + len) (S.remaining source.old) (S.remaining source.new)
-        (S.failure_count source.old)
-        (S.failure_count source.new) room.old room.new (FromPadding offset len bits) result }
-{
-    let held = 16 + len;
-    let end = held + (4 - len % 4) % 4;
-    fill(source, room, held, end, offset + held)?;
-    placed((offset + held) as u64, judges::padding_of(&room[held..end]))?;
-    Ok(Pulled { len: end, bits })
 }
 
-// From its who on.
+// The four words of an ACE.
 #[inline(always)]
-fn from_who<S: Source>(
-    source: &mut S,
-    room: &mut [u8],
-    offset: usize,
-    len: usize,
-    bits: u32,
-) -> Result<Pulled, Fault>
+fn pull_words<S: Source>(source: &mut S, room: &mut [u8], next: NextAce) -> Result<Words, Fault>
     requires room { length room.old ≡ 1040 }
-    requires fits { offset + 1040 < 2 ^ 64 }
-    requires some { is_no_who_len len ≡ false }
-    ensures { Draws 16 (S.remaining source.old) (S.remaining source.new)
-        (S.failure_count source.old)
-        (S.failure_count source.new) room.old room.new (FromWho offset len bits) result }
+    requires fits { next.offset + 1040 < 2 ^ 64 }
+    requires light { next.weight ≤ most_weight }
+    ensures { DrawsWords next (S.remaining source.old) (S.remaining source.new)
+        (S.failure_count source.old) (S.failure_count source.new) room.new result }
 {
-    let end = 16 + len;
-    fill(source, room, 16, end, offset + 16)?;
-    placed((offset + 16) as u64, judges::who_of(&room[16..end]))?;
-    from_padding(source, room, offset, len, bits)
-}
-
-// From the length of its who on.
-#[inline(always)]
-fn from_len<S: Source>(
-    source: &mut S,
-    room: &mut [u8],
-    offset: usize,
-    bits: u32,
-) -> Result<Pulled, Fault>
-    requires room { length room.old ≡ 1040 }
-    requires fits { offset + 1040 < 2 ^ 64 }
-    ensures { Draws 12 (S.remaining source.old) (S.remaining source.new)
-        (S.failure_count source.old)
-        (S.failure_count source.new) room.old room.new (FromLen offset bits) result }
-{
-    let number = word(source, room, 12, offset + 12)?;
-    let len = placed((offset + 12) as u64, judges::who_len_of(number))?;
-    from_who(source, room, offset, len, bits)
-}
-
-// From its mask on.
-#[inline(always)]
-fn from_mask<S: Source>(
-    source: &mut S,
-    room: &mut [u8],
-    offset: usize,
-    weight: u32,
-    profile: Profile,
-) -> Result<Pulled, Fault>
-    requires room { length room.old ≡ 1040 }
-    requires fits { offset + 1040 < 2 ^ 64 }
-    requires light { weight ≤ most_weight }
-    ensures { Draws 8 (S.remaining source.old) (S.remaining source.new) (S.failure_count source.old)
-        (S.failure_count source.new) room.old room.new
-        (FromMask (profile_of profile) offset weight) result }
-{
-    let number = word(source, room, 8, offset + 8)?;
-    let mask = placed(
-        (offset + 8) as u64,
-        judges::mask_of(number, weight, profile),
+    let kind = word(source, room, 0, next.offset)?;
+    placed(next.offset as u64, judges::kind_of(kind))?;
+    let flags = word(source, room, 4, next.offset + 4)?;
+    placed(
+        (next.offset + 4) as u64,
+        judges::flags_of(flags, next.profile),
     )?;
-    from_len(source, room, offset, mask.bits().count_ones())
+    let rights = word(source, room, 8, next.offset + 8)?;
+    let mask = placed(
+        (next.offset + 8) as u64,
+        judges::mask_of(rights, next.weight, next.profile),
+    )?;
+    let number = word(source, room, 12, next.offset + 12)?;
+    let len = placed((next.offset + 12) as u64, judges::who_len_of(number))?;
+    Ok(Words {
+        len,
+        bits: mask.bits().count_ones(),
+    })
 }
 
-// From its flags on.
-#[inline(always)]
-fn from_flags<S: Source>(
-    source: &mut S,
-    room: &mut [u8],
-    offset: usize,
-    weight: u32,
-    profile: Profile,
-) -> Result<Pulled, Fault>
-    requires room { length room.old ≡ 1040 }
-    requires fits { offset + 1040 < 2 ^ 64 }
-    requires light { weight ≤ most_weight }
-    ensures { Draws 4 (S.remaining source.old) (S.remaining source.new) (S.failure_count source.old)
-        (S.failure_count source.new) room.old room.new
-        (FromFlags (profile_of profile) offset weight) result }
-{
-    let number = word(source, room, 4, offset + 4)?;
-    placed((offset + 4) as u64, judges::flags_of(number, profile))?;
-    from_mask(source, room, offset, weight, profile)
-}
-
-/// The next ACE of the source, which begins at the offset, behind ACEs of this weight. Each pull asks for no more than
-/// the field that is being read lacks, and a field is judged before the next one is asked for.
+/// The next ACE of the source. Each pull asks for no more than the field that is being read lacks, and a field is
+/// judged before the next one is asked for.
 #[inline(always)]
 pub(crate) fn pull_ace<S: Source>(
     source: &mut S,
     room: &mut [u8],
-    offset: usize,
-    weight: u32,
-    profile: Profile,
+    next: NextAce,
 ) -> Result<Pulled, Fault>
     requires room { length room.old ≡ 1040 }
-    requires fits { offset + 1040 < 2 ^ 64 }
-    requires light { weight ≤ most_weight }
-    ensures { Draws 0 (S.remaining source.old) (S.remaining source.new) (S.failure_count source.old)
-        (S.failure_count source.new) room.old room.new
-        (FromKind (profile_of profile) offset weight) result }
+    requires fits { next.offset + 1040 < 2 ^ 64 }
+    requires light { next.weight ≤ most_weight }
+    ensures { DrawsAce next (S.remaining source.old) (S.remaining source.new)
+        (S.failure_count source.old) (S.failure_count source.new) room.new result }
 {
-    let number = word(source, room, 0, offset)?;
-    placed(offset as u64, judges::kind_of(number))?;
-    from_flags(source, room, offset, weight, profile)
+    let words = pull_words(source, room, next)?;
+    let who_end = 16 + words.len;
+    fill(source, room, 16, who_end, next.offset + 16)?;
+    placed(
+        (next.offset + 16) as u64,
+        judges::who_of(&room[16..who_end]),
+    )?;
+    let end = who_end + (4 - words.len % 4) % 4;
+    fill(source, room, who_end, end, next.offset + who_end)?;
+    placed(
+        (next.offset + who_end) as u64,
+        judges::padding_of(&room[who_end..end]),
+    )?;
+    Ok(Pulled {
+        len: end,
+        bits: words.bits,
+    })
 }

@@ -10,7 +10,7 @@ use Rattle.acl_normal.specs.declared.emit.emission.Emitted.{Emitted}
 use Rattle.acl_normal.specs.internal.Emitted.{StandInRows, emitted_ace}
 use Rattle.acl_normal.specs.internal.Rows.{IsRow}
 use Rattle.acl_normal.proofs.Emission.Drained.{outline_left}
-use Rattle.acl_normal.proofs.Merging.CellsOf.{is_row_alike}
+use Rattle.acl_normal.proofs.Merging.Rows.{is_row_alike}
 
 -- what is left has the outline of the whole, and what was emitted stands in the rows of that
 pub record KeepsRows (whole xs : List Ace) (out : List Emitted) : Type 0 where

@@ -1,4 +1,4 @@
--- A walk over the places that wait: those before the first that is blocked are free.
+-- A walk over the places of a queue: those that wait before the first that is blocked are free.
 use Rattle.std.specs.Prelude.{◌≡◌, ℕ, ◌<◌, ◌≤◌, zero, suc, Bool, true, false, not, ◌&&◌, ◌==◌, ◌⊎◌, List, [], ◌∷◌, Option, Some, None, length, refl}
 use Rattle.std.specs.Ordering.{nat_cmp, is_le}
 use Rattle.std.specs.declared.cmp.Ordering.TheVariants.{Less}
@@ -16,14 +16,14 @@ use Rattle.acl_nfs4.specs.Ace.{Ace}
 use Rattle.acl_nfs4.specs.Who.{principal_of}
 use Rattle.acl_eval.specs.Column.{column}
 use Rattle.acl_normal.specs.Keys.{principal_eq, Key, kind_eq}
-use Rattle.acl_normal.specs.Places.{same_class, is_waiting, waits, waits_before, is_blocked, first_at, key_here}
+use Rattle.acl_normal.specs.Places.{same_class, is_waiting, waits, waits_before, is_blocked, first_at, key_here, mask_here}
 use Rattle.acl_perm.specs.Kind.{other_kind}
 use Rattle.acl_normal.specs.Normal.{is_free, counts}
 use Rattle.acl_normal.specs.internal.Emissions.{IsOnce}
 use Rattle.acl_normal.specs.internal.Ready.{Marked, key_eq, Adds, Grows, Enters}
+use Rattle.acl_normal.specs.internal.Remaining.{IsQueue}
 use Rattle.acl_normal.proofs.Unique.Names.{principal_eq_same, principal_eq_itself}
 use Rattle.acl_normal.proofs.Unique.Free.{kind_eq_same, kind_eq_itself}
-use Rattle.acl_normal.proofs.Merging.Waits.{AreWaiting}
 use Rattle.acl_normal.proofs.Merging.TakeOut.{IsHere, IsThere, first_cases, none_behind, once_rest, waits_first}
 use Rattle.acl_normal.proofs.Merging.BitTaken.{class_same, is_eq_itself, is_eq_same}
 use Rattle.acl_normal.proofs.Merging.FreeByPlaces.{free_at_first, none_free}
@@ -127,15 +127,16 @@ pub record StandsFree (k : Kind) (u : Bool) (b : ℕ) (xs : List Ace) (q : Princ
   pub clear : is_blocked k u b xs place ≡ false
   pub plain_key : key_here xs place ≡ (q, k)
 
+-- a class is the same as itself
+pub same_class_itself : (v : Bool) → same_class v v ≡ true
+same_class_itself true = refl
+same_class_itself false = refl
+
 -- a free key waits at a place
 pub stands_free : (k : Kind) (u : Bool) (b : ℕ) (xs : List Ace) (q : Principal) → IsOnce (column xs b) → is_user q ≡ u
     → is_free (column xs b) (q, k) ≡ true → StandsFree k u b xs q
 stands_free k u b xs q once class free = go (first_at b q xs) refl
   where
-    same_class_itself : (v : Bool) → same_class v v ≡ true
-    same_class_itself true = refl
-    same_class_itself false = refl
-
     not_true : (t : Bool) → true ≡ not t → t ≡ false
     not_true true h = h
     not_true false h = refl
@@ -168,73 +169,107 @@ stands_free k u b xs q once class free = go (first_at b q xs) refl
         clash h = cc
     go (Some (j, i)) e = at j i e (kinds j (free_at_first b q xs j i once e).1)
 
--- where all that waits is blocked, nothing is free
-all_blocked : (k : Kind) (u : Bool) (b : ℕ) (xs : List Ace) (old : Marked) → IsOnce (column xs b)
-    → ((i : ℕ) → waits k u b xs i ≡ true → is_blocked k u b xs i ≡ true) → Enters k u b xs old old
-all_blocked k u b xs old once blocked = record {
+-- a queue of no length is empty
+pub no_places : (places : List ℕ) → (length places == 0) ≡ true → places ≡ []
+no_places [] h = refl
+no_places (i ∷ places) h = absurd (omega (arith, eqb-true (length (i ∷ places)) 0 h))
+
+-- where no place is in the queue, nothing is free
+pub nothing_waits : (k : Kind) (u : Bool) (b : ℕ) (xs : List Ace) (places : List ℕ) (old : Marked)
+    → IsOnce (column xs b) → IsQueue k u b xs places → places ≡ [] → Enters k u b xs old old
+nothing_waits k u b xs places old once queue e = record {
   grows = record { kept = λ l i h. h; sound = λ l i h. inl h };
   all = λ q class free. absurd (clash q (stands_free k u b xs q once class free));
 }
   where
     clash : (q : Principal) → StandsFree k u b xs q → ⊥
-    clash q s = let blocked_there = blocked s.place s.waits in let clear = s.clear in cc
+    clash q s =
+        let there = ap (list_any (is_at (nat_cmp s.place))) (sym e) ∙ queue.all s.place s.waits in
+        cc there
 
--- so where nothing waits
-pub nothing_waits : (k : Kind) (u : Bool) (b : ℕ) (xs : List Ace) (keys : List ℕ) (old : Marked) → IsOnce (column xs b)
-    → AreWaiting k u b xs keys → keys ≡ [] → Enters k u b xs old old
-nothing_waits k u b xs keys old once w e = all_blocked k u b xs old once
-    (λ i h. absurd (clash (sym h ∙ sym (w i) ∙ ap (list_any (is_at (nat_cmp i))) e)))
-  where
-    clash : true ≡ false → ⊥
-    clash h = cc
-
--- and where the least place is blocked
-pub first_blocked : (k : Kind) (u : Bool) (b : ℕ) (xs : List Ace) (keys : List ℕ) (first : ℕ) (old : Marked)
-    → IsOnce (column xs b) → AreWaiting k u b xs keys
-    → ((i : ℕ) → list_any (is_at (nat_cmp i)) keys ≡ true → first ≤ i) → is_blocked k u b xs first ≡ true
-    → Enters k u b xs old old
-first_blocked k u b xs keys first old once w least blocked =
-    all_blocked k u b xs old once (λ i h. blocked_mono k u b xs first i (least i (w i ∙ h)) blocked)
-
--- the walk over the places that wait, in order
+-- the walk over the places of a queue, in order
 pub record Walks (k : Kind) (u : Bool) (b : ℕ) (xs : List Ace) (rest : List ℕ) (old new : Marked) : Type 0 where
   pub grows : Grows xs old new
   pub sorted : IsStrictlySortedBy nat_cmp rest
-  pub within : (i : ℕ) → list_any (is_at (nat_cmp i)) rest ≡ true → waits k u b xs i ≡ true
+  pub within : (i : ℕ) → list_any (is_at (nat_cmp i)) rest ≡ true → i < length xs
+  pub listed : (i : ℕ) → list_any (is_at (nat_cmp i)) rest ≡ true → waits k u b xs i ≡ has_bit (mask_here xs i) b
   pub covers : (i : ℕ) → waits k u b xs i ≡ true → list_any (is_at (nat_cmp i)) rest ≡ false
       → has_bit (new (key_here xs i)) b ≡ true
 
 -- before the first place
-pub walk_starts : (k : Kind) (u : Bool) (b : ℕ) (xs : List Ace) (keys rest : List ℕ) (old : Marked)
-    → AreWaiting k u b xs keys → IsStrictlySortedBy nat_cmp keys → rest ≡ keys → Walks k u b xs rest old old
-walk_starts k u b xs keys rest old w s e = subst (λ v. Walks k u b xs v old old) (sym e) (record {
+pub walk_starts : (k : Kind) (u : Bool) (b : ℕ) (xs : List Ace) (places : List ℕ) (old : Marked)
+    → IsQueue k u b xs places → Walks k u b xs places old old
+walk_starts k u b xs places old queue = record {
   grows = record { kept = λ l i h. h; sound = λ l i h. inl h };
-  sorted = s;
-  within = λ i h. sym (w i) ∙ h;
+  sorted = queue.sorted;
+  within = queue.within;
+  listed = queue.listed;
   covers = λ i h out. absurd (clash i h out);
-})
+}
   where
-    clash : (i : ℕ) → waits k u b xs i ≡ true → list_any (is_at (nat_cmp i)) keys ≡ false → ⊥
-    clash i h out = cc (w i)
+    clash : (i : ℕ) → waits k u b xs i ≡ true → list_any (is_at (nat_cmp i)) places ≡ false → ⊥
+    clash i h out = cc (queue.all i h)
 
-head_in : (i : ℕ) (rest : List ℕ) → list_any (is_at (nat_cmp i)) (i ∷ rest) ≡ true
+-- the first of a list is in it
+pub head_in : (i : ℕ) (rest : List ℕ) → list_any (is_at (nat_cmp i)) (i ∷ rest) ≡ true
 head_in i rest = or_left (is_at (nat_cmp i) i) (list_any (is_at (nat_cmp i)) rest) (is_eq_itself i)
 
--- the next place waits
+-- the next place is one of the list
+pub head_within : (k : Kind) (u : Bool) (b : ℕ) (xs : List Ace) (i : ℕ) (all rest : List ℕ) (old new : Marked)
+    → Walks k u b xs all old new → all ≡ i ∷ rest → i < length xs
+head_within k u b xs i all rest old new w e = w.within i (ap (list_any (is_at (nat_cmp i))) e ∙ head_in i rest)
+
+-- it waits where its mask has the bit
 pub head_waits : (k : Kind) (u : Bool) (b : ℕ) (xs : List Ace) (i : ℕ) (all rest : List ℕ) (old new : Marked)
-    → Walks k u b xs all old new → all ≡ i ∷ rest → waits k u b xs i ≡ true
-head_waits k u b xs i all rest old new w e = w.within i (ap (list_any (is_at (nat_cmp i))) e ∙ head_in i rest)
+    → Walks k u b xs all old new → all ≡ i ∷ rest → has_bit (mask_here xs i) b ≡ true → waits k u b xs i ≡ true
+head_waits k u b xs i all rest old new w e has =
+    w.listed i (ap (list_any (is_at (nat_cmp i))) e ∙ head_in i rest) ∙ has
+
+-- and is then of the type
+pub head_kind : (k : Kind) (u : Bool) (b : ℕ) (xs : List Ace) (i : ℕ) (all rest : List ℕ) (old new : Marked)
+    → IsOnce (column xs b) → Walks k u b xs all old new → all ≡ i ∷ rest → has_bit (mask_here xs i) b ≡ true
+    → (key_here xs i).1 ≡ k
+head_kind k u b xs i all rest old new once w e has =
+    (stands_at k u b xs i once (head_waits k u b xs i all rest old new w e has)).kind
+
+-- a place that does not wait any more
+pub walk_past : (k : Kind) (u : Bool) (b : ℕ) (xs : List Ace) (i : ℕ) (all rest : List ℕ) (old new : Marked)
+    → Walks k u b xs all old new → all ≡ i ∷ rest → has_bit (mask_here xs i) b ≡ false
+    → Walks k u b xs rest old new
+walk_past k u b xs i all rest old new before is lacks = go (subst (λ v. Walks k u b xs v old new) is before)
+  where
+    go : Walks k u b xs (i ∷ rest) old new → Walks k u b xs rest old new
+    go w = record {
+      grows = w.grows;
+      sorted = sorted_tail nat_cmp i rest w.sorted;
+      within = λ j h. w.within j (or_right (is_at (nat_cmp j) i) (list_any (is_at (nat_cmp j)) rest) h);
+      listed = λ j h. w.listed j (or_right (is_at (nat_cmp j) i) (list_any (is_at (nat_cmp j)) rest) h);
+      covers = λ j h gone. covers j h gone (cases_eq j i);
+    }
+      where
+        none : waits k u b xs i ≡ false
+        none = w.listed i (head_in i rest) ∙ lacks
+
+        covers : (j : ℕ) → waits k u b xs j ≡ true → list_any (is_at (nat_cmp j)) rest ≡ false → (j ≡ i) ⊎ (j ≡ i → ⊥)
+            → has_bit (new (key_here xs j)) b ≡ true
+        covers j h gone (inl e) = absurd (clash (sym h ∙ ap (waits k u b xs) e ∙ none))
+          where
+            clash : true ≡ false → ⊥
+            clash h = cc
+        covers j h gone (inr n) =
+            let apart : is_at (nat_cmp j) i ≡ false = false_from_ne_true _ (λ t. n (is_eq_same j i t)) in
+            w.covers j h (rw (apart, gone) refl)
 
 -- a place that is clear
 pub walk_on : (k : Kind) (u : Bool) (b : ℕ) (xs : List Ace) (i : ℕ) (all rest : List ℕ) (old new more : Marked)
     → IsOnce (column xs b) → Walks k u b xs all old new → all ≡ i ∷ rest → is_blocked k u b xs i ≡ false
-    → Adds (key_here xs i) b new more → Walks k u b xs rest old more
-walk_on k u b xs i all rest old new more once before is clear adds =
+    → has_bit (mask_here xs i) b ≡ true → Adds (key_here xs i) b new more → Walks k u b xs rest old more
+walk_on k u b xs i all rest old new more once before is clear has adds =
     go (subst (λ v. Walks k u b xs v old new) is before)
   where
     go : Walks k u b xs (i ∷ rest) old new → Walks k u b xs rest old more
     go w =
-        let here = w.within i (head_in i rest) in
+        let here = w.listed i (head_in i rest) ∙ has in
         record {
           grows = record {
             kept =
@@ -246,6 +281,7 @@ walk_on k u b xs i all rest old new more once before is clear adds =
           };
           sorted = sorted_tail nat_cmp i rest w.sorted;
           within = λ j h. w.within j (or_right (is_at (nat_cmp j) i) (list_any (is_at (nat_cmp j)) rest) h);
+          listed = λ j h. w.listed j (or_right (is_at (nat_cmp j) i) (list_any (is_at (nat_cmp j)) rest) h);
           covers = λ j h gone. covers j h gone (cases_eq j i);
         }
       where
@@ -293,7 +329,8 @@ walk_ends k u b xs rest old new once w blocked = record {
 less_le : (i j : ℕ) → nat_cmp i j ≡ Less → i ≤ j
 less_le i j h = le_from_is_le i j (ap is_le h)
 
-later_than : (i l : ℕ) (rest : List ℕ) → AllByRecursion (λ y. nat_cmp i y ≡ Less) rest
+-- the later places of a list in order
+pub later_than : (i l : ℕ) (rest : List ℕ) → AllByRecursion (λ y. nat_cmp i y ≡ Less) rest
     → list_any (is_at (nat_cmp l)) rest ≡ true → i ≤ l
 later_than i l [] a h = cc
 later_than i l (j ∷ rest) a h =

@@ -29,15 +29,15 @@ kept_twice true true = refl
 kept_twice true false = refl
 kept_twice false c = refl
 
+absorbed : (e c : Bool) → ((e && c) || e) ≡ e
+absorbed true true = refl
+absorbed true false = refl
+absorbed false c = refl
+
 set_twice : (h c e : Bool) → ((((h && c) || e) && c) || e) ≡ ((h && c) || e)
-set_twice true true true = refl
-set_twice true true false = refl
-set_twice true false true = refl
-set_twice true false false = refl
-set_twice false true true = refl
-set_twice false true false = refl
-set_twice false false true = refl
-set_twice false false false = refl
+set_twice true true e = refl
+set_twice true false e = absorbed e false
+set_twice false c e = absorbed e c
 
 -- what goes on goes on as it is
 goes_on_again : (flags : ℕ) → goes_on (goes_on flags) ≡ goes_on flags

@@ -14,23 +14,12 @@ use Rattle.acl_perm.specs.Principal.{Principal, is_user}
 use Rattle.acl_perm.specs.declared.kind.Kind.{Kind}
 use Rattle.acl_perm.specs.declared.kind.Kind.TheVariants.{Deny, Allow}
 use Rattle.acl_perm.specs.Bits.{has_bit}
-use Rattle.acl_nfs4.specs.Ace.{Ace}
-use Rattle.acl_nfs4.specs.declared.ace.AceRef.{AceRef}
-use Rattle.acl_eval.specs.Scan.{without}
 use Rattle.acl_eval.specs.Column.{column}
 use Rattle.acl_normal.specs.Keys.{principal_eq, kind_eq}
 use Rattle.acl_normal.specs.Places.{waits, first_at, slot_of, take_out, same_class, nothing_left}
-use Rattle.acl_normal.specs.Normal.{IsQuiet}
 use Rattle.acl_normal.specs.internal.Emissions.{IsOnce}
-use Rattle.acl_normal.specs.internal.Shown.{with_masks}
-use Rattle.acl_normal.specs.declared.rows.cells.Cells.{Cells}
 use Rattle.acl_normal.specs.declared.rows.merged.MergedRows.TheInside.{Inside}
-use Rattle.acl_normal.specs.internal.Cells.{first_place, place_at, place_in}
-use Rattle.acl_normal.specs.internal.Rows.{IsRow, is_named, row_of}
-use Rattle.acl_normal.specs.internal.Merged.{left_of, IsRight}
-use Rattle.acl_normal.proofs.Merging.CellsOf.{cells_written, order_alike, row_within, rows_alike}
-use Rattle.acl_normal.proofs.Merging.Quiet.{quiet_taken}
-use Rattle.acl_normal.proofs.Merging.Rows.{named_alike, outline_taken, row_alike}
+use Rattle.acl_normal.specs.internal.Merged.{IsRight}
 use Rattle.acl_normal.proofs.Unique.Names.{principal_eq_same}
 use Rattle.acl_normal.proofs.Unique.Free.{kind_eq_same}
 use Rattle.acl_normal.proofs.Unique.Bits.{has_power, power_has}
@@ -51,6 +40,13 @@ slot_below Deny true b h = omega arith
 slot_below Allow false b h = omega arith
 slot_below Allow true b h = omega arith
 
+-- the slots of a DENY are none of an ALLOW
+kinds_apart : (u v : Bool) (b c : ℕ) → slot_of Deny u b ≡ slot_of Allow v c → ⊥
+kinds_apart false false b c h = omega arith
+kinds_apart false true b c h = omega arith
+kinds_apart true false b c h = omega arith
+kinds_apart true true b c h = omega arith
+
 -- a slot tells its type, class and bit
 pub slot_same : (k j : Kind) (u v : Bool) (b c : ℕ) → slot_of k u b ≡ slot_of j v c → (k ≡ j) × (u ≡ v) × (b ≡ c)
 slot_same Deny Deny false false b c h = (refl, refl, omega arith)
@@ -61,14 +57,8 @@ slot_same Deny Deny false true b c h = absurd (omega arith)
 slot_same Deny Deny true false b c h = absurd (omega arith)
 slot_same Allow Allow false true b c h = absurd (omega arith)
 slot_same Allow Allow true false b c h = absurd (omega arith)
-slot_same Deny Allow false false b c h = absurd (omega arith)
-slot_same Deny Allow true true b c h = absurd (omega arith)
-slot_same Deny Allow false true b c h = absurd (omega arith)
-slot_same Deny Allow true false b c h = absurd (omega arith)
-slot_same Allow Deny false false b c h = absurd (omega arith)
-slot_same Allow Deny true true b c h = absurd (omega arith)
-slot_same Allow Deny false true b c h = absurd (omega arith)
-slot_same Allow Deny true false b c h = absurd (omega arith)
+slot_same Deny Allow u v b c h = absurd (kinds_apart u v b c h)
+slot_same Allow Deny u v b c h = absurd (kinds_apart v u c b (sym h))
 
 -- classes that are told to be the same are
 pub class_same : (u v : Bool) → same_class u v ≡ true → u ≡ v
@@ -85,22 +75,6 @@ power_is b i = ⊎_elim (λ e. here e) (λ n. there n) (cases_eq i b)
 
     there : (i ≡ b → ⊥) → has_bit (2 ^ b) i ≡ (i == b)
     there n = false_from_ne_true _ (λ t. n (power_has b i t)) ∙ sym (ne_eqb i b n)
-
--- the first place of a principal is a place of the list
-pub first_below : (b : ℕ) (p : Principal) (aces : List AceRef) (masks : List ℕ) (j : Kind) (i : ℕ)
-    → first_at b p (with_masks aces masks) ≡ Some (j, i) → i < length masks
-first_below b p [] masks j i h = cc
-first_below b p (x ∷ aces) [] j i h = cc
-first_below b p (x ∷ aces) (m ∷ masks) j i h =
-    go (first_cases b p head (with_masks aces masks) j i h) (first_below b p aces masks j)
-  where
-    head : Ace
-    head = record { kind = x.kind; flags = x.flags.bits; mask = m; who = x.who.now }
-
-    go : IsHere b p head j i ⊎ IsThere b p head (with_masks aces masks) j i
-        → ((i : ℕ) → first_at b p (with_masks aces masks) ≡ Some (j, i) → i < length masks) → i < length (m ∷ masks)
-    go (inl here) ih = omega (arith, here.place)
-    go (inr there) ih = omega (arith, there.place, ih there.before there.first)
 
 -- a place is found at itself
 pub is_eq_itself : (i : ℕ) → is_eq (nat_cmp i i) ≡ true
@@ -137,46 +111,21 @@ removed_apart i l old new h n = h l ∙ rw differs refl
 abbrev pub NoKeys : BTreeSet ℕ Global
 NoKeys = record { keys = [] }
 
--- the rows are right without the bit
-pub emit_right : (s : Inside) (p : Principal) (b : ℕ) (j : Kind) (i row mask : ℕ) (new : Cells)
-    (set : BTreeSet ℕ Global) → IsRight s → b < 21 → IsRow row p (left_of s)
-    → first_at b p (left_of s) ≡ Some (j, i)
-    → ((c : ℕ) → place_in new c ≡ cond (c == b) None (place_at s.cells.items row c))
-    → mask ≡ without (slice_index_or s.masks.items i 0) (2 ^ b)
+-- the sets of places are right without the bit
+pub emit_right : (s : Inside) (p : Principal) (b : ℕ) (j : Kind) (i : ℕ) (set : BTreeSet ℕ Global) → IsRight s → b < 21
+    → first_at b p s.rest ≡ Some (j, i)
     → Without i (slice_index_or s.waiting.items (slot_of j (is_user p) b) NoKeys).keys set.keys
     → IsRight (record {
-      aces = s.aces;
-      masks = with_item s.masks i mask;
-      rows = s.rows;
-      order = s.order;
-      cells = with_item s.cells row new;
-      waiting = with_item s.waiting
-          (slot_of j (is_user p) b) set;
+      rest = take_out p (2 ^ b) s.rest;
+      waiting = with_item s.waiting (slot_of j (is_user p) b) set;
     })
-emit_right s p b j i row mask new set right low at_row first gone is less = record {
-  few = right.few;
-  masks = right.masks;
+emit_right s p b j i set right low first less = record {
   sets = right.sets;
-  count = right.count;
-  once = λ c. subst (λ v. IsOnce (column v c)) (sym view) (once_taken p (2 ^ b) (left_of s) right.once c);
-  quiet = subst IsQuiet (sym view) (quiet_taken p (2 ^ b) (left_of s) right.quiet);
-  low = λ c h. ap (λ v. column v c) view ∙ none_taken p (2 ^ b) (left_of s) c (right.low c h);
-  rights =
-      λ c h. ap (λ v. column v c) view ∙ none_taken p (2 ^ b) (left_of s) c (right.rights c h);
-  rows = rows_alike (left_of s) _ s.rows.items (sym outline) right.rows;
-  order = order_alike (left_of s) _ s.order.items (sym outline) right.order;
-  waiting = λ k u c l h. rw view (places k u c l h);
-  cells = λ q c h. rw view (cells q c (subst (λ v. is_named q v ≡ true) view h));
+  once = once_taken p (2 ^ b) s.rest right.once;
+  rights = λ c h. none_taken p (2 ^ b) s.rest c (right.rights c h);
+  waiting = λ k u c l h. places k u c l h;
 }
   where
-    view : with_masks s.aces.items (slice_set s.masks.items i mask) ≡ take_out p (2 ^ b) (left_of s)
-    view =
-        ap (λ v. with_masks s.aces.items (slice_set s.masks.items i v)) is ∙ written b p s.aces.items s.masks.items j
-        i (right.once b) first
-
-    outline : nothing_left (with_masks s.aces.items (slice_set s.masks.items i mask)) ≡ nothing_left (left_of s)
-    outline = ap nothing_left view ∙ outline_taken p (2 ^ b) (left_of s)
-
     at : ℕ
     at = slot_of j (is_user p) b
 
@@ -184,33 +133,32 @@ emit_right s p b j i row mask new set right low at_row first gone is less = reco
     at_below = omega (arith, slot_below j (is_user p) b low, right.sets, s.waiting.ok)
 
     old_keys : (l : ℕ)
-        → list_any (is_at (nat_cmp l)) (slice_index_or s.waiting.items at NoKeys).keys ≡ waits j (is_user p) b
-        (left_of s) l
+        → list_any (is_at (nat_cmp l)) (slice_index_or s.waiting.items at NoKeys).keys ≡ waits j (is_user p) b s.rest l
     old_keys l = right.waiting j (is_user p) b l low
 
-    in_set : (l : ℕ) → list_any (is_at (nat_cmp l)) set.keys ≡ waits j (is_user p) b (take_out p (2 ^ b) (left_of s)) l
+    in_set : (l : ℕ) → list_any (is_at (nat_cmp l)) set.keys ≡ waits j (is_user p) b (take_out p (2 ^ b) s.rest) l
     in_set l = ⊎_elim (λ e. here e) (λ n. there n) (cases_eq l i)
       where
-        here : l ≡ i → list_any (is_at (nat_cmp l)) set.keys ≡ waits j (is_user p) b (take_out p (2 ^ b) (left_of s)) l
+        here : l ≡ i → list_any (is_at (nat_cmp l)) set.keys ≡ waits j (is_user p) b (take_out p (2 ^ b) s.rest) l
         here e =
             rw e (removed_here i _ set.keys less
-            ∙ sym (waits_gone j (is_user p) b p (2 ^ b) (left_of s) j i (has_power b) first))
+            ∙ sym (waits_gone j (is_user p) b p (2 ^ b) s.rest j i (has_power b) first))
 
         there : (l ≡ i → ⊥)
-            → list_any (is_at (nat_cmp l)) set.keys ≡ waits j (is_user p) b (take_out p (2 ^ b) (left_of s)) l
+            → list_any (is_at (nat_cmp l)) set.keys ≡ waits j (is_user p) b (take_out p (2 ^ b) s.rest) l
         there n =
             removed_apart i l _ set.keys less n ∙ old_keys l
-            ∙ sym (waits_apart j (is_user p) b p (left_of s) j i l (right.once b) first n)
+            ∙ sym (waits_apart j (is_user p) b p s.rest j i l (right.once b) first n)
 
     others : (k : Kind) (u : Bool) (c l : ℕ) → (slot_of k u c ≡ at → ⊥)
-        → waits k u c (take_out p (2 ^ b) (left_of s)) l ≡ waits k u c (left_of s) l
+        → waits k u c (take_out p (2 ^ b) s.rest) l ≡ waits k u c s.rest l
     others k u c l n =
-        ⊎_elim (λ e. same e) (λ m. waits_kept k u c p (2 ^ b) (left_of s) l (power_is b c ∙ ne_eqb c b m))
+        ⊎_elim (λ e. same e) (λ m. waits_kept k u c p (2 ^ b) s.rest l (power_is b c ∙ ne_eqb c b m))
         (cases_eq c b)
       where
-        same : c ≡ b → waits k u c (take_out p (2 ^ b) (left_of s)) l ≡ waits k u c (left_of s) l
+        same : c ≡ b → waits k u c (take_out p (2 ^ b) s.rest) l ≡ waits k u c s.rest l
         same e =
-            rw e (⊎_elim (λ f. here f) (λ m. waits_apart k u b p (left_of s) j i l (right.once b) first m)
+            rw e (⊎_elim (λ f. here f) (λ m. waits_apart k u b p s.rest j i l (right.once b) first m)
             (cases_eq l i))
           where
             differs : (kind_eq j k && same_class (is_user p) u) ≡ false
@@ -219,19 +167,19 @@ emit_right s p b j i row mask new set right low at_row first gone is less = reco
                 both : (kind_eq j k ≡ true) × (same_class (is_user p) u ≡ true) → slot_of k u c ≡ at
                 both (f, g) = rw (← kind_eq_same j k f, ← class_same (is_user p) u g, e) refl
 
-            here : l ≡ i → waits k u b (take_out p (2 ^ b) (left_of s)) l ≡ waits k u b (left_of s) l
+            here : l ≡ i → waits k u b (take_out p (2 ^ b) s.rest) l ≡ waits k u b s.rest l
             here f =
-                rw f (waits_gone k u b p (2 ^ b) (left_of s) j i (has_power b) first
-                ∙ sym (waits_first k u b p (left_of s) j i first ∙ differs))
+                rw f (waits_gone k u b p (2 ^ b) s.rest j i (has_power b) first
+                ∙ sym (waits_first k u b p s.rest j i first ∙ differs))
 
     places : (k : Kind) (u : Bool) (c l : ℕ) → c < 21
         → list_any (is_at (nat_cmp l)) (slice_index_or (slice_set s.waiting.items at set) (slot_of k u c)
-        NoKeys).keys ≡ waits k u c (take_out p (2 ^ b) (left_of s)) l
+        NoKeys).keys ≡ waits k u c (take_out p (2 ^ b) s.rest) l
     places k u c l h = ⊎_elim (λ e. here e) (λ n. there n) (cases_eq (slot_of k u c) at)
       where
         here : slot_of k u c ≡ at
             → list_any (is_at (nat_cmp l)) (slice_index_or (slice_set s.waiting.items at set) (slot_of k u c)
-            NoKeys).keys ≡ waits k u c (take_out p (2 ^ b) (left_of s)) l
+            NoKeys).keys ≡ waits k u c (take_out p (2 ^ b) s.rest) l
         here e =
             let parts = slot_same k j u (is_user p) c b e in
             ap (λ v. list_any (is_at (nat_cmp l)) (slice_index_or (slice_set s.waiting.items at set) v NoKeys).keys) e
@@ -241,45 +189,8 @@ emit_right s p b j i row mask new set right low at_row first gone is less = reco
 
         there : (slot_of k u c ≡ at → ⊥)
             → list_any (is_at (nat_cmp l)) (slice_index_or (slice_set s.waiting.items at set) (slot_of k u c)
-            NoKeys).keys ≡ waits k u c (take_out p (2 ^ b) (left_of s)) l
+            NoKeys).keys ≡ waits k u c (take_out p (2 ^ b) s.rest) l
         there n =
             ap (λ v. list_any (is_at (nat_cmp l)) v.keys)
             (get_or-set_other s.waiting.items at (slot_of k u c) set NoKeys n) ∙ right.waiting k u c l h
             ∙ sym (others k u c l n)
-
-    cells : (q : Principal) (c : ℕ) → is_named q (take_out p (2 ^ b) (left_of s)) ≡ true
-        → place_at (slice_set s.cells.items row new) (row_of q (take_out p (2 ^ b) (left_of s))) c ≡ first_place c q
-        (take_out p (2 ^ b) (left_of s))
-    cells q c h =
-        let same = outline_taken p (2 ^ b) (left_of s) in
-        let named : is_named q (left_of s) ≡ true = sym (named_alike q _ (left_of s) same) ∙ h in
-        ap (λ v. place_at (slice_set s.cells.items row new) v c) (row_alike q _ (left_of s) same)
-        ∙ cells_written (left_of s) s.cells.items row b p new None (row_within s p row right at_row) at_row gone q c
-        named
-        ∙ go (principal_eq p q && (c == b)) refl
-      where
-        go : (t : Bool) → (principal_eq p q && (c == b)) ≡ t
-            → cond t None (place_at s.cells.items (row_of q (left_of s)) c) ≡ first_place c q
-            (take_out p (2 ^ b) (left_of s))
-        go true e =
-            let both = and_parts (principal_eq p q) (c == b) e in
-            rw (← principal_eq_same p q both.0, eqb-true c b both.1)
-            (sym (ap (option_map (λ (e : Kind × ℕ). e.1)) (first_gone b p (2 ^ b) (left_of s) (has_power b))))
-        go false e =
-            right.cells q c (sym (named_alike q _ (left_of s) (outline_taken p (2 ^ b) (left_of s))) ∙ h)
-            ∙ sym (ap (option_map (λ (e : Kind × ℕ). e.1))
-            (first_kept c p q (2 ^ b) (left_of s) (ap (λ v. principal_eq p q && v) (power_is b c) ∙ e)))
-
--- what they show then
-pub emit_view : (s : Inside) (p : Principal) (b : ℕ) (j : Kind) (i mask : ℕ) → IsRight s
-    → first_at b p (left_of s) ≡ Some (j, i)
-    → mask ≡ without (slice_index_or s.masks.items i 0) (2 ^ b)
-    → with_masks s.aces.items (slice_set s.masks.items i mask) ≡ take_out p (2 ^ b) (left_of s)
-emit_view s p b j i mask right first is =
-    ap (λ v. with_masks s.aces.items (slice_set s.masks.items i v)) is ∙ written b p s.aces.items s.masks.items j i
-    (right.once b) first
-
--- the place of a cell is one of the list
-pub emit_place : (s : Inside) (p : Principal) (b : ℕ) (j : Kind) (i : ℕ) → first_at b p (left_of s) ≡ Some (j, i)
-    → i < vec_len s.masks
-emit_place s p b j i first = omega (arith, s.masks.ok, first_below b p s.aces.items s.masks.items j i first)

@@ -5,8 +5,10 @@ use Rattle.acl_perm.specs.Principal.{Principal}
 use Rattle.acl_nfs4.specs.Ace.{Ace}
 use Rattle.acl_nfs4.specs.Who.{principal_of}
 use Rattle.acl_normal.specs.Keys.{principal_eq}
+use Rattle.acl_normal.specs.Left.{IsTidy}
 use Rattle.acl_normal.specs.Normal.{is_inherit_only, IsQuiet}
 use Rattle.acl_normal.specs.Places.{without_bits, take_out}
+use Rattle.acl_normal.proofs.Merging.TakeOut.{low_taken, once_taken}
 
 -- after bits were taken out
 pub quiet_taken : (p : Principal) (m : ℕ) (xs : List Ace) → IsQuiet xs → IsQuiet (take_out p m xs)
@@ -21,3 +23,11 @@ quiet_taken p m (a ∷ xs) h =
       where
         clash : {A : Type 0} → is_inherit_only a ≡ true → not (is_inherit_only a) ≡ true → A
         clash i n = cc (rw i at n)
+
+-- a tidy list stays tidy
+pub tidy_taken : (p : Principal) (m : ℕ) (xs : List Ace) → IsTidy xs → IsTidy (take_out p m xs)
+tidy_taken p m xs tidy = record {
+  once = once_taken p m xs tidy.once;
+  quiet = quiet_taken p m xs tidy.quiet;
+  low = low_taken p m xs tidy.low;
+}

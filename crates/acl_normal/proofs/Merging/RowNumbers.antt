@@ -457,6 +457,14 @@ places_by_principal xs named s = record {
   within = λ i l. subst (λ v. v < length xs) (sym (place i l)) (names_true xs names s i (in_names i l)).0;
   rising = λ i j le l. rising i j le (omega (arith, le, l)) l;
   first = first;
+  whole = λ i l.
+      let w = names_whole xs names s i l in
+      let inside : w.0 < length xs = omega (arith, w.1, names_length xs names s) in (
+        w.0,
+        after (key_here xs i).0 w.0 w.1 w.2 (cases_lt w.0 (row_of (key_here xs i).0 xs)),
+        inside,
+        place w.0 inside ∙ w.3,
+      );
 }
   where
     names : List (Principal × ℕ)
@@ -489,6 +497,14 @@ places_by_principal xs named s = record {
         rw (here i li, here j lj)
         (not_above (at i).0 (at j).0 (names_far xs names s i j le (in_names j lj)))
 
+    after : (p : Principal) (k : ℕ) → k < length names → (at k).0 ≡ p → (k < row_of p xs) ⊎ (row_of p xs ≤ k)
+        → row_of p xs ≤ k
+    after p k l is (inr m) = m
+    after p k l is (inl m) =
+        let below : is_lt (principal_cmp (at k).0 p) ≡ true = (row_parts xs names s p).0 k no_name (omega arith) m in
+        let not : is_lt (principal_cmp (at k).0 p) ≡ false = ap (λ v. is_lt (principal_cmp v p)) is ∙ not_below p in
+        absurd (cc)
+
     first : (p : Principal) → is_named p xs ≡ true
         → (key_here xs (slice_index_or (map (λ n. n.place) named) (row_of p xs) 0)).0 ≡ p
     first p h =
@@ -496,21 +512,12 @@ places_by_principal xs named s = record {
         let w = names_whole xs names s n.place n.within in
         let is : (at w.0).0 ≡ p = w.2 ∙ n.is in
         let row : row_of p xs < length xs = row_below p xs h in
-        let le : row_of p xs ≤ w.0 = after w.0 w.1 is (cases_lt w.0 (row_of p xs)) in
+        let le : row_of p xs ≤ w.0 = after p w.0 w.1 is (cases_lt w.0 (row_of p xs)) in
         here (row_of p xs) row
         ∙ neither (at (row_of p xs)).0 p
         ((row_parts xs names s p).1 (row_of p xs) no_name (omega arith) (in_names (row_of p xs) row))
         (subst (λ v. is_lt (principal_cmp v (at (row_of p xs)).0) ≡ false) is
         (names_far xs names s (row_of p xs) w.0 le w.1))
-      where
-        after : (k : ℕ) → k < length names → (at k).0 ≡ p → (k < row_of p xs) ⊎ (row_of p xs ≤ k) → row_of p xs ≤ k
-        after k l is (inr m) = m
-        after k l is (inl m) =
-            let below : is_lt (principal_cmp (at k).0 p) ≡ true =
-            (row_parts xs names s p).0 k no_name (omega arith) m in
-            let not : is_lt (principal_cmp (at k).0 p) ≡ false =
-            ap (λ v. is_lt (principal_cmp v p)) is ∙ not_below p in
-            absurd (cc)
 
 -- ---- the search for a name
 

@@ -1,20 +1,21 @@
 -- Rows of principals: they stand in the order of the principals, and masks do not move them.
-use Rattle.std.specs.Prelude.{◌≡◌, ℕ, ◌<◌, ◌≤◌, zero, suc, Bool, true, false, cond, ◌&&◌, ◌||◌, List, [], ◌∷◌, None, length, refl}
-use Rattle.std.specs.Ordering.{is_lt}
+use Rattle.std.specs.Prelude.{◌≡◌, ℕ, ◌<◌, ◌≤◌, zero, suc, Bool, true, false, cond, ◌&&◌, ◌||◌, List, [], ◌∷◌, Option, None, Some, IfNone, IfSome, length, slice_index_or, refl}
+use Rattle.std.specs.Ordering.{is_le, is_lt}
 use Rattle.std.specs.declared.cmp.Ordering.{Ordering}
 use Rattle.std.specs.declared.cmp.Ordering.TheVariants.{Less, Equal, Greater}
-use Rattle.std.proofs.Common.{sym, ◌∙◌, ap, arith, ⊎_elim}
+use Rattle.std.proofs.Common.{sym, ◌∙◌, ap, subst, arith, ⊎_elim}
 use Rattle.std.proofs.lemmas.Bool.{or_cases, or_left, or_right}
 use Rattle.acl_perm.specs.Order.{principal_cmp}
 use Rattle.acl_perm.specs.Principal.{Principal}
 use Rattle.acl_perm.proofs.Orders.{principal_exact, principal_order}
 use Rattle.acl_nfs4.specs.Ace.{Ace}
 use Rattle.acl_nfs4.specs.Who.{principal_of}
-use Rattle.acl_normal.specs.Keys.{principal_eq}
+use Rattle.acl_normal.specs.Keys.{Key, principal_eq}
 use Rattle.acl_normal.specs.Normal.{is_inherit_only, counts}
 use Rattle.acl_normal.specs.Places.{key_here, first_at, nothing_left, take_out, without_bits}
-use Rattle.acl_normal.specs.internal.Rows.{is_named, row_of}
+use Rattle.acl_normal.specs.internal.Rows.{AreRowNumbers, IsByPrincipal, IsRow, is_named, row_of}
 use Rattle.acl_normal.proofs.Unique.Names.{principal_eq_same, principal_eq_itself}
+use Rattle.acl_normal.proofs.Unique.Outline.{key_alike, length_alike}
 
 -- ---- who is named
 
@@ -214,3 +215,63 @@ outline_taken p m (a ∷ xs) =
         go true e true f = rw (e, f) refl
         go true e false f = rw (e, f) refl
         go false e t f = rw e refl
+
+-- rows are numbered by the outline
+pub rows_alike : (xs ys : List Ace) (rows : List ℕ) → nothing_left xs ≡ nothing_left ys → AreRowNumbers xs rows
+    → AreRowNumbers ys rows
+rows_alike xs ys rows e r = record {
+  count = r.count ∙ length_alike xs ys e;
+  at =
+      λ i l. r.at i (omega (arith, l, length_alike xs ys e))
+      ∙ ap (λ k. row_of k.0 xs) (key_alike xs ys i e)
+      ∙ row_alike (key_here ys i).0 xs ys e;
+}
+
+-- and so is the order
+pub order_alike : (xs ys : List Ace) (order : List ℕ) → nothing_left xs ≡ nothing_left ys → IsByPrincipal xs order
+    → IsByPrincipal ys order
+order_alike xs ys order e o = record {
+  count = o.count ∙ same;
+  within = λ i l. omega (arith, o.within i (omega (arith, l, same)), same);
+  rising =
+      λ i j l below. subst (λ k. is_le (principal_cmp k (key_here ys (slice_index_or order j 0)).0) ≡ true) (at i)
+      (subst (λ k. is_le (principal_cmp (key_here xs (slice_index_or order i 0)).0 k) ≡ true) (at j)
+      (o.rising i j l (omega (arith, below, same))));
+  first = λ p h. first p (sym (named_alike p ys xs (sym e)) ∙ h) (row_alike p xs ys e);
+  whole = λ i l.
+      let w = o.whole i (omega (arith, l, same)) in
+      let row : row_of (key_here xs i).0 xs ≡ row_of (key_here ys i).0 ys =
+      ap (λ k. row_of k.0 xs) (key_alike xs ys i e) ∙ row_alike (key_here ys i).0 xs ys e in
+      (w.0, omega (arith, w.1, row), omega (arith, w.2, same), w.3);
+}
+  where
+    same : length xs ≡ length ys
+    same = length_alike xs ys e
+
+    at : (i : ℕ) → (key_here xs (slice_index_or order i 0)).0 ≡ (key_here ys (slice_index_or order i 0)).0
+    at i = ap (λ (k : Key). k.0) (key_alike xs ys (slice_index_or order i 0) e)
+
+    first : (p : Principal) → is_named p xs ≡ true → row_of p xs ≡ row_of p ys
+        → (key_here ys (slice_index_or order (row_of p ys) 0)).0 ≡ p
+    first p h r =
+        ap (λ n. (key_here ys (slice_index_or order n 0)).0) (sym r) ∙ sym (at (row_of p xs)) ∙ o.first p h
+
+-- and the row of a principal
+pub is_row_alike : (row : ℕ) (p : Principal) (xs ys : List Ace) → nothing_left xs ≡ nothing_left ys → IsRow row p xs
+    → IsRow row p ys
+is_row_alike row p xs ys e r = record {
+  named = sym (named_alike p xs ys e) ∙ r.named;
+  is = r.is ∙ row_alike p xs ys e;
+}
+
+-- a row that was found
+pub found_row : (p : Principal) (xs ys : List Ace) (o : Option ℕ) → nothing_left xs ≡ nothing_left ys
+    → IfSome o (λ row. IsRow row p xs) → IfSome o (λ row. IsRow row p ys)
+found_row p xs ys None e h = h
+found_row p xs ys (Some row) e h = is_row_alike row p xs ys e h
+
+-- and none
+pub missed_row : (p : Principal) (xs ys : List Ace) (o : Option ℕ) → nothing_left xs ≡ nothing_left ys
+    → IfNone o (is_named p xs ≡ false) → IfNone o (is_named p ys ≡ false)
+missed_row p xs ys None e h = sym (named_alike p xs ys e) ∙ h
+missed_row p xs ys (Some row) e h = h

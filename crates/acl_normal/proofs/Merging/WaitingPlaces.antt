@@ -2,13 +2,16 @@
 use Rattle.std.specs.Prelude.{◌≡◌, ◌⊎◌, ℕ, ◌+◌, ◌<◌, ◌≤◌, zero, suc, Bool, true, false, cond, ◌&&◌, ◌||◌, nat_lt, List, [], ◌∷◌, ◌++◌, length, map, take, slice_index_or, slice_set, refl}
 use Rattle.std.specs.Ordering.{nat_cmp}
 use Rattle.std.specs.BTreeMap.{is_at}
-use Rattle.std.specs.List.{list_any}
+use Rattle.std.specs.List.{list_any, AllByRecursion}
+use Rattle.std.specs.List.Sorted.{IsStrictlySortedBy}
+use Rattle.std.specs.Cmp.{nat_cmp_is}
+use Rattle.std.specs.declared.cmp.Ordering.TheVariants.{Less}
 use Rattle.std.specs.declared.vec.Vec.{Vec}
 use Rattle.std.specs.declared.collections.VecDeque.{VecDeque}
 use Rattle.std.specs.declared.collections.BTreeSet.{BTreeSet}
 use Rattle.std.proofs.Common.{sym, ◌∙◌, ap, subst, arith, Global, inl, inr, ⊎_elim}
-use Rattle.std.proofs.lemmas.Bool.{cases_eq, cases_lt, lt-ltb, le-ltb, and_parts, false_from_ne_true}
-use Rattle.std.proofs.lemmas.List.{append-nil, get_or-set_same, get_or-set_other, map-set, take_more, length-map}
+use Rattle.std.proofs.lemmas.Bool.{cases_eq, cases_lt, lt-ltb, le-ltb, and_parts, or_right, false_from_ne_true}
+use Rattle.std.proofs.lemmas.List.{append-nil, get_or-set_same, get_or-set_other, map-set, take_more, length-map, length-take}
 use Rattle.acl_perm.specs.Bits.{has_bit}
 use Rattle.acl_perm.specs.declared.kind.Kind.{Kind}
 use Rattle.acl_nfs4.specs.Ace.{Ace}
@@ -20,6 +23,7 @@ use Rattle.acl_normal.specs.Places.{is_waiting, same_class, slot_of, waits}
 use Rattle.acl_perm.specs.Principal.{is_user}
 use Rattle.acl_normal.specs.internal.Shown.{with_masks}
 use Rattle.acl_normal.specs.internal.Waiting.{HoldWaiting, Notes, places_of}
+use Rattle.acl_normal.proofs.Emission.Walk.{head_in, waits_within}
 use Rattle.acl_normal.proofs.Merging.BitTaken.{NoKeys, class_same, is_eq_itself, is_eq_same, slot_below, slot_same}
 use Rattle.acl_normal.proofs.Unique.Bits.{no_bits_of_zero}
 use Rattle.acl_normal.proofs.Unique.Free.{kind_eq_same, kind_eq_itself}
@@ -55,11 +59,35 @@ no_places_more lists new n v e k is = record {
     at (x ∷ lists) zero h = h 0
     at (x ∷ lists) (suc i) h = at lists i (λ l. h (suc l))
 
+-- an empty list is in order
+sorted_none : IsStrictlySortedBy nat_cmp []
+unfolding IsStrictlySortedBy
+sorted_none = tt
+
+-- a list in order stays so with a place after all others
+sorted_more : (places : List ℕ) (i : ℕ) → IsStrictlySortedBy nat_cmp places
+    → ((j : ℕ) → list_any (is_at (nat_cmp j)) places ≡ true → j < i) → IsStrictlySortedBy nat_cmp (places ++ i ∷ [])
+unfolding IsStrictlySortedBy
+sorted_more [] i s h = (tt, tt)
+sorted_more (place ∷ places) i s h = (
+  later places s.0,
+  sorted_more places i s.1 (λ j t. h j (or_right (is_at (nat_cmp j) place) (list_any (is_at (nat_cmp j)) places) t)),
+)
+  where
+    last : nat_cmp place i ≡ Less
+    last = sym (nat_cmp_is place i Less (h place (head_in place places)))
+
+    later : (rest : List ℕ) → AllByRecursion (λ y. nat_cmp place y ≡ Less) rest
+        → AllByRecursion (λ y. nat_cmp place y ≡ Less) (rest ++ i ∷ [])
+    later [] all = (last, tt)
+    later (x ∷ rest) all = (all.0, later rest all.1)
+
 -- hold what waits in no list
 pub no_places_hold : (lists : List (Vec ℕ Global)) (n : ℕ) → AreNoPlaces lists n → n ≡ 84 → HoldWaiting [] lists
 no_places_hold lists n e is = record {
   slots = e.count ∙ is;
   waiting = λ k u b i l. ap (list_any (is_at (nat_cmp i))) (e.none (slot_of k u b));
+  sorted = λ k u b l. subst (IsStrictlySortedBy nat_cmp) (sym (e.none (slot_of k u b))) sorted_none;
 }
 
 -- the places of a list that indexing gives
@@ -316,8 +344,19 @@ holds_more aces masks i x m user old new f e quiet l a b class g = record {
       ∙ ap (λ t. waits k u c (take i xs) j || t) (here k u c j)
       ∙ sym (waits_more k u c (take i xs) (shown_with x m) j)
       ∙ sym (ap (λ v. waits k u c v j) more);
+  sorted = λ k u c h. subst (IsStrictlySortedBy nat_cmp) (sym (g.places k u c h))
+      (put k u c h (has_bit m c && (kind_eq x.kind k && same_class user u)));
 }
   where
+    put : (k : Kind) (u : Bool) (c : ℕ) → c < 21 → (t : Bool)
+        → IsStrictlySortedBy nat_cmp (places_of old k u c ++ cond t (i ∷ []) [])
+    put k u c h false = subst (IsStrictlySortedBy nat_cmp) (sym (append-nil (places_of old k u c))) (f.sorted k u c h)
+    put k u c h true = sorted_more (places_of old k u c) i (f.sorted k u c h)
+        (λ j t. before (waits_within k u c (take i (with_masks aces masks)) j (sym (f.waiting k u c j h) ∙ t)))
+      where
+        before : {j : ℕ} → j < length (take i (with_masks aces masks)) → j < i
+        before l = omega (arith, l, length-take i (with_masks aces masks))
+
     xs : List Ace
     xs = with_masks aces masks
 

@@ -6,7 +6,7 @@ use Rattle.std.proofs.Common.{sym, ◌∙◌, ap, subst, arith}
 use Rattle.std.proofs.lemmas.Bool.{eq-eqb, ne_eqb, eqb-true}
 use Rattle.std.proofs.lemmas.List.{take_all, take_more}
 use Rattle.std.proofs.lemmas.Nat.Bits.{bit_at_and, bit_at-lt}
-use Rattle.acl_perm.specs.Principal.{Principal, everyone, is_user}
+use Rattle.acl_perm.specs.Principal.{Principal, everyone}
 use Rattle.acl_perm.specs.declared.kind.Kind.{Kind}
 use Rattle.acl_perm.specs.declared.kind.Kind.TheVariants.{Deny, Allow}
 use Rattle.acl_perm.specs.Bits.{has_bit}
@@ -19,16 +19,13 @@ use Rattle.acl_eval.specs.Scan.{without}
 use Rattle.acl_eval.proofs.Scans.{has_bit-without}
 use Rattle.acl_normal.specs.Keys.{principal_eq, Key, kind_eq}
 use Rattle.acl_normal.specs.Places.{same_class, first_at, mask_here}
-use Rattle.acl_perm.specs.Kind.{other_kind}
 use Rattle.acl_normal.specs.internal.Alike.{is_either}
 use Rattle.acl_normal.specs.internal.Emissions.{HasOnceColumns, IsOnce}
 use Rattle.acl_normal.specs.Normal.{IsQuiet, is_inherit_only, counts}
 use Rattle.acl_normal.specs.internal.Plain.{default}
 use Rattle.acl_normal.specs.internal.Shown.{with_masks}
-use Rattle.acl_normal.specs.declared.reduce.needless.Later.{Later}
-use Rattle.acl_normal.specs.declared.rows.merged.MergedRows.TheInside.{Inside}
-use Rattle.acl_normal.specs.internal.Merged.{left_of, IsRight}
-use Rattle.acl_normal.specs.internal.Needed.{default_at, later_mask, opposes, is_kept}
+use Rattle.acl_normal.specs.declared.reduce.needless.ByClass.{ByClass}
+use Rattle.acl_normal.specs.internal.Needed.{class_mask, default_at, later_mask, is_kept}
 use Rattle.acl_normal.proofs.Unique.Bits.{no_bit, no_bits_of_zero}
 use Rattle.acl_normal.proofs.Reduction.FirstMasks.{masked}
 use Rattle.acl_normal.proofs.Unique.Names.{principal_eq_same}
@@ -47,54 +44,41 @@ has_bit-and m n b = go (has_bit m b) refl (has_bit n b) refl
         (omega (arith, g, bit_at_and m n b, eqb-true (bit_at m b) 1 e, no_bit n b f))))
     go false e t f = rw e (ne_eqb _ _ (λ g. absurd (omega (arith, g, bit_at_and m n b, no_bit m b e, bit_at-lt n b))))
 
--- ---- the four masks
+-- ---- the masks by type and class
 
 -- before the first turn there is no later ACE
 pub no_later : (k : Kind) (users : Bool) (b : ℕ)
-    → has_bit (later_mask (record { deny_users = 0; deny_others = 0; allow_users = 0; allow_others = 0 }) k users) b
-    ≡ false
+    → has_bit (later_mask (record {
+      deny = record { users = 0; others = 0 };
+      allow = record { users = 0; others = 0 };
+    }) k users) b ≡ false
 no_later Deny true b = no_bits_of_zero b
 no_later Deny false b = no_bits_of_zero b
 no_later Allow true b = no_bits_of_zero b
 no_later Allow false b = no_bits_of_zero b
 
--- a user is opposed by others than users
-pub opposite_others : (l : Later) (k : Key) (b : ℕ) → is_user k.0 ≡ false
-    → has_bit (bit_or (later_mask l (other_kind k.1) false) (later_mask l (other_kind k.1) true)) b ≡ opposes l k b
-opposite_others l k b u =
-    has_bit-or (later_mask l (other_kind k.1) false) (later_mask l (other_kind k.1) true) b ∙ rw u refl
-
--- one of the four masks with more bits
-abbrev pub with_bits : Later → Kind → Bool → ℕ → Later
-with_bits l Deny true m = record l { deny_users = bit_or l.deny_users m }
-with_bits l Deny false m = record l { deny_others = bit_or l.deny_others m }
-with_bits l Allow true m = record l { allow_users = bit_or l.allow_users m }
-with_bits l Allow false m = record l { allow_others = bit_or l.allow_others m }
+-- one of two masks with more bits
+abbrev pub with_bits : ByClass → Bool → ℕ → ByClass
+with_bits c true m = record c { users = bit_or c.users m }
+with_bits c false m = record c { others = bit_or c.others m }
 
 same_bit : (t : Bool) → t ≡ (t || false)
 same_bit true = refl
 same_bit false = refl
 
--- the four masks with those of one ACE more
-pub noted_is : (l : Later) (j : Kind) (u : Bool) (m : ℕ) (k : Kind) (users : Bool) (b : ℕ)
-    → has_bit (later_mask (with_bits l j u m) k users) b
-    ≡ (has_bit (later_mask l k users) b || ((kind_eq j k && same_class u users) && has_bit m b))
-noted_is l Deny true m Deny true b = has_bit-or l.deny_users m b
-noted_is l Deny false m Deny false b = has_bit-or l.deny_others m b
-noted_is l Allow true m Allow true b = has_bit-or l.allow_users m b
-noted_is l Allow false m Allow false b = has_bit-or l.allow_others m b
-noted_is l Deny true m Deny false b = same_bit (has_bit l.deny_others b)
-noted_is l Deny false m Deny true b = same_bit (has_bit l.deny_users b)
-noted_is l Allow true m Allow false b = same_bit (has_bit l.allow_others b)
-noted_is l Allow false m Allow true b = same_bit (has_bit l.allow_users b)
-noted_is l Deny true m Allow true b = same_bit (has_bit l.allow_users b)
-noted_is l Deny true m Allow false b = same_bit (has_bit l.allow_others b)
-noted_is l Deny false m Allow true b = same_bit (has_bit l.allow_users b)
-noted_is l Deny false m Allow false b = same_bit (has_bit l.allow_others b)
-noted_is l Allow true m Deny true b = same_bit (has_bit l.deny_users b)
-noted_is l Allow true m Deny false b = same_bit (has_bit l.deny_others b)
-noted_is l Allow false m Deny true b = same_bit (has_bit l.deny_users b)
-noted_is l Allow false m Deny false b = same_bit (has_bit l.deny_others b)
+-- the two masks with more bits of a class
+pub with_is : (c : ByClass) (u : Bool) (m : ℕ) (users : Bool) (b : ℕ)
+    → has_bit (class_mask (with_bits c u m) users) b
+    ≡ (has_bit (class_mask c users) b || (same_class u users && has_bit m b))
+with_is c true m true b = has_bit-or c.users m b
+with_is c false m false b = has_bit-or c.others m b
+with_is c true m false b = same_bit (has_bit c.others b)
+with_is c false m true b = same_bit (has_bit c.users b)
+
+-- the bits of a class that an ACE of another type has nothing to say of
+pub noted_other : (c : ByClass) (users : Bool) (b : ℕ)
+    → has_bit (class_mask c users) b ≡ (has_bit (class_mask c users) b || false)
+noted_other c users b = same_bit (has_bit (class_mask c users) b)
 
 -- ---- what is dropped of a mask
 
@@ -266,10 +250,6 @@ pub length_masks : (aces : List AceRef) (masks : List ℕ) → length masks ≡ 
 length_masks [] masks h = refl
 length_masks (x ∷ aces) [] h = absurd (omega (arith, h))
 length_masks (x ∷ aces) (m ∷ masks) h = ap suc (length_masks aces masks (omega (arith, h)))
-
--- each ACE has a mask
-pub length_left : (s : Inside) → IsRight s → length (left_of s) ≡ length s.aces.items
-length_left s right = length_masks s.aces.items s.masks.items (omega (arith, right.masks, s.masks.ok))
 
 -- the mask at a place
 pub mask_there : (aces : List AceRef) (masks : List ℕ) (i d : ℕ) → i < length (with_masks aces masks)

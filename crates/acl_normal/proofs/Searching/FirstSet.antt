@@ -3,12 +3,13 @@ use Rattle.acl_nfs4.specs.Spelling.{IsAccepted}
 use Rattle.acl_perm.specs.Profile.{full}
 use Rattle.acl_normal.proofs.Unique.Accepted.{accepted_names}
 use Rattle.std.specs.declared.alloc.AllocError.{AllocError}
-use Rattle.std.specs.Prelude.{IsTrue, IsNone, IfOk, Result, ◌≡◌, ◌↔◌, ℕ, ◌+◌, Bool, true, false, List, Option, Some, None, refl}
+use Rattle.std.specs.Prelude.{IsTrue, IsNone, IfOk, IfSome, Ok, Err, Result, ◌≡◌, ◌↔◌, ℕ, ◌+◌, Bool, true, false, List, Option, Some, None, refl}
 use Rattle.std.proofs.Common.{sym, ◌∙◌, ap, subst}
 use Rattle.acl_eval.specs.Grant.{SameGrants}
 use Rattle.acl_nfs4.specs.Ace.{Ace}
 use Rattle.acl_normal.proofs.Searching.Mentioned.{mentioned_rising}
 use Rattle.acl_normal.proofs.Searching.SmallSetLemmas.{first_difference, first_set, found_is_situation, none_then_same, some_then_differ, tells_apart}
+use Rattle.acl_normal.specs.Difference.{IsComparison, situation_of}
 use Rattle.acl_normal.specs.internal.CodeSets.{set_or_none}
 use Rattle.acl_normal.specs.Normal.{HasNames}
 use Rattle.acl_normal.specs.internal.SetSearch.{Finds, FindsFirst, GrantAlikeTo, IsLowestDifference, IsRising}
@@ -95,3 +96,14 @@ pub same_of : (xs ys vs ws : List Ace) (answer : Result (Option Difference) Allo
 same_of xs ys vs ws answer first second h =
     subst (λ v. IfOk answer (λ r. IsNone r ↔ SameGrants all_rights v ys)) first
     (subst (λ w. IfOk answer (λ r. IsNone r ↔ SameGrants all_rights vs w)) second h)
+
+-- what is told of lists is told of the same lists
+pub comparison_of : (xs ys vs ws : List Ace) (answer : Result (Option Difference) AllocError) → vs ≡ xs → ws ≡ ys
+    → IfOk answer (λ r. IsNone r ↔ SameGrants all_rights vs ws)
+    → IfOk answer (λ r. IfSome r (λ d. IsFirstDifference vs ws (situation_of d) d.bit.bits d.first_grants))
+    → IfOk answer (λ r. IfSome r (λ d. TellsApart vs ws (situation_of d) d.bit.bits d.first_grants))
+    → IfOk answer (λ r. IsComparison xs ys r)
+comparison_of xs ys vs ws (Ok r) first second s f t =
+    subst (λ v. IsComparison v ys r) first
+    (subst (λ w. IsComparison vs w r) second (record { same = s; first = f; requester = t }))
+comparison_of xs ys vs ws (Err e) first second s f t = s

@@ -66,6 +66,12 @@ pub rows_length : (ps : List Principal) (xs ys : List Ace) (b : ℕ) (rows : Lis
     → length rows ≡ length ps
 rows_length ps xs ys b rows h = zip_length (IsRow xs ys b) ps rows h.each
 
+-- a limit within the principals is within their rows
+pub rows_limit : (ps : List Principal) (xs ys : List Ace) (b : ℕ) (rows shown : List Row) (limit : ℕ)
+    → AreRows ps xs ys b rows → shown ≡ rows → limit ≤ length ps → limit ≤ length shown
+rows_limit ps xs ys b rows shown limit h is within =
+    omega (arith, rows_length ps xs ys b rows h, ap length is, within)
+
 -- the least number so far, after some bits
 pub record Least (Q : ℕ → ℕ → Type 0) (n bit least : ℕ) : Type 0 where
   pub within : least ≤ n

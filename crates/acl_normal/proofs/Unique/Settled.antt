@@ -198,7 +198,7 @@ place_after : (c : Column) (d : Kind) (l : Column) (p : Principal) (k : Kind) (r
     → first_kind (is_either p p) r ≡ None
 place_after c d l p k r h = once_after l p k r (subst (λ v. IsOnce v) h.is h.once)
 
--- among its principal, another that is not before it and everyone, the key is the first, and without it what is after it
+-- among its principal, everyone and another that is not before it, the key is first, and without it what is after it
 found_first : (c : Column) (d : Kind) (l : Column) (p : Principal) (k : Kind) (r : Column) → Place c d l p k r
     → (q : Principal) → first_kind (is_either q q) l ≡ None
     → (first_kind (is_either_or_everyone p q) c ≡ Some k)

@@ -8,6 +8,7 @@ use Rattle.acl_eval.specs.Column.{Column}
 use Rattle.acl_normal.specs.Keys.{principal_eq, Key, kind_eq}
 use Rattle.acl_normal.specs.Places.{same_class}
 use Rattle.acl_perm.specs.Kind.{other_kind}
+use Rattle.acl_normal.specs.declared.reduce.needless.ByClass.{ByClass}
 use Rattle.acl_normal.specs.declared.reduce.needless.Later.{Later}
 
 -- the kind that a bit has by default, where a mask holds the bits that everyone is allowed
@@ -19,12 +20,15 @@ abbrev pub some_of : Kind → Bool → Column → Bool
 some_of k users [] = false
 some_of k users ((q, j) ∷ c) = (kind_eq j k && same_class (is_user q) users) || some_of k users c
 
+-- the bits of a class: of users, or of others
+abbrev pub class_mask : ByClass → Bool → ℕ
+class_mask m true = m.users
+class_mask m false = m.others
+
 -- the bits that later keys of a kind and a class have
 abbrev pub later_mask : Later → Kind → Bool → ℕ
-later_mask l Deny true = l.deny_users
-later_mask l Deny false = l.deny_others
-later_mask l Allow true = l.allow_users
-later_mask l Allow false = l.allow_others
+later_mask l Deny users = class_mask l.deny users
+later_mask l Allow users = class_mask l.allow users
 
 -- a later key of the other kind and of a class that overlaps has the bit
 abbrev pub opposes : Later → Key → ℕ → Bool

@@ -1,12 +1,13 @@
--- Rows of principals (this library's own): how they are numbered in a list. Words that only code needs.
-use Rattle.std.specs.Prelude.{◌≡◌, ℕ, ◌+◌, ◌*◌, ◌<◌, ◌≤◌, suc, Bool, true, false, cond, ◌||◌, List, [], ◌∷◌, length, slice_index_or}
+-- Rows of principals (this library's own): how they are numbered in a list, and where each of their
+-- rights stands. Words that only code needs.
+use Rattle.std.specs.Prelude.{◌≡◌, ℕ, ◌+◌, ◌*◌, ◌<◌, ◌≤◌, suc, Bool, true, false, cond, ◌||◌, List, [], ◌∷◌, Option, None, option_map, length, slice_index_or}
 use Rattle.std.specs.Ordering.{is_le, is_lt}
 use Rattle.acl_perm.specs.Order.{principal_cmp, kind_rank}
 use Rattle.acl_perm.specs.Principal.{Principal}
 use Rattle.acl_nfs4.specs.Ace.{Ace}
 use Rattle.acl_nfs4.specs.Who.{principal_of}
 use Rattle.acl_normal.specs.Keys.{Key, principal_eq}
-use Rattle.acl_normal.specs.Places.{key_here}
+use Rattle.acl_normal.specs.Places.{first_at, key_here}
 
 -- an ACE of the list names the principal
 abbrev pub is_named : Principal → List Ace → Bool
@@ -45,3 +46,15 @@ pub record IsByPrincipal (xs : List Ace) (order : List ℕ) : Type 0 where
       (key_here xs (slice_index_or order j 0)).0) ≡ true
   -- the row of each principal begins with it
   pub first : (p : Principal) → is_named p xs ≡ true → (key_here xs (slice_index_or order (row_of p xs) 0)).0 ≡ p
+  -- and all places that name it stand from there on
+  pub whole : (i : ℕ) → i < length xs
+      → (k : ℕ) × (row_of (key_here xs i).0 xs ≤ k) × (k < length xs) × (slice_index_or order k 0 ≡ i)
+
+-- the place of the first ACE of a principal with the bit
+abbrev pub first_place : ℕ → Principal → List Ace → Option ℕ
+first_place b p xs = option_map (λ e. e.1) (first_at b p xs)
+
+-- by row, the place of the first ACE of the row's principal with the bit
+abbrev pub ArePlaces : ℕ → List Ace → List (Option ℕ) → Type 0
+ArePlaces b xs places =
+    (row : ℕ) (p : Principal) → IsRow row p xs → slice_index_or places row None ≡ first_place b p xs

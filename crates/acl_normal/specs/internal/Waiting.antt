@@ -1,6 +1,7 @@
 -- Lists of the places that wait (this library's own): words that only code needs.
 use Rattle.std.specs.Prelude.{◌≡◌, ℕ, ◌<◌, Bool, cond, ◌&&◌, List, [], ◌∷◌, ◌++◌, map, slice_index_or, length}
 use Rattle.std.specs.List.{list_any}
+use Rattle.std.specs.List.Sorted.{IsStrictlySortedBy}
 use Rattle.std.specs.BTreeMap.{is_at}
 use Rattle.std.specs.Ordering.{nat_cmp}
 use Rattle.std.specs.declared.vec.Vec.{Vec}
@@ -15,11 +16,12 @@ use Rattle.acl_normal.specs.Places.{same_class, slot_of, waits}
 abbrev pub places_of : List (Vec ℕ Global) → Kind → Bool → ℕ → List ℕ
 places_of lists k users b = slice_index_or (map (λ v. v.items) lists) (slot_of k users b) []
 
--- the lists hold the places that wait
+-- the lists hold the places that wait, in order
 pub record HoldWaiting (xs : List Ace) (lists : List (Vec ℕ Global)) : Type 0 where
   pub slots : length lists ≡ 84
   pub waiting : (k : Kind) (users : Bool) (b i : ℕ) → b < 21
       → list_any (is_at (nat_cmp i)) (places_of lists k users b) ≡ waits k users b xs i
+  pub sorted : (k : Kind) (users : Bool) (b : ℕ) → b < 21 → IsStrictlySortedBy nat_cmp (places_of lists k users b)
 
 -- a place was put into the lists of the bits of a mask
 pub record Notes (place : ℕ) (kind : Kind) (user : Bool) (mask : ℕ) (old new : List (Vec ℕ Global)) : Type 0 where

@@ -3,9 +3,9 @@ ghost use Rattle.std.specs.Prelude.{◌≡◌, ◌++◌, ◌<◌, ◌^◌, IfOk,
 ghost use Rattle.acl_perm.specs.Order.{principal_name};
 ghost use Rattle.acl_perm.specs.Principal.{principal};
 ghost use Rattle.acl_nfs4.specs.Ace.{ace};
-ghost use Rattle.acl_normal.specs.SmallSets.{longest, mentioned as in_order};
+ghost use Rattle.acl_normal.specs.SmallSets.{longest};
 ghost use Rattle.acl_normal.specs.internal.FirstPlaces.{AreWhoms};
-ghost use Rattle.acl_normal.specs.internal.MentionedRows.{AreByRow, AreMentionedRows, AreNumbers, mentioned_by, noted, whom_of, with_found};
+ghost use Rattle.acl_normal.specs.internal.MentionedRows.{AreByRow, AreMentioned, AreMentionedRows, AreNumbers, mentioned_by, noted, whom_of, with_found};
 ghost use Rattle.acl_normal.specs.internal.Passes.{list_of};
 ghost use Rattle.acl_normal.specs.internal.Rows.{AreRowNumbers};
 ghost use Rattle.acl_normal.specs.internal.SetSearch.{principals};
@@ -137,16 +137,12 @@ fn joined<'a>(
 
 /// The principals that two lists mention, in order, and whom of these each ACE names: of the first list, and then of
 /// the second. One sort puts all ACEs in the order of whom they name.
-#[tactic(auto, using(crate::proofs::Searching::MentionedRows::whole_ready))]
 pub(crate) fn mentioned<'a>(
     alloc: Global,
     list: &[AceRef<'a>],
     other: &[AceRef<'a>],
 ) -> Result<(Vec<Principal<'a>>, Vec<Whom>), AllocError>
-    ensures whole { IfOk result (λ m. principals m.0.items
-        ≡ in_order (list_of list.now) (list_of other.now)) }
-    ensures whoms { IfOk result (λ m. AreWhoms (principals m.0.items)
-        (list_of list.now ++ list_of other.now) m.1.items) }
+    ensures { IfOk result (AreMentioned (list_of list.now) (list_of other.now)) }
 {
     let aces = joined(alloc, list, other)?;
     let sorted = row_numbers(alloc, &aces)?;

@@ -1,7 +1,7 @@
 //! The situation of a small set, by its names.
-ghost use Rattle.std.specs.Prelude.{◌≡◌, ◌∷◌, [], ◌++◌, IfOk, OnOk, map, replicate, unwrap_or};
+ghost use Rattle.std.specs.Prelude.{◌≡◌, ◌∷◌, [], ◌++◌, IfOk, OnOk, map, replicate};
 ghost use Rattle.acl_perm.specs.Principal.{principal};
-ghost use Rattle.acl_normal.specs.SmallSituations.{first_user, group_names, small_situation};
+ghost use Rattle.acl_normal.specs.SmallSituations.{group_names, small_situation};
 ghost use Rattle.acl_normal.specs.internal.CodeSets.{set_of};
 
 use super::small_set::SmallSet;

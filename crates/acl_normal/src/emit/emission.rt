@@ -1,5 +1,5 @@
 //! The order of a normal form: at each place the least key that has a free bit, with all its free bits.
-ghost use Rattle.std.specs.Prelude.{◌≡◌, ℕ, ◌*◌, ◌<◌, List, length, replicate, IfOk, OnOk};
+ghost use Rattle.std.specs.Prelude.{◌≡◌, ◌*◌, ◌<◌, List, length, replicate, IfOk, OnOk};
 ghost use Rattle.acl_perm.specs.Bits.{all_rights};
 ghost use Rattle.acl_nfs4.specs.Ace.{Ace};
 ghost use Rattle.acl_eval.specs.Grant.{SameGrants};
@@ -10,14 +10,14 @@ ghost use Rattle.acl_normal.specs.internal.Emitted.{StandInRows, emitted_aces};
 ghost use Rattle.acl_normal.specs.Keys.{plain_key};
 ghost use Rattle.acl_normal.specs.Left.{left};
 ghost use Rattle.acl_normal.specs.Normal.{IsIrreducibleList, IsNormal};
-ghost use Rattle.acl_normal.specs.Places.{key_here, nothing_left};
+ghost use Rattle.acl_normal.specs.Places.{key_here, kind_here, nothing_left};
 ghost use Rattle.acl_normal.specs.internal.Ready.{Adds, Enters, FitsKeys, Frees, HoldsFree, marks};
 ghost use Rattle.acl_normal.specs.internal.Counts.{count_left};
 
 use crate::bits::next_right;
 use crate::class::Class;
 use crate::emit::ready::Ready;
-use crate::rows::merged::MergedRows;
+use crate::emit::remaining::Remaining;
 use acl_perm::{Key, Kind, Mask, Right};
 use std::alloc::{AllocError, Global};
 
@@ -39,14 +39,16 @@ fn rank(kind: Kind) -> usize
     }
 }
 
-/// Marks a right of the ACE at a place as free.
+/// Marks a right of the ACE of a type at a place as free.
 fn add(
-    rows: &MergedRows<'_>,
+    rows: &Remaining<'_>,
     place: usize,
+    kind: Kind,
     right: Right,
     ready: &mut Ready,
 ) -> Result<(), AllocError>
     requires place { place < length rows.now }
+    requires kind { kind_here rows.now place ≡ kind }
     requires keys { FitsKeys (nothing_left rows.now) ready.old }
     ensures keys { OnOk result (FitsKeys (nothing_left rows.now) ready.new) }
     ensures marks { OnOk result (Adds (key_here rows.now place) right.bit
@@ -54,14 +56,14 @@ fn add(
         (marks (nothing_left rows.now) ready.new)) }
 {
     let _ = &rows.masks;
-    let number = 2 * rows.row_at(place) + rank(rows.kind_at(place));
+    let number = 2 * rows.row_at(place) + rank(kind);
     ready.add(number, right)
 }
 
 /// Marks what is free of the ACEs that wait in a type and a class with a right: the places before the first that
 /// something blocks.
 fn enter(
-    rows: &MergedRows<'_>,
+    rows: &Remaining<'_>,
     kind: Kind,
     class: Class,
     right: Right,
@@ -74,27 +76,26 @@ fn enter(
         (marks (nothing_left rows.now) ready.new)) }
 {
     let _ = &rows.masks;
-    let waiting = rows.waiting_at(kind, class, right);
-    // Mostly none is free, which the first tells at less cost than an iterator.
-    let Some(first) = waiting.first() else {
-        return Ok(());
-    };
-    let last = rows.last_clear(kind, class, right);
-    if *first > last {
+    let queue = rows.queue(kind, class, right);
+    // Mostly none waits, which is known without a look at what is before it.
+    if queue.is_empty() {
         return Ok(());
     }
-    for place in waiting {
+    let last = rows.last_clear(kind, class, right);
+    for place in queue {
         if *place > last {
             return Ok(());
         }
-        add(rows, *place, right, ready)?;
+        if rows.has(*place, right) {
+            add(rows, *place, kind, right, ready)?;
+        }
     }
     Ok(())
 }
 
 /// Marks what became free when rights of a key were taken out.
 fn free_after<'a>(
-    rows: &MergedRows<'a>,
+    rows: &Remaining<'a>,
     at: Key<'a>,
     mask: Mask,
     ready: &mut Ready,
@@ -118,7 +119,7 @@ fn free_after<'a>(
 }
 
 /// Marks all that is free.
-fn fill(rows: &MergedRows<'_>, ready: &mut Ready) -> Result<(), AllocError>
+fn fill(rows: &Remaining<'_>, ready: &mut Ready) -> Result<(), AllocError>
     requires { ready.old ≡ replicate (2 * length rows.now) 0 }
     ensures keys { OnOk result (FitsKeys (nothing_left rows.now) ready.new) }
     ensures marks { OnOk result (HoldsFree (marks (nothing_left rows.now) ready.new) rows.now) }
@@ -137,7 +138,7 @@ fn fill(rows: &MergedRows<'_>, ready: &mut Ready) -> Result<(), AllocError>
 /// Emits what is left: at each step the least key that has a free bit, with all its free bits.
 pub(crate) fn drain<'a>(
     alloc: Global,
-    rows: &mut MergedRows<'a>,
+    rows: &mut Remaining<'a>,
 ) -> Result<Vec<Emitted<'a>>, AllocError>
     ensures emission { IfOk result (λ v. IsEmission rows.old (emitted_aces v.items)) }
     ensures rows { IfOk result (λ v. StandInRows rows.old v.items) }
@@ -152,7 +153,7 @@ pub(crate) fn drain<'a>(
         let mask = Mask { bits: next.bits };
         let row = next.number / 2;
         out.push(Emitted { key, mask, row })?;
-        rows.emit_row(row, key.principal, mask);
+        rows.emit(row, key, next.bits);
         free_after(rows, key, mask, &mut ready)?;
     }
     Ok(out)
@@ -161,7 +162,7 @@ pub(crate) fn drain<'a>(
 /// The normal form of an irreducible list: it grants the same, and no other normal list does.
 pub(crate) fn normalize_left<'a>(
     alloc: Global,
-    rows: &mut MergedRows<'a>,
+    rows: &mut Remaining<'a>,
 ) -> Result<Vec<Emitted<'a>>, AllocError>
     requires { IsIrreducibleList (left rows.old) }
     ensures normal { IfOk result (λ v. IsNormal (emitted_aces v.items)) }

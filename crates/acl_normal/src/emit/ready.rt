@@ -1,5 +1,5 @@
 //! The keys that have a free bit, by number.
-ghost use Rattle.std.specs.Prelude.{◌≡◌, ◌≢◌, ℕ, ◌*◌, ◌^◌, ◌<◌, bit_or, length, slice_index_or, slice_set, replicate, IfOk, IfSome, IfNone, OnOk};
+ghost use Rattle.std.specs.Prelude.{◌≡◌, ℕ, ◌*◌, ◌^◌, ◌<◌, bit_or, length, slice_index_or, slice_set, replicate, IfOk, IfSome, IfNone, OnOk};
 ghost use Rattle.acl_normal.specs.internal.Ready.{IsLeastReady};
 
 use crate::bits::with;

@@ -1,12 +1,10 @@
 //! The comparison that goes over all small sets: slow, and for tests of the fast one.
-ghost use Rattle.std.specs.Prelude.{◌≡◌, ◌↔◌, ◌∷◌, [], IsNone, IfOk, IfSome, true};
+ghost use Rattle.std.specs.Prelude.{◌≡◌, ◌∷◌, [], IfOk, true};
 ghost use Rattle.std.specs.Bool.{OnFalse, OnTrue};
-ghost use Rattle.acl_perm.specs.Bits.{all_rights};
 ghost use Rattle.acl_perm.specs.Overlap.{may_overlap};
 ghost use Rattle.acl_perm.specs.Principal.{principal};
-ghost use Rattle.acl_eval.specs.Grant.{SameGrants};
-ghost use Rattle.acl_normal.specs.Difference.{situation_of};
-ghost use Rattle.acl_normal.specs.SmallSets.{IsFirstDifference, TellsApart, pairs, partners, singles, small_sets};
+ghost use Rattle.acl_normal.specs.Difference.{IsComparison};
+ghost use Rattle.acl_normal.specs.SmallSets.{pairs, partners, singles, small_sets};
 ghost use Rattle.acl_normal.specs.internal.CodeSets.{set_or_none};
 ghost use Rattle.acl_normal.specs.internal.Passes.{list_of};
 ghost use Rattle.acl_normal.specs.internal.SetSearch.{Finds, GrantAlikeTo, principals};
@@ -115,15 +113,8 @@ fn first_set<'a>(
 
 /// The same as [`crate::compare`], by going over all small situations: its cost is cubic in the number of principals.
 pub fn compare(alloc: Global, first: &Acl, second: &Acl) -> Result<Option<Difference>, AllocError>
-    // None exactly if both lists grant the same.
-    ensures same { IfOk result (λ r. IsNone r ↔ SameGrants all_rights first.now second.now) }
-    // Else the first small situation in which they don't, the lowest right on which they differ there, and what the
-    // first list grants.
-    ensures first { IfOk result (λ r. IfSome r (λ d. IsFirstDifference first.now second.now
-        (situation_of d) d.bit.bits d.first_grants)) }
-    // Its names are names of an object and a requester, to whom one list grants that right and the other doesn't.
-    ensures requester { IfOk result (λ r. IfSome r (λ d. TellsApart first.now second.now
-        (situation_of d) d.bit.bits d.first_grants)) }
+    // The same answer: None exactly if both lists grant the same, else the first difference.
+    ensures { IfOk result (λ told. IsComparison first.now second.now told) }
 {
     let list = collect(alloc, first)?;
     let other = collect(alloc, second)?;

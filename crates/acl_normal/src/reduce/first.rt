@@ -5,10 +5,9 @@ ghost use Rattle.acl_perm.specs.Profile.{full};
 ghost use Rattle.acl_nfs4.specs.Ace.{ace};
 ghost use Rattle.acl_nfs4.specs.Spelling.{IsAccepted};
 ghost use Rattle.acl_eval.specs.Column.{column};
-ghost use Rattle.acl_normal.specs.Left.{IsTidy, KeepsFirsts};
-ghost use Rattle.acl_normal.specs.Places.{nothing_left};
 ghost use Rattle.acl_normal.specs.Normal.{counts};
 ghost use Rattle.acl_normal.specs.internal.Plain.{unshadowed};
+ghost use Rattle.acl_normal.specs.internal.Reduced.{IsThinned};
 ghost use Rattle.acl_normal.specs.internal.Rows.{AreRowNumbers};
 ghost use Rattle.acl_normal.specs.internal.Shown.{aces_in, with_masks};
 
@@ -37,23 +36,20 @@ pub(crate) fn first_masks(
     requires accepted { IsAccepted full (aces_in aces.now) }
     requires rows { AreRowNumbers (aces_in aces.now) rows.now }
     ensures places { IfOk result (λ masks. vec_len masks ≡ length aces.now) }
-    ensures outline { IfOk result (λ masks. nothing_left (with_masks aces.now masks.items)
-        ≡ nothing_left (aces_in aces.now)) }
-    ensures tidy { IfOk result (λ masks. IsTidy (with_masks aces.now masks.items)) }
+    ensures thinned { IfOk result (λ masks. IsThinned (aces_in aces.now)
+        (with_masks aces.now masks.items)) }
     ensures columns { IfOk result (λ masks. (b : ℕ)
         → column (with_masks aces.now masks.items) b ≡ unshadowed [] (column (aces_in aces.now) b)) }
-    ensures firsts { IfOk result (λ masks. KeepsFirsts (aces_in aces.now)
-        (with_masks aces.now masks.items)) }
 {
     let mut seen = vec![in alloc; 0u32; aces.len()]?;
     let mut everyone = 0u32;
     let mut masks = Vec::with_capacity(alloc, aces.len())?;
     for place in 0..aces.len() {
         let ace = aces[place];
-        let row = rows[place];
-        let fresh = without(active_bits(ace), seen[row] | everyone);
+        let here = &mut seen[rows[place]];
+        let fresh = without(active_bits(ace), *here | everyone);
+        *here |= fresh;
         masks.push(fresh)?;
-        seen[row] |= fresh;
         if ace.principal().is_everyone() {
             everyone |= fresh;
         }

@@ -1,47 +1,81 @@
 //! The needless bits: those that only repeat what everyone gets, and that nothing later conflicts with.
-ghost use Rattle.std.specs.Prelude.{◌≡◌, ℕ, ◌<◌, Bool, not, ◌||◌, ◌&&◌, length};
+ghost use Rattle.std.specs.Prelude.{◌≡◌, ℕ, ◌<◌, Bool, true, false, not, ◌||◌, ◌&&◌, length};
 ghost use Rattle.acl_perm.specs.Bits.{has_bit};
 ghost use Rattle.acl_perm.specs.declared.kind.Kind.{Kind as Sort};
 ghost use Rattle.acl_nfs4.specs.Ace.{ace};
 ghost use Rattle.acl_eval.specs.Column.{column};
-ghost use Rattle.acl_normal.specs.Left.{IsTidy, KeepsFirsts};
-ghost use Rattle.acl_normal.specs.Keys.{ace_key, kind_eq};
-ghost use Rattle.acl_normal.specs.Keys.{plain_key};
-ghost use Rattle.acl_normal.specs.internal.Needed.{default_at, is_kept, later_mask, opposes};
-ghost use Rattle.acl_normal.specs.Places.{nothing_left, same_class};
+ghost use Rattle.acl_normal.specs.Left.{IsTidy};
+ghost use Rattle.acl_normal.specs.Keys.{ace_key, kind_eq, plain_key};
+ghost use Rattle.acl_normal.specs.internal.Classes.{is_users};
+ghost use Rattle.acl_normal.specs.internal.Needed.{class_mask, default_at, is_kept, later_mask, opposes};
+ghost use Rattle.acl_normal.specs.Places.{same_class};
 ghost use Rattle.acl_perm.specs.Principal.{is_user};
 ghost use Rattle.acl_normal.specs.internal.Plain.{default, needed_keys};
+ghost use Rattle.acl_normal.specs.internal.Reduced.{IsThinned};
 ghost use Rattle.acl_normal.specs.internal.Shown.{with_masks};
 
 use crate::bits::without;
+use crate::class::Class;
 use acl_nfs4::AceRef;
 use acl_perm::{Key, Kind};
+
+/// Bits of users, and of all others.
+#[derive(Clone, Copy, Drop)]
+pub(crate) struct ByClass {
+    pub(crate) users: u32,
+    pub(crate) others: u32,
+}
+
+impl ByClass {
+    const NONE: ByClass = ByClass {
+        users: 0,
+        others: 0,
+    };
+
+    /// With more bits of one class.
+    fn with(self, class: Class, mask: u32) -> ByClass
+        ensures { (users : Bool) (b : ℕ) → has_bit (class_mask result users) b
+            ≡ (has_bit (class_mask self users) b || (same_class (is_users class) users && has_bit mask b)) }
+    {
+        match class {
+            Class::Users => ByClass {
+                users: self.users | mask,
+                ..self
+            },
+            Class::Others => ByClass {
+                others: self.others | mask,
+                ..self
+            },
+        }
+    }
+
+    /// The bits of those that may overlap with a principal of a class: with a user, others alone.
+    fn beside(self, class: Class) -> u32
+        ensures { (b : ℕ) → has_bit result b
+            ≡ (has_bit (class_mask self false) b || (not (is_users class) && has_bit (class_mask self true) b)) }
+    {
+        match class {
+            Class::Users => self.others,
+            Class::Others => self.others | self.users,
+        }
+    }
+}
 
 /// The bits that later ACEs have, by type and class.
 #[derive(Clone, Copy, Drop)]
 pub(crate) struct Later {
-    pub(crate) deny_users: u32,
-    pub(crate) deny_others: u32,
-    pub(crate) allow_users: u32,
-    pub(crate) allow_others: u32,
+    pub(crate) deny: ByClass,
+    pub(crate) allow: ByClass,
 }
 
 /// The bits that later ACEs have that may conflict with a key.
 fn opposite(later: Later, at: Key<'_>) -> u32
     ensures { (b : ℕ) → has_bit result b ≡ opposes later (plain_key at.entry) b }
 {
-    let user = at.principal.is_user();
+    let class = Class::of(at.principal);
     match at.kind {
-        Kind::Deny => if user {
-            later.allow_others
-        } else {
-            later.allow_others | later.allow_users
-        },
-        Kind::Allow => if user {
-            later.deny_others
-        } else {
-            later.deny_others | later.deny_users
-        },
+        Kind::Deny => later.allow.beside(class),
+        Kind::Allow => later.deny.beside(class),
     }
 }
 
@@ -52,29 +86,15 @@ fn noted(later: Later, at: Key<'_>, mask: u32) -> Later
         || ((kind_eq (plain_key at.entry).1 k && same_class (is_user (plain_key at.entry).0) users)
         && has_bit mask b)) }
 {
-    let user = at.principal.is_user();
+    let class = Class::of(at.principal);
     match at.kind {
-        Kind::Deny => if user {
-            Later {
-                deny_users: later.deny_users | mask,
-                ..later
-            }
-        } else {
-            Later {
-                deny_others: later.deny_others | mask,
-                ..later
-            }
+        Kind::Deny => Later {
+            deny: later.deny.with(class, mask),
+            ..later
         },
-        Kind::Allow => if user {
-            Later {
-                allow_users: later.allow_users | mask,
-                ..later
-            }
-        } else {
-            Later {
-                allow_others: later.allow_others | mask,
-                ..later
-            }
+        Kind::Allow => Later {
+            allow: later.allow.with(class, mask),
+            ..later
         },
     }
 }
@@ -129,20 +149,15 @@ pub(crate) fn drop_needless(aces: &[AceRef<'_>], masks: &mut [u32])
     requires places { length masks.old ≡ length aces.now }
     requires tidy { IsTidy (with_masks aces.now masks.old) }
     ensures places { length masks.new ≡ length aces.now }
-    ensures outline { nothing_left (with_masks aces.now masks.new)
-        ≡ nothing_left (with_masks aces.now masks.old) }
-    ensures tidy { IsTidy (with_masks aces.now masks.new) }
+    ensures thinned { IsThinned (with_masks aces.now masks.old) (with_masks aces.now masks.new) }
     ensures columns { (b : ℕ) → b < 21 → column (with_masks aces.now masks.new) b
         ≡ needed_keys (default (column (with_masks aces.now masks.old) b))
         (column (with_masks aces.now masks.old) b) }
-    ensures firsts { KeepsFirsts (with_masks aces.now masks.old) (with_masks aces.now masks.new) }
 {
     let allowed = allowed_to_everyone(aces, masks);
     let mut later = Later {
-        deny_users: 0,
-        deny_others: 0,
-        allow_users: 0,
-        allow_others: 0,
+        deny: ByClass::NONE,
+        allow: ByClass::NONE,
     };
     for done in 0..aces.len() {
         let place = aces.len() - 1 - done;

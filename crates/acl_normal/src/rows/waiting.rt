@@ -1,5 +1,5 @@
 //! The places that wait with each bit, by type and class.
-ghost use Rattle.std.specs.Prelude.{◌≡◌, ℕ, ◌<◌, ◌≤◌, [], Bool, IfOk, OnOk, length, slice_index_or, vec_len};
+ghost use Rattle.std.specs.Prelude.{◌≡◌, ℕ, ◌<◌, [], Bool, IfOk, OnOk, length, slice_index_or, vec_len};
 ghost use Rattle.std.specs.BTreeMap.{is_at};
 ghost use Rattle.std.specs.List.{list_any};
 ghost use Rattle.std.specs.Ordering.{nat_cmp};
@@ -64,8 +64,8 @@ fn note(
     Ok(())
 }
 
-// The places that wait, in order.
-fn waiting_places(
+/// The places that wait, in order.
+pub(crate) fn waiting_places(
     alloc: Global,
     aces: &[AceRef<'_>],
     masks: &[u32],

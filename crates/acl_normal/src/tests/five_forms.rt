@@ -47,7 +47,8 @@ fn are_forms(forms: &FiveForms, reads: &[bool; 5], alice: &Acl) -> bool {
         && is_form(&forms.directory_in_directory, reads[4], alice)
 }
 
-fn five_forms(rt: &impl Abort, alloc: Global) -> Result<(), PushFault> {
+/// A list has five forms, by the flags of its ACEs.
+pub fn five_forms(rt: &impl Abort, alloc: Global) -> Result<(), PushFault> {
     let alice = reading(alloc, 0)?;
     for (flags, reads) in &INHERITED {
         assert!(rt; are_forms(&forms_of(alloc, *flags)?, reads, &alice));
@@ -55,7 +56,6 @@ fn five_forms(rt: &impl Abort, alloc: Global) -> Result<(), PushFault> {
     Ok(())
 }
 
-// A list has five forms, by the flags of its ACEs.
 #[test]
 fn five_forms_follow_the_flags(rt: HostRuntime) {
     assert!(rt; passes(five_forms(&rt, rt.alloc())));
@@ -66,8 +66,8 @@ fn is_same(alloc: Global, forms: &FiveForms, other: &FiveForms) -> Result<bool, 
     Ok(copy == *other)
 }
 
-// Copies of the five are equal exactly if the lists let alice read at the same paths.
-fn copies(rt: &impl Abort, alloc: Global) -> Result<(), PushFault> {
+/// Copies of the five are equal exactly if the lists let alice read at the same paths.
+pub fn copies(rt: &impl Abort, alloc: Global) -> Result<(), PushFault> {
     for (flags, reads) in &INHERITED {
         let forms = forms_of(alloc, *flags)?;
         for (other_flags, other_reads) in &INHERITED {
@@ -101,8 +101,8 @@ fn written(forms: &FiveForms, room: &mut [u8]) -> (usize, Option<u64>) {
     )
 }
 
-// A room of n bytes: the fault tells n, and the room holds the first n bytes.
-fn cut_forms(rt: &impl Abort, alloc: Global) -> Result<(), PushFault> {
+/// A room of n bytes: the fault tells n, and the room holds the first n bytes.
+pub fn cut_forms(rt: &impl Abort, alloc: Global) -> Result<(), PushFault> {
     let forms = forms_of(alloc, 0x06)?;
     for size in 0..SPELLED.len() {
         let mut room = [0u8; 68];
@@ -120,28 +120,14 @@ fn five_forms_are_cut_where_a_write_fails(rt: HostRuntime) {
     assert!(rt; passes(cut_forms(&rt, rt.alloc())));
 }
 
-mod ample {
-    use super::*;
+/// The bytes of a list are counted before they are written.
+pub fn lengths(rt: &impl Abort, alloc: Global) -> Result<(), PushFault> {
+    assert!(rt; Acl::new(alloc).encoded_len() == 4);
+    assert!(rt; reading(alloc, 0)?.encoded_len() == 28);
+    Ok(())
+}
 
-    #[test]
-    fn five_forms_follow_the_flags(rt: HostRuntime) {
-        assert!(rt; five_forms(&rt, rt.alloc()).is_ok());
-    }
-
-    #[test]
-    fn five_forms_are_equal_where_the_paths_agree(rt: HostRuntime) {
-        assert!(rt; copies(&rt, rt.alloc()).is_ok());
-    }
-
-    #[test]
-    fn five_forms_are_cut_where_a_write_fails(rt: HostRuntime) {
-        assert!(rt; cut_forms(&rt, rt.alloc()).is_ok());
-    }
-
-    #[test]
-    fn encoded_len_counts_the_bytes_of_a_list(rt: HostRuntime) {
-        let alloc = rt.alloc();
-        assert!(rt; Acl::new(alloc).encoded_len() == 4);
-        assert!(rt; matches!(reading(alloc, 0).map(|list| list.encoded_len()), Ok(28)));
-    }
+#[test]
+fn encoded_len_counts_the_bytes_of_a_list(rt: HostRuntime) {
+    assert!(rt; passes(lengths(&rt, rt.alloc())));
 }

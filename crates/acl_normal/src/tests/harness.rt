@@ -21,12 +21,15 @@ pub const INHERIT_ONLY: u32 = 0x08;
 
 pub const GROUP: u32 = 0x40;
 
-// The ACE of a row.
-fn item((kind, flags, mask, who): AceRow) -> Option<AceRef<'static>> {
+/// An ACE with flags and a mask that are some.
+pub fn ace_of(kind: Kind, flags: u32, mask: u32, who: &[u8]) -> Option<AceRef<'_>> {
+    let (Some(flags), Some(mask)) = (Flags::new(flags), Mask::new(mask)) else {
+        return None;
+    };
     Some(AceRef {
         kind,
-        flags: Flags::new(flags)?,
-        mask: Mask::new(mask)?,
+        flags,
+        mask,
         who,
     })
 }
@@ -34,16 +37,16 @@ fn item((kind, flags, mask, who): AceRow) -> Option<AceRef<'static>> {
 /// The list of some rows.
 pub fn built(alloc: Global, rows: &[AceRow]) -> Result<Acl, PushFault> {
     let mut list = Acl::new(alloc);
-    for row in rows {
-        if let Some(ace) = item(*row) {
+    for (kind, flags, mask, who) in rows {
+        if let Some(ace) = ace_of(*kind, *flags, *mask, who) {
             list.push(ace)?;
         }
     }
     Ok(list)
 }
 
-/// Want of memory as a list tells it. Tables answer it where they meet it, and each runs twice: once with that for an
-/// answer, and in a module `ample` without.
+/// Want of memory as a list tells it. Tables answer it where they meet it, and each runs twice: once in its own file,
+/// with that for an answer, and once in `ample`, without.
 pub fn kept<T>(answer: Result<T, AllocError>) -> Result<T, PushFault> {
     match answer {
         Ok(value) => Ok(value),

@@ -1,7 +1,8 @@
 -- How one list, and two, are read from an input that comes in pieces (this library's own, over RFC 4506 and RFC 8881,
 -- section 6.2.1).
-use Rattle.std.specs.Prelude.{◌≡◌, ◌⊎◌, ◌+◌, ◌≤◌, ◌<◌, ◌++◌, [], List, ℕ, Bool, false, true, Option, IfSome, Result, Ok, Err, length}
+use Rattle.std.specs.Prelude.{◌≡◌, ◌⊎◌, ◌+◌, ◌≤◌, ◌<◌, ◌++◌, [], List, ℕ, Bool, false, true, Option, IfErr, IfOk, IfSome, OnOk, Result, Ok, Err, length}
 use Rattle.std.specs.Io.KnownBytes.{Consumes, IsAtEnd, Keeps}
+use Rattle.acl_perm.specs.Devices.{failures_after}
 use Rattle.acl_perm.specs.Profile.{Profile}
 use Rattle.acl_nfs4.specs.Ace.{Ace}
 use Rattle.acl_nfs4.specs.Fault.{IsFirstFault}
@@ -10,9 +11,9 @@ use Rattle.acl_nfs4.specs.internal.Progress.{IsBytes}
 use Rattle.acl_nfs4.specs.Stream.{IsCut}
 use Rattle.acl_nfs4.specs.declared.xdr.fault.Fault.{Fault}
 use Rattle.acl_nfs4.specs.declared.xdr.fault.Reason.TheVariants.{TrailingBytes, Truncated}
-use Rattle.aclck.specs.Answer.{IsXdrFault, cause_of}
+use Rattle.aclck.specs.Answer.{IsXdrFault, cause_of, has_read_failed, is_read}
 use Rattle.aclck.specs.Compare.{IsRefusedTwo}
-use Rattle.aclck.specs.ListInput.{RefusalEnds, ValueEnds, piece_len}
+use Rattle.aclck.specs.ListInput.{AreOpen, IsOpen, ListEnds, RefusalEnds, TakesPart, TakesTo, TwoEnd, ValueEnds, piece_len}
 use Rattle.aclck.specs.declared.answer.Cause.{Cause}
 use Rattle.aclck.specs.declared.answer.Cause.TheVariants as cause
 use Rattle.aclck.specs.declared.answer.RunFault.{RunFault}
@@ -66,13 +67,36 @@ Unread Refused cause.Source = Unit {0}
 Unread Refused (cause.Sink w) = ⊥
 Unread Refused cause.Memory = Unit {0}
 
--- why one list was not read
-abbrev pub IsNotRead : Profile → Option (List ℕ) → RunFault → Type 0
-IsNotRead p known e = Unread (HasInput (λ input. IsXdrFault p input e) known) (cause_of e)
+-- what an input is to be: which faults it may have, where it ends, and which beginnings of it may go on
+pub record Kind : Type 1 where
+  pub HasFault : List ℕ → RunFault → Type 0
+  pub EndsAt : List ℕ → ℕ → Type 0
+  pub MayGoOn : List ℕ → Type 0
 
--- why two lists were not read
-abbrev pub AreNotRead : Profile → Option (List ℕ) → RunFault → Type 0
-AreNotRead p known e = Unread (HasInput (λ input. IsRefusedTwo p input e) known) (cause_of e)
+-- one list
+abbrev pub one_list : Profile → Kind
+one_list p = record { HasFault = IsXdrFault p; EndsAt = ListEnds p; MayGoOn = IsOpen p }
+
+-- two lists
+abbrev pub two_lists : Profile → Kind
+two_lists p = record { HasFault = IsRefusedTwo p; EndsAt = TwoEnd p; MayGoOn = AreOpen p }
+
+-- an input of a kind was read from a source, or not: by the bytes that the source has left before and after, and by how
+-- many of its calls failed
+pub record ReadsInput {X : Type 0} (k : Kind) (Is : X → List ℕ → Type 0) (known left : Option (List ℕ))
+    (failed failed_after : ℕ) (r : Result X RunFault) : Type 0 where
+  -- what was found is the input
+  pub found : IfOk r (λ x. HasInput (Is x) known)
+  -- which was read whole
+  pub whole : OnOk r (IsAtEnd left)
+  -- why it was not read
+  pub not_read : IfErr r (λ e. Unread (HasInput (λ input. k.HasFault input e) known) (cause_of e))
+  -- little was taken
+  pub bound : TakesTo k.EndsAt known left
+  -- where a read failed, what was taken is not refused
+  pub stopped : IfErr r (λ e. is_read e ≡ true → TakesPart k.MayGoOn known left)
+  -- one read failed where the answer says so, and else none
+  pub reads : failed_after ≡ failures_after failed (has_read_failed r)
 
 -- ---- one value
 

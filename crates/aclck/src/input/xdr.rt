@@ -6,11 +6,9 @@ ghost use Rattle.acl_perm.specs.Profile.{profile_of};
 ghost use Rattle.acl_nfs4.specs.Spelling.{Xdr};
 ghost use Rattle.acl_nfs4.specs.Stream.{Finishes};
 ghost use Rattle.acl_nfs4.specs.declared.xdr.fault.Reason.TheVariants.{Memory};
-ghost use Rattle.aclck.specs.Answer.{has_read_failed, is_read};
 ghost use Rattle.aclck.specs.Compare.{AreTwo};
-ghost use Rattle.aclck.specs.ListInput.{TakesLittle, TakesOpen, piece_len};
-ghost use Rattle.aclck.specs.TwoLists.{TakesLittleOfTwo, TakesOpenOfTwo};
-ghost use Rattle.aclck.specs.internal.Reading.{AreNotRead, EndsNot, HasInput, IsNotRead, ReadsNone, ReadsValue, StandsBelow, has_pull_failed, later};
+ghost use Rattle.aclck.specs.ListInput.{piece_len};
+ghost use Rattle.aclck.specs.internal.Reading.{EndsNot, ReadsInput, ReadsNone, ReadsValue, StandsBelow, has_pull_failed, later, one_list, two_lists};
 ghost use Rattle.acl_nfs4.specs.internal.Progress.{IsBytes};
 
 use crate::answer::RunFault;
@@ -226,17 +224,9 @@ pub(crate) fn read_list<S: Source>(
     source: &mut S,
     profile: Profile,
 ) -> Result<Acl, RunFault>
-    ensures found { IfOk result (λ list.
-        HasInput (λ input. Xdr (profile_of profile) list input) (S.remaining source.old)) }
-    ensures whole { OnOk result (IsAtEnd (S.remaining source.new)) }
-    ensures not_read { IfErr result (λ e.
-        IsNotRead (profile_of profile) (S.remaining source.old) e) }
-    ensures bound { TakesLittle (profile_of profile)
-        (S.remaining source.old) (S.remaining source.new) }
-    ensures stopped { IfErr result (λ e. is_read e ≡ true
-        → TakesOpen (profile_of profile) (S.remaining source.old) (S.remaining source.new)) }
-    ensures reads { S.failure_count source.new
-        ≡ failures_after (S.failure_count source.old) (has_read_failed result) }
+    ensures { ReadsInput (one_list (profile_of profile)) (Xdr (profile_of profile))
+        (S.remaining source.old) (S.remaining source.new)
+        (S.failure_count source.old) (S.failure_count source.new) result }
 {
     let mut pulled = Pulled::new();
     let Value { list, len } = read_value(alloc, source, &mut pulled, profile)?;
@@ -258,17 +248,10 @@ pub(crate) fn read_two<S: Source>(
     source: &mut S,
     profile: Profile,
 ) -> Result<TwoLists, RunFault>
-    ensures found { IfOk result (λ two. HasInput
-        (λ input. AreTwo (profile_of profile) two.first two.second input) (S.remaining source.old)) }
-    ensures whole { OnOk result (IsAtEnd (S.remaining source.new)) }
-    ensures not_read { IfErr result (λ e.
-        AreNotRead (profile_of profile) (S.remaining source.old) e) }
-    ensures bound { TakesLittleOfTwo (profile_of profile)
-        (S.remaining source.old) (S.remaining source.new) }
-    ensures stopped { IfErr result (λ e. is_read e ≡ true
-        → TakesOpenOfTwo (profile_of profile) (S.remaining source.old) (S.remaining source.new)) }
-    ensures reads { S.failure_count source.new
-        ≡ failures_after (S.failure_count source.old) (has_read_failed result) }
+    ensures { ReadsInput (two_lists (profile_of profile))
+        (λ (two : TwoLists). AreTwo (profile_of profile) two.first two.second)
+        (S.remaining source.old) (S.remaining source.new)
+        (S.failure_count source.old) (S.failure_count source.new) result }
 {
     let mut pulled = Pulled::new();
     let first = read_value(alloc, source, &mut pulled, profile)?;

@@ -1,15 +1,11 @@
 //! `bridge`: the NFSv4 list that stands for a POSIX ACL.
-ghost use Rattle.std.specs.Prelude.{◌≡◌, ◌⊎◌, IfErr, IfOk, true};
-ghost use Rattle.acl_nfs4.specs.Spelling.{spelling};
 ghost use Rattle.aclck.specs.Run.{Runs, of_text};
-ghost use Rattle.aclck.specs.Answer.{is_refusal};
-ghost use Rattle.aclck.specs.Bridge.{BridgeAnswer, Bridges, IsBridgeRefusal};
+ghost use Rattle.aclck.specs.Bridge.{BridgeAnswer};
 
-use crate::answer::{Outcome, RunFault};
+use crate::answer::{Outcome, RunFault, tell_list};
 use crate::input::posix::read_file;
 use acl_eval::{BridgeFault, bridge};
-use acl_nfs4::Acl;
-use acl_perm::{Sink, Source, read_all};
+use acl_perm::{Sink, Source};
 use acl_posix::Names;
 use std::alloc::Global;
 
@@ -28,22 +24,9 @@ pub fn run_bridge<S: Source, K: Sink>(
         S.remaining S.failure_count source.old source.new
         K.contents K.failure_count sink.old sink.new result }
 {
-    let input = read_all(alloc, source)?;
-    let list = bridged(alloc, input, names)?;
-    list.encode(sink)?;
-    Ok(Outcome::Yes)
-}
-
-// The list that stands for the access ACL of the file.
-fn bridged(alloc: Global, input: Vec<u8>, names: &Names) -> Result<Acl, RunFault>
-    ensures made { IfOk result (λ list. Bridges names.now input.items (spelling list)) }
-    ensures refused { IfErr result (λ e. (e ≡ RunFault.Memory)
-        ⊎ ((is_refusal e ≡ true) × IsBridgeRefusal names.now input.items e)) }
-{
-    let file = read_file(alloc, &input, names)?;
-    drop(input);
+    let file = read_file(alloc, source, names)?;
     match bridge(alloc, &file.access) {
-        Ok(list) => Ok(list),
+        Ok(list) => tell_list(sink, &list),
         Err(BridgeFault::Limits) => Err(RunFault::Limits),
         Err(BridgeFault::Memory) => Err(RunFault::Memory),
     }

@@ -1,14 +1,11 @@
 //! `calc-mask`: the canonical text of a file with its mask calculated.
-ghost use Rattle.std.specs.Prelude.{◌≡◌, ◌⊎◌, IfErr, IfOk, true};
 ghost use Rattle.aclck.specs.Run.{Runs, of_text};
-ghost use Rattle.aclck.specs.Answer.{is_refusal};
-ghost use Rattle.aclck.specs.PosixAnswer.{IsPosixFault, Writes};
-ghost use Rattle.aclck.specs.CalcMask.{CalcMaskAnswer, masked_text};
+ghost use Rattle.aclck.specs.CalcMask.{CalcMaskAnswer};
 
 use crate::answer::{Outcome, RunFault};
-use crate::input::posix::{canonical, read_file};
-use acl_perm::{Sink, Source, put_all, read_all};
-use acl_posix::Names;
+use crate::input::posix::{read_file, write_file};
+use acl_perm::{Sink, Source};
+use acl_posix::{Form, Names};
 use std::alloc::Global;
 
 /// The word that names the command.
@@ -26,20 +23,7 @@ pub fn run_calc_mask<S: Source, K: Sink>(
         S.remaining S.failure_count source.old source.new
         K.contents K.failure_count sink.old sink.new result }
 {
-    let input = read_all(alloc, source)?;
-    let text = masked(alloc, input, names)?;
-    put_all(sink, text.as_slice())?;
-    Ok(Outcome::Yes)
-}
-
-// The canonical text of the file with its mask calculated.
-fn masked(alloc: Global, input: Vec<u8>, names: &Names) -> Result<Vec<u8>, RunFault>
-    ensures made { IfOk result (λ text. Writes names.now (masked_text) input.items text.items) }
-    ensures refused { IfErr result (λ e. (e ≡ RunFault.Memory)
-        ⊎ ((is_refusal e ≡ true) × IsPosixFault names.now input.items e)) }
-{
-    let mut file = read_file(alloc, &input, names)?;
-    drop(input);
+    let mut file = read_file(alloc, source, names)?;
     file.access.calc_mask()?;
-    Ok(canonical(alloc, &file)?)
+    write_file(alloc, sink, file, Form::Canonical)
 }

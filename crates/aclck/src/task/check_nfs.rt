@@ -172,9 +172,5 @@ fn outcome_of(list: &Acl, object: &Object<'_>, requester: &Requester<'_>, mask: 
     ensures { (result ≡ Outcome.Yes)
         ↔ Grant list.now (situation object.now requester.now) mask.bits }
 {
-    if grants(list.aces(), object, requester, mask) {
-        Outcome::Yes
-    } else {
-        Outcome::No
-    }
+    Outcome::of(grants(list.aces(), object, requester, mask))
 }

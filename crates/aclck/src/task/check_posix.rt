@@ -1,20 +1,18 @@
 //! `check-posix`: whether the access part of a text grants a request.
-ghost use Rattle.std.specs.Prelude.{◌≡◌, ◌⊎◌, IfErr, IfOk, option_and_then, option_map, true};
+ghost use Rattle.std.specs.Prelude.{◌≡◌, option_and_then, option_map};
 ghost use Rattle.clap.specs.Words.{found_of, rows_of};
 ghost use Rattle.acl_posix.specs.Check.{ids};
 ghost use Rattle.aclck.specs.Run.{Runs, of_text};
 ghost use Rattle.aclck.specs.Line.{Reads};
 ghost use Rattle.aclck.specs.Values.{id_value, want_value};
-ghost use Rattle.aclck.specs.Answer.{is_refusal};
-ghost use Rattle.aclck.specs.CheckPosix.{CheckPosixAnswer, Checks, check_posix_held, check_posix_in, groups_value, values_of};
-ghost use Rattle.aclck.specs.PosixAnswer.{IsPosixFault};
+ghost use Rattle.aclck.specs.CheckPosix.{CheckPosixAnswer, check_posix_held, check_posix_in, groups_value, values_of};
 
-use crate::answer::{Outcome, RunFault, decision_line};
+use crate::answer::{Outcome, RunFault, decision_line, tell};
 use crate::input::posix::read_file;
 use crate::line::{Argument, LineFault, text_of};
 use crate::words::names::names_in;
 use crate::words::values::{id_value, ids_value, want_value};
-use acl_perm::{Perm, Sink, Source, put_all, read_all};
+use acl_perm::{Perm, Sink, Source};
 use acl_posix::{Id, Names};
 use clap::ArgMatches;
 use std::alloc::Global;
@@ -48,19 +46,15 @@ pub struct CheckPosix {
 pub(crate) fn read(alloc: Global, matches: &ArgMatches<'_>) -> Result<CheckPosix, LineFault>
     ensures { Reads check_posix_held (check_posix_in (rows_of (found_of matches.now))) result }
 {
-    let owner = id_in(text_of(matches, "owner"))?;
-    let group = id_in(text_of(matches, "group"))?;
-    let user = id_in(text_of(matches, "user"))?;
-    let groups = groups_in(alloc, text_of(matches, "groups"))?;
-    let want = want_in(text_of(matches, "want"))?;
-    let names = names_in(alloc, matches)?;
     Ok(CheckPosix {
-        owner,
-        group,
-        user,
-        groups,
-        want,
-        names,
+        owner: id_in(text_of(matches, "owner"))?,
+        group: id_in(text_of(matches, "group"))?,
+        user: id_in(text_of(matches, "user"))?,
+        groups: groups_in(alloc, text_of(matches, "groups"))?,
+        want: text_of(matches, "want")
+            .and_then(want_value)
+            .ok_or(LineFault::Usage)?,
+        names: names_in(alloc, matches)?,
     })
 }
 
@@ -78,13 +72,6 @@ fn groups_in(alloc: Global, word: Option<&str>) -> Result<Vec<Id>, LineFault>
         Some(word) => ids_value(alloc, word),
         None => Ok(Vec::new(alloc)),
     }
-}
-
-fn want_in(word: Option<&str>) -> Result<Perm, LineFault>
-    ensures { Reads (λ perm. perm.bits)
-        (option_and_then want_value (option_map (λ s. s.now) word.entry)) result }
-{
-    word.and_then(want_value).ok_or(LineFault::Usage)
 }
 
 /// Writes whether the access ACL of the file whose text the input is grants the user, who is in these groups, the
@@ -105,32 +92,7 @@ pub fn run_check_posix<S: Source, K: Sink>(
         S.remaining S.failure_count source.old source.new
         K.contents K.failure_count sink.old sink.new result }
 {
-    let input = read_all(alloc, source)?;
-    let outcome = decide(alloc, input, owner, group, user, groups, want, names)?;
-    put_all(sink, decision_line(outcome))?;
-    Ok(outcome)
-}
-
-// Whether the access ACL of the file whose text the input is grants the request.
-fn decide(
-    alloc: Global,
-    input: Vec<u8>,
-    owner: Id,
-    group: Id,
-    user: Id,
-    groups: &[Id],
-    want: Perm,
-    names: &Names,
-) -> Result<Outcome, RunFault>
-    ensures decided { IfOk result (λ o.
-        Checks (values_of owner group user groups.now want names.now) input.items o) }
-    ensures refused { IfErr result (λ e. (e ≡ RunFault.Memory)
-        ⊎ ((is_refusal e ≡ true) × IsPosixFault names.now input.items e)) }
-{
-    let file = read_file(alloc, &input, names)?;
-    if file.access.check(owner, group, user, groups, want) {
-        Ok(Outcome::Yes)
-    } else {
-        Ok(Outcome::No)
-    }
+    let file = read_file(alloc, source, names)?;
+    let outcome = Outcome::of(file.access.check(owner, group, user, groups, want));
+    tell(sink, outcome, decision_line(outcome))
 }

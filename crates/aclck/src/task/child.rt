@@ -1,5 +1,5 @@
 //! `child`: the list that a new object takes from its directory.
-ghost use Rattle.std.specs.Prelude.{◌≡◌, option_and_then, option_map};
+ghost use Rattle.std.specs.Prelude.{◌≡◌};
 ghost use Rattle.clap.specs.Words.{found_of, rows_of};
 ghost use Rattle.acl_perm.specs.Profile.{profile_of};
 ghost use Rattle.aclck.specs.Run.{Runs, of_list};
@@ -36,16 +36,13 @@ pub struct Child {
 pub(crate) fn read(matches: &ArgMatches<'_>) -> Result<Child, LineFault>
     ensures { Reads child_held (child_in (rows_of (found_of matches.now))) result }
 {
-    let kind = kind_in(text_of(matches, "kind"))?;
-    let profile = profile_in(text_of(matches, "profile"))?;
-    Ok(Child { kind, profile })
-}
-
-fn kind_in(word: Option<&str>) -> Result<ChildKind, LineFault>
-    ensures { Reads (λ kind. kind)
-        (option_and_then kind_value (option_map (λ s. s.now) word.entry)) result }
-{
-    word.and_then(kind_value).ok_or(LineFault::Usage)
+    let kind = text_of(matches, "kind")
+        .and_then(kind_value)
+        .ok_or(LineFault::Usage)?;
+    Ok(Child {
+        kind,
+        profile: profile_in(text_of(matches, "profile"))?,
+    })
 }
 
 #[tactic(auto, unfolding(crate::specs::Child::kind_value))]

@@ -1,20 +1,16 @@
 //! `chmod`: the canonical text of a file with its mode set.
-ghost use Rattle.std.specs.Prelude.{◌≡◌, ◌⊎◌, IfErr, IfOk, option_and_then, option_map, true};
 ghost use Rattle.clap.specs.Words.{found_of, rows_of};
 ghost use Rattle.aclck.specs.Run.{Runs, of_text};
 ghost use Rattle.aclck.specs.Line.{Reads};
-ghost use Rattle.aclck.specs.Values.{mode_value};
-ghost use Rattle.aclck.specs.Answer.{is_refusal};
-ghost use Rattle.aclck.specs.PosixAnswer.{IsPosixFault, Writes};
-ghost use Rattle.aclck.specs.Chmod.{ChmodAnswer, chmod_held, chmod_in, chmod_text};
+ghost use Rattle.aclck.specs.Chmod.{ChmodAnswer, chmod_held, chmod_in};
 
 use crate::answer::{Outcome, RunFault};
-use crate::input::posix::{canonical, read_file};
+use crate::input::posix::{read_file, write_file};
 use crate::line::{Argument, LineFault, text_of};
 use crate::words::names::names_in;
-use crate::words::values::mode_value;
-use acl_perm::{Mode, Sink, Source, put_all, read_all};
-use acl_posix::Names;
+use crate::words::values::mode_in;
+use acl_perm::{Mode, Sink, Source};
+use acl_posix::{Form, Names};
 use clap::ArgMatches;
 use std::alloc::Global;
 
@@ -37,16 +33,10 @@ pub(crate) fn read(alloc: Global, matches: &ArgMatches<'_>) -> Result<Chmod, Lin
     ensures { Reads chmod_held (chmod_in (rows_of (found_of matches.now))) result }
 {
     let mode = mode_in(text_of(matches, "mode"))?;
-    let names = names_in(alloc, matches)?;
-    Ok(Chmod { mode, names })
-}
-
-/// The mode that an option's value spells.
-pub(crate) fn mode_in(word: Option<&str>) -> Result<Mode, LineFault>
-    ensures { Reads (λ mode. mode.bits)
-        (option_and_then mode_value (option_map (λ s. s.now) word.entry)) result }
-{
-    word.and_then(mode_value).ok_or(LineFault::Usage)
+    Ok(Chmod {
+        mode,
+        names: names_in(alloc, matches)?,
+    })
 }
 
 /// Writes the canonical text of the file whose text the input is, with the mode of its access ACL set; the default ACL
@@ -62,21 +52,7 @@ pub fn run_chmod<S: Source, K: Sink>(
         S.remaining S.failure_count source.old source.new
         K.contents K.failure_count sink.old sink.new result }
 {
-    let input = read_all(alloc, source)?;
-    let text = with_mode(alloc, input, mode, names)?;
-    put_all(sink, text.as_slice())?;
-    Ok(Outcome::Yes)
-}
-
-// The canonical text of the file with its mode set.
-fn with_mode(alloc: Global, input: Vec<u8>, mode: Mode, names: &Names) -> Result<Vec<u8>, RunFault>
-    ensures made { IfOk result (λ text.
-        Writes names.now (chmod_text mode.bits) input.items text.items) }
-    ensures refused { IfErr result (λ e. (e ≡ RunFault.Memory)
-        ⊎ ((is_refusal e ≡ true) × IsPosixFault names.now input.items e)) }
-{
-    let mut file = read_file(alloc, &input, names)?;
-    drop(input);
+    let mut file = read_file(alloc, source, names)?;
     file.access.chmod(mode);
-    Ok(canonical(alloc, &file)?)
+    write_file(alloc, sink, file, Form::Canonical)
 }

@@ -1,19 +1,16 @@
 //! `create`: the canonical text of a new object.
-ghost use Rattle.std.specs.Prelude.{◌≡◌, ◌⊎◌, IfErr, IfOk, true};
 ghost use Rattle.clap.specs.Words.{found_of, rows_of};
 ghost use Rattle.aclck.specs.Run.{Runs, of_text};
 ghost use Rattle.aclck.specs.Line.{Reads};
-ghost use Rattle.aclck.specs.Answer.{is_refusal};
-ghost use Rattle.aclck.specs.PosixAnswer.{IsPosixFault, Writes};
-ghost use Rattle.aclck.specs.Create.{CreateAnswer, create_held, create_in, created_text};
+ghost use Rattle.aclck.specs.Create.{CreateAnswer, create_held, create_in};
 
 use crate::answer::{Outcome, RunFault};
-use crate::input::posix::{canonical, read_file};
+use crate::input::posix::{read_file, write_file};
 use crate::line::{Argument, LineFault, is_set, text_of};
-use crate::task::chmod::mode_in;
 use crate::words::names::names_in;
-use acl_perm::{Mode, Sink, Source, put_all, read_all};
-use acl_posix::{Names, create};
+use crate::words::values::mode_in;
+use acl_perm::{Mode, Sink, Source};
+use acl_posix::{Form, Names, create};
 use clap::ArgMatches;
 use std::alloc::Global;
 
@@ -42,15 +39,11 @@ pub struct Create {
 pub(crate) fn read(alloc: Global, matches: &ArgMatches<'_>) -> Result<Create, LineFault>
     ensures { Reads create_held (create_in (rows_of (found_of matches.now))) result }
 {
-    let mode = mode_in(text_of(matches, "mode"))?;
-    let umask = mode_in(text_of(matches, "umask"))?;
-    let dir = is_set(matches, "dir");
-    let names = names_in(alloc, matches)?;
     Ok(Create {
-        mode,
-        umask,
-        dir,
-        names,
+        mode: mode_in(text_of(matches, "mode"))?,
+        umask: mode_in(text_of(matches, "umask"))?,
+        dir: is_set(matches, "dir"),
+        names: names_in(alloc, matches)?,
     })
 }
 
@@ -75,28 +68,8 @@ pub fn run_create<S: Source, K: Sink>(
         S.remaining S.failure_count source.old source.new
         K.contents K.failure_count sink.old sink.new result }
 {
-    let input = read_all(alloc, source)?;
-    let text = created(alloc, input, mode, umask, dir, names)?;
-    put_all(sink, text.as_slice())?;
-    Ok(Outcome::Yes)
-}
-
-// The canonical text of the new object.
-fn created(
-    alloc: Global,
-    input: Vec<u8>,
-    mode: Mode,
-    umask: Mode,
-    dir: bool,
-    names: &Names,
-) -> Result<Vec<u8>, RunFault>
-    ensures made { IfOk result (λ text.
-        Writes names.now (created_text mode.bits umask.bits dir) input.items text.items) }
-    ensures refused { IfErr result (λ e. (e ≡ RunFault.Memory)
-        ⊎ ((is_refusal e ≡ true) × IsPosixFault names.now input.items e)) }
-{
-    let parent = read_file(alloc, &input, names)?;
-    drop(input);
+    let parent = read_file(alloc, source, names)?;
     let file = create(alloc, parent.default.as_ref(), mode, umask, dir)?;
-    Ok(canonical(alloc, &file)?)
+    drop(parent);
+    write_file(alloc, sink, file, Form::Canonical)
 }

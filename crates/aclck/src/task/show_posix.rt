@@ -1,17 +1,15 @@
 //! `show-posix`: the text of a file in a form.
-ghost use Rattle.std.specs.Prelude.{◌≡◌, ◌⊎◌, IfErr, IfOk, option_and_then, option_map, true};
+ghost use Rattle.std.specs.Prelude.{◌≡◌};
 ghost use Rattle.clap.specs.Words.{found_of, rows_of};
 ghost use Rattle.aclck.specs.Run.{Runs, of_text};
 ghost use Rattle.aclck.specs.Line.{Reads};
-ghost use Rattle.aclck.specs.Answer.{is_refusal};
-ghost use Rattle.aclck.specs.PosixAnswer.{IsPosixFault, Writes};
-ghost use Rattle.aclck.specs.ShowPosix.{ShowPosixAnswer, form_text, form_value, show_posix_held, show_posix_in};
+ghost use Rattle.aclck.specs.ShowPosix.{ShowPosixAnswer, form_value, show_posix_held, show_posix_in};
 
 use crate::answer::{Outcome, RunFault};
-use crate::input::posix::{read_file, text_in};
+use crate::input::posix::{read_file, write_file};
 use crate::line::{Argument, LineFault, text_of};
 use crate::words::names::names_in;
-use acl_perm::{Sink, Source, put_all, read_all};
+use acl_perm::{Sink, Source};
 use acl_posix::{Form, Names};
 use clap::ArgMatches;
 use std::alloc::Global;
@@ -37,16 +35,13 @@ pub struct ShowPosix {
 pub(crate) fn read(alloc: Global, matches: &ArgMatches<'_>) -> Result<ShowPosix, LineFault>
     ensures { Reads show_posix_held (show_posix_in (rows_of (found_of matches.now))) result }
 {
-    let form = form_in(text_of(matches, "form"))?;
-    let names = names_in(alloc, matches)?;
-    Ok(ShowPosix { form, names })
-}
-
-fn form_in(word: Option<&str>) -> Result<Form, LineFault>
-    ensures { Reads (λ form. form)
-        (option_and_then form_value (option_map (λ s. s.now) word.entry)) result }
-{
-    word.and_then(form_value).ok_or(LineFault::Usage)
+    let form = text_of(matches, "form")
+        .and_then(form_value)
+        .ok_or(LineFault::Usage)?;
+    Ok(ShowPosix {
+        form,
+        names: names_in(alloc, matches)?,
+    })
 }
 
 #[tactic(auto, unfolding(crate::specs::ShowPosix::form_value))]
@@ -74,19 +69,6 @@ pub fn run_show_posix<S: Source, K: Sink>(
         S.remaining S.failure_count source.old source.new
         K.contents K.failure_count sink.old sink.new result }
 {
-    let input = read_all(alloc, source)?;
-    let text = shown(alloc, input, form, names)?;
-    put_all(sink, text.as_slice())?;
-    Ok(Outcome::Yes)
-}
-
-// The text in the form.
-fn shown(alloc: Global, input: Vec<u8>, form: Form, names: &Names) -> Result<Vec<u8>, RunFault>
-    ensures made { IfOk result (λ text. Writes names.now (form_text form) input.items text.items) }
-    ensures refused { IfErr result (λ e. (e ≡ RunFault.Memory)
-        ⊎ ((is_refusal e ≡ true) × IsPosixFault names.now input.items e)) }
-{
-    let file = read_file(alloc, &input, names)?;
-    drop(input);
-    Ok(text_in(alloc, &file, form)?)
+    let file = read_file(alloc, source, names)?;
+    write_file(alloc, sink, file, form)
 }

@@ -1,10 +1,11 @@
 //! `bridge` over texts of POSIX ACLs.
 
 use crate::command::command;
-use crate::tests::harness::{Answered, Memory, Refused, Table, refusals_fail_at_each_read};
+use crate::tests::harness::{Table, Trial};
 use crate::tests::texts::{GROUPS, PLAIN};
 use acl_perm::Counted;
 use std::alloc::{AllocError, Global};
+use std::process::Abort;
 use std::test::Fail;
 
 // ---- texts and lists
@@ -36,36 +37,37 @@ const IDS_LIST: &[u8] = b"\0\0\0\x05\
 
 // ---- rows
 
-// Texts with the lists that mean the same.
-const LISTS: [Answered; 3] = [
-    ("bridge", b"u::rw-,g::r--,o::r--", 0, PLAIN_LIST),
-    ("bridge", GROUPS, 0, GROUPS_LIST),
-    (
-        "bridge u:root=0",
-        b"u::,u:root:rwx,g::,g:4294967294:wx,m::r,o::,d:u::rwx,d:g::rwx,d:o::rwx",
-        0,
-        IDS_LIST,
-    ),
-];
-
-// Lines that are refused, or ask for nothing.
-const REFUSALS: [Refused; 3] = [
-    (
+// Texts with the lists that mean the same; and lines that are refused, or ask for nothing.
+static TABLE: Table = Table {
+    answers: &[
+        (
+            "bridge",
+            0,
+            &[(b"u::rw-,g::r--,o::r--", PLAIN_LIST), (GROUPS, GROUPS_LIST)],
+        ),
+        (
+            "bridge u:root=0",
+            0,
+            &[(
+                b"u::,u:root:rwx,g::,g:4294967294:wx,m::r,o::,d:u::rwx,d:g::rwx,d:o::rwx",
+                IDS_LIST,
+            )],
+        ),
+    ],
+    refusals: &[(
         "bridge",
-        b"u::rwx,g::r-x,o::---,d:u::r",
-        2,
-        "aclck: Invalid default: Miss GROUP_OBJ\n",
-    ),
-    ("bridge --profile full", PLAIN, 3, "aclck: usage\n"),
-    ("bridge bob=5", PLAIN, 3, "aclck: usage\n"),
-];
+        &[(
+            b"u::rwx,g::r-x,o::---,d:u::r",
+            "Invalid default: Miss GROUP_OBJ",
+        )],
+    )],
+    usage: &["bridge --profile full", "bridge bob=5"],
+    unread: PLAIN,
+};
 
-/// What is answered, and what is refused.
-pub fn table() -> Table {
-    Table {
-        answers: &LISTS,
-        refusals: &REFUSALS,
-    }
+/// Each row is answered or refused as it says.
+pub fn holds<A: Abort>(rt: &A, trial: Trial) {
+    TABLE.holds(rt, trial);
 }
 
 // ---- many users
@@ -101,7 +103,7 @@ fn bridged(alloc: Global, input: &[u8], err: &mut [u8]) -> (u8, Vec<u8>) {
 }
 
 // The text that a room begins with, and nothing behind it.
-fn holds(room: &[u8], text: &str) -> bool {
+fn is_line(room: &[u8], text: &str) -> bool {
     room.starts_with(text.as_bytes()) && room.iter().skip(text.len()).all(|byte| *byte == 0)
 }
 
@@ -116,14 +118,7 @@ fn bridges_users(
     let input = users(alloc, count, other)?;
     let mut err = [0u8; 64];
     let (answer, written) = bridged(alloc, &input, &mut err);
-    Ok(answer == status && written.is_empty() == (status == 2) && holds(&err, told))
-}
-
-// ---- tests
-
-#[test]
-fn bridge_writes_each_list_or_wants_memory(rt: HostRuntime) {
-    table().holds(&rt, Memory::scarce(rt.alloc()));
+    Ok(answer == status && written.is_empty() == (status == 2) && is_line(&err, told))
 }
 
 // What is answered where memory is ample.
@@ -142,12 +137,6 @@ mod ample {
                 "{count} users"
             );
         }
-        Ok(())
-    }
-
-    #[test]
-    fn bridge_tells_a_failed_read_before_a_fault(rt: HostRuntime) -> Result<(), Fail> {
-        refusals_fail_at_each_read(&rt, rt.alloc(), table().refusals)?;
         Ok(())
     }
 }

@@ -127,24 +127,12 @@ mod ample {
     #[test]
     fn check_nfs_tells_of_a_read_that_fails_and_reads_no_more(rt: HostRuntime) {
         for failing in 1..10u64 {
-            assert!(rt;
-                fails_at_read(
-                    rt.alloc(),
-                    &asking("READ_DATA"),
-                    READ_OF_ALL,
-                    Calls::one(failing, 4)
-                ),
-                "at read {failing}"
-            );
-            assert!(rt;
-                fails_at_read(
-                    rt.alloc(),
-                    &asking("READ_DATA"),
-                    READ_OF_ALL,
-                    Calls::since(failing, 4)
-                ),
-                "from read {failing} on"
-            );
+            for source in [Calls::one(failing, 4), Calls::since(failing, 4)] {
+                assert!(rt;
+                    fails_at_read(rt.alloc(), &asking("READ_DATA"), READ_OF_ALL, source),
+                    "read {failing}"
+                );
+            }
         }
     }
 

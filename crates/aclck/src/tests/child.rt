@@ -1,7 +1,8 @@
 //! `child` and `mode` over lists in bytes.
 
-use crate::tests::harness::{Answered, Memory, Refused, Table};
+use crate::tests::harness::{Table, Trial};
 use crate::tests::lists::{EMPTY, READ_OF_ALICE, READ_OF_THE_GROUP, RETENTION_OF_BOB};
+use std::process::Abort;
 
 // ---- lists
 
@@ -41,72 +42,83 @@ const OF_ALL: &[u8] = b"\0\0\0\x04\
 
 // ---- rows
 
-// Lists with the list that a child has, or with the mode.
-const ROWS: [Answered; 14] = [
-    ("child --kind dir", FOR_FILES, 0, WAITING),
-    ("child --kind file", WAITING, 0, READ_OF_ALICE),
-    ("child --kind dir", FOR_FILES_ONCE, 0, EMPTY),
-    ("child --kind=dir", FOR_DIRECTORIES_ONCE, 0, READ_OF_ALICE),
-    ("child --kind file", OF_THE_GROUP, 0, READ_OF_THE_GROUP),
-    (
-        "child --kind dir --profile=full",
-        OF_THE_GROUP,
-        0,
-        GROUP_IN_A_DIRECTORY,
-    ),
-    ("child --kind file", OF_STAFF, 0, EMPTY),
-    ("child --profile narrow --kind dir", OF_STAFF, 0, OF_STAFF),
-    ("child --kind file", EMPTY, 0, EMPTY),
-    ("mode", WITHOUT_THE_OWNER, 0, b"466\n"),
-    ("mode --profile narrow", WITHOUT_THE_OWNER, 0, b"466\n"),
-    ("mode --", OF_ALL, 0, b"511\n"),
-    ("mode --profile full", RETENTION_OF_BOB, 0, b"000\n"),
-    ("mode", EMPTY, 0, b"000\n"),
-];
+// Lists with the list that a child has, or with the mode; and lines that are refused, or ask for nothing.
+static TABLE: Table = Table {
+    answers: &[
+        (
+            "child --kind dir",
+            0,
+            &[(FOR_FILES, WAITING), (FOR_FILES_ONCE, EMPTY)],
+        ),
+        (
+            "child --kind file",
+            0,
+            &[
+                (WAITING, READ_OF_ALICE),
+                (OF_THE_GROUP, READ_OF_THE_GROUP),
+                (OF_STAFF, EMPTY),
+                (EMPTY, EMPTY),
+            ],
+        ),
+        (
+            "child --kind=dir",
+            0,
+            &[(FOR_DIRECTORIES_ONCE, READ_OF_ALICE)],
+        ),
+        (
+            "child --kind dir --profile=full",
+            0,
+            &[(OF_THE_GROUP, GROUP_IN_A_DIRECTORY)],
+        ),
+        (
+            "child --profile narrow --kind dir",
+            0,
+            &[(OF_STAFF, OF_STAFF)],
+        ),
+        (
+            "mode",
+            0,
+            &[(WITHOUT_THE_OWNER, b"466\n"), (EMPTY, b"000\n")],
+        ),
+        ("mode --profile narrow", 0, &[(WITHOUT_THE_OWNER, b"466\n")]),
+        ("mode --", 0, &[(OF_ALL, b"511\n")]),
+        ("mode --profile full", 0, &[(RETENTION_OF_BOB, b"000\n")]),
+    ],
+    refusals: &[
+        (
+            "child --kind file --profile narrow",
+            &[(OF_THE_GROUP, "FlagBits at byte 8")],
+        ),
+        (
+            "mode --profile=narrow",
+            &[(RETENTION_OF_BOB, "MaskBits at byte 12")],
+        ),
+        (
+            "child --kind file",
+            &[(b"\0\0\0\x01\0\0\0\x02", "AuditOrAlarm at byte 4")],
+        ),
+        (
+            "mode",
+            &[
+                (b"\0\0\0\0\0", "TrailingBytes at byte 4"),
+                (b"\0\0\0", "Truncated at byte 0"),
+            ],
+        ),
+    ],
+    usage: &[
+        "child",
+        "child --kind link",
+        "child --kind=",
+        "child --kind file x",
+        "child --kind file --kind dir",
+        "mode x",
+        "mode --profile wide",
+        "mode --kind file",
+    ],
+    unread: EMPTY,
+};
 
-// Lines that are refused, or ask for nothing.
-const REFUSALS: [Refused; 13] = [
-    (
-        "child --kind file --profile narrow",
-        OF_THE_GROUP,
-        2,
-        "aclck: FlagBits at byte 8\n",
-    ),
-    (
-        "mode --profile=narrow",
-        RETENTION_OF_BOB,
-        2,
-        "aclck: MaskBits at byte 12\n",
-    ),
-    (
-        "child --kind file",
-        b"\0\0\0\x01\0\0\0\x02",
-        2,
-        "aclck: AuditOrAlarm at byte 4\n",
-    ),
-    ("mode", b"\0\0\0\0\0", 2, "aclck: TrailingBytes at byte 4\n"),
-    ("mode", b"\0\0\0", 2, "aclck: Truncated at byte 0\n"),
-    ("child", EMPTY, 3, "aclck: usage\n"),
-    ("child --kind link", EMPTY, 3, "aclck: usage\n"),
-    ("child --kind=", EMPTY, 3, "aclck: usage\n"),
-    ("child --kind file x", EMPTY, 3, "aclck: usage\n"),
-    ("child --kind file --kind dir", EMPTY, 3, "aclck: usage\n"),
-    ("mode x", EMPTY, 3, "aclck: usage\n"),
-    ("mode --profile wide", EMPTY, 3, "aclck: usage\n"),
-    ("mode --kind file", EMPTY, 3, "aclck: usage\n"),
-];
-
-/// What is answered, and what is refused.
-pub fn table() -> Table {
-    Table {
-        answers: &ROWS,
-        refusals: &REFUSALS,
-    }
-}
-
-// ---- tests
-
-#[test]
-fn child_and_mode_answer_each_row_or_want_memory(rt: HostRuntime) {
-    table().holds(&rt, Memory::scarce(rt.alloc()));
+/// Each row is answered or refused as it says.
+pub fn holds<A: Abort>(rt: &A, trial: Trial) {
+    TABLE.holds(rt, trial);
 }

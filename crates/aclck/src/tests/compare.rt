@@ -1,15 +1,11 @@
 //! `compare` over two lists in bytes, one behind the other.
 
-use crate::tests::harness::{
-    Memory, fails_at_each_read, fails_at_each_write, joined, line_is_refused_at_once,
-};
+use crate::tests::harness::{Answer, Trial};
 use crate::tests::lists::{
     AMY_AND_ALL, AMY_INHERITED, BEHIND_ALICE, EMPTY, OPS_FIRST, OPS_LAST, READ_OF_ALICE,
     READ_OF_ALL, READ_OF_THE_GROUP, READ_OF_THE_OWNER, RETENTION_OF_BOB, WITH_A_BYTE, WITHOUT_BOB,
 };
-use std::alloc::{AllocError, Global};
 use std::process::Abort;
-use std::test::Fail;
 
 // ---- lists
 
@@ -60,11 +56,11 @@ const BEGUN: &[u8] = b"\0\0\0\x01\0\0\0\0\0\0";
 // Two lists, with the status and what `compare` writes of them.
 type Pair = (&'static [u8], &'static [u8], u8, &'static [u8]);
 
-// A line of words and two lists, with what is told of them.
+// A line of words and two lists, with the fault of them.
 type RefusedPair = (&'static str, &'static [u8], &'static [u8], &'static str);
 
 // Lists that are the same, or differ first in a situation.
-const COMPARISONS: [Pair; 11] = [
+static COMPARISONS: [Pair; 11] = [
     (WITHOUT_BOB, BEHIND_ALICE, 0, b"same\n"),
     (
         OPS_FIRST,
@@ -136,111 +132,35 @@ const COMPARISONS: [Pair; 11] = [
     ),
 ];
 
-fn pairs() -> &'static [Pair] {
-    &COMPARISONS
-}
-
 // Lists of which the second is refused.
-const REFUSALS: [RefusedPair; 4] = [
-    (
-        "compare",
-        READ_OF_ALL,
-        BEGUN,
-        "aclck: Truncated at byte 40\n",
-    ),
+static REFUSALS: [RefusedPair; 4] = [
+    ("compare", READ_OF_ALL, BEGUN, "Truncated at byte 40"),
     (
         "compare",
         READ_OF_ALL,
         WITH_A_BYTE,
-        "aclck: TrailingBytes at byte 64\n",
+        "TrailingBytes at byte 64",
     ),
     (
         "compare --profile narrow",
         EMPTY,
         RETENTION_OF_BOB,
-        "aclck: MaskBits at byte 16\n",
+        "MaskBits at byte 16",
     ),
-    ("compare", EMPTY, b"", "aclck: Truncated at byte 4\n"),
+    ("compare", EMPTY, b"", "Truncated at byte 4"),
 ];
 
-fn refusals() -> &'static [RefusedPair] {
-    &REFUSALS
-}
-
-// Whether `compare` gives this answer.
-fn compares(memory: Memory, pair: &Pair) -> bool {
-    let (first, second, status, text) = pair;
-    match joined(memory.alloc, first, second) {
-        Ok(input) => memory.gives_at(&["compare"], &input, *status, text, ""),
-        Err(_) => !memory.is_ample,
-    }
-}
-
-fn comparisons_hold<A: Abort>(rt: &A, memory: Memory) {
-    for pair in pairs() {
-        assert!(rt; compares(memory, pair), "{pair:?}");
-    }
-}
-
-// Whether a line refuses two lists.
-fn refuses(memory: Memory, pair: &RefusedPair) -> bool {
-    let (line, first, second, told) = pair;
-    match joined(memory.alloc, first, second) {
-        Ok(input) => memory.gives(line, &input, 2, b"", told),
-        Err(_) => !memory.is_ample,
-    }
-}
-
 /// Each pair of lists is answered or refused as it says.
-pub fn all_rows_hold<A: Abort>(rt: &A, memory: Memory) {
-    comparisons_hold(rt, memory);
-    for pair in refusals() {
-        assert!(rt; refuses(memory, pair), "{pair:?}");
+pub fn holds<A: Abort>(rt: &A, trial: Trial) {
+    for (first, second, status, text) in &COMPARISONS {
+        let answer = Answer::Text(*status, text);
+        assert!(rt;
+            trial.passes_joined("compare", first, second, answer),
+            "{text:?}"
+        );
     }
-}
-
-// The source fails at each read in turn, of four bytes each, and then the sink at each write, of one byte each.
-fn pair_fails_everywhere(alloc: Global, pair: &Pair) -> Result<bool, AllocError> {
-    let (first, second, _, text) = pair;
-    let input = joined(alloc, first, second)?;
-    let words = &["compare"];
-    Ok(
-        fails_at_each_read(alloc, words, &input, 4)
-            && fails_at_each_write(alloc, words, &input, text),
-    )
-}
-
-// The source of a line is spent just after it has refused two lists.
-fn pair_refuses_at_once(alloc: Global, pair: &RefusedPair) -> Result<bool, AllocError> {
-    let (line, first, second, told) = pair;
-    let input = joined(alloc, first, second)?;
-    line_is_refused_at_once(alloc, line, &input, 2, told)
-}
-
-// ---- tests
-
-#[test]
-fn compare_answers_each_pair_or_wants_memory(rt: HostRuntime) {
-    all_rows_hold(&rt, Memory::scarce(rt.alloc()));
-}
-
-// What is answered where memory is ample.
-mod ample {
-    use super::*;
-
-    #[test]
-    fn compare_tells_of_each_device_that_fails(rt: HostRuntime) -> Result<(), Fail> {
-        for pair in pairs() {
-            assert!(rt; pair_fails_everywhere(rt.alloc(), pair)?, "{pair:?}");
-        }
-        Ok(())
-    }
-
-    #[test]
-    fn compare_reads_nothing_behind_a_refusal(rt: HostRuntime) -> Result<(), Fail> {
-        for pair in refusals() {
-            assert!(rt; pair_refuses_at_once(rt.alloc(), pair)?, "{pair:?}");
-        }
-        Ok(())
+    for (line, first, second, fault) in &REFUSALS {
+        let answer = Answer::Fault(fault);
+        assert!(rt; trial.passes_joined(line, first, second, answer), "{fault}");
     }
 }

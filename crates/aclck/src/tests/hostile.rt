@@ -22,11 +22,11 @@ mod ample {
     #[test]
     fn normalize_refuses_a_word_of_ones_at_its_place(rt: HostRuntime) {
         for (place, told) in [
-            (0usize, "aclck: TooManyAces at byte 0\n"),
-            (4, "aclck: AceType at byte 4\n"),
-            (8, "aclck: FlagBits at byte 8\n"),
-            (12, "aclck: MaskBits at byte 12\n"),
-            (16, "aclck: WhoLength at byte 16\n"),
+            (0usize, "TooManyAces at byte 0"),
+            (4, "AceType at byte 4"),
+            (8, "FlagBits at byte 8"),
+            (12, "MaskBits at byte 12"),
+            (16, "WhoLength at byte 16"),
         ] {
             let input = damaged(place);
             let one = run(rt.alloc(), &["normalize"], &input, FINE);
@@ -67,12 +67,12 @@ mod ample {
         assert!(rt; ran.is(0, shown, ""));
         let nines = repeated(rt.alloc(), b"u:", b"9", 1000, b":r--")?;
         let ran = run(rt.alloc(), &["show-posix"], &nines, FINE);
-        assert!(rt; ran.is(2, b"", "aclck: Id at line 1 column 3\n"));
+        assert!(rt; ran.is(2, b"", "Id at line 1 column 3"));
         let commas = repeated(rt.alloc(), b"", b",", 1_000_000, b"")?;
         let ran = run(rt.alloc(), &["show-posix"], &commas, FINE);
-        assert!(rt; ran.is(2, b"", "aclck: EmptyEntry at line 1 column 1\n"));
+        assert!(rt; ran.is(2, b"", "EmptyEntry at line 1 column 1"));
         let ran = run(rt.alloc(), &["show-posix"], b"\xff::r", FINE);
-        assert!(rt; ran.is(2, b"", "aclck: Tag at line 1 column 1\n"));
+        assert!(rt; ran.is(2, b"", "Tag at line 1 column 1"));
         Ok(())
     }
 }

@@ -1,7 +1,8 @@
 //! `encode` and `show-nfs`: texts of lists, and lists in bytes.
 
-use crate::tests::harness::{Answered, Memory, Refused, Table, fails_at_each_read};
-use crate::tests::lists::{GROUP_FLAGGED, NO_RIGHTS, WITH_A_BYTE};
+use crate::tests::harness::{Table, Trial};
+use crate::tests::lists::{EMPTY, GROUP_FLAGGED, NO_RIGHTS, WITH_A_BYTE};
+use std::process::Abort;
 
 // ---- lists
 
@@ -13,151 +14,99 @@ const INHERITED: &[u8] = b"\0\0\0\x01\0\0\0\0\0\0\0\x80\0\0\0\x01\0\0\0\x03bob\0
 
 // ---- rows
 
-// Texts with their lists, and lists with their texts.
-const TEXTS: [Answered; 10] = [
-    ("encode", b"", 0, b"\0\0\0\0"),
-    ("show-nfs", b"\0\0\0\0", 0, b""),
-    (
-        "encode",
-        b"ALLOW GROUP READ_DATA GROUP@\n",
-        0,
-        GROUP_FLAGGED,
-    ),
-    (
-        "show-nfs",
-        GROUP_FLAGGED,
-        0,
-        b"ALLOW GROUP READ_DATA GROUP@\n",
-    ),
-    (
-        "encode",
-        b"ALLOW GROUP|DIR|GROUP ADD_FILE|LIST_DIRECTORY  two words ",
-        0,
-        BLANKS,
-    ),
-    (
-        "show-nfs",
-        BLANKS,
-        0,
-        b"ALLOW DIR|GROUP READ_DATA|WRITE_DATA  two words \n",
-    ),
-    ("encode", b"# x\nDENY - - OWNER@", 0, NO_RIGHTS),
-    ("show-nfs", NO_RIGHTS, 0, b"DENY - - OWNER@\n"),
-    (
-        "encode --profile full",
-        b"ALLOW INHERITED READ_DATA bob",
-        0,
-        INHERITED,
-    ),
-    (
-        "show-nfs --profile=full",
-        INHERITED,
-        0,
-        b"ALLOW INHERITED READ_DATA bob\n",
-    ),
-];
+// Texts with their lists; and lines that are refused, or ask for nothing.
+static ENCODED: Table = Table {
+    answers: &[
+        (
+            "encode",
+            0,
+            &[
+                (b"", b"\0\0\0\0"),
+                (b"ALLOW GROUP READ_DATA GROUP@\n", GROUP_FLAGGED),
+                (
+                    b"ALLOW GROUP|DIR|GROUP ADD_FILE|LIST_DIRECTORY  two words ",
+                    BLANKS,
+                ),
+                (b"# x\nDENY - - OWNER@", NO_RIGHTS),
+            ],
+        ),
+        (
+            "encode --profile full",
+            0,
+            &[(b"ALLOW INHERITED READ_DATA bob", INHERITED)],
+        ),
+    ],
+    refusals: &[
+        (
+            "encode",
+            &[
+                (b"ALLOW FILE|| READ_DATA bob", "Flag at line 1 column 7"),
+                (b"ALLOW  READ_DATA bob", "Flag at line 1 column 7"),
+                (b"ALLOW - READ_DATA|AUDIT bob", "Mask at line 1 column 9"),
+                (b"ALLOW - READ_DATA bob\r", "WhoControl at line 1 column 19"),
+                (b" # x", "Fields at line 1 column 1"),
+                (b"ALLOW - READ_DATA ", "WhoLength at line 1 column 19"),
+                (b"\nAUDIT - READ_DATA bob", "AceType at line 2 column 1"),
+                (b"ALLOW READ_DATA bob", "Fields at line 1 column 1"),
+            ],
+        ),
+        (
+            "encode --profile narrow",
+            &[
+                (b"ALLOW INHERITED READ_DATA bob", "Flag at line 1 column 7"),
+                (b"ALLOW - WRITE_RETENTION bob", "Mask at line 1 column 9"),
+            ],
+        ),
+    ],
+    usage: &["encode --profile wide"],
+    unread: b"",
+};
 
-// Lines that are refused, or ask for nothing.
-const REFUSALS: [Refused; 15] = [
-    (
-        "encode",
-        b"ALLOW FILE|| READ_DATA bob",
-        2,
-        "aclck: Flag at line 1 column 7\n",
-    ),
-    (
-        "encode",
-        b"ALLOW  READ_DATA bob",
-        2,
-        "aclck: Flag at line 1 column 7\n",
-    ),
-    (
-        "encode",
-        b"ALLOW - READ_DATA|AUDIT bob",
-        2,
-        "aclck: Mask at line 1 column 9\n",
-    ),
-    (
-        "encode",
-        b"ALLOW - READ_DATA bob\r",
-        2,
-        "aclck: WhoControl at line 1 column 19\n",
-    ),
-    ("encode", b" # x", 2, "aclck: Fields at line 1 column 1\n"),
-    (
-        "encode",
-        b"ALLOW - READ_DATA ",
-        2,
-        "aclck: WhoLength at line 1 column 19\n",
-    ),
-    (
-        "encode",
-        b"\nAUDIT - READ_DATA bob",
-        2,
-        "aclck: AceType at line 2 column 1\n",
-    ),
-    (
-        "encode",
-        b"ALLOW READ_DATA bob",
-        2,
-        "aclck: Fields at line 1 column 1\n",
-    ),
-    (
-        "encode --profile narrow",
-        b"ALLOW INHERITED READ_DATA bob",
-        2,
-        "aclck: Flag at line 1 column 7\n",
-    ),
-    (
-        "encode --profile narrow",
-        b"ALLOW - WRITE_RETENTION bob",
-        2,
-        "aclck: Mask at line 1 column 9\n",
-    ),
-    (
-        "show-nfs --profile narrow",
-        INHERITED,
-        2,
-        "aclck: FlagBits at byte 8\n",
-    ),
-    (
-        "show-nfs",
-        WITH_A_BYTE,
-        2,
-        "aclck: TrailingBytes at byte 32\n",
-    ),
-    (
-        "show-nfs",
-        b"\0\0\0\x01\0\0\0\x02",
-        2,
-        "aclck: AuditOrAlarm at byte 4\n",
-    ),
-    ("encode --profile wide", b"", 3, "aclck: usage\n"),
-    ("show-nfs bob", b"\0\0\0\0", 3, "aclck: usage\n"),
-];
+// Lists with their texts; and lines that are refused, or ask for nothing.
+static SHOWN: Table = Table {
+    answers: &[
+        (
+            "show-nfs",
+            0,
+            &[
+                (b"\0\0\0\0", b""),
+                (GROUP_FLAGGED, b"ALLOW GROUP READ_DATA GROUP@\n"),
+                (
+                    BLANKS,
+                    b"ALLOW DIR|GROUP READ_DATA|WRITE_DATA  two words \n",
+                ),
+                (NO_RIGHTS, b"DENY - - OWNER@\n"),
+            ],
+        ),
+        (
+            "show-nfs --profile=full",
+            0,
+            &[(INHERITED, b"ALLOW INHERITED READ_DATA bob\n")],
+        ),
+    ],
+    refusals: &[
+        (
+            "show-nfs --profile narrow",
+            &[(INHERITED, "FlagBits at byte 8")],
+        ),
+        (
+            "show-nfs",
+            &[
+                (WITH_A_BYTE, "TrailingBytes at byte 32"),
+                (b"\0\0\0\x01\0\0\0\x02", "AuditOrAlarm at byte 4"),
+            ],
+        ),
+    ],
+    usage: &["show-nfs bob"],
+    unread: EMPTY,
+};
 
-/// What is answered, and what is refused.
-pub fn table() -> Table {
-    Table {
-        answers: &TEXTS,
-        refusals: &REFUSALS,
-    }
+/// Each text gives the list that its row says, or is refused as it says.
+pub fn encoded<A: Abort>(rt: &A, trial: Trial) {
+    ENCODED.holds(rt, trial);
 }
 
-// ---- tests
-
-#[test]
-fn encode_and_show_nfs_answer_each_row_or_want_memory(rt: HostRuntime) {
-    table().holds(&rt, Memory::scarce(rt.alloc()));
-}
-
-// What is answered where memory is ample.
-mod ample {
-    use super::*;
-
-    #[test]
-    fn encode_tells_of_each_read_that_fails(rt: HostRuntime) {
-        let input = b"ALLOW GROUP READ_DATA GROUP@\n";
-        assert!(rt; fails_at_each_read(rt.alloc(), &["encode"], input, 8));
-    }
+/// Each list gives the text that its row says, or is refused as it says.
+pub fn shown<A: Abort>(rt: &A, trial: Trial) {
+    SHOWN.holds(rt, trial);
 }

@@ -1,12 +1,12 @@
 //! `normalize` over lists in bytes.
 
-use crate::tests::harness::{Answered, FINE, Memory, Refused, Table, repeated_ace, run};
+use crate::tests::harness::{Answer, Table, Trial, Way, repeated_ace};
 use crate::tests::lists::{
     AMY_AND_ALL, AMY_INHERITED, BEHIND_ALICE, BOB_AND_OWNER, EMPTY, GROUP_FLAGGED, NO_RIGHTS,
     OPS_FIRST, OPS_LAST, OWNER_BOB_OWNER, READ_OF_ALICE, READ_OF_ALL, READ_OF_THE_GROUP,
     READ_OF_THE_OWNER, RETENTION_OF_BOB, WITHOUT_BOB,
 };
-use std::alloc::{AllocError, Global};
+use std::process::Abort;
 use std::test::Fail;
 
 // ---- lists
@@ -57,74 +57,57 @@ const ALL_OF_ALL: &[u8] = b"\0\0\0\x01\0\0\0\0\0\0\0\0\0\x1f\x07\xff\0\0\0\x09EV
 
 // ---- rows
 
-// Lists with their normal forms.
-const NORMAL_FORMS: [Answered; 15] = [
-    ("normalize", EMPTY, 0, EMPTY),
-    ("normalize", READ_OF_ALL, 0, READ_OF_ALL),
-    ("normalize", WITHOUT_BOB, 0, READ_OF_ALICE),
-    ("normalize", BEHIND_ALICE, 0, READ_OF_ALICE),
-    ("normalize", ALL_BUT_BOB, 0, ALL_BUT_BOB),
-    ("normalize", OWNER_TWICE, 0, READ_OF_THE_OWNER),
-    ("normalize", GROUP_FLAGGED, 0, READ_OF_THE_GROUP),
-    (
-        "normalize --profile narrow",
-        BOB_AND_OWNER,
-        0,
-        OWNER_BOB_OWNER,
-    ),
-    ("normalize", OPS_FIRST, 0, READ_OF_OPS),
-    ("normalize", OPS_LAST, 0, OPS_LAST),
-    ("normalize --profile=full", ALICE_TWICE, 0, ALICE_ONCE),
-    ("normalize", AMY_AND_ALL, 0, AMY_READS),
-    ("normalize", ZOE_FIRST, 0, AMY_FIRST),
-    ("normalize", AMY_INHERITED, 0, READ_OF_AMY),
-    ("normalize --", NO_RIGHTS, 0, EMPTY),
-];
+// Lists with their normal forms; and lines that are refused, or ask for nothing.
+static TABLE: Table = Table {
+    answers: &[
+        (
+            "normalize",
+            0,
+            &[
+                (EMPTY, EMPTY),
+                (READ_OF_ALL, READ_OF_ALL),
+                (WITHOUT_BOB, READ_OF_ALICE),
+                (BEHIND_ALICE, READ_OF_ALICE),
+                (ALL_BUT_BOB, ALL_BUT_BOB),
+                (OWNER_TWICE, READ_OF_THE_OWNER),
+                (GROUP_FLAGGED, READ_OF_THE_GROUP),
+                (OPS_FIRST, READ_OF_OPS),
+                (OPS_LAST, OPS_LAST),
+                (AMY_AND_ALL, AMY_READS),
+                (ZOE_FIRST, AMY_FIRST),
+                (AMY_INHERITED, READ_OF_AMY),
+            ],
+        ),
+        (
+            "normalize --profile narrow",
+            0,
+            &[(BOB_AND_OWNER, OWNER_BOB_OWNER)],
+        ),
+        ("normalize --profile=full", 0, &[(ALICE_TWICE, ALICE_ONCE)]),
+        ("normalize --", 0, &[(NO_RIGHTS, EMPTY)]),
+    ],
+    refusals: &[
+        (
+            "normalize --profile narrow",
+            &[(RETENTION_OF_BOB, "MaskBits at byte 12")],
+        ),
+        ("normalize", &[(b"\0\0\0\0\0", "TrailingBytes at byte 4")]),
+    ],
+    usage: &["normalize x", "normalize --profile wide"],
+    unread: EMPTY,
+};
 
-// Lines that are refused, or ask for nothing.
-const REFUSALS: [Refused; 4] = [
-    (
-        "normalize --profile narrow",
-        RETENTION_OF_BOB,
-        2,
-        "aclck: MaskBits at byte 12\n",
-    ),
-    (
-        "normalize",
-        b"\0\0\0\0\0",
-        2,
-        "aclck: TrailingBytes at byte 4\n",
-    ),
-    ("normalize x", EMPTY, 3, "aclck: usage\n"),
-    ("normalize --profile wide", EMPTY, 3, "aclck: usage\n"),
-];
+/// Each row is answered or refused as it says.
+pub fn holds<A: Abort>(rt: &A, trial: Trial) {
+    TABLE.holds(rt, trial);
+}
 
-/// What is answered, and what is refused.
-pub fn table() -> Table {
-    Table {
-        answers: &NORMAL_FORMS,
-        refusals: &REFUSALS,
+// Each form that a line writes is its own.
+fn forms_stay<A: Abort>(rt: &A, trial: Trial, line: &str, rows: &[(&[u8], &[u8])]) {
+    for (_, form) in rows {
+        let is_left = trial.passes(line, form, Answer::Text(0, form));
+        assert!(rt; is_left, "{line}: {form:?}");
     }
-}
-
-// Whether so many times the ACE that allows all to everyone give this.
-fn normalizes(
-    alloc: Global,
-    count: u32,
-    status: u8,
-    text: &[u8],
-    told: &str,
-) -> Result<bool, AllocError> {
-    let list = repeated_ace(alloc, count, ALL_OF_ALL.get(4..).unwrap_or(&[]))?;
-    let ran = run(alloc, &["normalize"], &list, FINE);
-    Ok(ran.is(status, text, told))
-}
-
-// ---- tests
-
-#[test]
-fn normalize_writes_each_normal_form_or_wants_memory(rt: HostRuntime) {
-    table().holds(&rt, Memory::scarce(rt.alloc()));
 }
 
 // What is answered where memory is ample.
@@ -133,18 +116,24 @@ mod ample {
 
     #[test]
     fn normalize_leaves_a_normal_form_as_it_is(rt: HostRuntime) {
-        let memory = Memory::ample(rt.alloc());
-        for (line, _, _, text) in table().answers {
-            assert!(rt; memory.gives(line, text, 0, text, ""), "{line}: {text:?}");
+        let trial = Trial::new(rt.alloc(), Way::Ample);
+        for (line, _, rows) in TABLE.answers {
+            forms_stay(&rt, trial, line, rows);
         }
     }
 
     // The heaviest list of one ACE is that ACE once; a heavier one is none.
     #[test]
     fn normalize_merges_one_ace_many_times(rt: HostRuntime) -> Result<(), Fail> {
-        assert!(rt; normalizes(rt.alloc(), 4096, 0, ALL_OF_ALL, "")?);
-        let told = "aclck: TooHeavy at byte 114700\n";
-        assert!(rt; normalizes(rt.alloc(), 4097, 2, b"", told)?);
+        let trial = Trial::new(rt.alloc(), Way::Ample);
+        let (_, ace) = ALL_OF_ALL.split_at(4);
+        for (count, answer) in [
+            (4096u32, Answer::Text(0, ALL_OF_ALL)),
+            (4097, Answer::Fault("TooHeavy at byte 114700")),
+        ] {
+            let list = repeated_ace(rt.alloc(), count, ace)?;
+            assert!(rt; trial.passes("normalize", &list, answer), "{count}");
+        }
         Ok(())
     }
 }

@@ -1,9 +1,9 @@
 //! The commands that read a POSIX ACL and write a text, or the answer of a check.
 
-use crate::tests::harness::{Answered, Memory, Table, refusals_fail_at_each_read};
-use crate::tests::posix_faults::{faults, names, usage};
+use crate::tests::harness::{Asked, Trial, lines_hold};
+use crate::tests::posix_faults::refused;
 use crate::tests::texts::{GROUPS, PLAIN, PRINTED};
-use std::test::Fail;
+use std::process::Abort;
 
 // ---- texts
 
@@ -16,171 +16,166 @@ const PARENT: &[u8] = b"u::rwx,g::r-x,o::---,d:u::rwx,d:u:5:rwx,d:g::r-x,d:m::rw
 // ---- rows
 
 // Texts that `show-posix` writes again.
-const SHOWN: [Answered; 7] = [
+static SHOWN: [Asked; 5] = [
     (
-        "show-posix --form shown",
         b"u::rw-,u:5:rw-,g::r--,m::r--,o::---,d:u::rwx,d:u:5:rwx,d:g::r--,d:m::rwx,d:o::---",
-        0,
-        b"user::rw-\nuser:5:rw-\t#effective:r--\ngroup::r--\nmask::r--\nother::---\n\
+        &[(
+            "show-posix --form shown",
+            0,
+            b"user::rw-\nuser:5:rw-\t#effective:r--\ngroup::r--\nmask::r--\nother::---\n\
          default:user::rwx\ndefault:user:5:rwx\ndefault:group::r--\ndefault:mask::rwx\ndefault:other::---\n",
+        )],
     ),
     (
-        "show-posix",
         MASKED,
-        0,
-        b"user::rw-\nuser:1001:rw-\ngroup::r--\ngroup:50:rw-\nmask::r--\nother::r--\n",
-    ),
-    (
-        "show-posix --form shown",
-        MASKED,
-        0,
-        b"user::rw-\nuser:1001:rw-\t#effective:r--\ngroup::r--\n\
+        &[
+            (
+                "show-posix",
+                0,
+                b"user::rw-\nuser:1001:rw-\ngroup::r--\ngroup:50:rw-\nmask::r--\nother::r--\n",
+            ),
+            (
+                "show-posix --form shown",
+                0,
+                b"user::rw-\nuser:1001:rw-\t#effective:r--\ngroup::r--\n\
         group:50:rw-\t#effective:r--\nmask::r--\nother::r--\n",
+            ),
+            (
+                "show-posix --form=short",
+                0,
+                b"u::rw-,u:1001:rw-,g::r--,g:50:rw-,m::r--,o::r--\n",
+            ),
+        ],
     ),
     (
-        "show-posix --form=short",
-        MASKED,
-        0,
-        b"u::rw-,u:1001:rw-,g::r--,g:50:rw-,m::r--,o::r--\n",
-    ),
-    (
-        "show-posix u:bob=1002",
         PRINTED,
-        0,
-        b"user::rw-\nuser:1002:rwx\ngroup::r--\nmask::r--\nother::---\n\
+        &[(
+            "show-posix u:bob=1002",
+            0,
+            b"user::rw-\nuser:1002:rwx\ngroup::r--\nmask::r--\nother::---\n\
         default:user::rwx\ndefault:group::r-x\ndefault:other::---\n",
+        )],
     ),
     (
-        "show-posix u:a=b=5 g:a=b=6",
         b"u::r,u:a=b:w,g::x,m::,o::",
-        0,
-        b"user::r--\nuser:5:-w-\ngroup::--x\nmask::---\nother::---\n",
+        &[(
+            "show-posix u:a=b=5 g:a=b=6",
+            0,
+            b"user::r--\nuser:5:-w-\ngroup::--x\nmask::---\nother::---\n",
+        )],
     ),
     (
-        "show-posix",
         b"user : : rw- # x\ng::,o::",
-        0,
-        b"user::rw-\ngroup::---\nother::---\n",
+        &[("show-posix", 0, b"user::rw-\ngroup::---\nother::---\n")],
     ),
 ];
 
 // Texts of which `chmod`, `calc-mask` and `create` make another.
-const CHANGED: [Answered; 7] = [
+static CHANGED: [Asked; 3] = [
     (
-        "chmod --mode 660",
         MASKED,
-        0,
-        b"user::rw-\nuser:1001:rw-\ngroup::r--\ngroup:50:rw-\nmask::rw-\nother::---\n",
+        &[
+            (
+                "chmod --mode 660",
+                0,
+                b"user::rw-\nuser:1001:rw-\ngroup::r--\ngroup:50:rw-\nmask::rw-\nother::---\n",
+            ),
+            (
+                "calc-mask",
+                0,
+                b"user::rw-\nuser:1001:rw-\ngroup::r--\ngroup:50:rw-\nmask::rw-\nother::r--\n",
+            ),
+        ],
     ),
     (
-        "calc-mask",
-        MASKED,
-        0,
-        b"user::rw-\nuser:1001:rw-\ngroup::r--\ngroup:50:rw-\nmask::rw-\nother::r--\n",
-    ),
-    (
-        "calc-mask",
         PLAIN,
-        0,
-        b"user::rwx\ngroup::r-x\nmask::r-x\nother::---\n",
+        &[
+            (
+                "calc-mask",
+                0,
+                b"user::rwx\ngroup::r-x\nmask::r-x\nother::---\n",
+            ),
+            (
+                "create --mode 666 --umask 022",
+                0,
+                b"user::rw-\ngroup::r--\nother::r--\n",
+            ),
+            (
+                "create --mode 666 --umask 022 --dir",
+                0,
+                b"user::rw-\ngroup::r--\nother::r--\n",
+            ),
+        ],
     ),
     (
-        "create --mode 640 --umask 077",
         PARENT,
-        0,
-        b"user::rw-\nuser:5:rwx\ngroup::r-x\nmask::r--\nother::---\n",
-    ),
-    (
-        "create --mode 640 --umask 077 --dir",
-        PARENT,
-        0,
-        b"user::rw-\nuser:5:rwx\ngroup::r-x\nmask::r--\nother::---\n\
+        &[
+            (
+                "create --mode 640 --umask 077",
+                0,
+                b"user::rw-\nuser:5:rwx\ngroup::r-x\nmask::r--\nother::---\n",
+            ),
+            (
+                "create --mode 640 --umask 077 --dir",
+                0,
+                b"user::rw-\nuser:5:rwx\ngroup::r-x\nmask::r--\nother::---\n\
         default:user::rwx\ndefault:user:5:rwx\ndefault:group::r-x\ndefault:mask::rwx\ndefault:other::r-x\n",
-    ),
-    (
-        "create --mode 666 --umask 022",
-        PLAIN,
-        0,
-        b"user::rw-\ngroup::r--\nother::r--\n",
-    ),
-    (
-        "create --mode 666 --umask 022 --dir",
-        PLAIN,
-        0,
-        b"user::rw-\ngroup::r--\nother::r--\n",
+            ),
+        ],
     ),
 ];
 
-// Of `check-posix`.
-const CHECKS: [Answered; 5] = [
-    (
-        "check-posix --owner 1 --group 2 --user 3 --groups 50,60 --want rw",
-        GROUPS,
-        1,
-        b"denied\n",
-    ),
-    (
-        "check-posix --owner 1 --group 2 --user 3 --groups 50,060 --want r",
-        GROUPS,
-        0,
-        b"granted\n",
-    ),
-    (
-        "check-posix --owner 1 --group 2 --user 003 --groups 60 --want w",
-        GROUPS,
-        0,
-        b"granted\n",
-    ),
-    (
-        "check-posix --owner 1 --group 2 --user 3 --want none",
-        GROUPS,
-        0,
-        b"granted\n",
-    ),
-    (
-        "check-posix --owner 1 --group 2 --user 1 --want xwr",
-        GROUPS,
-        0,
-        b"granted\n",
-    ),
-];
+// A text of which `check-posix` is asked.
+static CHECKS: [Asked; 1] = [(
+    GROUPS,
+    &[
+        (
+            "check-posix --owner 1 --group 2 --user 3 --groups 50,60 --want rw",
+            1,
+            b"denied\n",
+        ),
+        (
+            "check-posix --owner 1 --group 2 --user 3 --groups 50,060 --want r",
+            0,
+            b"granted\n",
+        ),
+        (
+            "check-posix --owner 1 --group 2 --user 003 --groups 60 --want w",
+            0,
+            b"granted\n",
+        ),
+        (
+            "check-posix --owner 1 --group 2 --user 3 --want none",
+            0,
+            b"granted\n",
+        ),
+        (
+            "check-posix --owner 1 --group 2 --user 1 --want xwr",
+            0,
+            b"granted\n",
+        ),
+    ],
+)];
 
-/// What is answered, and what is refused.
-pub fn tables() -> [Table; 3] {
-    [
-        Table {
-            answers: &SHOWN,
-            refusals: names(),
-        },
-        Table {
-            answers: &CHANGED,
-            refusals: faults(),
-        },
-        Table {
-            answers: &CHECKS,
-            refusals: usage(),
-        },
-    ]
+/// Each text is shown as it says.
+pub fn shown<A: Abort>(rt: &A, trial: Trial) {
+    lines_hold(rt, trial, &SHOWN);
 }
 
-// ---- tests
-
-#[test]
-fn posix_commands_answer_each_row_or_want_memory(rt: HostRuntime) {
-    for table in &tables() {
-        table.holds(&rt, Memory::scarce(rt.alloc()));
-    }
+/// Each text is changed as it says.
+pub fn changed<A: Abort>(rt: &A, trial: Trial) {
+    lines_hold(rt, trial, &CHANGED);
 }
 
-// What is answered where memory is ample.
-mod ample {
-    use super::*;
+/// Each check is answered as it says.
+pub fn checked<A: Abort>(rt: &A, trial: Trial) {
+    lines_hold(rt, trial, &CHECKS);
+}
 
-    #[test]
-    fn posix_commands_tell_a_failed_read_before_a_fault(rt: HostRuntime) -> Result<(), Fail> {
-        for table in &tables() {
-            refusals_fail_at_each_read(&rt, rt.alloc(), table.refusals)?;
-        }
-        Ok(())
-    }
+/// All of these, and each refusal.
+pub fn holds<A: Abort>(rt: &A, trial: Trial) {
+    shown(rt, trial);
+    changed(rt, trial);
+    checked(rt, trial);
+    refused(rt, trial);
 }

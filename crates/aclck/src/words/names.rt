@@ -3,7 +3,7 @@ ghost use Rattle.std.specs.Prelude.{◌≡◌, [], None, Some, map, option_map, 
 ghost use Rattle.acl_posix.specs.Names.{no_names};
 ghost use Rattle.clap.specs.Words.{found_of, rows_of};
 ghost use Rattle.aclck.specs.Line.{Reads, words_of};
-ghost use Rattle.aclck.specs.NameWords.{cut_of, first_cut, half_named, last_cut, named_id, named_of, half_of, names_in, with_name, with_words, Adds};
+ghost use Rattle.aclck.specs.NameWords.{cut_of, first_cut, last_cut, line_fault_of, named_id, named_of, names_in, with_name, with_words, Adds};
 
 use crate::line::{Argument, LineFault};
 use crate::words::values::id_value;
@@ -27,20 +27,6 @@ struct NamedId<'a> {
     half: Half,
     name: &'a str,
     id: Id,
-}
-
-impl From<NameFault> for LineFault {
-    ghost use Rattle.std.specs.Prelude.{◌≡◌};
-    ghost use Rattle.aclck.specs.NameWords.{line_fault_of};
-
-    ghost from_gives = { λ fault line. line ≡ line_fault_of fault };
-
-    fn from(fault: NameFault) -> LineFault {
-        match fault {
-            NameFault::EmptyName | NameFault::DigitsOnly | NameFault::Taken => LineFault::Usage,
-            NameFault::Memory => LineFault::Memory,
-        }
-    }
 }
 
 /// The table of the words that are no option's.
@@ -92,11 +78,24 @@ fn add_word(names: &mut Names, word: &str) -> Result<(), LineFault>
 fn add_name(names: &mut Names, named: NamedId<'_>) -> Result<(), LineFault>
     ensures { Adds names.old (Some (named_of named.entry)) names.new result }
 {
-    match named.half {
-        Half::Users => names.add_user(named.name.as_bytes(), named.id)?,
-        Half::Groups => names.add_group(named.name.as_bytes(), named.id)?,
+    let added = match named.half {
+        Half::Users => names.add_user(named.name.as_bytes(), named.id),
+        Half::Groups => names.add_group(named.name.as_bytes(), named.id),
+    };
+    match added {
+        Ok(()) => Ok(()),
+        Err(fault) => Err(line_fault(fault)),
     }
-    Ok(())
+}
+
+// A fault of names as one of words.
+fn line_fault(fault: NameFault) -> LineFault
+    ensures { result ≡ line_fault_of fault }
+{
+    match fault {
+        NameFault::EmptyName | NameFault::DigitsOnly | NameFault::Taken => LineFault::Usage,
+        NameFault::Memory => LineFault::Memory,
+    }
 }
 
 // What a word spells.
@@ -106,7 +105,11 @@ fn named_id<'a>(word: &'a str) -> Option<NamedId<'a>>
 {
     let (front, id) = last_cut(word)?;
     let (half, name) = first_cut(front)?;
-    let half = half_named(half)?;
+    let half = match half {
+        "u" => Half::Users,
+        "g" => Half::Groups,
+        _ => return None,
+    };
     let id = id_value(id)?;
     Some(NamedId { half, name, id })
 }
@@ -123,14 +126,4 @@ fn first_cut<'a>(word: &'a str) -> Option<(&'a str, &'a str)>
     ensures { option_map cut_of result ≡ first_cut 58 word.entry.now }
 {
     word.split_once(':')
-}
-
-fn half_named(word: &str) -> Option<Half>
-    ensures { option_map half_of result ≡ half_named word.now }
-{
-    match word {
-        "u" => Some(Half::Users),
-        "g" => Some(Half::Groups),
-        _ => None,
-    }
 }

@@ -86,15 +86,17 @@ pub(crate) fn id_value(word: &str) -> Option<Id>
     if !are_digits(word, 10) {
         return None;
     }
-    Id::new(decimal(word).ok()?)
+    Id::new(digits(word, 10).ok()?)
 }
 
-fn decimal(word: &str) -> Result<u32, ParseIntError>
-    requires { are_digits 10 word.now ≡ true }
-    ensures { MatchResult result (λ n. n ≡ digits_value 10 word.now)
-        (λ _. 2 ^ 32 ≤ digits_value 10 word.now) }
+// The number that digits spell.
+fn digits(word: &str, radix: u32) -> Result<u32, ParseIntError>
+    requires radix { (2 ≤ radix) × (radix ≤ 10) }
+    requires digits { are_digits radix word.now ≡ true }
+    ensures { MatchResult result (λ n. n ≡ digits_value radix word.now)
+        (λ _. 2 ^ 32 ≤ digits_value radix word.now) }
 {
-    word.parse()
+    u32::from_str_radix(word, radix)
 }
 
 /// The value of `--groups`: IDs with commas between them.
@@ -127,21 +129,13 @@ fn each_id(alloc: Global, items: &[&str]) -> Result<Vec<Id>, LineFault>
 
 /// The value of an OCT: one to four octal digits, of at most `0o777`.
 #[tactic(auto, unfolding(crate::specs::Values::mode_value))]
-pub(crate) fn mode_value(word: &str) -> Option<Mode>
+fn mode_value(word: &str) -> Option<Mode>
     ensures { option_map (λ mode. mode.bits) result ≡ mode_value word.now }
 {
     if !are_digits(word, 8) || word.len() > 4 {
         return None;
     }
-    Mode::new(octal(word).ok()?)
-}
-
-fn octal(word: &str) -> Result<u16, ParseIntError>
-    requires { are_digits 8 word.now ≡ true }
-    ensures { MatchResult result (λ n. n ≡ digits_value 8 word.now)
-        (λ _. 2 ^ 16 ≤ digits_value 8 word.now) }
-{
-    u16::from_str_radix(word, 8)
+    Mode::new(u16::try_from(digits(word, 8).ok()?).ok()?)
 }
 
 fn count(bytes: &[u8], letter: u8) -> usize
@@ -179,4 +173,12 @@ pub(crate) fn want_value(word: &str) -> Option<Perm>
     } else {
         letters(word.as_bytes())
     }
+}
+
+/// The mode that an option's value spells.
+pub(crate) fn mode_in(word: Option<&str>) -> Result<Mode, LineFault>
+    ensures { Reads (λ mode. mode.bits)
+        (option_and_then mode_value (option_map (λ s. s.now) word.entry)) result }
+{
+    word.and_then(mode_value).ok_or(LineFault::Usage)
 }

@@ -1,7 +1,7 @@
 use Rattle.std.specs.Prelude.{All, List, take}
 use Rattle.acl_nfs4.specs.Ace.{Ace}
-use Rattle.acl_normal.specs.internal.Cells.{ArePlaces}
 use Rattle.acl_normal.specs.internal.Emitted.{StandInRows, emitted_ace, emitted_aces}
+use Rattle.acl_normal.specs.internal.Rows.{ArePlaces}
 use Rattle.acl_normal.specs.Tables.{AreRows, HasKey, with_bit}
 use Rattle.acl_normal.proofs.bit_table.rows_of.Given as goal
 

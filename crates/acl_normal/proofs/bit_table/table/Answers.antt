@@ -27,7 +27,7 @@ returns-clause-rows c b low =
       form = ns;
       is_form = whole;
       shown = rw (← bit)
-          (rows_from right c.args.list.now c.in_ok-rows.rows _ c.in_ok-table.table.items r.firsts
+          (rows_from right c.args.list.now c.in_ok-rows.rows _ c.in_ok-table.table.items r.thinned.firsts
           (rows_shown right c.in_ok-rows.rows c.in_ok-places.places.items _ es _ c.in_ok-table.table.items
           c.deref.ensures.value c.deref-2.ensures.value c.in_ok-table.ensures c.in_ok-places.ensures.places f.rows
           (key_there right c.in_ok-rows.rows es (normal_once ns right whole.normal)

@@ -14,17 +14,21 @@ returns c =
     let first = rw c.deref_mut.ensures.value at c.drop_needless.ensures in
     let whole = aces_in c.args.aces.now in
     let r = two_passes whole (with_masks c.args.aces.now c.in_ok-masks.masks.items)
-    (with_masks c.args.aces.now c.drop_needless.new.masks) c.requires.accepted c.in_ok-masks.ensures.outline
-    c.in_ok-masks.ensures.columns first.outline first.tidy first.columns in
+    (with_masks c.args.aces.now c.drop_needless.new.masks) c.requires.accepted c.in_ok-masks.ensures.thinned.outline
+    c.in_ok-masks.ensures.columns first.thinned.outline first.thinned.tidy first.columns in
     rw items (record {
       places = c.in_ok-masks.ensures.places;
-      outline = r.outline;
-      tidy = r.tidy;
-      rights = reduction_rights whole _ r;
-      columns = r.columns;
-      firsts =
-          firsts_through whole (with_masks c.args.aces.now c.in_ok-masks.masks.items) _ c.in_ok-masks.ensures.firsts
-          first.firsts;
-      grants = reduction_grants whole _ r.columns;
-      irreducible = reduction_irreducible whole _ r;
+      reduced = record {
+        thinned = record {
+          outline = r.outline;
+          tidy = r.tidy;
+          firsts =
+              firsts_through whole (with_masks c.args.aces.now c.in_ok-masks.masks.items) _
+              c.in_ok-masks.ensures.thinned.firsts first.thinned.firsts;
+        };
+        rights = reduction_rights whole _ r;
+        columns = r.columns;
+        grants = reduction_grants whole _ r.columns;
+        irreducible = reduction_irreducible whole _ r;
+      };
     })

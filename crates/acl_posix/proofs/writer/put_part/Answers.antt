@@ -1,12 +1,11 @@
-use Rattle.std.proofs.Common.{ℕ, List, Option, sym, ap, refl, ◌∙◌, arith}
+use Rattle.std.proofs.Common.{ℕ, List, sym, ap, refl, ◌∙◌, arith}
 use Rattle.std.proofs.lemmas.List.{drop_all}
 use Rattle.acl_perm.specs.Devices.{one_more}
 use Rattle.acl_posix.specs.declared.entry.Entry.{Entry}
 use Rattle.acl_posix.specs.Tag.{Tag}
-use Rattle.acl_posix.specs.Entries.{pair_of, pairs}
-use Rattle.acl_posix.specs.internal.Writing.{masked_by, part_out}
+use Rattle.acl_posix.specs.Entries.{pairs}
+use Rattle.acl_posix.specs.internal.Writing.{part_out}
 use Rattle.acl_perm.proofs.PieceLemmas.{out_none, next_fits, out_more, out_cut, out_all}
-use Rattle.acl_posix.proofs.Fronts.{line_from}
 use Rattle.acl_posix.proofs.Written.{entry_next}
 use Rattle.acl_posix.proofs.writer.put_part.Goals as goal
 
@@ -20,22 +19,14 @@ loop-entry-init g c = record {
 
 pub put_next-requires : goal.put_next-requires
 put_next-requires g c =
-    let next = entry_next c.args.form c.args.part c.args.acl.now c.loop-entry.is_first c.args.entries.now
-    c.loop-entry.entry-index c.entry-item.result c.masked_by.result.bits _ c.loop-entry-test.true
-    c.entry-item.is
-    (line_from c.put_entry-start.new.line c.put_entry-start.result c.put_entry-start.array_long
-    ∙ c.put_entry-start.ensures.text) (c.masked_by.ensures
-    ∙ ap (λ (m : Option ℕ). masked_by m (pair_of c.entry-item.result)) c.mask-mask.ensures) in
+    let next = entry_next _ _ c.args.acl.now _ _ _ _ c.loop-entry-test.true c.entry-item.is
+    c.put_entry-start.array_long c.put_entry-start.ensures.text c.masked_by.ensures c.mask-mask.ensures in
     next_fits c.args.done c.loop-entry.done _ _ _ _ _ _ c.loop-entry.invariant.out next c.requires.room
 
 pub returns-in-Err-clause-written : goal.returns-in-Err-clause-written
 returns-in-Err-clause-written g c =
-    let next = entry_next c.args.form c.args.part c.args.acl.now c.loop-entry.is_first c.args.entries.now
-    c.loop-entry.entry-index c.entry-item.result c.masked_by.result.bits _ c.loop-entry-test.true
-    c.entry-item.is
-    (line_from c.put_entry-start.new.line c.put_entry-start.result c.put_entry-start.array_long
-    ∙ c.put_entry-start.ensures.text) (c.masked_by.ensures
-    ∙ ap (λ (m : Option ℕ). masked_by m (pair_of c.entry-item.result)) c.mask-mask.ensures) in
+    let next = entry_next _ _ c.args.acl.now _ _ _ _ c.loop-entry-test.true c.entry-item.is
+    c.put_entry-start.array_long c.put_entry-start.ensures.text c.masked_by.ensures c.mask-mask.ensures in
     let said = c.in-Err.ensures.written in
     out_cut c.args.done c.loop-entry.done c.in-Err.fault.written _ _ _ _ _ _ _ c.loop-entry.invariant.out next said.0
     said.1 said.2
@@ -45,12 +36,8 @@ returns-in-Err-clause-failed g c = c.in-Err.ensures.failed ∙ ap one_more c.loo
 
 pub loop-entry-preserved : goal.loop-entry-preserved
 loop-entry-preserved g c =
-    let next = entry_next c.args.form c.args.part c.args.acl.now c.loop-entry.is_first c.args.entries.now
-    c.loop-entry.entry-index c.entry-item.result c.masked_by.result.bits _ c.loop-entry-test.true
-    c.entry-item.is
-    (line_from c.put_entry-start.new.line c.put_entry-start.result c.put_entry-start.array_long
-    ∙ c.put_entry-start.ensures.text) (c.masked_by.ensures
-    ∙ ap (λ (m : Option ℕ). masked_by m (pair_of c.entry-item.result)) c.mask-mask.ensures) in
+    let next = entry_next _ _ c.args.acl.now _ _ _ _ c.loop-entry-test.true c.entry-item.is
+    c.put_entry-start.array_long c.put_entry-start.ensures.text c.masked_by.ensures c.mask-mask.ensures in
     let said = c.in-Ok.ensures.written in
     record {
       out = out_more c.args.done c.loop-entry.done c.in-Ok.count _ _ _ _ _ _ _ c.loop-entry.invariant.out next said.0

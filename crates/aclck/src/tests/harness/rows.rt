@@ -1,54 +1,73 @@
-//! Rows of a line of words with an input, and what is answered. The proof of a table grows with the square of its
-//! length, so tables come in parts.
+//! Rows of a line of words with inputs, and what is answered. The proof of a table grows with the square of its length,
+//! so rows stand together by their line, or by their input.
 
-use super::runs::Memory;
+use super::trial::{Answer, Trial};
 use std::process::Abort;
 
-/// A line of words, an input, a status below 2, and what goes out.
-pub type Answered = (&'static str, &'static [u8], u8, &'static [u8]);
+/// A line of words, a status below 2, and inputs with what goes out.
+pub type Answered = (&'static str, u8, &'static [(&'static [u8], &'static [u8])]);
 
-/// A line of words, an input, a status from 2 on, and what goes to the errors.
-pub type Refused = (&'static str, &'static [u8], u8, &'static str);
+/// An input, and lines of words with a status below 2 and what goes out.
+pub type Asked = (&'static [u8], &'static [(&'static str, u8, &'static [u8])]);
 
-/// What some commands answer, and what they refuse.
+/// A line of words, and inputs with the fault that is told.
+pub type Refused = (&'static str, &'static [(&'static [u8], &'static str)]);
+
+/// What a command answers, what it refuses, and the lines that ask for nothing.
 #[derive(Clone, Copy)]
 pub struct Table {
     pub answers: &'static [Answered],
     pub refusals: &'static [Refused],
+    pub usage: &'static [&'static str],
+    /// The input of these lines, which they leave unread.
+    pub unread: &'static [u8],
 }
 
 impl Table {
     /// Each row gives what it says, and nothing else.
-    pub fn holds<A: Abort>(self, rt: &A, memory: Memory) {
-        answers_hold(rt, memory, self.answers);
-        refusals_hold(rt, memory, self.refusals);
+    pub fn holds<A: Abort>(self, rt: &A, trial: Trial) {
+        for (line, status, rows) in self.answers {
+            answers_hold(rt, trial, line, *status, rows);
+        }
+        for (line, rows) in self.refusals {
+            refusals_hold(rt, trial, line, rows);
+        }
+        usage_holds(rt, trial, self.usage, self.unread);
     }
 }
 
-fn answers_hold<A: Abort>(rt: &A, memory: Memory, rows: &[Answered]) {
-    for (line, input, status, text) in rows {
+fn answers_hold<A: Abort>(rt: &A, trial: Trial, line: &str, status: u8, rows: &[(&[u8], &[u8])]) {
+    for (input, text) in rows {
         assert!(rt;
-            memory.gives(line, input, *status, text, ""),
+            trial.passes(line, input, Answer::Text(status, text)),
             "{line}: {input:?}"
         );
     }
 }
 
-fn refusals_hold<A: Abort>(rt: &A, memory: Memory, rows: &[Refused]) {
-    for (line, input, status, err) in rows {
+/// Each line gives what it says of its input.
+pub fn lines_hold<A: Abort>(rt: &A, trial: Trial, rows: &[Asked]) {
+    for (input, lines) in rows {
+        for (line, status, text) in *lines {
+            assert!(rt;
+                trial.passes(line, input, Answer::Text(*status, text)),
+                "{line}: {input:?}"
+            );
+        }
+    }
+}
+
+fn refusals_hold<A: Abort>(rt: &A, trial: Trial, line: &str, rows: &[(&[u8], &str)]) {
+    for (input, fault) in rows {
         assert!(rt;
-            memory.gives(line, input, *status, b"", err),
+            trial.passes(line, input, Answer::Fault(fault)),
             "{line}: {input:?}"
         );
     }
 }
 
-/// Each line asks for nothing, whatever the input.
-pub fn usage_holds<A: Abort>(rt: &A, memory: Memory, lines: &[&'static str], input: &[u8]) {
+fn usage_holds<A: Abort>(rt: &A, trial: Trial, lines: &[&str], input: &[u8]) {
     for line in lines {
-        assert!(rt;
-            memory.gives(line, input, 3, b"", "aclck: usage\n"),
-            "{line}"
-        );
+        assert!(rt; trial.passes(line, input, Answer::Usage), "{line}");
     }
 }

@@ -1,6 +1,7 @@
 //! Runs of a command, and what they answer.
 
-use super::devices::{Device, Devices, FINE};
+use super::devices::{Device, Devices};
+use super::trial::Answer;
 use crate::command::command;
 use acl_perm::Counted;
 use std::alloc::{AllocError, Global};
@@ -24,9 +25,18 @@ pub struct Ran {
 }
 
 impl Ran {
+    /// Whether it is this status, with this text and this fault, which is none where it is empty.
+    pub fn is(&self, status: u8, out: &[u8], fault: &str) -> bool {
+        self.status == status && self.wrote(out) && self.told_fault(fault)
+    }
+
     /// Whether it is this answer.
-    pub fn is(&self, status: u8, out: &[u8], err: &str) -> bool {
-        self.status == status && self.wrote(out) && self.told(err)
+    pub fn gives(&self, answer: Answer<'_>) -> bool {
+        match answer {
+            Answer::Text(status, text) => self.is(status, text, ""),
+            Answer::Fault(fault) => self.is(2, b"", fault),
+            Answer::Usage => self.is(3, b"", "usage"),
+        }
     }
 
     /// Whether this went out, and nothing more.
@@ -42,26 +52,33 @@ impl Ran {
     /// Whether it is done, or tells a fault of its input and writes nothing.
     pub fn is_judged(&self) -> bool {
         match self.status {
-            0 => self.told(""),
+            0 => self.told == 0,
             2 => self.written == 0 && self.err.starts_with(b"aclck: "),
             _ => false,
         }
     }
 
-    fn told(&self, line: &str) -> bool {
-        self.told == line.len() && self.err.starts_with(line.as_bytes())
+    // Whether one line tells this fault, or none tells any.
+    fn told_fault(&self, fault: &str) -> bool {
+        if fault.is_empty() {
+            return self.told == 0;
+        }
+        let (name, line) = self.err.split_at(7);
+        let len = fault.len();
+        name.starts_with(b"aclck: ")
+            && line.starts_with(fault.as_bytes())
+            && line.get(len) == Some(&b'\n')
+            && self.told == len.saturating_add(8)
     }
 
     /// Whether a read failed, and nothing was read after it or written.
     pub fn is_failed_read(&self, failing: u64) -> bool {
-        self.is(4, b"", "aclck: read failed\n") && self.failed_reads == 1 && self.reads == failing
+        self.is(4, b"", "read failed") && self.failed_reads == 1 && self.reads == failing
     }
 
     /// Whether a write failed when this had gone out, and nothing was written after it.
     pub fn is_failed_write(&self, failing: u64, gone: &[u8]) -> bool {
-        self.is(4, gone, "aclck: write failed\n")
-            && self.failed_writes == 1
-            && self.writes == failing
+        self.is(4, gone, "write failed") && self.failed_writes == 1 && self.writes == failing
     }
 }
 
@@ -97,41 +114,4 @@ pub fn run(alloc: Global, words: &[&str], input: &[u8], devices: Devices) -> Ran
 /// The words of a line, cut at each space, where memory is there.
 pub fn words_of<'a>(alloc: Global, line: &'a str) -> Result<Vec<&'a str>, AllocError> {
     line.split(' ').collect::<Vec<&str>>(alloc)
-}
-
-/// Whether memory may be wanting, which is then an answer to every line.
-#[derive(Clone, Copy)]
-pub struct Memory {
-    pub alloc: Global,
-    pub is_ample: bool,
-}
-
-impl Memory {
-    pub fn ample(alloc: Global) -> Memory {
-        Memory {
-            alloc,
-            is_ample: true,
-        }
-    }
-
-    pub fn scarce(alloc: Global) -> Memory {
-        Memory {
-            alloc,
-            is_ample: false,
-        }
-    }
-
-    /// Whether a line gives this answer over the input.
-    pub fn gives(self, line: &str, input: &[u8], status: u8, out: &[u8], err: &str) -> bool {
-        match words_of(self.alloc, line) {
-            Ok(words) => self.gives_at(words.as_slice(), input, status, out, err),
-            Err(_) => !self.is_ample,
-        }
-    }
-
-    /// Whether words give this answer over the input.
-    pub fn gives_at(self, words: &[&str], input: &[u8], status: u8, out: &[u8], err: &str) -> bool {
-        let ran = run(self.alloc, words, input, FINE);
-        ran.is(status, out, err) || !self.is_ample && ran.is(4, b"", "aclck: out of memory\n")
-    }
 }

@@ -9,7 +9,7 @@ use Rattle.acl_nfs4.specs.Fault.Border.{start, counted}
 use Rattle.acl_nfs4.specs.Fields.{count_of}
 use Rattle.acl_nfs4.specs.Spelling.{word}
 use Rattle.acl_nfs4.proofs.Fields.{count_is}
-use Rattle.acl_nfs4.proofs.FromSource.{lacks, refused, refusal, acceptance, taken_all, taken_light, taken_on, taken_stops, stops_given}
+use Rattle.acl_nfs4.proofs.FromSource.{lacks, refused, refusal, accepted, taken_all, taken_light, taken_on, taken_stops, stops_given}
 use Rattle.acl_nfs4.proofs.Within.{code_profile}
 use Rattle.acl_nfs4.proofs.xdr.decoder.read_value.Goals as goal
 
@@ -41,7 +41,7 @@ returns-in_err-count-clause-given g c =
 pub loop-init : goal.loop-init
 loop-init g c =
     let h = c.in_ok-number.ensures in
-    let is = count_is c.in_ok-number.number c.in_ok-count.count (acceptance (λ x. x) _ c.count_of.result _
+    let is = count_is c.in_ok-number.number c.in_ok-count.count (accepted (λ x. x) _ c.count_of.result _
     c.in_ok-count.count c.in_ok-count.ensures c.count_of.ensures.exact) in
     let spelled : word c.in_ok-count.count ≡ h.0 = ap word (sym is.0) ∙ h.2.spelled in
     rw c.new-body.ensures.items (record {
@@ -67,39 +67,37 @@ returns-in_err-ace-clause-given g c =
     let inv = c.loop.invariant in
     let r = c.in_err-ace.ensures in
     rw (p.1, p.2) (
-      inv.given ++ r.0,
-      Consumes-trans _ _ _ _ _ inv.taken r.1,
-      taken_stops _ _ _ _ _ c.loop.body.items inv.given r.0 _ _ _ _ inv.so_far c.loop-test.true
-          (omega (arith, c.len.ensures)) r.3,
+      inv.given ++ r.given,
+      Consumes-trans _ _ _ _ _ inv.taken r.taken,
+      stops_given _ _ _ _ _ _ (taken_stops _ _ _ _ _ c.loop.body.items inv.given _ _ _ _ _ inv.so_far
+          c.loop-test.true (omega (arith, c.len.ensures)) r),
     )
 
 pub returns-in-Err-clause-given : goal.returns-in-Err-clause-given
 returns-in-Err-clause-given g c =
     let inv = c.loop.invariant in
     let r = c.in_ok-ace.ensures in
-    (inv.given ++ r.0, Consumes-trans _ _ _ _ _ inv.taken r.1, inr (inr (inl refl)))
+    (inv.given ++ r.given, Consumes-trans _ _ _ _ _ inv.taken r.drawn.taken, inr (inr (inl refl)))
 
 pub overflow_add-weight : goal.overflow_add-weight
 overflow_add-weight g c =
     let r = c.in_ok-ace.ensures in
-    let t = taken_on _ _ _ _ _ c.loop.body.items c.loop.invariant.given r.0
-    (g.S.Source.remaining c.pull_ace.new.source) _ _ c.in_ok-ace.ace
-    c.loop.invariant.so_far c.loop-test.true (omega (arith, c.len.ensures)) r.3 in
-    omega (arith, taken_light _ _ _ _ _ _ t.0)
+    let t = taken_on _ _ _ _ _ c.loop.body.items c.loop.invariant.given _ _ _ _ _ c.in_ok-ace.ace
+    c.loop.invariant.so_far c.loop-test.true (omega (arith, c.len.ensures)) r in
+    omega (arith, taken_light _ _ _ _ _ _ t)
 
 pub loop-preserved : goal.loop-preserved
 loop-preserved g c =
     let inv = c.loop.invariant in
     let r = c.in_ok-ace.ensures in
-    let body = c.in-Ok.ensures.items ∙ ap (λ (y : List ℕ). c.loop.body.items ++ y) r.2.0 in
-    let t = taken_on _ _ _ _ _ c.loop.body.items inv.given r.0
-    (g.S.Source.remaining c.pull_ace.new.source) _ _ c.in_ok-ace.ace inv.so_far c.loop-test.true
-    (omega (arith, c.len.ensures)) r.3 in
+    let body = c.in-Ok.ensures.items ∙ ap (λ (y : List ℕ). c.loop.body.items ++ y) r.drawn.front in
+    let t = taken_on _ _ _ _ _ c.loop.body.items inv.given _ _ _ _ _ c.in_ok-ace.ace inv.so_far c.loop-test.true
+    (omega (arith, c.len.ensures)) r in
     record {
-      given = inv.given ++ r.0;
-      taken = Consumes-trans _ _ _ _ _ inv.taken r.1;
-      so_far = rw body t.0;
-      same = t.1 ∙ inv.same;
+      given = inv.given ++ r.given;
+      taken = Consumes-trans _ _ _ _ _ inv.taken r.drawn.taken;
+      so_far = rw body t;
+      same = r.drawn.kept ∙ inv.same;
     }
 
 pub invariant_of-result : goal.invariant_of-result

@@ -1,7 +1,7 @@
 use Rattle.std.proofs.Common.{◌≡◌, ◌≤◌, ◌+◌, ◌-◌, ◌∙◌, ◌++◌, ℕ, length, take, ap, arith}
 use Rattle.std.proofs.lemmas.List.{length-append, length-take}
 use Rattle.std.proofs.KnownBytes.{Consumes-trans}
-use Rattle.acl_nfs4.proofs.FromSource.{filled_on, piece_bytes}
+use Rattle.acl_nfs4.proofs.FromSource.{field_is, filled_on, piece_bytes}
 use Rattle.acl_nfs4.proofs.xdr.pulling.fill.Goals as goal
 
 pub loop-filled-preserved : goal.loop-filled-preserved
@@ -30,12 +30,17 @@ pub returns : goal.returns
 returns g c =
     let inv = c.loop-filled.invariant in
     let end : c.args.held + (c.args.end - c.args.held) ≡ c.loop-filled.filled =
-    let h = c.loop-filled-test.false in omega (arith, inv.inside, c.requires.order) in (
+    let h = c.loop-filled-test.false in omega (arith, inv.inside, c.requires.order) in
+    let long : length inv.piece ≡ c.args.end - c.args.held =
+    let h = c.loop-filled-test.false in omega (arith, inv.inside, inv.long) in
+    let room = ap (λ (k : ℕ). take k c.loop-filled.room) end ∙ inv.so_far in (
       inv.piece,
       inv.taken,
       record {
-        long = let h = c.loop-filled-test.false in omega (arith, inv.inside, inv.long);
-        room = ap (λ (k : ℕ). take k c.loop-filled.room) end ∙ inv.so_far;
+        long = long;
+        room = room;
+        stands = field_is c.args.room.now c.loop-filled.room inv.piece c.args.held (c.args.end - c.args.held)
+            (omega (arith, c.requires.order, c.requires.inside)) room long;
         bytes = inv.bytes;
         kept = inv.same;
       },

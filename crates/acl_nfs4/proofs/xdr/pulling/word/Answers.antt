@@ -8,5 +8,5 @@ returns g c =
       h.0,
       h.1,
       is_word c.args.held (c.args.held + 4 - c.args.held) c.args.room.now c.fill.new.room h.0 _ _ _
-          (omega (arith, c.requires)) (omega arith) h.2 c.word_in.ensures,
+          (omega arith) h.2 c.word_in.ensures,
     )

@@ -1,8 +1,8 @@
-use Rattle.std.proofs.Common.{◌*◌, ◌+◌, ◌<◌, length, ◌∙◌, ap, arith}
+use Rattle.std.proofs.Common.{◌*◌, ◌+◌, ◌<◌, length, ◌∙◌, sym, ap, arith}
 use Rattle.std.proofs.lemmas.Result.{on_ok_weaker}
 use Rattle.acl_perm.specs.Order.{kind_rank}
 use Rattle.acl_normal.specs.Places.{key_here, nothing_left}
-use Rattle.acl_normal.proofs.Merging.Few.{rows_few}
+use Rattle.acl_normal.proofs.Emission.Few.{remaining_few}
 use Rattle.acl_normal.proofs.Emission.Marks.{adds, fits_written, number_at}
 use Rattle.acl_normal.proofs.Merging.Rows.{row_below}
 use Rattle.acl_normal.proofs.Unique.Outline.{outline_length}
@@ -10,30 +10,30 @@ use Rattle.acl_normal.proofs.emit.emission.add.Goals as goal
 
 pub overflow_mul-number : goal.overflow_mul-number
 overflow_mul-number c =
-    let few = rows_few c.rows.inside c.args.rows.now c.rows.invariant c.rows.view_is in
+    let few = remaining_few c.rows.inside c.args.rows.now c.rows.invariant c.rows.view_is in
     let row = row_below (key_here c.args.rows.now c.args.place).0 c.args.rows.now c.row_at.ensures.named in
     omega (arith, few, row, c.row_at.ensures.is)
 
 pub overflow_add-number : goal.overflow_add-number
 overflow_add-number c =
-    let few = rows_few c.rows.inside c.args.rows.now c.rows.invariant c.rows.view_is in
+    let few = remaining_few c.rows.inside c.args.rows.now c.rows.invariant c.rows.view_is in
     let is =
     number_at (key_here c.args.rows.now c.args.place) c.args.rows.now c.row_at.result c.rank.result
-    c.row_at.ensures (c.rank.ensures ∙ ap kind_rank c.kind_at.ensures) in
+    c.row_at.ensures (c.rank.ensures ∙ ap kind_rank (sym c.requires.kind)) in
     omega (arith, few, is.below)
 
 pub add-requires : goal.add-requires
 add-requires c =
     let is =
     number_at (key_here c.args.rows.now c.args.place) c.args.rows.now c.row_at.result c.rank.result
-    c.row_at.ensures (c.rank.ensures ∙ ap kind_rank c.kind_at.ensures) in
+    c.row_at.ensures (c.rank.ensures ∙ ap kind_rank (sym c.requires.kind)) in
     omega (arith, is.below, c.requires.keys.count, outline_length c.args.rows.now)
 
 pub returns-clause-keys : goal.returns-clause-keys
 returns-clause-keys c =
     let is =
     number_at (key_here c.args.rows.now c.args.place) c.args.rows.now c.row_at.result c.rank.result
-    c.row_at.ensures (c.rank.ensures ∙ ap kind_rank c.kind_at.ensures) in
+    c.row_at.ensures (c.rank.ensures ∙ ap kind_rank (sym c.requires.kind)) in
     on_ok_weaker c.add.result (λ e. fits_written (nothing_left c.args.rows.now) c.args.ready.now c.add.new.self _ _
     c.requires.keys (record { key = key_here c.args.rows.now c.args.place; named = is.named; is = is.is }) e)
     c.add.ensures
@@ -42,7 +42,7 @@ pub returns-clause-marks : goal.returns-clause-marks
 returns-clause-marks c =
     let is =
     number_at (key_here c.args.rows.now c.args.place) c.args.rows.now c.row_at.result c.rank.result
-    c.row_at.ensures (c.rank.ensures ∙ ap kind_rank c.kind_at.ensures) in
+    c.row_at.ensures (c.rank.ensures ∙ ap kind_rank (sym c.requires.kind)) in
     let within : 2 * c.row_at.result + c.rank.result < length c.args.ready.now =
     omega (arith, is.below, c.requires.keys.count, outline_length c.args.rows.now) in
     on_ok_weaker c.add.result (λ e. adds (nothing_left c.args.rows.now) c.args.ready.now c.add.new.self _

@@ -1,3 +1,4 @@
+use Rattle.std.specs.Prelude.{drop}
 use Rattle.acl_normal.specs.internal.Classes.{is_users}
 use Rattle.acl_normal.specs.Places.{nothing_left}
 use Rattle.acl_normal.specs.internal.Ready.{FitsKeys, marks}
@@ -6,8 +7,7 @@ use Rattle.acl_normal.proofs.emit.emission.enter.Given as goal
 
 abbrev pub invariant-loop-place : goal.invariant-loop-place
 invariant-loop-place l =
-    (goal.iterator-loop-place).can_next l.place-iterator ×
-    (goal.iterator-loop-place).is_finite l.place-iterator ×
-    Walks l.fn.kind (is_users l.fn.class) l.right.bit l.rows l.place-iterator (marks (nothing_left l.rows) l.fn.ready)
+    Walks l.fn.kind (is_users l.fn.class) l.right.bit l.rows (drop l.place-index l.queue)
+    (marks (nothing_left l.rows) l.fn.ready)
     (marks (nothing_left l.rows) l.ready) ×
     FitsKeys (nothing_left l.rows) l.ready

@@ -30,4 +30,4 @@ returns-clause-marks c =
     (nothing_marked (nothing_left c.args.rows.now) c.args.ready.now
     (subst (λ v. (n : ℕ) → slice_index_or v n 0 ≡ 0) (sym c.requires) (zero_at (2 * length c.args.rows.now))))
     (omega (arith, c.loop-bit-test.false, c.loop-bit.auto.bit-end))
-    (λ b l. ap (λ v. column v b) (sym c.rows.view_is) ∙ c.rows.invariant.low b l)
+    (λ b l. ap (λ v. column v b) (sym c.rows.view_is) ∙ c.rows.invariant.list.tidy.low b l)

@@ -1,7 +1,6 @@
 use Rattle.std.proofs.Common.{subst}
-use Rattle.acl_eval.specs.Column.{column}
-use Rattle.acl_normal.specs.internal.Emissions.{IsOnce}
 use Rattle.acl_normal.proofs.Emission.Leaving.{left_normal, left_only, alike_count}
+use Rattle.acl_normal.proofs.Emission.InRemaining.{remaining_once}
 use Rattle.acl_normal.proofs.emit.emission.normalize_left.Goals as goal
 use Rattle.acl_normal.specs.internal.Emitted.{emitted_aces}
 
@@ -20,4 +19,4 @@ returns-clause-only c =
 pub returns-clause-weight : goal.returns-clause-weight
 returns-clause-weight c =
     alike_count 21 c.args.rows.now (emitted_aces c.in_ok-out.out.items)
-    (λ b. subst (λ v. IsOnce (column v b)) c.rows.view_is (c.rows.invariant.once b)) c.in_ok-out.ensures.emission
+    (remaining_once c.rows.inside _ c.rows.invariant c.rows.view_is) c.in_ok-out.ensures.emission

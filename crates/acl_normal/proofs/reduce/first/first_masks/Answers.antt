@@ -33,17 +33,8 @@ loop-place-init c =
           ∙ ap (λ n. replicate n 0) (sym (length_of c.args.aces.now))));
     }
 
-pub index-requires : goal.index-requires
-index-requires c =
-    omega (
-      arith,
-      c.loop-place.seen.ok,
-      row_seen _ c.args.rows.now _ _ _ _ _ c.requires.rows c.loop-place-test.true
-          c.index-aces-place.is c.loop-place.invariant.seen,
-    )
-
-pub index_mut-requires : goal.index_mut-requires
-index_mut-requires c =
+pub index_mut-here-requires : goal.index_mut-here-requires
+index_mut-here-requires c =
     omega (
       arith,
       c.loop-place.seen.ok,
@@ -64,20 +55,17 @@ loop-place-preserved c =
       row_below (principal_of (ace c.index-aces-place.result)) (aces_in c.args.aces.now) named,
       c.loop-place.invariant.seen.count,
     ) in
-    let seen : c.index.result.now
+    let seen : c.index_mut-here.result.now
     ≡ slice_index_or c.loop-place.seen.items (row_of (principal_of (ace c.index-aces-place.result))
-    (aces_in c.args.aces.now)) 0 = row_value c.loop-place.seen.items _ _ _ c.index.ensures row below in
-    let written : c.index_mut.result.now
-    ≡ slice_index_or c.loop-place.seen.items (row_of (principal_of (ace c.index-aces-place.result))
-    (aces_in c.args.aces.now)) 0 = row_value c.loop-place.seen.items _ _ _ c.index_mut.ensures.value row below in
+    (aces_in c.args.aces.now)) 0 = row_value c.loop-place.seen.items _ _ _ c.index_mut-here.ensures.value row below in
     let list_is : slice_set c.loop-place.seen.items (slice_index_or c.args.rows.now c.loop-place.place 0)
-    (bit_or c.index_mut.result.now c.without-fresh.result)
+    (bit_or c.index_mut-here.result.now c.without-fresh.result)
     ≡ slice_set c.loop-place.seen.items (row_of (principal_of (ace c.index-aces-place.result))
     (aces_in c.args.aces.now)) (bit_or (slice_index_or c.loop-place.seen.items
     (row_of (principal_of (ace c.index-aces-place.result)) (aces_in c.args.aces.now)) 0) c.without-fresh.result) =
-    ap (λ n. slice_set c.loop-place.seen.items n (bit_or c.index_mut.result.now c.without-fresh.result)) row
+    ap (λ n. slice_set c.loop-place.seen.items n (bit_or c.index_mut-here.result.now c.without-fresh.result)) row
     ∙ ap (λ v. slice_set c.loop-place.seen.items (row_of (principal_of (ace c.index-aces-place.result))
-    (aces_in c.args.aces.now)) (bit_or v c.without-fresh.result)) written in
+    (aces_in c.args.aces.now)) (bit_or v c.without-fresh.result)) seen in
     let fresh : IsFresh (with_masks c.args.aces.now c.loop-place.masks.items) (ace c.index-aces-place.result)
     c.without-fresh.result =
     fresh_is (aces_in c.args.aces.now) c.loop-place.seen.items c.loop-place.everyone
@@ -127,24 +115,20 @@ pub returns-clause-places : goal.returns-clause-places
 returns-clause-places c =
     omega (arith, c.loop-place.invariant.count, c.loop-place-test.false, c.loop-place.auto.place-end)
 
-pub returns-clause-outline : goal.returns-clause-outline
-returns-clause-outline c =
+pub returns-clause-thinned : goal.returns-clause-thinned
+returns-clause-thinned c =
     let all : length (aces_in c.args.aces.now) ≤ c.loop-place.place =
     omega (arith, length_of c.args.aces.now, c.loop-place-test.false) in
-    (firsts_to_all (aces_in c.args.aces.now) c.loop-place.place _ c.loop-place.invariant.firsts all).outline
-
-pub returns-clause-tidy : goal.returns-clause-tidy
-returns-clause-tidy c =
-    let all : length (aces_in c.args.aces.now) ≤ c.loop-place.place =
-    omega (arith, length_of c.args.aces.now, c.loop-place-test.false) in
-    firsts_tidy (aces_in c.args.aces.now) _ c.requires.accepted c.loop-place.invariant.firsts.quiet
-    (firsts_to_all (aces_in c.args.aces.now) c.loop-place.place _ c.loop-place.invariant.firsts all).columns
+    let whole = firsts_to_all (aces_in c.args.aces.now) c.loop-place.place _ c.loop-place.invariant.firsts all in
+    record {
+      outline = whole.outline;
+      tidy =
+          firsts_tidy (aces_in c.args.aces.now) _ c.requires.accepted c.loop-place.invariant.firsts.quiet whole.columns;
+      firsts = c.loop-place.invariant.firsts.firsts;
+    }
 
 pub returns-clause-columns : goal.returns-clause-columns
 returns-clause-columns c =
     let all : length (aces_in c.args.aces.now) ≤ c.loop-place.place =
     omega (arith, length_of c.args.aces.now, c.loop-place-test.false) in
     (firsts_to_all (aces_in c.args.aces.now) c.loop-place.place _ c.loop-place.invariant.firsts all).columns
-
-pub returns-clause-firsts : goal.returns-clause-firsts
-returns-clause-firsts c = c.loop-place.invariant.firsts.firsts

@@ -77,8 +77,11 @@ loop-done-preserved c =
 pub returns : goal.returns
 returns c = record {
   places = c.loop-done.auto.masks ∙ c.requires.places;
-  outline = drops_outline _ c.loop-done.done _ c.loop-done.later c.loop-done.invariant.drops;
-  tidy = c.loop-done.invariant.tidy;
+  thinned = record {
+    outline = drops_outline _ c.loop-done.done _ c.loop-done.later c.loop-done.invariant.drops;
+    tidy = c.loop-done.invariant.tidy;
+    firsts = c.loop-done.invariant.firsts;
+  };
   columns =
       drops_end _ c.loop-done.done _ c.loop-done.later c.loop-done.invariant.drops
       (omega (
@@ -86,5 +89,4 @@ returns c = record {
         c.loop-done-test.false,
         length_masks c.args.aces.now c.args.masks.now c.requires.places,
       ));
-  firsts = c.loop-done.invariant.firsts;
 }

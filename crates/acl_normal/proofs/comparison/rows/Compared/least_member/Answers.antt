@@ -1,7 +1,7 @@
-use Rattle.std.proofs.Common.{arith, sym, ap, subst, ◌∙◌, length, ◌+◌}
+use Rattle.std.proofs.Common.{arith, sym, subst, ◌∙◌, length, ◌+◌}
 use Rattle.acl_normal.proofs.comparison.rows.Compared.least_member.Goals as goal
 use Rattle.acl_normal.proofs.comparison.rows.Compared.least_member.Goals.{then-has+in_ok-rows+in_ok-least, else-has}
-use Rattle.acl_normal.proofs.Searching.RowFacts.{Least, least_done, least_skip, member_step, rows_length, unused_agree}
+use Rattle.acl_normal.proofs.Searching.RowFacts.{Least, least_done, least_skip, member_step, rows_limit, unused_agree}
 use Rattle.acl_normal.proofs.Searching.TableFacts.{slice_within}
 use Rattle.acl_normal.specs.internal.FirstPlaces.{AlikeWithAll, AreRows}
 use Rattle.acl_normal.specs.internal.Passes.{list_of}
@@ -10,14 +10,8 @@ use Rattle.acl_perm.proofs.Sets.{bits_from_mask}
 
 pub first_inverting-requires-clause-limit : goal.first_inverting-requires-clause-limit
 first_inverting-requires-clause-limit c =
-    omega (
-      arith,
-      rows_length (principals c.args.self.now.whole.now) (list_of c.args.self.now.list.now)
-          (list_of c.args.self.now.other.now) c.loop-bit.bit c.in_ok-rows.rows.items c.in_ok-rows.ensures,
-      ap length
-          c.deref.ensures.value,
-      c.loop-bit.invariant.within,
-    )
+    rows_limit (principals c.args.self.now.whole.now) _ _ _ _ _ _ c.in_ok-rows.ensures c.deref.ensures.value
+    c.loop-bit.invariant.within
 
 pub first_inverting-requires-clause-places : goal.first_inverting-requires-clause-places
 first_inverting-requires-clause-places c =

@@ -1,7 +1,7 @@
-use Rattle.std.proofs.Common.{arith, sym, ap, subst, ◌∙◌, length, ◌+◌}
+use Rattle.std.proofs.Common.{sym, subst, ◌∙◌, length, ◌+◌}
 use Rattle.acl_normal.proofs.comparison.rows.Compared.least_single.Goals as goal
 use Rattle.acl_normal.proofs.comparison.rows.Compared.least_single.Goals.{then-has+in_ok-rows, else-has}
-use Rattle.acl_normal.proofs.Searching.RowFacts.{Least, least_done, least_skip, rows_length, single_step, unused_alone}
+use Rattle.acl_normal.proofs.Searching.RowFacts.{Least, least_done, least_skip, rows_limit, single_step, unused_alone}
 use Rattle.acl_normal.specs.internal.FirstPlaces.{AlikeAlone, AreRows}
 use Rattle.acl_normal.specs.internal.Passes.{list_of}
 use Rattle.acl_normal.specs.internal.SetSearch.{principals}
@@ -9,14 +9,8 @@ use Rattle.acl_perm.proofs.Sets.{bits_from_mask}
 
 pub first_unlike-least-requires : goal.first_unlike-least-requires
 first_unlike-least-requires c =
-    omega (
-      arith,
-      rows_length (principals c.args.self.now.whole.now) (list_of c.args.self.now.list.now)
-          (list_of c.args.self.now.other.now) c.loop-bit.bit c.in_ok-rows.rows.items c.in_ok-rows.ensures,
-      ap length
-          c.deref.ensures.value,
-      c.loop-bit.invariant.within,
-    )
+    rows_limit (principals c.args.self.now.whole.now) _ _ _ _ _ _ c.in_ok-rows.ensures c.deref.ensures.value
+    c.loop-bit.invariant.within
 
 pub loop-bit-preserved : goal.loop-bit-preserved
 loop-bit-preserved c = elim c.if-has.branch [

@@ -1,8 +1,10 @@
-use Rattle.std.proofs.Common.{sym}
+use Rattle.std.proofs.Common.{◌≡◌, false, subst, sym}
 use Rattle.acl_perm.specs.Principal.{principal}
+use Rattle.acl_normal.specs.internal.Rows.{is_named}
 use Rattle.acl_normal.proofs.Merging.Rows.{unnamed_taken}
 use Rattle.acl_normal.proofs.rows.merged.MergedRows.emit.Goals as goal
 
 pub returns-in_default : goal.returns-in_default
-returns-in_default c = sym (unnamed_taken (principal c.args.p) c.args.bits.bits c.args.self.now
-    c.in_default.ensures.missing)
+returns-in_default c =
+    sym (unnamed_taken (principal c.args.p) c.args.bits.bits c.args.self.now
+    (subst (λ v. is_named (principal c.args.p) v ≡ false) c.self.view_is c.in_default.ensures.missing))

@@ -1,0 +1,37 @@
+use Rattle.std.specs.Prelude.{◌≡◌, ℕ, List}
+use Rattle.std.proofs.Common.{◌∙◌, ap, subst, sym}
+use Rattle.acl_nfs4.specs.declared.ace.AceRef.{AceRef}
+use Rattle.acl_eval.specs.Column.{column}
+use Rattle.acl_normal.specs.Left.{IsTidy}
+use Rattle.acl_normal.specs.Places.{nothing_left}
+use Rattle.acl_normal.specs.internal.Reduced.{IsReducedOf}
+use Rattle.acl_normal.specs.internal.Shown.{aces_in, with_masks}
+use Rattle.acl_normal.proofs.Merging.Rows.{order_alike, rows_alike}
+use Rattle.acl_normal.proofs.reduce.reduced_list.Goals as goal
+
+-- what is left has the outline of the ACEs
+outline_left : (one two aces : List AceRef) (masks : List ℕ) → one ≡ aces → two ≡ aces
+    → nothing_left (with_masks two masks) ≡ nothing_left (aces_in two)
+    → nothing_left (aces_in one) ≡ nothing_left (with_masks aces masks)
+outline_left one two aces masks e f same =
+    ap (λ v. nothing_left (aces_in v)) (e ∙ sym f) ∙ sym same ∙ ap (λ v. nothing_left (with_masks v masks)) f
+
+pub returns-clause-rows : goal.returns-clause-rows
+returns-clause-rows c =
+    let shown = ap (λ v. with_masks v c.in_ok-masks.masks.items) c.deref-2.ensures.value in
+    let kept = c.in_ok-masks.ensures.reduced in
+    let outline = outline_left c.deref.result.now _ _ _ c.deref.ensures.value c.deref-2.ensures.value
+    kept.thinned.outline in
+    record {
+      tidy = subst IsTidy shown kept.thinned.tidy;
+      rights = λ b h. ap (λ v. column v b) (sym shown) ∙ kept.rights b h;
+      rows = rows_alike (aces_in c.deref.result.now) _ _ outline c.in_ok-numbers.ensures.rows;
+      order = order_alike (aces_in c.deref.result.now) _ _ outline c.in_ok-numbers.ensures.order;
+    }
+
+pub returns-clause-left : goal.returns-clause-left
+returns-clause-left c =
+    let same = ap aces_in c.deref-2.ensures.value ∙ c.in_ok-aces.ensures.aces in
+    let left = ap (λ v. with_masks v c.in_ok-masks.masks.items) c.deref-2.ensures.value in
+    subst (λ v. IsReducedOf v (with_masks c.in_ok-aces.aces.items c.in_ok-masks.masks.items)) same
+    (subst (λ v. IsReducedOf (aces_in c.deref-2.result.now) v) left c.in_ok-masks.ensures.reduced)

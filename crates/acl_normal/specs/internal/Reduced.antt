@@ -1,0 +1,24 @@
+-- What is left of a list without bits that play no part (this library's own): words that only code needs.
+use Rattle.std.specs.Prelude.{◌≡◌, ℕ, ◌<◌, false, List, []}
+use Rattle.acl_perm.specs.Bits.{all_rights, has_bit}
+use Rattle.acl_eval.specs.Column.{column}
+use Rattle.acl_eval.specs.Grant.{SameGrants}
+use Rattle.acl_nfs4.specs.Ace.{Ace}
+use Rattle.acl_normal.specs.Left.{IsTidy, KeepsFirsts, left}
+use Rattle.acl_normal.specs.Normal.{IsIrreducibleList}
+use Rattle.acl_normal.specs.Places.{nothing_left}
+use Rattle.acl_normal.specs.internal.Plain.{reduced}
+
+-- the list is its source with fewer bits: what stands first of a principal stands first there too
+pub record IsThinned (source list : List Ace) : Type 0 where
+  pub outline : nothing_left list ≡ nothing_left source
+  pub tidy : IsTidy list
+  pub firsts : KeepsFirsts source list
+
+-- the list is its source without the bits that no situation needs
+pub record IsReducedOf (source list : List Ace) : Type 0 where
+  pub thinned : IsThinned source list
+  pub rights : (b : ℕ) → has_bit all_rights b ≡ false → column list b ≡ []
+  pub columns : (b : ℕ) → b < 21 → column list b ≡ reduced (column source b)
+  pub grants : SameGrants all_rights source list
+  pub irreducible : IsIrreducibleList (left list)

@@ -1,0 +1,58 @@
+//! What want of memory is among the faults of each kind.
+ghost use Rattle.std.specs.Prelude.{◌≡◌};
+ghost use Rattle.acl_posix.specs.declared.fault.AclFault.TheVariants as acl;
+ghost use Rattle.acl_posix.specs.declared.names.NameFault.TheVariants as name;
+ghost use Rattle.acl_posix.specs.declared.text_fault.TextFault.TheVariants as text;
+
+use crate::fault::AclFault;
+use crate::names::NameFault;
+use crate::text_fault::TextFault;
+use std::alloc::{AllocError, AllocFailed};
+
+impl From<AllocError> for AclFault {
+    ghost from_gives = { λ _ fault. fault ≡ acl.Memory };
+
+    fn from(_error: AllocError) -> AclFault {
+        AclFault::Memory
+    }
+}
+
+impl<T: Drop> From<AllocFailed<T>> for AclFault {
+    ghost from_gives = { λ _ fault. fault ≡ acl.Memory };
+
+    fn from(_error: AllocFailed<T>) -> AclFault {
+        AclFault::Memory
+    }
+}
+
+impl From<AllocError> for NameFault {
+    ghost from_gives = { λ _ fault. fault ≡ name.Memory };
+
+    fn from(_error: AllocError) -> NameFault {
+        NameFault::Memory
+    }
+}
+
+impl<T: Drop> From<AllocFailed<T>> for NameFault {
+    ghost from_gives = { λ _ fault. fault ≡ name.Memory };
+
+    fn from(_error: AllocFailed<T>) -> NameFault {
+        NameFault::Memory
+    }
+}
+
+impl From<AllocError> for TextFault {
+    ghost from_gives = { λ _ fault. fault ≡ text.Memory };
+
+    fn from(_error: AllocError) -> TextFault {
+        TextFault::Memory
+    }
+}
+
+impl<T: Drop> From<AllocFailed<T>> for TextFault {
+    ghost from_gives = { λ _ fault. fault ≡ text.Memory };
+
+    fn from(_error: AllocFailed<T>) -> TextFault {
+        TextFault::Memory
+    }
+}

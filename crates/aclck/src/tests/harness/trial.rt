@@ -1,0 +1,94 @@
+//! The ways in which a row is tried.
+
+use super::devices::{Calls, Devices, FINE};
+use super::failures::{asks_for_nothing, fails_at_each_read, fails_at_each_write, refuses_at_once};
+use super::runs::{run, words_of};
+use std::alloc::Global;
+
+/// What a line is held to.
+#[derive(Clone, Copy)]
+pub enum Answer<'a> {
+    /// A status below 2, and what goes out.
+    Text(u8, &'a [u8]),
+    /// The fault of the input, as it is told.
+    Fault(&'a str),
+    /// The words ask for nothing.
+    Usage,
+}
+
+/// The devices and the memory of a trial.
+#[derive(Clone, Copy)]
+pub enum Way {
+    /// Over devices that work, where memory is there.
+    Ample,
+    /// Over devices that work, where want of memory is an answer to every line.
+    Scarce,
+    /// Over devices that fail at each call in turn: the reads, of four bytes each, also behind the input, and the
+    /// writes, of one byte each. A refusal is told over a source that is spent just after it.
+    Failing,
+    /// Over a source that fails at each read in turn, of eight bytes each, also behind the input: of a text, which is
+    /// judged when it was read to its end, no fault is told then.
+    Unread,
+}
+
+/// A way to try rows.
+#[derive(Clone, Copy)]
+pub struct Trial {
+    alloc: Global,
+    way: Way,
+}
+
+impl Trial {
+    pub fn new(alloc: Global, way: Way) -> Trial {
+        Trial { alloc, way }
+    }
+
+    /// Whether a line gives this answer over the input.
+    pub fn passes(self, line: &str, input: &[u8], answer: Answer<'_>) -> bool {
+        match words_of(self.alloc, line) {
+            Ok(words) => self.passes_at(words.as_slice(), input, answer),
+            Err(_) => matches!(self.way, Way::Scarce),
+        }
+    }
+
+    /// Whether a line gives this answer over two inputs, one behind the other.
+    pub fn passes_joined(
+        self,
+        line: &str,
+        first: &[u8],
+        second: &[u8],
+        answer: Answer<'_>,
+    ) -> bool {
+        match [first, second].concat(self.alloc) {
+            Ok(input) => self.passes(line, &input, answer),
+            Err(_) => matches!(self.way, Way::Scarce),
+        }
+    }
+
+    /// Whether words give this answer over the input.
+    pub fn passes_at(self, words: &[&str], input: &[u8], answer: Answer<'_>) -> bool {
+        match self.way {
+            Way::Ample => run(self.alloc, words, input, FINE).gives(answer),
+            Way::Scarce => {
+                let ran = run(self.alloc, words, input, FINE);
+                ran.gives(answer) || ran.is(4, b"", "out of memory")
+            }
+            Way::Failing => self.fails(words, input, answer),
+            Way::Unread => match answer {
+                Answer::Usage => asks_for_nothing(self.alloc, words, input),
+                _ => fails_at_each_read(self.alloc, words, input, 8),
+            },
+        }
+    }
+
+    fn fails(self, words: &[&str], input: &[u8], answer: Answer<'_>) -> bool {
+        match answer {
+            Answer::Text(_, text) => {
+                fails_at_each_read(self.alloc, words, input, 4)
+                    && fails_at_each_write(self.alloc, words, input, text)
+            }
+            Answer::Fault(fault) => refuses_at_once(self.alloc, words, input, fault),
+            Answer::Usage => asks_for_nothing(self.alloc, words, input),
+        }
+    }
+}
