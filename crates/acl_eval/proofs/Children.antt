@@ -7,6 +7,7 @@ use Rattle.std.proofs.lemmas.Bool.{eqb-true}
 use Rattle.std.proofs.lemmas.Nat.{and_comm}
 use Rattle.std.proofs.lemmas.Nat.Bits.{and_pow}
 use Rattle.std.proofs.lemmas.List.{length-append}
+use Rattle.std.proofs.lemmas.Option.{same_Some}
 use Rattle.acl_perm.proofs.Sets.{has_bit-and, has_bit-or, same_set}
 use Rattle.acl_perm.specs.Bits.{has_bit, inherit_only}
 use Rattle.acl_perm.specs.Profile.{Profile}
@@ -50,9 +51,6 @@ pub inherit_only_within : (set : ℕ) → has_bit set inherit_only ≡ true → 
 inherit_only_within set h = and_comm 8 set ∙ and_pow set 3
     ∙ ap (λ (d : ℕ). d * 8) (eqb-true (bit_at set 3) 1 h)
 
-some_is : {A : Type 0} (x y : A) → Some x ≡ Some y → x ≡ y
-some_is x y e = cc
-
 -- the flags of an ACE of the child lie within a set with INHERIT_ONLY within which those of the parent's lie
 pub child_within : (set : ℕ) (kind : ChildKind) (flags f : ℕ) → has_bit set inherit_only ≡ true → IsWithin set flags
     → child_flags kind flags ≡ Some f → IsWithin set f
@@ -61,13 +59,13 @@ child_within set kind flags f h is e =
     refl refl refl e
   where
     ends_in : Some (ends flags) ≡ Some f → IsWithin set f
-    ends_in q = subst (IsWithin set) (some_is _ _ q) (part_within set flags 0x70 is)
+    ends_in q = subst (IsWithin set) (same_Some _ _ q) (part_within set flags 0x70 is)
 
     goes_on_in : Some (goes_on flags) ≡ Some f → IsWithin set f
-    goes_on_in q = subst (IsWithin set) (some_is _ _ q) (part_within set flags 0x77 is)
+    goes_on_in q = subst (IsWithin set) (same_Some _ _ q) (part_within set flags 0x77 is)
 
     waits_in : Some (waits flags) ≡ Some f → IsWithin set f
-    waits_in q = subst (IsWithin set) (some_is _ _ q)
+    waits_in q = subst (IsWithin set) (same_Some _ _ q)
         (union_within set (goes_on flags) 8 (part_within set flags 0x77 is) (inherit_only_within set h))
 
     by : (kind : ChildKind) (p d n : Bool) → has_bit flags file_inherit ≡ p → has_bit flags directory_inherit ≡ d

@@ -1,6 +1,7 @@
 -- The flags of a child, flag by flag.
 use Rattle.std.proofs.Common.{◌≡◌, ℕ, Bool, true, false, refl, sym, ap, subst, ◌∙◌}
 use Rattle.std.specs.Prelude.{bit_and, bit_or, not, Option, None, Some, ◌&&◌, ◌||◌}
+use Rattle.std.proofs.lemmas.Option.{same_Some}
 use Rattle.acl_perm.proofs.Bools.{and_true_right, and_false_right, or_true_right, or_false_right}
 use Rattle.acl_perm.proofs.Sets.{has_bit-and, has_bit-or}
 use Rattle.acl_perm.specs.Bits.{has_bit, inherit_only}
@@ -62,15 +63,12 @@ waiting flags n d = let on = goes_on flags in record {
   not_inherited = beside on 8 7 refl ∙ cleared flags 0x77 7 refl;
 }
 
-some_is : {A : Type 0} (x y : A) → Some x ≡ Some y → x ≡ y
-some_is x y e = cc
-
 -- of a file
 pub files_by_flag : (flags f : ℕ) → child_flags File flags ≡ Some f → IsByFlag false flags f
 files_by_flag flags f e = by (has_bit flags file_inherit) refl e
   where
     by : (p : Bool) → has_bit flags file_inherit ≡ p → child_flags File flags ≡ Some f → IsByFlag false flags f
-    by true pe e = subst (IsByFlag false flags) (some_is _ _ (sym (rw pe refl) ∙ e)) (ended flags)
+    by true pe e = subst (IsByFlag false flags) (same_Some _ _ (sym (rw pe refl) ∙ e)) (ended flags)
     by false pe e = let none : child_flags File flags ≡ None = rw pe refl in absurd cc
 
 -- of a directory
@@ -85,14 +83,14 @@ directories_by_flag flags f e =
         → IsByFlag (not (has_bit flags no_propagate_inherit)) flags f
     by p true true pe de ne e =
         subst (λ (on : Bool). IsByFlag on flags f) (sym (ap not ne))
-        (subst (IsByFlag false flags) (some_is _ _ (sym (rw (de, ne) refl) ∙ e)) (ended flags))
+        (subst (IsByFlag false flags) (same_Some _ _ (sym (rw (de, ne) refl) ∙ e)) (ended flags))
     by p true false pe de ne e =
         subst (λ (on : Bool). IsByFlag on flags f) (sym (ap not ne))
-        (subst (IsByFlag true flags) (some_is _ _ (sym (rw (de, ne) refl) ∙ e)) (handed_on flags ne de))
+        (subst (IsByFlag true flags) (same_Some _ _ (sym (rw (de, ne) refl) ∙ e)) (handed_on flags ne de))
     by p false true pe de ne e =
         let none : child_flags Directory flags ≡ None = rw (de, ne) refl in absurd cc
     by true false false pe de ne e =
         subst (λ (on : Bool). IsByFlag on flags f) (sym (ap not ne))
-        (subst (IsByFlag true flags) (some_is _ _ (sym (rw (de, ne, pe) refl) ∙ e)) (waiting flags ne de))
+        (subst (IsByFlag true flags) (same_Some _ _ (sym (rw (de, ne, pe) refl) ∙ e)) (waiting flags ne de))
     by false false false pe de ne e =
         let none : child_flags Directory flags ≡ None = rw (de, ne, pe) refl in absurd cc

@@ -2,6 +2,7 @@
 use Rattle.std.proofs.Common.{◌≡◌, ℕ, List, [], ◌++◌, length, Option, None, Some, Result, Ok, Err, sym, ap, subst, ◌∙◌, inl, inr}
 use Rattle.std.specs.Io.KnownBytes.{Consumes, IsAtEnd}
 use Rattle.std.proofs.lemmas.List.{append-nil}
+use Rattle.std.proofs.lemmas.Option.{same_Some}
 use Rattle.acl_perm.specs.Profile.{Profile}
 use Rattle.acl_nfs4.specs.Ace.{Ace}
 use Rattle.acl_nfs4.specs.Spelling.{Xdr}
@@ -17,9 +18,6 @@ use Rattle.acl_nfs4.proofs.Pieces.{fault_stays}
 use Rattle.acl_nfs4.proofs.Exactly.{same_fault}
 
 -- ---- what was told of the whole input
-
-some_is : (a b : List ℕ) → Some a ≡ Some b → a ≡ b
-some_is a b e = cc
 
 at_end_of : (input given left : List ℕ) → input ≡ given ++ left → left ≡ [] → given ≡ input
 at_end_of input given left e z = sym (append-nil given) ∙ ap (λ (l : List ℕ). given ++ l) (sym z) ∙ sym e
@@ -43,7 +41,7 @@ pub only : (p : Profile) (old new : Option (List ℕ)) (given : List ℕ) (resul
 only p None new given result ok c d list text rest x e = absurd cc
 only p (Some input) None given result ok c d list text rest x e = absurd c
 only p (Some input) (Some left) given result ok c d list text rest x e = is_only p list text rest given left result ok
-    x (sym (some_is _ _ e) ∙ c) d
+    x (sym (same_Some _ _ e) ∙ c) d
 
 is_refused : (p : Profile) (input given left : List ℕ) (result : Result (List Ace) Fault) (o : ℕ) (r : Reason)
     → IsProfile p → input ≡ given ++ left → Decodes p given (left ≡ []) result → IsFault p input o r
@@ -68,4 +66,4 @@ pub refused : (p : Profile) (old new : Option (List ℕ)) (given : List ℕ) (re
 refused p None new given result ok c d input o r e f = absurd cc
 refused p (Some known) None given result ok c d input o r e f = absurd c
 refused p (Some known) (Some left) given result ok c d input o r e f = is_refused p input given left result o r ok
-    (sym (some_is _ _ e) ∙ c) d f
+    (sym (same_Some _ _ e) ∙ c) d f

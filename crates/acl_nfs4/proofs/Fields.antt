@@ -5,6 +5,7 @@ use Rattle.std.specs.List.{list_all}
 use Rattle.std.proofs.lemmas.Bool.{cases_lt, ltb-false, le-ltb, eqb-true, eq-eqb, or_parts, or_from}
 use Rattle.std.proofs.lemmas.List.{take_at, drop_at, take-append-drop, length-append, length-take, get_or-drop, get_or-take, get_or_past, get_or_append_left, get_or-append_right}
 use Rattle.std.proofs.lemmas.Nat.{be_bytes_4, from_be_bytes-to_be_bytes_4}
+use Rattle.acl_perm.proofs.Bools.{and_true}
 use Rattle.acl_perm.specs.declared.kind.Kind.{Kind}
 use Rattle.acl_perm.specs.declared.kind.Kind.TheVariants.{Deny, Allow}
 use Rattle.acl_nfs4.specs.declared.xdr.fault.Reason.{Reason}
@@ -16,7 +17,8 @@ use Rattle.acl_nfs4.specs.Who.{is_no_who_len, who_fault, IsWho}
 use Rattle.acl_nfs4.specs.Within.{IsWithin, is_within}
 use Rattle.acl_nfs4.specs.Spelling.{word, kind_number}
 use Rattle.acl_nfs4.specs.Fields.{number, count_of, kind_of, flags_of, mask_of, who_len_of, unless, who_reason, who_of, padding_of}
-use Rattle.acl_nfs4.specs.internal.Reading.{◌>>=◌, Place, moved, fault_at, judged, field, word_field}
+use Rattle.acl_perm.specs.Steps.{◌>>=◌}
+use Rattle.acl_nfs4.specs.internal.Reading.{Place, moved, fault_at, judged, field, word_field}
 
 -- numbers that are bytes
 abbrev pub IsBytes : List ℕ → Type 0
@@ -173,6 +175,11 @@ pub kind_again : (k : Kind) → kind_of (kind_number k) ≡ Ok k
 kind_again Allow = refl
 kind_again Deny = refl
 
+-- a type is a word
+pub kind_lt : (k : Kind) → kind_number k < 2 ^ 32
+kind_lt Allow = omega arith
+kind_lt Deny = omega arith
+
 -- flags that were read are ones of the profile
 pub flags_are : (profile : Profile) (n m : ℕ) → flags_of profile n ≡ Ok m → (n ≡ m) × IsWithin profile.flags m
 flags_are profile n m e =
@@ -183,10 +190,6 @@ flags_are profile n m e =
 -- flags of the profile are accepted
 pub flags_again : (profile : Profile) (n : ℕ) → IsWithin profile.flags n → flags_of profile n ≡ Ok n
 flags_again profile n within = rw (eq-eqb (bit_and n profile.flags) n within) refl
-
-and_true : (x y : Bool) → (x && y) ≡ true → (x ≡ true) × (y ≡ true)
-and_true true y e = (refl, e)
-and_true false y e = absurd cc
 
 not_false : (b : Bool) → not b ≡ false → b ≡ true
 not_false true e = refl

@@ -14,7 +14,7 @@ use Rattle.acl_nfs4.specs.Within.{IsProfile}
 use Rattle.acl_nfs4.specs.Spelling.{word, kind_number, pad_len, piece, spelling, weight, IsAce, Xdr}
 use Rattle.acl_nfs4.specs.Fields.{count_of, kind_of, flags_of, mask_of, who_len_of, who_of, padding_of}
 use Rattle.acl_nfs4.specs.internal.Reading.{Place, field, word_field, ace_at, aces_at, read}
-use Rattle.acl_nfs4.proofs.Fields.{IsBytes, bind_then, goes_to, ok_is, Takes, Takes-then, field_takes, field_again, word_takes, word_again, count_is, count_again, kind_is, kind_again, flags_are, flags_again, mask_is, mask_again, who_len_is, who_len_again, who_bounds, who_is, who_again, padding_is, padding_again}
+use Rattle.acl_nfs4.proofs.Fields.{IsBytes, bind_then, goes_to, ok_is, Takes, Takes-then, field_takes, field_again, word_takes, word_again, count_is, count_again, kind_is, kind_again, kind_lt, flags_are, flags_again, mask_is, mask_again, who_len_is, who_len_again, who_bounds, who_is, who_again, padding_is, padding_again}
 use Rattle.acl_nfs4.proofs.Within.{flags_lt, mask_lt}
 
 -- ---- one ACE
@@ -76,10 +76,6 @@ ace_takes profile weight p x fits e =
     (takes_fields profile weight p k f m l w z fits ke fe me le we ze)))))))
 
 -- ---- one ACE that was written
-
-kind_lt : (k : Kind) → kind_number k < 2 ^ 32
-kind_lt Allow = omega arith
-kind_lt Deny = omega arith
 
 -- an ACE that was written is read again
 pub ace_again : (profile : Profile) (weight at : ℕ) (a : Ace) (rest : List ℕ) → IsProfile profile → IsAce profile a

@@ -13,11 +13,12 @@ use Rattle.acl_nfs4.specs.declared.xdr.fault.Reason.TheVariants.{Truncated}
 use Rattle.acl_nfs4.specs.Ace.{Ace}
 use Rattle.acl_nfs4.specs.Spelling.{word, kind_number, pad_len, weight}
 use Rattle.acl_nfs4.specs.Fields.{number, count_of, kind_of, flags_of, mask_of, who_len_of, who_of, padding_of}
-use Rattle.acl_nfs4.specs.internal.Reading.{◌>>=◌, Place, fault_at, field, word_field, ace_at, aces_at, read, value_at, Gives}
+use Rattle.acl_perm.specs.Steps.{◌>>=◌}
+use Rattle.acl_nfs4.specs.internal.Reading.{Place, fault_at, field, word_field, ace_at, aces_at, read, value_at, Gives}
 use Rattle.acl_nfs4.specs.Fault.{Stage, Border, IsOwed, Breaks, IsFault}
 use Rattle.acl_nfs4.specs.Fault.Stage.{count as at_count, kind as at_kind, flags as at_flags, mask as at_mask, len as at_len, who as at_who, padding as at_padding}
 use Rattle.acl_nfs4.specs.Fault.Border.{start, counted, typed, flagged, masked, measured, named, padded}
-use Rattle.acl_nfs4.proofs.Fields.{goes_to, word_again, field_again, count_again, kind_again, flags_again, mask_again, who_len_again, who_again, padding_again}
+use Rattle.acl_nfs4.proofs.Fields.{goes_to, word_again, field_again, count_again, kind_again, kind_lt, flags_again, mask_again, who_len_again, who_again, padding_again}
 use Rattle.acl_nfs4.proofs.Body.{apart}
 use Rattle.acl_nfs4.proofs.Faults.{weight-push}
 use Rattle.acl_nfs4.proofs.Within.{flags_lt, mask_lt}
@@ -70,10 +71,6 @@ resume profile (at_padding n list k f m w) p = then_others profile n list (from_
 
 abbrev place : ℕ → List ℕ → Place
 place n rest = record { at = n; rest = rest }
-
-kind_lt : (k : Kind) → kind_number k < 2 ^ 32
-kind_lt Allow = omega arith
-kind_lt Deny = omega arith
 
 -- one more field was read
 moves_on : (profile : Profile) (s u : Stage) (t x rest : List ℕ)

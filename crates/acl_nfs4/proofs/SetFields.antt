@@ -11,9 +11,10 @@ use Rattle.std.proofs.lemmas.List.Splits.{slice_split_first, slice_split_at, sli
 use Rattle.acl_perm.specs.Bits.{has_bit}
 use Rattle.std.specs.List.{All, AllByRecursion}
 use Rattle.std.proofs.lemmas.List.Elements.{All-from_recursion}
-use Rattle.std.proofs.lemmas.Option.{option_and_then_some}
+use Rattle.std.proofs.lemmas.Option.{option_and_then_some, same_Some}
 use Rattle.std.proofs.lemmas.Slice.Eq.{bytes_eq-Decides}
 use Rattle.std.proofs.lemmas.Nat.{or_comm}
+use Rattle.acl_perm.proofs.Bools.{and_true}
 use Rattle.acl_perm.proofs.Sets.{has_bit-or, same_set, no_bit}
 use Rattle.acl_perm.specs.declared.mask.Mask.{Mask}
 use Rattle.acl_nfs4.specs.BitNames.{BitName, is_name_of, bit_in, bits_in, no_names, SpellsSet, set_named}
@@ -165,10 +166,6 @@ pub record IsTable (table : List BitName) : Type 0 where
 pub rights_table : IsTable rights
 rights_table = record { whole = refl; no_dash = refl }
 
-and_true : (x y : Bool) → (x && y) ≡ true → (x ≡ true) × (y ≡ true)
-and_true true y e = (refl, e)
-and_true false y e = absurd cc
-
 -- bytes that are tested equal are
 pub same_bytes : (xs ys : List ℕ) → bytes_eq xs ys ≡ true → xs ≡ ys
 same_bytes xs ys e = search (rules, bytes_eq-Decides xs ys, e)
@@ -255,16 +252,14 @@ unfolding set_named
 spelled table field mask e =
     elim (bytes_eq field no_names) as (λ b. bytes_eq field no_names ≡ b
     → cond b (Some 0) (bits_in table (slice_split is_bar field)) ≡ Some mask → SpellsSet table field mask) [
-      | true ↦ λ same given. inl (same_bytes field no_names same, some_is given)
+      | true ↦ λ same given. inl (same_bytes field no_names same, sym (same_Some _ _ given))
       | false ↦ λ other given. inr (
         slice_split is_bar field,
         some_parts field,
         sym (join_with_byte-slice_split 0x7c field),
         given,
       )
-    ] refl e where
-      some_is : Some 0 ≡ Some mask → mask ≡ 0
-      some_is h = cc
+    ] refl e
 
 words_again : (table : List BitName) (field : List ℕ) (mask : ℕ) (words : List (List ℕ)) → IsTable table
     → words ≢ [] → field ≡ join_with_byte 0x7c words

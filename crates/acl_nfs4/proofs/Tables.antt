@@ -7,7 +7,7 @@ use Rattle.std.specs.Str.{bytes_eq}
 use Rattle.std.proofs.lemmas.Bool.{eqb-true, eq-eqb, ltb-true}
 use Rattle.std.proofs.lemmas.Bool.Decides.{eqb_tells}
 use Rattle.std.proofs.lemmas.Nat.{and_le_l}
-use Rattle.std.proofs.lemmas.Option.{option_and_then_some}
+use Rattle.std.proofs.lemmas.Option.{option_and_then_some, same_Some}
 use Rattle.std.proofs.Math.Bool.{and-or_distrib_left}
 use Rattle.std.proofs.lemmas.Nat.Bits.{and_pow, bit_at-lt}
 use Rattle.std.specs.Int.{bit_at}
@@ -107,10 +107,8 @@ words_right table [] n all e = let same : 0 ≡ n = cc in subst IsMask same refl
 words_right table (word ∷ words) n all e =
     option_and_then_some (λ bit. option_map (bit_or bit) (bits_in table words)) (bit_in table word) n e
     (λ bit named rest. map_some (bit_or bit) (bits_in table words) n rest (λ m others.
-    let same : bit_or bit m ≡ n = some_is (sym (ap (option_map (bit_or bit)) others) ∙ rest) in
-    joined_right bit m n (bit_right table word bit all named) (words_right table words m all others) same)) where
-      some_is : {x y : ℕ} → Some x ≡ Some y → x ≡ y
-      some_is h = cc
+    let same : bit_or bit m ≡ n = same_Some _ _ (sym (ap (option_map (bit_or bit)) others) ∙ rest) in
+    joined_right bit m n (bit_right table word bit all named) (words_right table words m all others) same))
 
 -- a field that names a set of rights names a mask
 pub named_right : (field : List ℕ) (n : ℕ) → mask_named field ≡ Some n → IsMask n
@@ -319,13 +317,10 @@ part_says table whole field is =
           → PartSays table whole field (cond t (Some set) None)) [
             | true ↦ λ inside. record { spelled = spelled table field set named; within = eqb-true _ _ inside }
             | false ↦ λ outside other s within.
-                let same : set ≡ other = some_is (sym named ∙ named_again table field other is s) in
+                let same : set ≡ other = same_Some _ _ (sym named ∙ named_again table field other is s) in
                 absurd (misfit (sym outside ∙ eq-eqb _ _ (subst (IsWithin whole) (sym same) within)))
           ] refl
     ] refl where
-      some_is : {x y : ℕ} → Some x ≡ Some y → x ≡ y
-      some_is h = cc
-
       apart : {x : ℕ} → None ≡ Some x → ⊥
       apart h = cc
 

@@ -3,7 +3,7 @@ ghost use Rattle.std.specs.Prelude.{◌≡◌, ◌<◌, ◌^◌, length, IfOk, v
 ghost use Rattle.acl_perm.specs.Profile.{full};
 ghost use Rattle.acl_nfs4.specs.Spelling.{IsAccepted};
 ghost use Rattle.acl_normal.specs.internal.Reduced.{IsReducedOf};
-ghost use Rattle.acl_normal.specs.internal.Remaining.{IsReduced};
+ghost use Rattle.acl_normal.specs.internal.Remaining.{IsNumbered};
 ghost use Rattle.acl_normal.specs.internal.Rows.{AreRowNumbers};
 ghost use Rattle.acl_normal.specs.internal.Shown.{aces_in, with_masks};
 
@@ -49,7 +49,7 @@ pub(crate) struct Reduced<'a> {
 pub(crate) fn reduced_list<'a>(alloc: Global, list: &'a Acl) -> Result<Reduced<'a>, AllocError>
     ensures few { IfOk result (λ r. vec_len r.aces < 2 ^ 32) }
     ensures places { IfOk result (λ r. vec_len r.masks ≡ vec_len r.aces) }
-    ensures rows { IfOk result (λ r. IsReduced (with_masks r.aces.items r.masks.items)
+    ensures rows { IfOk result (λ r. IsNumbered (with_masks r.aces.items r.masks.items)
         r.numbers.rows.items r.numbers.order.items) }
     ensures left { IfOk result (λ r.
         IsReducedOf list.now (with_masks r.aces.items r.masks.items)) }

@@ -15,3 +15,4 @@ pub mod Places
 pub mod Pieces
 pub mod Mode
 pub mod Shown
+pub mod Steps

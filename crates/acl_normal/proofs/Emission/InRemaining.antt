@@ -20,7 +20,7 @@ use Rattle.acl_normal.specs.Places.{key_here, mask_here, nothing_left, slot_of, 
 use Rattle.acl_normal.specs.declared.emit.remaining.Queue.{Queue}
 use Rattle.acl_normal.specs.declared.emit.remaining.Remaining.TheInside.{Inside}
 use Rattle.acl_normal.specs.internal.Emissions.{IsOnce}
-use Rattle.acl_normal.specs.internal.Remaining.{AreQueues, IsQueue, IsQueueFrom, IsReduced, IsRemaining, first_in, masks_left, places_in, remaining_of}
+use Rattle.acl_normal.specs.internal.Remaining.{AreQueues, IsQueue, IsQueueFrom, IsNumbered, IsRemaining, first_in, masks_left, places_in, remaining_of}
 use Rattle.acl_normal.specs.internal.Rows.{AreRowNumbers, IsRow, row_of}
 use Rattle.acl_normal.specs.internal.Shown.{aces_in, with_masks}
 use Rattle.acl_normal.specs.internal.Waiting.{HoldWaiting}
@@ -346,14 +346,14 @@ all_remains aces masks rows left e f tidy numbers full =
 -- the list begins right
 pub begins_right : (s : Inside) → length s.aces.items < 2 ^ 32 → vec_len s.masks ≡ length s.aces.items
     → vec_len s.left ≡ length s.aces.items
-    → IsReduced (with_masks s.aces.items s.masks.items) s.rows.items s.order.items
+    → IsNumbered (with_masks s.aces.items s.masks.items) s.rows.items s.order.items
     → AreQueues (with_masks s.aces.items s.masks.items) s.queues.items
     → masks_left s.masks.items s.rows.items s.left.items ≡ s.masks.items → IsRemaining s
 begins_right s few masks left reduced queues all = record {
   few = few;
   masks = masks;
   left = left;
-  list = subst (λ v. IsReduced v s.rows.items s.order.items) view reduced;
+  list = subst (λ v. IsNumbered v s.rows.items s.order.items) view reduced;
   queues = subst (λ v. AreQueues v s.queues.items) view queues;
 }
   where

@@ -3,6 +3,7 @@ use Rattle.std.specs.Prelude.{◌≡◌, ◌↔◌, ℕ, zero, suc, Bool, true, 
 use Rattle.std.proofs.Common.{sym, ◌∙◌, ap, subst, arith}
 use Rattle.std.proofs.lemmas.Bool.{eqb-true}
 use Rattle.std.proofs.lemmas.Nat.Bits.{bit_at-zero}
+use mathlib.Core.Logic.Iff.{symm, trans}
 use Rattle.acl_perm.specs.Principal.{Principal}
 use Rattle.acl_perm.specs.declared.kind.Kind.{Kind}
 use Rattle.acl_perm.specs.Bits.{has_bit, all_rights}
@@ -85,12 +86,6 @@ has_masks xs ns irr e =
     masks_of_quiet ns (quiet_flags ns e.flags) (λ b out. alike_nothing (column ns b)
     (subst (λ c. IsAlike c (column ns b)) (no_other_bits (left xs) b irr out) ((emission_left xs ns e).alike b)))
 
-through : {P Q R : Type 0} → P ↔ Q → Q ↔ R → P ↔ R
-through f g = ((λ h. g.0 (f.0 h)), (λ h. f.1 (g.1 h)))
-
-back : {P Q : Type 0} → P ↔ Q → Q ↔ P
-back f = (f.1, f.0)
-
 -- of an irreducible list it is normal and grants the same
 pub left_normal : (xs ns : List Ace) → IsIrreducibleList (left xs) → IsEmission xs ns
     → IsNormal ns × SameGrants all_rights xs ns
@@ -102,7 +97,7 @@ pub left_only : (xs ns : List Ace) → IsIrreducibleList (left xs) → IsEmissio
     → SameGrants all_rights xs ms → ms ≡ ns
 left_only xs ns irr e ms normal same =
     let both = left_normal xs ns irr e in
-    unique ms ns normal both.0 (λ s valid request within. through (back (same s valid request within))
+    unique ms ns normal both.0 (λ s valid request within. trans (symm (same s valid request within))
     (both.1 s valid request within))
 
 one_less : (p : Principal) (d : Column) (k : Kind) → IsOnce d → first_kind (is_either p p) d ≡ Some k

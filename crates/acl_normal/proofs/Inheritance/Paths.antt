@@ -1,6 +1,7 @@
 -- Below the first new directory nothing is new, and what fits a profile does at every path.
 use Rattle.std.proofs.Common.{◌≡◌, ◌≤◌, ℕ, zero, suc, Bool, true, false, List, [], ◌∷◌, refl, sym, ap, subst, ◌∙◌, arith, ◌⊎◌, inl, inr}
 use Rattle.std.specs.Prelude.{bit_and, bit_or, ◌&&◌, ◌||◌, ◌↔◌, IsTrue, Option, None, Some}
+use Rattle.std.proofs.lemmas.Option.{same_Some}
 use Rattle.acl_perm.specs.Bits.{has_bit, all_flags, inherit_only}
 use Rattle.acl_perm.specs.Principal.{Principal, owner, user, group, group_named, everyone}
 use Rattle.acl_perm.specs.Profile.{Profile}
@@ -88,9 +89,6 @@ wait_again flags d n f =
     (waiting_bit flags 1 ∙ ap (λ (b : Bool). (b && true) || false) d)
     (waiting_bit flags 0 ∙ ap (λ (b : Bool). (b && true) || false) f) ∙ ap Some (waits_again flags)
 
-some_is : (x y : ℕ) → Some x ≡ Some y → x ≡ y
-some_is x y e = cc
-
 handed_on : (flags f : ℕ) → child_flags Directory flags ≡ Some f → GoesOnOrEnds f
 handed_on flags f e =
     by (has_bit flags directory_inherit) (has_bit flags no_propagate_inherit) (has_bit flags file_inherit)
@@ -98,12 +96,12 @@ handed_on flags f e =
   where
     by : (d n p : Bool) → has_bit flags directory_inherit ≡ d → has_bit flags no_propagate_inherit ≡ n
         → has_bit flags file_inherit ≡ p → GoesOnOrEnds f
-    by true true p de ne pe = subst GoesOnOrEnds (some_is _ _ (sym (directory_ended flags ne de) ∙ e))
+    by true true p de ne pe = subst GoesOnOrEnds (same_Some _ _ (sym (directory_ended flags ne de) ∙ e))
         (inr (nothing_behind flags))
-    by true false p de ne pe = subst GoesOnOrEnds (some_is _ _ (sym (directory_inherited flags ne de) ∙ e))
+    by true false p de ne pe = subst GoesOnOrEnds (same_Some _ _ (sym (directory_inherited flags ne de) ∙ e))
         (inl (on_again flags de ne))
     by false true p de ne pe = let none = directory_ended_before flags ne de in absurd cc
-    by false false true de ne pe = subst GoesOnOrEnds (some_is _ _ (sym (directory_for_files flags ne de pe) ∙ e))
+    by false false true de ne pe = subst GoesOnOrEnds (same_Some _ _ (sym (directory_for_files flags ne de pe) ∙ e))
         (inl (wait_again flags de ne pe))
     by false false false de ne pe = let none = directory_absent flags ne de pe in absurd cc
 

@@ -5,6 +5,7 @@ use Rattle.std.specs.declared.cmp.Ordering.{Ordering}
 use Rattle.std.specs.declared.cmp.Ordering.TheVariants.{Less, Equal, Greater}
 use Rattle.std.proofs.Common.{sym, ◌∙◌, ap, subst, arith, inl, inr, ⊎_elim}
 use Rattle.std.proofs.lemmas.Bool.{and_from, and_parts, cases_eq, cases_lt}
+use Rattle.std.proofs.lemmas.Option.{same_Some}
 use Rattle.acl_perm.specs.Bits.{has_bit}
 use Rattle.acl_perm.specs.Order.{principal_cmp}
 use Rattle.acl_perm.specs.Principal.{Principal, is_user}
@@ -32,12 +33,9 @@ first_by_place b p xs i h = go (first_at b p xs) refl
     go : (o : Option (Kind × ℕ)) → first_at b p xs ≡ o → first_at b p xs ≡ Some ((key_here xs i).1, i)
     go None e = cc (rw e at h)
     go (Some (j, l)) e =
-        let same : l ≡ i = some_is l i (rw e at h) in
+        let same : l ≡ i = same_Some l i (rw e at h) in
         let kind : (key_here xs l).1 ≡ j = ap (λ (k : Key). k.1) (key_from_first b p xs j l e) in
         e ∙ ap (λ v. Some (v, l)) (sym kind) ∙ ap (λ v. Some ((key_here xs v).1, v)) same
-      where
-        some_is : (m n : ℕ) → ◌≡◌ {A = Option ℕ} (Some m) (Some n) → m ≡ n
-        some_is m n h = cc
 
 -- which is one of the list
 pub first_in : (b : ℕ) (p : Principal) (xs : List Ace) (e : Kind × ℕ) → first_at b p xs ≡ Some e → e.1 < length xs

@@ -16,7 +16,7 @@ use Rattle.acl_normal.specs.internal.Counts.{count_left}
 use Rattle.acl_normal.specs.internal.Emissions.{HasOnceColumns, IsEmission, IsOnce}
 use Rattle.acl_normal.specs.Normal.{IsNormal}
 use Rattle.acl_normal.specs.NormalForm.{IsNormalFormOf}
-use Rattle.acl_normal.specs.internal.Passes.{IsReduced, KeepsProfiles}
+use Rattle.acl_normal.specs.internal.Passes.{IsPlainReduction, KeepsProfiles}
 use Rattle.acl_normal.specs.internal.Plain.{unshadowed, default, needed_keys}
 use Rattle.acl_normal.proofs.Unique.Accepted.{each_mask, each_name}
 use Rattle.acl_normal.proofs.Unique.Normal.{emitted_is_normal, quiet_flags}
@@ -56,21 +56,21 @@ form_from source result accepted normal grants shorter kept =
         unique result other normal is (laws.transitive result source other (laws.symmetric source result grants) same)
 
 -- each principal once
-pub reduced_columns : (source needed : List Ace) → IsReduced source needed → HasOnceColumns needed
+pub reduced_columns : (source needed : List Ace) → IsPlainReduction source needed → HasOnceColumns needed
 reduced_columns source needed h bit = subst IsOnce (sym (h.columns bit)) (reduced_once (column source bit))
 
-reduced_fewer : (source needed : List Ace) → IsReduced source needed → (bit : ℕ)
+reduced_fewer : (source needed : List Ace) → IsPlainReduction source needed → (bit : ℕ)
     → length (column needed bit) ≤ length (column source bit)
 reduced_fewer source needed h bit = omega (arith, ap length (h.columns bit), reduced_shorter (column source bit))
 
 -- no more keys than an accepted list may have
-pub reduced_small : (source needed : List Ace) → IsAccepted full source → IsReduced source needed
+pub reduced_small : (source needed : List Ace) → IsAccepted full source → IsPlainReduction source needed
     → count_left 32 needed ≤ most_weight
 reduced_small source needed accepted h =
     omega (arith, count_falls 32 source needed (reduced_fewer source needed h), count_within 32 source, accepted.weight)
 
 -- what is emitted of it is the normal form
-pub reduced_form : (source needed result : List Ace) → IsAccepted full source → IsReduced source needed
+pub reduced_form : (source needed result : List Ace) → IsAccepted full source → IsPlainReduction source needed
     → IsEmission needed result → ((bit : ℕ) → length (column result bit) ≤ length (column needed bit))
     → KeepsProfiles needed result → IsNormalFormOf source result
 reduced_form source needed result accepted h emission shorter kept =
@@ -86,7 +86,7 @@ pub passes_reduce : {V E : Type 0} (list : V → List Ace) (source aces reached 
     → lent ≡ reached
     → IfOk answer (λ v. (bit : ℕ)
     → column (list v) bit ≡ needed_keys (default (column lent bit)) (column lent bit))
-    → IfOk answer (λ v. KeepsProfiles lent (list v)) → IfOk answer (λ v. IsReduced source (list v))
+    → IfOk answer (λ v. KeepsProfiles lent (list v)) → IfOk answer (λ v. IsPlainReduction source (list v))
 passes_reduce list source aces reached lent (Ok v) same first kept loan second kept_again = record {
   columns = λ bit. second bit
       ∙ ap (λ c. needed_keys (default c) c)
@@ -99,7 +99,7 @@ passes_reduce list source aces reached lent (Err fault) same first kept loan sec
 
 -- an answer that is emitted of the reduction is the normal form, where it is Ok
 pub emitted_form : {E : Type 0} (source needed : List Ace) (answer : Result (List Ace) E) → IsAccepted full source
-    → IsReduced source needed → IfOk answer (IsEmission needed)
+    → IsPlainReduction source needed → IfOk answer (IsEmission needed)
     → IfOk answer (λ list. (bit : ℕ) → length (column list bit) ≤ length (column needed bit))
     → IfOk answer (KeepsProfiles needed) → IfOk answer (IsNormalFormOf source)
 emitted_form source needed (Ok list) accepted h emission shorter kept =
@@ -107,6 +107,6 @@ emitted_form source needed (Ok list) accepted h emission shorter kept =
 emitted_form source needed (Err fault) accepted h emission shorter kept = tt
 
 -- the ACEs of the reduction are ones of the whole profile
-pub reduced_each : (source needed : List Ace) → IsAccepted full source → IsReduced source needed
+pub reduced_each : (source needed : List Ace) → IsAccepted full source → IsPlainReduction source needed
     → AllByRecursion (IsAce full) needed
 reduced_each source needed accepted h = h.profiles full accepted.each

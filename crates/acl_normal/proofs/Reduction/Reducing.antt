@@ -4,6 +4,7 @@ use Rattle.std.specs.Int.{bit_at}
 use Rattle.std.proofs.Common.{sym, ◌∙◌, ap, subst, arith, ⊎_elim}
 use Rattle.std.proofs.lemmas.Bool.{cases_lt, eqb-true, eqb-false}
 use Rattle.std.proofs.lemmas.Nat.Bits.{bit_at_above}
+use mathlib.Core.Logic.Iff.{symm, trans}
 use Rattle.acl_perm.specs.Situation.{matches}
 use Rattle.acl_perm.specs.Bits.{has_bit, all_rights}
 use Rattle.acl_perm.specs.Profile.{full}
@@ -145,20 +146,14 @@ reduction_grants xs ys columns = same_grants_from_columns xs ys (λ b inside s v
 
 -- ---- the normal form is the only normal list with the grants
 
-through : {P Q R : Type 0} → P ↔ Q → Q ↔ R → P ↔ R
-through f g = ((λ h. g.0 (f.0 h)), (λ h. f.1 (g.1 h)))
-
-back : {P Q : Type 0} → P ↔ Q → Q ↔ P
-back f = (f.1, f.0)
-
 -- granting the same goes on
 pub grants_through : (xs ys zs : List Ace) → SameGrants all_rights xs ys → SameGrants all_rights ys zs
     → SameGrants all_rights xs zs
-grants_through xs ys zs f g s valid request within = through (f s valid request within) (g s valid request within)
+grants_through xs ys zs f g s valid request within = trans (f s valid request within) (g s valid request within)
 
 -- and turns round
 pub grants_back : (xs ys : List Ace) → SameGrants all_rights xs ys → SameGrants all_rights ys xs
-grants_back xs ys f s valid request within = back (f s valid request within)
+grants_back xs ys f s valid request within = symm (f s valid request within)
 
 -- the normal form is the only normal list that grants the same
 pub only_one : (xs ns ms : List Ace) → IsNormal ns → SameGrants all_rights xs ns → IsNormal ms

@@ -287,15 +287,6 @@ later_more l l' a back quiet later more k users b =
 
 -- ---- the loop, from the last key to the first
 
--- and stay so
-pub tidy_taken : (p : Principal) (m : ℕ) (xs : List Ace) → IsTidy xs → IsTidy (take_out p m xs)
-tidy_taken p m xs t = record {
-  once = once_taken p m xs t.once;
-  quiet = quiet_taken p m xs t.quiet;
-  low = low_taken p
-      m xs t.low;
-}
-
 -- of ys the last n keys are dealt with
 pub record Drops (ys : List Ace) (n : ℕ) (xs : List Ace) (l : Later) : Type 0 where
   pub front : List Ace

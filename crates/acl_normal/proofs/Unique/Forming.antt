@@ -41,7 +41,8 @@ pub record IsSource (b : ℕ) (xs : List Ace) (e : Key) : Type 0 where
   pub has : has_bit item.mask b ≡ true
   pub entry : ace_key item ≡ e
 
-first_same : (e f : Key) (c d : Column) → e ∷ c ≡ f ∷ d → (e ≡ f) × (c ≡ d)
+-- columns that are the same begin with the same key, and go on the same
+pub first_same : (e f : Key) (c d : Column) → e ∷ c ≡ f ∷ d → (e ≡ f) × (c ≡ d)
 first_same e f c d h = (cc, cc)
 
 source_at : (b : ℕ) (xs : List Ace) (front : Column) (e : Key) (back : Column) → column xs b ≡ front ++ e ∷ back

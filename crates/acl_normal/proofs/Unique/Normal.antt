@@ -2,6 +2,7 @@
 use Rattle.std.specs.Prelude.{◌≡◌, ◌↔◌, ℕ, Bool, true, false, List, [], ◌∷◌, ◌++◌, Some, unwrap_or, refl, ◌==◌, not, ◌&&◌}
 use Rattle.std.proofs.Common.{sym, ◌∙◌, ap, subst}
 use Rattle.std.proofs.lemmas.Nat.Bits.{bit_at-zero}
+use mathlib.Core.Logic.Iff.{trans}
 use Rattle.acl_perm.specs.Principal.{Principal}
 use Rattle.acl_perm.specs.declared.kind.Kind.{Kind}
 use Rattle.acl_perm.specs.declared.kind.Kind.TheVariants.{Deny}
@@ -152,13 +153,10 @@ emission_of_irreducible xs rest ns irr same emitted masks = (
     ordered = emitted.ordered;
     flags = emitted.flags;
   },
-  λ s valid request within. through (same s valid request within) (alike_grants s valid request within),
+  λ s valid request within. trans (same s valid request within) (alike_grants s valid request within),
 )
   where
     alike_grants : SameGrants all_rights rest ns
     alike_grants =
         same_grants_from_columns rest ns
         (λ b inside s valid. same_by_alike (column rest b) (column ns b) (emitted.alike b) s valid)
-
-    through : {P Q R : Type 0} → P ↔ Q → Q ↔ R → P ↔ R
-    through f g = ((λ h. g.0 (f.0 h)), (λ h. f.1 (g.1 h)))

@@ -15,7 +15,7 @@ use Rattle.acl_normal.specs.Laws.{Has}
 use Rattle.acl_normal.specs.Left.{left}
 use Rattle.acl_normal.specs.Normal.{IsIrreducibleList, IsNormal, HasMasks}
 use Rattle.acl_normal.specs.internal.Plain.{unshadowed, default, is_needed, needed_keys, reduced}
-use Rattle.acl_normal.proofs.Unique.Forming.{IsTaken}
+use Rattle.acl_normal.proofs.Unique.Forming.{IsTaken, first_same}
 use Rattle.acl_normal.proofs.Unique.Free.{once_from_clean}
 use Rattle.acl_normal.proofs.Unique.Irreducible.{clean}
 use Rattle.acl_normal.proofs.Emission.Leaving.{alike_length, column_left, masks_of_quiet, same_left}
@@ -28,9 +28,6 @@ use Rattle.acl_normal.proofs.Unique.SameOrder.{has_once, once_has}
 use Rattle.acl_normal.proofs.Unique.Weights.{weight_falls}
 
 -- ---- the reduction adds no key
-
-first_same : (e f : Key) (c d : Column) → e ∷ c ≡ f ∷ d → (e ≡ f) × (c ≡ d)
-first_same e f c d h = (cc, cc)
 
 -- a key of a column without its first
 behind : (f e : Key) (c : Column) → Has c e → Has (f ∷ c) e

@@ -34,7 +34,7 @@ abbrev pub KeepsProfiles : List Ace → List Ace → Type 0
 KeepsProfiles list kept = (p : Profile) → AllByRecursion (IsAce p) list → AllByRecursion (IsAce p) kept
 
 -- the plain reduction of a list, within its profiles
-pub record IsReduced (list needed : List Ace) : Type 0 where
+pub record IsPlainReduction (list needed : List Ace) : Type 0 where
   pub columns : (bit : ℕ) → column needed bit ≡ reduced (column list bit)
   pub profiles : KeepsProfiles list needed
 

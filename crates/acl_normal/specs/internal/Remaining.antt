@@ -54,7 +54,7 @@ pub record AreQueues (xs : List Ace) (queues : List Queue) : Type 0 where
       → IsQueueFrom k users b xs (places_in queues (slot_of k users b)) (first_in queues (slot_of k users b))
 
 -- a list without bits that play no part, the rows of its principals by place, and its places in their order
-pub record IsReduced (xs : List Ace) (numbers places : List ℕ) : Type 0 where
+pub record IsNumbered (xs : List Ace) (numbers places : List ℕ) : Type 0 where
   pub tidy : IsTidy xs
   pub rights : (b : ℕ) → has_bit all_rights b ≡ false → column xs b ≡ []
   pub rows : AreRowNumbers xs numbers
@@ -65,5 +65,5 @@ pub record IsRemaining (a : Inside) : Type 0 where
   pub few : length a.aces.items < 2 ^ 32
   pub masks : vec_len a.masks ≡ length a.aces.items
   pub left : vec_len a.left ≡ length a.aces.items
-  pub list : IsReduced (remaining_of a) a.rows.items a.order.items
+  pub list : IsNumbered (remaining_of a) a.rows.items a.order.items
   pub queues : AreQueues (remaining_of a) a.queues.items

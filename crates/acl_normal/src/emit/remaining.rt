@@ -10,7 +10,7 @@ ghost use Rattle.acl_normal.specs.Keys.{plain_key};
 ghost use Rattle.acl_normal.specs.Left.{HasFree};
 ghost use Rattle.acl_normal.specs.Normal.{IsQuiet, is_free};
 ghost use Rattle.acl_normal.specs.Places.{first_at, is_blocked, kind_here, mask_here, principal_here, slot_of, take_out, waits, waits_before};
-ghost use Rattle.acl_normal.specs.internal.Remaining.{AreQueues, IsQueue, IsReduced};
+ghost use Rattle.acl_normal.specs.internal.Remaining.{AreQueues, IsQueue, IsNumbered};
 ghost use Rattle.acl_normal.specs.internal.Rows.{IsNumberOf, IsRow, first_place, is_named};
 ghost use Rattle.acl_normal.specs.internal.Shown.{with_masks};
 
@@ -79,7 +79,7 @@ impl<'a> Remaining<'a> {
     pub(crate) fn of(alloc: Global, reduced: Reduced<'a>) -> Result<Remaining<'a>, AllocError>
         requires few { vec_len reduced.aces < 2 ^ 32 }
         requires places { vec_len reduced.masks ≡ vec_len reduced.aces }
-        requires reduced { IsReduced (with_masks reduced.aces.items reduced.masks.items)
+        requires reduced { IsNumbered (with_masks reduced.aces.items reduced.masks.items)
             reduced.numbers.rows.items reduced.numbers.order.items }
         ensures { IfOk result (λ r. r
             ≡ with_masks reduced.entry.aces.items reduced.entry.masks.items) }

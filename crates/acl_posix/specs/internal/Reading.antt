@@ -5,6 +5,7 @@ use Rattle.std.specs.Borrow.{Bor}
 use Rattle.std.specs.FinMap as fin
 use Rattle.acl_perm.specs.declared.lines.Piece.{Piece}
 use Rattle.acl_perm.specs.Lines.{Span, span_of, cut_at, lines_of, start_of, trimmed, is_all_blank}
+use Rattle.acl_perm.specs.Steps.{◌>>=◌}
 use Rattle.acl_posix.specs.declared.field.TagWord.{TagWord}
 use Rattle.acl_posix.specs.declared.field.TagWord.TheVariants as word
 use Rattle.acl_posix.specs.declared.entry.Entry.{Entry}
@@ -21,11 +22,6 @@ use Rattle.acl_posix.specs.Names.{Table, Ids, is_number}
 use Rattle.acl_posix.specs.Fields.{word_of, id_of, permissions_of}
 use Rattle.acl_posix.specs.Grammar.{TextPiece, EntryFields, fields_of, PartEntry, pieces_from, colon}
 use Rattle.acl_posix.specs.TextFault.{acl_fault}
-
-infixl 10 ◌>>=◌
-abbrev pub ◌>>=◌ : {A B : Type 0} → Result A TextFault → (A → Result B TextFault) → Result B TextFault
-(Ok x) >>= f = f x
-(Err e) >>= f = Err e
 
 -- the tag word of a field, or its fault
 unfoldable pub read_word : ℕ → Span → Result TagWord TextFault

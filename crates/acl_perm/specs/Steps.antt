@@ -1,0 +1,8 @@
+-- How a definition goes on with the value of a step before it, or ends with that step's fault: what antt reads a `do`
+-- block by.
+use Rattle.std.specs.Prelude.{Result, Ok, Err}
+
+infixl 10 ◌>>=◌
+abbrev pub ◌>>=◌ : {A B E : Type 0} → Result A E → (A → Result B E) → Result B E
+(Ok x) >>= f = f x
+(Err e) >>= f = Err e
