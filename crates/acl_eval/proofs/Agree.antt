@@ -15,7 +15,6 @@ use Rattle.acl_perm.specs.Situation.{Situation}
 use Rattle.acl_posix.specs.Id.{IsId}
 use Rattle.acl_posix.specs.Tag.{Tag, tag_cmp, is_masked, user_obj, user, group_obj, group, mask, other}
 use Rattle.acl_posix.specs.Entries.{Entries, IsEntry}
-use Rattle.acl_posix.specs.Valid.{IsValid}
 use Rattle.acl_posix.specs.Mode.{perm_at}
 use Rattle.acl_posix.specs.Check as posix
 use Rattle.acl_posix.specs.Check.{Object, Requester, contains, grants}

@@ -1,6 +1,6 @@
 -- The flags of a child, flag by flag.
 use Rattle.std.proofs.Common.{◌≡◌, ℕ, Bool, true, false, refl, sym, ap, subst, ◌∙◌}
-use Rattle.std.specs.Prelude.{bit_and, bit_or, not, Option, None, Some, ◌&&◌, ◌||◌}
+use Rattle.std.specs.Prelude.{bit_and, bit_or, not, None, Some, ◌&&◌, ◌||◌}
 use Rattle.std.proofs.lemmas.Option.{same_Some}
 use Rattle.acl_perm.proofs.Bools.{and_true_right, and_false_right, or_true_right, or_false_right}
 use Rattle.acl_perm.proofs.Sets.{has_bit-and, has_bit-or}

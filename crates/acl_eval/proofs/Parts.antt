@@ -1,11 +1,10 @@
 -- More ACEs at the end of a list, entry by entry and part by part.
-use Rattle.std.proofs.Common.{◌≡◌, ℕ, ◌+◌, ◌<◌, ◌≤◌, Bool, true, false, cond, eqb, List, [], ◌∷◌, ◌++◌, length, get_or, take, drop, refl, sym, ap, subst, ◌∙◌, arith, append_assoc}
-use Rattle.std.specs.Prelude.{count_ones, Option, Some, None, Err}
-use Rattle.std.specs.List.{AllByRecursion, filter, flat_map}
+use Rattle.std.proofs.Common.{◌≡◌, ℕ, ◌+◌, ◌<◌, Bool, true, false, cond, eqb, List, [], ◌∷◌, ◌++◌, length, get_or, take, drop, refl, sym, ap, subst, ◌∙◌, append_assoc}
+use Rattle.std.specs.Prelude.{Option, Some, None, Err}
+use Rattle.std.specs.List.{filter, flat_map}
 use Rattle.std.specs.FinMap as fin
 use Rattle.std.proofs.lemmas.Bool.{eqb-true}
-use Rattle.std.proofs.lemmas.List.{append-nil, length-append, take_more, take_all, take-append-drop, map-append}
-use Rattle.std.proofs.lemmas.List.Sums.{sum_by-append}
+use Rattle.std.proofs.lemmas.List.{append-nil, take_more, take-append-drop, map-append}
 use Rattle.std.proofs.lemmas.List.Elements.{filter-append}
 use Rattle.std.proofs.lemmas.Grind.{flat_map-append}
 use Rattle.acl_perm.specs.declared.kind.Kind.{Kind}
@@ -13,7 +12,7 @@ use Rattle.acl_posix.specs.declared.entry.Entry.{Entry}
 use Rattle.acl_posix.specs.Tag.{Tag}
 use Rattle.acl_posix.specs.Entries.{Entries, pairs, pair_of}
 use Rattle.acl_nfs4.specs.Ace.{Ace}
-use Rattle.acl_nfs4.specs.Spelling.{IsAce, IsAccepted}
+use Rattle.acl_nfs4.specs.Spelling.{IsAccepted}
 use Rattle.acl_nfs4.specs.Push.{push_refusal, PushAnswers}
 use Rattle.acl_nfs4.specs.declared.list.push_fault.PushFault.{PushFault}
 use Rattle.acl_nfs4.specs.declared.list.push_fault.PushFault.TheVariants as refused

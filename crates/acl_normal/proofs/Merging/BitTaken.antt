@@ -1,5 +1,5 @@
 -- One bit of a principal taken out of the rows.
-use Rattle.std.specs.Prelude.{◌≡◌, ◌≢◌, ℕ, ◌<◌, ◌^◌, zero, suc, Bool, true, false, cond, ◌&&◌, ◌==◌, ◌⊎◌, List, [], ◌∷◌, Some, None, length, vec_len, option_map, slice_index_or, slice_set, refl}
+use Rattle.std.specs.Prelude.{◌≡◌, ◌≢◌, ℕ, ◌<◌, ◌^◌, zero, suc, Bool, true, false, cond, ◌&&◌, ◌==◌, List, [], ◌∷◌, Some, length, slice_index_or, slice_set, refl}
 use Rattle.std.specs.Ordering.{nat_cmp, is_eq}
 use Rattle.std.specs.declared.cmp.Ordering.TheVariants.{Equal}
 use Rattle.std.specs.Cmp.{nat_cmp_is, Equal-is}
@@ -7,24 +7,21 @@ use Rattle.std.specs.Vec.{with_item}
 use Rattle.std.specs.BTreeMap.{is_at}
 use Rattle.std.specs.declared.collections.BTreeSet.{BTreeSet}
 use Rattle.std.specs.List.{list_any}
-use Rattle.std.proofs.Common.{sym, ◌∙◌, ap, subst, arith, ⊎_elim, inl, inr, Global}
+use Rattle.std.proofs.Common.{sym, ◌∙◌, ap, arith, ⊎_elim, Global}
 use Rattle.std.proofs.lemmas.List.{get_or-set_same, get_or-set_other}
-use Rattle.std.proofs.lemmas.Bool.{eq-eqb, ne_eqb, eqb-true, and_parts, cases_eq, false_from_ne_true}
+use Rattle.std.proofs.lemmas.Bool.{eq-eqb, ne_eqb, and_parts, cases_eq, false_from_ne_true}
 use Rattle.acl_perm.specs.Principal.{Principal, is_user}
 use Rattle.acl_perm.specs.declared.kind.Kind.{Kind}
 use Rattle.acl_perm.specs.declared.kind.Kind.TheVariants.{Deny, Allow}
 use Rattle.acl_perm.specs.Bits.{has_bit}
-use Rattle.acl_eval.specs.Column.{column}
-use Rattle.acl_normal.specs.Keys.{principal_eq, kind_eq}
-use Rattle.acl_normal.specs.Places.{waits, first_at, slot_of, take_out, same_class, nothing_left}
-use Rattle.acl_normal.specs.internal.Emissions.{IsOnce}
+use Rattle.acl_normal.specs.Keys.{kind_eq}
+use Rattle.acl_normal.specs.Places.{waits, first_at, slot_of, take_out, same_class}
 use Rattle.acl_normal.specs.declared.rows.merged.MergedRows.TheInside.{Inside}
 use Rattle.acl_normal.specs.internal.Merged.{IsRight}
-use Rattle.acl_normal.proofs.Unique.Names.{principal_eq_same}
 use Rattle.acl_normal.proofs.Unique.Free.{kind_eq_same}
 use Rattle.acl_normal.proofs.Unique.Bits.{has_power, power_has}
 use Rattle.std.proofs.lemmas.Map.Lookups.{exact_unsigned}
-use Rattle.acl_normal.proofs.Merging.TakeOut.{IsHere, IsThere, first_cases, first_gone, first_kept, waits_kept, waits_gone, waits_apart, waits_first, none_taken, once_taken, written}
+use Rattle.acl_normal.proofs.Merging.TakeOut.{waits_kept, waits_gone, waits_apart, waits_first, none_taken, once_taken}
 
 -- within the list the default plays no part
 pub same_default : {A : Type 0} (xs : List A) (i : ℕ) (d e : A) → i < length xs

@@ -34,8 +34,7 @@ use Rattle.acl_normal.proofs.Unique.SameOrder.{once_before}
 use Rattle.acl_normal.proofs.Unique.Settled.{once_after}
 use Rattle.acl_normal.proofs.Reduction.FirstMasks.{masked}
 use Rattle.acl_normal.proofs.Unique.Outline.{nothing_append}
-use Rattle.acl_normal.proofs.Merging.Quiet.{quiet_taken}
-use Rattle.acl_normal.proofs.Merging.TakeOut.{first_kept, first_gone, once_taken, low_taken, principal_kept, kind_kept, counts_left, none_cases, absent_first}
+use Rattle.acl_normal.proofs.Merging.TakeOut.{first_kept, first_gone, principal_kept, kind_kept, counts_left, none_cases, absent_first}
 use Rattle.acl_normal.proofs.Unique.Columns.{column_first}
 
 -- ---- what opposes a key

@@ -2,7 +2,6 @@ use Rattle.std.proofs.Common.{List, subst, ◌∙◌}
 use Rattle.acl_perm.specs.Profile.{full}
 use Rattle.acl_nfs4.specs.Ace.{Ace}
 use Rattle.acl_nfs4.specs.Spelling.{IsAccepted}
-use Rattle.acl_eval.specs.Bridge.{bridge_list}
 use Rattle.acl_eval.proofs.BridgeWeight.{then_memory}
 use Rattle.acl_eval.proofs.Accepted.{owned_accepted}
 use Rattle.std.proofs.lemmas.Result.{err_from_is_err_and}

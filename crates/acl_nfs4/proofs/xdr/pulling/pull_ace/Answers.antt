@@ -1,4 +1,4 @@
-use Rattle.std.proofs.Common.{◌+◌, ◌-◌, ◌∙◌, ℕ, take, refl, ap, arith}
+use Rattle.std.proofs.Common.{◌∙◌, ℕ, take, refl, ap, arith}
 use Rattle.std.proofs.lemmas.Result.{err_from_is_err_and}
 use Rattle.acl_nfs4.specs.Spelling.{pad_len}
 use Rattle.acl_nfs4.proofs.Fields.{len_bounds}

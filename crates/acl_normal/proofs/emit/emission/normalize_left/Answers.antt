@@ -1,4 +1,3 @@
-use Rattle.std.proofs.Common.{subst}
 use Rattle.acl_normal.proofs.Emission.Leaving.{left_normal, left_only, alike_count}
 use Rattle.acl_normal.proofs.Emission.InRemaining.{remaining_once}
 use Rattle.acl_normal.proofs.emit.emission.normalize_left.Goals as goal

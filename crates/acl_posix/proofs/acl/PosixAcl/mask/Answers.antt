@@ -1,4 +1,4 @@
-use Rattle.std.proofs.Common.{◌∙◌, ap, sym, subst}
+use Rattle.std.proofs.Common.{◌∙◌, ap, sym}
 use Rattle.std.specs.FinMap as set
 use Rattle.acl_posix.specs.Tag.{mask, tag_of}
 use Rattle.acl_posix.proofs.Lookups.{entry_found}

@@ -1,4 +1,4 @@
-use Rattle.std.proofs.Common.{◌∙◌, arith, sym, subst}
+use Rattle.std.proofs.Common.{◌∙◌, arith, sym}
 use Rattle.std.proofs.lemmas.Bool.{leb-true, leb-false}
 use Rattle.acl_perm.specs.Principal.{principal}
 use Rattle.acl_normal.proofs.Emission.InRemaining.{remaining_once}

@@ -1,4 +1,4 @@
-use Rattle.std.proofs.Common.{◌≡◌, ◌<◌, ◌∙◌, None, Some, ap, arith, length, slice_index_or, subst, sym, true}
+use Rattle.std.proofs.Common.{◌≡◌, ◌∙◌, None, Some, ap, arith, length, slice_index_or, subst, sym, true}
 use Rattle.acl_perm.specs.Bits.{has_bit}
 use Rattle.acl_normal.specs.Places.{mask_here}
 use Rattle.acl_normal.specs.internal.Remaining.{remaining_of}

@@ -3,7 +3,6 @@ use Rattle.acl_perm.specs.Bits.{all_rights}
 use Rattle.acl_eval.specs.Grant.{SameGrants}
 use Rattle.acl_normal.specs.Left.{KeepsFirsts}
 use Rattle.acl_normal.specs.Places.{waits}
-use Rattle.acl_normal.specs.internal.Merged.{IsRight}
 use Rattle.acl_normal.specs.internal.Shown.{with_masks}
 use Rattle.acl_normal.proofs.rows.merged.MergedRows.new.Goals as goal
 
