@@ -1,5 +1,5 @@
--- How a definition goes on with the value of a step before it, or ends with that step's fault: what antt reads a `do`
--- block by.
+-- How a definition goes on with the value of a step before it, or ends with that step's fault: what `do` stands for in
+-- the definitions of all crates (this library's own).
 use Rattle.std.specs.Prelude.{Result, Ok, Err}
 
 infixl 10 ◌>>=◌
