@@ -6,9 +6,10 @@ ghost use Rattle.acl_perm.specs.Pieces.{WritesFrom};
 ghost use Rattle.acl_perm.specs.Profile.{Profile};
 ghost use Rattle.acl_nfs4.specs.Spelling.{IsAccepted, spelling};
 ghost use Rattle.acl_nfs4.specs.Within.{IsProfile};
+ghost use Rattle.acl_eval.specs.Inheritance.{children};
 ghost use Rattle.acl_eval.specs.declared.inherit.ChildKind.{ChildKind as Kind};
 ghost use Rattle.acl_eval.specs.declared.inherit.ChildKind.TheVariants.{Directory, File};
-ghost use Rattle.acl_normal.specs.FiveForms.{AreAccepted, five_spellings};
+ghost use Rattle.acl_normal.specs.FiveForms.{AreAccepted, AreFormsOf, five_spellings};
 ghost use Rattle.acl_normal.specs.NormalForm.{IsNormalFormOf};
 ghost use Rattle.acl_normal.specs.Paths.{at, below, here};
 
@@ -147,16 +148,33 @@ pub fn normalize_inherit(alloc: Global, list: &Acl) -> Result<FiveForms, AllocEr
     ensures accepted { IfOk result (λ forms. (p : Profile) → IsProfile p → IsAccepted p list.now
         → AreAccepted p forms) }
 {
-    let directory_list = child(alloc, list, ChildKind::Directory)?;
-    let object = normalize(alloc, list)?;
-    let directory = form_beside(alloc, &directory_list, list, &object)?;
-    let inner_list = child(alloc, &directory_list, ChildKind::Directory)?;
-    let directory_in_directory = form_beside(alloc, &inner_list, &directory_list, &directory)?;
-    drop(inner_list);
     let file_list = child(alloc, list, ChildKind::File)?;
-    let file = normalize(alloc, &file_list)?;
-    let inner_list = child(alloc, &directory_list, ChildKind::File)?;
-    let file_in_directory = form_beside(alloc, &inner_list, &file_list, &file)?;
+    let directory_list = child(alloc, list, ChildKind::Directory)?;
+    forms_of(alloc, list, &file_list, &directory_list)
+}
+
+// The five forms of a list, of which the lists of a new file and a new directory in it are given.
+fn forms_of(
+    alloc: Global,
+    list: &Acl,
+    file_list: &Acl,
+    directory_list: &Acl,
+) -> Result<FiveForms, AllocError>
+    requires file { file_list.now ≡ at list.now (below 0 File) }
+    requires directory { directory_list.now ≡ at list.now (below 0 Directory) }
+    ensures { IfOk result (AreFormsOf list.now) }
+{
+    let object = normalize(alloc, list)?;
+    let file = normalize(alloc, file_list)?;
+    let directory = form_beside(alloc, directory_list, list, &object)?;
+    let file_in_directory = child_form(alloc, directory_list, ChildKind::File, file_list, &file)?;
+    let directory_in_directory = child_form(
+        alloc,
+        directory_list,
+        ChildKind::Directory,
+        directory_list,
+        &directory,
+    )?;
     Ok(FiveForms {
         object,
         file,
@@ -164,6 +182,21 @@ pub fn normalize_inherit(alloc: Global, list: &Acl) -> Result<FiveForms, AllocEr
         file_in_directory,
         directory_in_directory,
     })
+}
+
+// The normal form of what a directory's list gives a new object in it, beside a list and its form.
+fn child_form(
+    alloc: Global,
+    list: &Acl,
+    kind: ChildKind,
+    other: &Acl,
+    other_form: &Acl,
+) -> Result<Acl, AllocError>
+    requires { IsNormalFormOf other.now other_form.now }
+    ensures { IfOk result (λ form. IsNormalFormOf (children kind list.now) form) }
+{
+    let child_list = child(alloc, list, kind)?;
+    form_beside(alloc, &child_list, other, other_form)
 }
 
 // The normal form of a list, beside a list and its form: a copy of that where the lists are equal, as they mostly are,

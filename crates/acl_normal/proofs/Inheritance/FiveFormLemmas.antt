@@ -50,19 +50,17 @@ all_accepted p source forms is taken h = record {
 }
 
 -- the normal forms of the list, of its children, and of those of the directory among them, are the five
-pub forms_from : (source directory file inner_directory inner_file : List Ace) (forms : FiveForms)
-    → directory ≡ children Directory source → file ≡ children File source
-    → inner_directory ≡ children Directory directory → inner_file ≡ children File directory
-    → IsNormalFormOf source forms.object → IsNormalFormOf file forms.file → IsNormalFormOf directory forms.directory
-    → IsNormalFormOf inner_file forms.file_in_directory
-    → IsNormalFormOf inner_directory forms.directory_in_directory → AreFormsOf source forms
-forms_from source directory file inner_directory inner_file forms d f g h a b c e i = record {
+pub forms_from : (source file directory : List Ace) (forms : FiveForms) → file ≡ at source (below 0 File)
+    → directory ≡ at source (below 0 Directory) → IsNormalFormOf source forms.object → IsNormalFormOf file forms.file
+    → IsNormalFormOf directory forms.directory
+    → IsNormalFormOf (children File directory) forms.file_in_directory
+    → IsNormalFormOf (children Directory directory) forms.directory_in_directory → AreFormsOf source forms
+forms_from source file directory forms f d a b c e i = record {
   object = a;
   file = subst (λ list. IsNormalFormOf list forms.file) f b;
   directory = subst (λ list. IsNormalFormOf list forms.directory) d c;
-  file_in_directory = subst (λ list. IsNormalFormOf list forms.file_in_directory) (h ∙ ap (children File) d) e;
-  directory_in_directory =
-      subst (λ list. IsNormalFormOf list forms.directory_in_directory) (g ∙ ap (children Directory) d) i;
+  file_in_directory = subst (λ list. IsNormalFormOf (children File list) forms.file_in_directory) d e;
+  directory_in_directory = subst (λ list. IsNormalFormOf (children Directory list) forms.directory_in_directory) d i;
 }
 
 -- ---- equal forms
