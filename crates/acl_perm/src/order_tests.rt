@@ -61,6 +61,25 @@ fn users_and_everyone_are_told_apart(rt: HostRuntime) {
     }
 }
 
+// The rank and the name of each principal of `RISING`.
+const RANKS_AND_NAMES: [(u8, &[u8]); 7] = [
+    (0, b""),
+    (1, b"a"),
+    (1, b"ab"),
+    (1, b"b"),
+    (2, b""),
+    (3, b"a"),
+    (4, b""),
+];
+
+#[test]
+fn a_principal_is_its_rank_and_its_name(rt: HostRuntime) {
+    for (principal, (rank, name)) in RISING.iter().zip(RANKS_AND_NAMES) {
+        assert_eq!(rt; principal.rank(), rank);
+        assert!(rt; principal.name() == name, "{rank}");
+    }
+}
+
 #[test]
 fn a_type_has_one_other(rt: HostRuntime) {
     for (kind, other, is_allow) in [

@@ -27,7 +27,7 @@ pub enum Principal<'a> {
     Everyone,
 }
 
-impl Principal<'_> {
+impl<'a> Principal<'a> {
     /// Whether the principal is a user name.
     pub fn is_user(&self) -> bool
         ensures { result ≡ is_user (principal self.now) }
@@ -48,7 +48,8 @@ impl Principal<'_> {
         }
     }
 
-    fn rank(&self) -> u8
+    /// Where the kind of principal stands in the order, from 0 for `OWNER@` to 4 for `EVERYONE@`.
+    pub fn rank(&self) -> u8
         ensures { result ≡ principal_rank (principal self.now) }
     {
         match self {
@@ -60,7 +61,8 @@ impl Principal<'_> {
         }
     }
 
-    fn name(&self) -> &[u8]
+    /// The name of the user or of the group. `OWNER@`, `GROUP@` and `EVERYONE@` have none, and the name is empty.
+    pub fn name(&self) -> &'a [u8]
         ensures { result.now ≡ principal_name (principal self.now) }
     {
         match self {
