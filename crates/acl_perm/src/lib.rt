@@ -3,8 +3,6 @@
 
 mod constants;
 mod counted;
-#[cfg(test)]
-mod device_tests;
 mod devices;
 mod flags;
 mod fused;
@@ -14,16 +12,14 @@ pub mod laws;
 mod lines;
 mod mask;
 mod mode;
-#[cfg(test)]
-mod number_tests;
-#[cfg(test)]
-mod order_tests;
 mod perm;
 mod pieces;
 mod place;
 mod principal;
 mod profile;
 mod right;
+#[cfg(test)]
+mod tests;
 mod whole;
 
 pub use counted::Counted;

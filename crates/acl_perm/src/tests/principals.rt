@@ -1,6 +1,8 @@
-//! Tests of principals and types: their order, their tests, and which overlap.
-use super::*;
+//! Principals and types: their order, what tells them apart, and which principals overlap.
 
+use crate::*;
+
+// Principals in their order.
 const RISING: [Principal<'static>; 7] = [
     Principal::Owner,
     Principal::User(b"a"),
@@ -106,12 +108,4 @@ fn only_two_different_users_do_not_overlap(rt: HostRuntime) {
             Principal::GroupNamed(b"staff")
         )
     );
-}
-
-#[test]
-fn a_number_with_another_bit_is_no_set(rt: HostRuntime) {
-    assert!(rt; Perm::new(8).is_none());
-    assert!(rt; Mode::new(0o1000).is_none());
-    assert!(rt; Mask::new(0x800).is_none());
-    assert!(rt; Flags::new(0x100).is_none());
 }
