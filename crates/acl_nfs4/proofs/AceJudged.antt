@@ -15,7 +15,7 @@ use Rattle.acl_nfs4.specs.BitNames.{BitName, SpellsSet}
 use Rattle.acl_nfs4.specs.FlagNames.{flag_names}
 use Rattle.acl_nfs4.specs.Limits.{most_aces, most_weight}
 use Rattle.acl_nfs4.specs.internal.NameTable.{set_within}
-use Rattle.acl_perm.specs.Steps.{◌>>=◌}
+use Rattle.acl_perm.specs.internal.Steps.{◌>>=◌}
 use Rattle.acl_nfs4.specs.Rights.{rights}
 use Rattle.acl_nfs4.specs.Spelling.{IsAce, weight}
 use Rattle.acl_nfs4.specs.Who.{who_fault}

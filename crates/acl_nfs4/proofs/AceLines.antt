@@ -8,7 +8,7 @@ use Rattle.acl_nfs4.specs.Ace.{Ace}
 use Rattle.acl_nfs4.specs.AceText.{IsAceText, SpellEach, SpellsAce, TextLine, ace_lines, ace_lines_from, is_skipped}
 use Rattle.acl_nfs4.specs.AceTextFault.{IsAceTextFault, IsLineFault, IsTextRefusal}
 use Rattle.acl_nfs4.specs.internal.AceReading.{Fails, read_ace, read_lines}
-use Rattle.acl_perm.specs.Steps.{◌>>=◌}
+use Rattle.acl_perm.specs.internal.Steps.{◌>>=◌}
 use Rattle.acl_nfs4.specs.Spelling.{IsAccepted, IsAce, weight}
 use Rattle.acl_nfs4.specs.declared.text.fault.AceTextFault.{AceTextFault}
 use Rattle.acl_nfs4.specs.declared.text.fault.AceTextFault.TheVariants as faults

@@ -14,7 +14,7 @@ use Rattle.acl_nfs4.specs.declared.xdr.fault.Fault.{Fault}
 use Rattle.acl_nfs4.specs.Ace.{Ace}
 use Rattle.acl_nfs4.specs.Spelling.{word, kind_number, pad_len, piece, spelling, IsAce, Xdr}
 use Rattle.acl_nfs4.specs.Fields.{number, count_of}
-use Rattle.acl_perm.specs.Steps.{◌>>=◌}
+use Rattle.acl_perm.specs.internal.Steps.{◌>>=◌}
 use Rattle.acl_nfs4.specs.internal.Reading.{kind_from, Place, word_field, aces_at, read, ending, value_at, Gives}
 use Rattle.acl_nfs4.specs.internal.Body.{listed, aces_of, Spells, IsBody}
 use Rattle.acl_nfs4.proofs.Fields.{IsBytes, who_bounds, goes_to, ok_is, word_takes, front_is}

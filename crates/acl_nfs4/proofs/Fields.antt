@@ -17,7 +17,7 @@ use Rattle.acl_nfs4.specs.Who.{is_no_who_len, who_fault, IsWho}
 use Rattle.acl_nfs4.specs.Within.{IsWithin, is_within}
 use Rattle.acl_nfs4.specs.Spelling.{word, kind_number}
 use Rattle.acl_nfs4.specs.Fields.{number, count_of, kind_of, flags_of, mask_of, who_len_of, unless, who_reason, who_of, padding_of}
-use Rattle.acl_perm.specs.Steps.{◌>>=◌}
+use Rattle.acl_perm.specs.internal.Steps.{◌>>=◌}
 use Rattle.acl_nfs4.specs.internal.Reading.{Place, moved, fault_at, judged, field, word_field}
 
 -- numbers that are bytes

@@ -4,7 +4,7 @@ use Rattle.std.specs.Prelude.{count_ones}
 use Rattle.acl_perm.specs.Profile.{Profile}
 use Rattle.acl_nfs4.specs.declared.xdr.fault.Fault.{Fault}
 use Rattle.acl_nfs4.specs.Ace.{Ace}
-use Rattle.acl_perm.specs.Steps.{◌>>=◌}
+use Rattle.acl_perm.specs.internal.Steps.{◌>>=◌}
 use Rattle.acl_nfs4.specs.internal.Reading.{Place, ace_at, aces_at, ending}
 
 forget : (a : Ace) (read : Result (List Ace × Place) Fault) → ending (read >>= λ x. Ok (a ∷ x.0, x.1)) ≡ ending read

@@ -14,7 +14,7 @@ use Rattle.acl_nfs4.specs.Spelling.{piece, weight, IsAce, Xdr}
 use Rattle.acl_nfs4.specs.Within.{IsProfile}
 use Rattle.acl_nfs4.specs.Fault.{IsFault}
 use Rattle.acl_nfs4.specs.Fields.{number, count_of}
-use Rattle.acl_perm.specs.Steps.{◌>>=◌}
+use Rattle.acl_perm.specs.internal.Steps.{◌>>=◌}
 use Rattle.acl_nfs4.specs.internal.Reading.{Place, word_field, ace_at, aces_at, read, value_at}
 use Rattle.acl_nfs4.specs.internal.Body.{aces_of}
 use Rattle.acl_nfs4.specs.internal.Progress.{IsScanned, behind_scanned, Ends, IsProgress, IsWhole, body_in, Judged}

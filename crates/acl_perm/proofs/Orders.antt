@@ -11,9 +11,10 @@ use Rattle.std.proofs.lemmas.Bool.{eq-eqb}
 use Rattle.std.proofs.lemmas.Map.Lookups.{exact_unsigned}
 use Rattle.std.proofs.lemmas.Map.Text.{is_eq-slice_cmp}
 use Rattle.acl_perm.specs.Principal.{Principal}
-use Rattle.acl_perm.specs.Order.{principal_rank, principal_name, principal_cmp, kind_rank, Key, key_cmp, principal_total, key_total, IsStrictTotalOrder}
-use Rattle.acl_perm.specs.Hashing.{then_equal, is_equal}
-pub use Rattle.acl_perm.specs.Hashing.{principal_exact}
+use Rattle.acl_perm.specs.Order.{principal_rank, principal_name, principal_cmp, kind_rank, Key, key_cmp, IsStrictTotalOrder}
+use Rattle.acl_perm.specs.internal.Totality.{key_total, principal_total}
+use Rattle.acl_perm.specs.internal.FedAlike.{then_equal, is_equal}
+pub use Rattle.acl_perm.specs.internal.FedAlike.{principal_exact}
 use Rattle.acl_perm.specs.declared.kind.Kind.{Kind}
 use Rattle.acl_perm.specs.declared.kind.Kind.TheVariants.{Deny, Allow}
 

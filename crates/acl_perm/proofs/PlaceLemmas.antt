@@ -6,7 +6,7 @@ use Rattle.std.specs.Prelude.{not}
 use Rattle.std.specs.Simd.Lanes.{chunk}
 use Rattle.std.proofs.lemmas.Simd.{run_in_chunk_le, run_in_chunk_fails, run_in_chunk_stops}
 use Rattle.std.proofs.lemmas.List.Sums.{position_or_len_is}
-use Rattle.acl_perm.specs.Places.{IsAbsent, IsPlaceIn}
+use Rattle.acl_perm.specs.internal.Places.{IsAbsent, IsPlaceIn}
 
 -- how many bytes of a load stand before the first that is wanted
 pub counted : (wanted : ℕ) (bytes : List ℕ) (at n r : ℕ) → at + n ≤ length bytes

@@ -11,8 +11,7 @@ pub mod Hashing
 pub mod Overlap
 pub mod Profile
 pub mod Lines
-pub mod Places
 pub mod Pieces
 pub mod Mode
 pub mod Shown
-pub mod Steps
+pub mod internal

@@ -4,8 +4,7 @@ use Rattle.std.specs.Prelude.{◌≡◌, ◌↔◌, ℕ, List}
 use Rattle.std.specs.declared.cmp.Ordering.{Ordering}
 use Rattle.std.specs.declared.cmp.Ordering.TheVariants.{Less, Equal}
 use Rattle.std.specs.Ordering.{nat_cmp, ordering_then, ordering_reverse}
-use Rattle.std.specs.Cmp.{IsTotalOrder, then_total, on_total, nat_cmp_total}
-use Rattle.std.specs.Cmp.Lexicographic.{slice_cmp, nat_list_cmp_total}
+use Rattle.std.specs.Cmp.Lexicographic.{slice_cmp}
 use Rattle.acl_perm.specs.Principal.{Principal, row, principal}
 use Rattle.acl_perm.specs.declared.kind.Kind.{Kind}
 use Rattle.acl_perm.specs.declared.kind.Kind.TheVariants.{Deny, Allow}
@@ -49,13 +48,3 @@ pub record IsStrictTotalOrder {K : Type 0} (cmp : K → K → Ordering) : Type 0
   pub equal : (x y : K) → (cmp x y ≡ Equal) ↔ (x ≡ y)
   pub reversed : (x y : K) → cmp y x ≡ ordering_reverse (cmp x y)
   pub transitive : (x y z : K) → cmp x y ≡ Less → cmp y z ≡ Less → cmp x z ≡ Less
-
--- principals are totally ordered
-pub principal_total : IsTotalOrder principal_cmp
-principal_total = then_total (on_total principal_rank nat_cmp_total) (on_total principal_name nat_list_cmp_total)
-
--- keys are totally ordered
-pub key_total : IsTotalOrder key_cmp
-key_total =
-    then_total (on_total (λ (k : Key). k.principal) principal_total)
-    (on_total (λ (k : Key). kind_rank k.kind) nat_cmp_total)

@@ -2,7 +2,8 @@
 ghost use Rattle.std.specs.Prelude.{◌≡◌, ◌↔◌, IsTrue, Some, refl};
 ghost use Rattle.std.specs.Ordering.{as_partial_cmp, eq_by_cmp, on};
 ghost use Rattle.std.specs.Cmp.{eq_by_cmp_equiv, on_equiv, on_per, on_total, partial_equiv_from_equiv, partial_order_from_total};
-ghost use Rattle.acl_perm.specs.Order.{key_cmp, key_of, key_total};
+ghost use Rattle.acl_perm.specs.Order.{key_cmp, key_of};
+ghost use Rattle.acl_perm.specs.internal.Totality.{key_total};
 
 use crate::kind::Kind;
 use crate::principal::Principal;

@@ -1,7 +1,7 @@
 //! The first place of a byte, which is looked for among many bytes at once.
 ghost use Rattle.std.specs.Prelude.{◌≡◌, ◌≤◌, ◌<◌, ◌+◌, ◌==◌, length, position};
 ghost use Rattle.std.specs.List.{position_or_len};
-ghost use Rattle.acl_perm.specs.Places.{IsPlaceIn};
+ghost use Rattle.acl_perm.specs.internal.Places.{IsPlaceIn};
 
 use std::simd::prelude::*;
 

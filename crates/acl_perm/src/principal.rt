@@ -2,9 +2,11 @@
 ghost use Rattle.std.specs.Prelude.{◌≡◌, ◌↔◌, IsTrue, Some, refl};
 ghost use Rattle.std.specs.Ordering.{as_partial_cmp, eq_by_cmp, on};
 ghost use Rattle.std.specs.Cmp.{eq_by_cmp_equiv, on_equiv, on_per, on_total, partial_equiv_from_equiv, partial_order_from_total};
-ghost use Rattle.acl_perm.specs.Hashing.{principal_alike, principal_writes};
+ghost use Rattle.acl_perm.specs.Hashing.{principal_writes};
 ghost use Rattle.acl_perm.specs.Principal.{is_everyone, is_user, principal};
-ghost use Rattle.acl_perm.specs.Order.{principal_cmp, principal_name, principal_rank, principal_total};
+ghost use Rattle.acl_perm.specs.Order.{principal_cmp, principal_name, principal_rank};
+ghost use Rattle.acl_perm.specs.internal.FedAlike.{principal_alike};
+ghost use Rattle.acl_perm.specs.internal.Totality.{principal_total};
 ghost use Rattle.acl_perm.specs.Overlap.{Overlap, may_overlap};
 
 use std::cmp::Ordering;

@@ -13,7 +13,7 @@ use Rattle.acl_posix.specs.Names.{Table, Ids, is_number}
 use Rattle.acl_posix.specs.Fields.{word_of, id_of, id_in, permissions_of}
 use Rattle.acl_posix.specs.Grammar.{TextPiece, EntryFields, fields_of, PartEntry, HasFields, HasTag, Spells, colon}
 use Rattle.acl_posix.specs.TextFault.{names_of, IsPieceFault, IsPlace, MayName}
-use Rattle.acl_perm.specs.Steps.{◌>>=◌}
+use Rattle.acl_perm.specs.internal.Steps.{◌>>=◌}
 use Rattle.acl_posix.specs.internal.Reading.{read_word, read_tag, read_permissions, read_named, read_unnamed, read_three, read_fields, read_piece}
 
 -- what an answer says of a piece

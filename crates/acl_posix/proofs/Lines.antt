@@ -9,7 +9,7 @@ use Rattle.acl_posix.specs.declared.text_fault.TextFault.TheVariants as faults
 use Rattle.acl_posix.specs.Tag.{Tag}
 use Rattle.acl_posix.specs.Names.{Table}
 use Rattle.acl_posix.specs.Grammar.{TextPiece, PartEntry, numbered, line_pieces, pieces_from}
-use Rattle.acl_perm.specs.Steps.{◌>>=◌}
+use Rattle.acl_perm.specs.internal.Steps.{◌>>=◌}
 use Rattle.acl_posix.specs.internal.Reading.{Lists, added, Fails, ReadsOn, read_piece, read_pieces}
 use Rattle.acl_posix.specs.internal.WrittenLine.{IsFirstLine}
 use Rattle.acl_posix.proofs.Judged.{spelled_read}

@@ -6,7 +6,7 @@ use Rattle.acl_posix.specs.Tag.{Tag}
 use Rattle.acl_posix.specs.Names.{Table}
 use Rattle.acl_posix.specs.Grammar.{TextPiece, PartEntry, Spells, SpellAll, access_of, default_of}
 use Rattle.acl_posix.specs.TextFault.{IsFirstFault}
-use Rattle.acl_perm.specs.Steps.{◌>>=◌}
+use Rattle.acl_perm.specs.internal.Steps.{◌>>=◌}
 use Rattle.acl_posix.specs.internal.Reading.{Lists, added, read_piece, read_pieces}
 use Rattle.acl_posix.proofs.Judged.{Says, piece_says, spelled_read, fault_read}
 use Rattle.acl_posix.proofs.Lines.{read_next, read_fault, read_append}

@@ -1,10 +1,9 @@
 -- Tables of names: the ids of users and of groups, and which names may be added. This library's own.
-use Rattle.std.specs.Prelude.{ℕ, ◌≡◌, ◌==◌, not, ◌&&◌, Bool, List, length, Option, Some, None, IfSome, Result, OnOk, OnErr, IfErr, refl, if◌then◌else◌}
+use Rattle.std.specs.Prelude.{ℕ, ◌≡◌, ◌==◌, not, ◌&&◌, Bool, List, length, Option, Some, None, IfSome, Result, OnOk, OnErr, IfErr, if◌then◌else◌}
 use Rattle.std.specs.List.{list_all}
 use Rattle.std.specs.Char.{is_ascii_digit}
 use Rattle.std.specs.Ordering.{nat_cmp}
 use Rattle.std.specs.Cmp.Lexicographic.{slice_cmp}
-use Rattle.std.specs.Coded.{Coded, code_by, coded×, coded_list, coded_ℕ}
 use Rattle.std.specs.FinMap as fin
 use Rattle.acl_posix.specs.Id.{IsId}
 use Rattle.acl_posix.specs.declared.names.NameFault.{NameFault}
@@ -18,12 +17,6 @@ Ids = fin.FinMap (slice_cmp nat_cmp) ℕ
 pub record Table : Type 0 where
   pub users : Ids
   pub groups : Ids
-
--- a table as a pair
-abbrev pub coded_table : Coded Table
-coded_table =
-    code_by (Ids × Ids) (coded× (fin.code (coded_list coded_ℕ) coded_ℕ) (fin.code (coded_list coded_ℕ) coded_ℕ))
-    (λ table. (table.users, table.groups)) (λ pair. record { users = pair.0; groups = pair.1 }) (λ table. refl)
 
 -- the table without names
 abbrev pub no_names : Table

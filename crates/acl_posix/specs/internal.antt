@@ -8,7 +8,7 @@ pub mod TagMap
 pub mod Search
 -- what one group is granted
 pub mod GroupSearch
--- the table that the maps of names stand for
+-- the table that the maps of names stand for, and tables as numbers
 pub mod NameMaps
 -- lines that are read at one go
 pub mod WrittenLine

@@ -37,8 +37,8 @@ pub struct Names {
 }
 
 impl Model for Names {
-    ghost use Rattle.acl_posix.specs.internal.NameMaps.{ids_of};
-    ghost use Rattle.acl_posix.specs.Names.{coded_table, Table};
+    ghost use Rattle.acl_posix.specs.internal.NameMaps.{coded_table, ids_of};
+    ghost use Rattle.acl_posix.specs.Names.{Table};
 
     ghost Value = { Table };
 

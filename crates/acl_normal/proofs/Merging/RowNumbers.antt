@@ -10,7 +10,8 @@ use Rattle.std.proofs.lemmas.Bool.{cases_eq, cases_lt, false_from_ne_true}
 use Rattle.std.proofs.lemmas.List.{get_or-map, get_or_default, get_or-set_other, get_or-set_same, length-map, length-set, length-take-le, map-append, take_more}
 use Rattle.std.proofs.lemmas.List.Recursion.{is_count_by}
 use Rattle.std.proofs.lemmas.List.Sorted.{All-permutation, Contains-permutation, IsPermutation-map, length_permutation, ranks_by, searchable_from_sorted, sorted_far, sum_by-IsPermutation}
-use Rattle.acl_perm.specs.Order.{principal_cmp, principal_total}
+use Rattle.acl_perm.specs.Order.{principal_cmp}
+use Rattle.acl_perm.specs.internal.Totality.{principal_total}
 use Rattle.acl_perm.specs.Principal.{Principal, everyone, principal}
 use Rattle.acl_perm.specs.declared.principal.Principal.TheVariants.{Owner}
 use Rattle.acl_perm.proofs.Orders.{principal_exact, principal_order, principals_same}

@@ -18,7 +18,8 @@ use Rattle.acl_normal.specs.SmallSets.{is_mentioning, longest, mentioned, mentio
 use Rattle.acl_normal.specs.SmallSituations.{HasName, is_among, longest_name}
 use Rattle.acl_perm.proofs.Orders.{principal_exact}
 use Rattle.acl_perm.specs.Bits.{has_bit}
-use Rattle.acl_perm.specs.Order.{principal_cmp, principal_name, principal_total}
+use Rattle.acl_perm.specs.Order.{principal_cmp, principal_name}
+use Rattle.acl_perm.specs.internal.Totality.{principal_total}
 use Rattle.acl_perm.specs.Principal.{Principal, everyone}
 
 -- an insert keeps what holds of each

@@ -20,7 +20,8 @@ use Rattle.acl_normal.specs.internal.SetSearch.{FindsFirst, GrantAlikeTo, IsRisi
 use Rattle.acl_normal.specs.SmallSets.{GrantAlike, IsFirstDifference, SmallSituationsSuffice, TellsApart, longest, mentioned, pairs, partners, singles, small_sets, strange_length}
 use Rattle.acl_normal.specs.SmallSituations.{HasName, is_among, longest_name, small_situation}
 use Rattle.acl_perm.specs.Bits.{all_rights, has_bit}
-use Rattle.acl_perm.specs.Order.{principal_cmp, principal_name, principal_total}
+use Rattle.acl_perm.specs.Order.{principal_cmp, principal_name}
+use Rattle.acl_perm.specs.internal.Totality.{principal_total}
 use Rattle.acl_perm.specs.Overlap.{may_overlap}
 use Rattle.acl_perm.specs.Principal.{Principal, everyone, user}
 use Rattle.acl_perm.specs.Situation.{IsSituation, Situation, matches}

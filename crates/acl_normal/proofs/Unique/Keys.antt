@@ -3,7 +3,7 @@ use Rattle.std.proofs.Common.{◌≡◌, true, refl, ap}
 use Rattle.std.specs.Ordering.{is_le}
 use Rattle.std.specs.declared.cmp.Ordering.{Ordering}
 use Rattle.std.specs.declared.cmp.Ordering.TheVariants.{Less, Equal, Greater}
-use Rattle.acl_perm.specs.Order.{key_total}
+use Rattle.acl_perm.specs.internal.Totality.{key_total}
 use Rattle.acl_perm.proofs.Orders.{key_order}
 use Rattle.acl_normal.specs.Keys.{Key, key_record, compare_keys}
 

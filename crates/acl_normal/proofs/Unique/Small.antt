@@ -10,7 +10,8 @@ use Rattle.acl_perm.specs.Overlap.{may_overlap}
 use Rattle.acl_perm.specs.declared.kind.Kind.{Kind}
 use Rattle.acl_perm.specs.declared.kind.Kind.TheVariants.{Deny}
 use Rattle.acl_perm.specs.Situation.{matches}
-use Rattle.acl_perm.specs.Order.{principal_name, principal_cmp, principal_total}
+use Rattle.acl_perm.specs.Order.{principal_name, principal_cmp}
+use Rattle.acl_perm.specs.internal.Totality.{principal_total}
 use Rattle.acl_eval.specs.Column.{Column, first_kind, verdict, SameVerdicts}
 use Rattle.acl_perm.proofs.Orders.{principal_exact}
 use Rattle.acl_normal.specs.Keys.{principal_eq}

@@ -5,7 +5,7 @@ use Rattle.std.specs.Borrow.{Bor}
 use Rattle.std.specs.FinMap as fin
 use Rattle.acl_perm.specs.declared.lines.Piece.{Piece}
 use Rattle.acl_perm.specs.Lines.{Span, span_of, cut_at, lines_of, start_of, trimmed, is_all_blank}
-use Rattle.acl_perm.specs.Steps.{◌>>=◌}
+use Rattle.acl_perm.specs.internal.Steps.{◌>>=◌}
 use Rattle.acl_posix.specs.declared.field.TagWord.{TagWord}
 use Rattle.acl_posix.specs.declared.field.TagWord.TheVariants as word
 use Rattle.acl_posix.specs.declared.entry.Entry.{Entry}

@@ -1,6 +1,5 @@
--- What the code needs of tags, and no contract cites (this library's own): their order in the code's words, that it is
--- total, each tag as two numbers, and sets of entries as numbers. The three proofs stand here since a trait's ghost
--- members cite them.
+-- The order of the tags of the code, and tags and sets of entries as numbers (this library's own). Its proofs stand here
+-- since `Ord` and the models of the code cite them, and code can cite what stands in specs/ alone.
 use Rattle.std.specs.Prelude.{ℕ, zero, suc, ◌≡◌, refl}
 use Rattle.std.specs.FinMap as set
 use Rattle.std.specs.Coded.{Coded, code_by, coded×, coded_ℕ}

@@ -1,5 +1,5 @@
 use Rattle.std.proofs.Common.{◌-◌, ◌≤◌, ◌+◌}
-use Rattle.acl_perm.specs.Places.{IsAbsent}
+use Rattle.acl_perm.specs.internal.Places.{IsAbsent}
 use Rattle.acl_perm.proofs.place.place_in_long.Given as goal
 
 -- the byte stands at no place so far, and there is no gap to the last bytes

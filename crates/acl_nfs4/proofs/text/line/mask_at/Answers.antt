@@ -4,7 +4,7 @@ use Rattle.std.proofs.lemmas.Bool.{lt-ltb, le-ltb}
 use Rattle.acl_nfs4.specs.internal.AceReading.{if_light}
 use Rattle.acl_nfs4.specs.Limits.{most_weight}
 use Rattle.acl_nfs4.specs.internal.NameTable.{set_within}
-use Rattle.acl_perm.specs.Steps.{◌>>=◌}
+use Rattle.acl_perm.specs.internal.Steps.{◌>>=◌}
 use Rattle.acl_nfs4.specs.Rights.{rights}
 use Rattle.acl_nfs4.specs.declared.text.fault.AceTextFault.TheVariants as faults
 use Rattle.acl_nfs4.proofs.text.line.mask_at.Goals as goal

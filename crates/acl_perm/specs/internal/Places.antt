@@ -1,4 +1,4 @@
--- Where a byte stands first (this library's own): words that code needs. No public clause cites them.
+-- Where a byte stands first (this library's own).
 use Rattle.std.specs.Prelude.{◌≡◌, ◌+◌, ◌<◌, ◌≤◌, ◌==◌, ℕ, List, slice_index, true, false}
 
 -- a byte does not stand from one place up to another
