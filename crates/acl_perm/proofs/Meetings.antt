@@ -12,7 +12,8 @@ use Rattle.acl_perm.specs.Situation.{Situation, matches}
 use Rattle.acl_perm.specs.Order.{principal_name}
 use Rattle.acl_perm.specs.Overlap.{Overlap, may_overlap}
 
-itself : (name : List ℕ) → bytes_eq name name ≡ true
+-- a name is itself
+pub itself : (name : List ℕ) → bytes_eq name name ≡ true
 itself name = (bytes_eq-Decides name name).1 refl
 
 -- the user's name, where one of the two is a user

@@ -1,9 +1,9 @@
 -- The orders of principals and of keys are strict and total, and tell all of them apart.
 use Rattle.std.proofs.Common.{◌≡◌, refl, sym, ap, ◌∙◌, arith}
-use Rattle.std.specs.Prelude.{Bool, ◌&&◌, ◌==◌, ◌↔◌, IsTrue}
+use Rattle.std.specs.Prelude.{Bool, true, ◌&&◌, ◌==◌, ◌↔◌, IsTrue}
 use Rattle.std.specs.declared.cmp.Ordering.{Ordering}
 use Rattle.std.specs.declared.cmp.Ordering.TheVariants.{Less, Equal, Greater}
-use Rattle.std.specs.Ordering.{nat_cmp, ordering_reverse, eq_by_cmp, is_eq}
+use Rattle.std.specs.Ordering.{nat_cmp, ordering_reverse, eq_by_cmp, is_eq, is_lt}
 use Rattle.std.specs.Cmp.{IsTotalOrder, unsigned_ties, tied_then}
 use Rattle.std.specs.Cmp.Lexicographic.{slice_cmp}
 use Rattle.std.specs.Str.{bytes_eq}
@@ -18,7 +18,14 @@ pub use Rattle.acl_perm.specs.internal.FedAlike.{principal_exact}
 use Rattle.acl_perm.specs.declared.kind.Kind.{Kind}
 use Rattle.acl_perm.specs.declared.kind.Kind.TheVariants.{Deny, Allow}
 
-same_kind : (j k : Kind) → kind_rank j ≡ kind_rank k → j ≡ k
+-- what counts as less in an order is less there
+pub is_less : (o : Ordering) → is_lt o ≡ true → o ≡ Less
+is_less Less h = refl
+is_less Equal h = absurd cc
+is_less Greater h = absurd cc
+
+-- types of one rank are the same
+pub same_kind : (j k : Kind) → kind_rank j ≡ kind_rank k → j ≡ k
 same_kind Deny Deny h = refl
 same_kind Allow Allow h = refl
 same_kind _ _ h = absurd (omega (arith, h))

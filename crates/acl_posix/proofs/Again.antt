@@ -9,7 +9,9 @@ use Rattle.std.proofs.lemmas.List.Elements.{All-weaker}
 use Rattle.std.proofs.lemmas.List.Splits.{slice_split_none, slice_split_at}
 use Rattle.std.proofs.lemmas.List.Folds.{list_all-append}
 use Rattle.std.proofs.lemmas.Fmt.{decimal_is_IsNumeral, decimal_by_steps}
+use Rattle.acl_perm.proofs.Bools.{and_true}
 use Rattle.acl_perm.specs.Lines.{cut_at, is_blank, is_all_blank, blanks_before, end_trimmed, trimmed}
+use Rattle.acl_perm.specs.Shown.{perm_text}
 use Rattle.acl_posix.specs.declared.field.TagWord.{TagWord}
 use Rattle.acl_posix.specs.declared.field.TagWord.TheVariants as words
 use Rattle.acl_posix.specs.declared.text_fault.Part.{Part}
@@ -19,7 +21,7 @@ use Rattle.acl_posix.specs.Tag.{Tag, user_obj, user, group_obj, group, mask, oth
 use Rattle.acl_posix.specs.Names.{Table, Ids}
 use Rattle.acl_posix.specs.Fields.{permissions_of, word_of, is_default, id_of, id_in}
 use Rattle.acl_posix.specs.Grammar.{EntryFields, fields_of, HasFields, SpellsTag, HasTag, Spells}
-use Rattle.acl_posix.specs.Texts.{perm_text, word_text, long_word, short_word, qualifier_text}
+use Rattle.acl_posix.specs.Texts.{word_text, long_word, short_word, qualifier_text}
 
 -- ---- bytes of fields
 
@@ -41,20 +43,16 @@ plain_not b h = (
   grind (arith, nat_tests),
 )
 
-and_both : (a b : Bool) → (a && b) ≡ true → (a ≡ true) × (b ≡ true)
-and_both true b h = (refl, h)
-and_both false b h = absurd cc
-
 blank_plain : (b : ℕ) (bs : List ℕ) → Plain (b ∷ bs) → is_all_blank (b ∷ bs) ≡ false
-blank_plain b bs h = ap (λ t. t && is_all_blank bs) (plain_not b (and_both _ _ h).0).0
+blank_plain b bs h = ap (λ t. t && is_all_blank bs) (plain_not b (and_true _ _ h).0).0
 
 end_plain : (bs : List ℕ) → Plain bs → end_trimmed bs ≡ bs
 end_plain [] h = refl
-end_plain (b ∷ bs) h = rw (blank_plain b bs h) (ap (λ (xs : List ℕ). b ∷ xs) (end_plain bs (and_both _ _ h).1))
+end_plain (b ∷ bs) h = rw (blank_plain b bs h) (ap (λ (xs : List ℕ). b ∷ xs) (end_plain bs (and_true _ _ h).1))
 
 no_blanks_before : (bs : List ℕ) → Plain bs → blanks_before bs ≡ 0
 no_blanks_before [] h = refl
-no_blanks_before (b ∷ bs) h = rw (plain_not b (and_both _ _ h).0).0 refl
+no_blanks_before (b ∷ bs) h = rw (plain_not b (and_true _ _ h).0).0 refl
 
 -- plain bytes have no blanks to be trimmed
 pub trimmed_plain : (bs : List ℕ) → Plain bs → trimmed bs ≡ bs
@@ -256,7 +254,7 @@ three_split w t q p ps hq hw hp =
 -- a text that begins with a plain byte is not blank
 pub starts_filled : (w rest : List ℕ) → Plain w → 0 < length w → is_all_blank (w ++ rest) ≡ false
 starts_filled [] rest h some = absurd (omega (arith, some))
-starts_filled (b ∷ bs) rest h some = ap (λ t. t && is_all_blank (bs ++ rest)) (plain_not b (and_both _ _ h).0).0
+starts_filled (b ∷ bs) rest h some = ap (λ t. t && is_all_blank (bs ++ rest)) (plain_not b (and_true _ _ h).0).0
 
 -- where the fields stand
 abbrev fields_at : ℕ → Part → List ℕ → List ℕ → List ℕ → EntryFields
@@ -306,9 +304,9 @@ pub access_spelled : (names : Table) (column : ℕ) (w : List ℕ) (t : Tag) (q 
 access_spelled names column w t q p ps hq lt hw hp = record {
   fields = fields_at column parts.Access w q ps;
   has = access_fields column w t q p ps hq hw hp;
-  part = refl;
-  tag = fields_tag names column parts.Access w t q ps hq hw;
-  permissions = ap permissions_of hp.trims ∙ perm_again p lt;
+  is_part = refl;
+  has_tag = fields_tag names column parts.Access w t q ps hq hw;
+  is_perm = ap permissions_of hp.trims ∙ perm_again p lt;
 }
 
 -- and with a mark their entry of the default part
@@ -318,7 +316,7 @@ pub default_spelled : (names : Table) (column : ℕ) (d w : List ℕ) (t : Tag) 
 default_spelled names column d w t q p ps hd hq lt hw hp = record {
   fields = fields_at (column + length d + 1) parts.Default w q ps;
   has = default_fields column d w t q p ps hd hq hw hp;
-  part = refl;
-  tag = fields_tag names (column + length d + 1) parts.Default w t q ps hq hw;
-  permissions = ap permissions_of hp.trims ∙ perm_again p lt;
+  is_part = refl;
+  has_tag = fields_tag names (column + length d + 1) parts.Default w t q ps hq hw;
+  is_perm = ap permissions_of hp.trims ∙ perm_again p lt;
 }

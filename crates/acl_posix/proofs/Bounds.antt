@@ -12,6 +12,7 @@ use Rattle.std.proofs.lemmas.Bool.{cases_lt}
 use Rattle.std.proofs.lemmas.List.{length-take}
 use Rattle.std.proofs.lemmas.List.Elements.{recursion_from_All}
 use Rattle.std.proofs.lemmas.Fmt.{length-decimal-le}
+use Rattle.acl_perm.specs.Shown.{perm_text}
 use Rattle.acl_posix.specs.declared.form.Form.{Form}
 use Rattle.acl_posix.specs.declared.form.Form.TheVariants as forms
 use Rattle.acl_posix.specs.declared.text_fault.Part.{Part}
@@ -22,8 +23,9 @@ use Rattle.acl_posix.specs.Id.{IsId}
 use Rattle.acl_posix.specs.Tag.{Tag, user_obj, user, group_obj, group, mask, other, row, tag_cmp, rank, qualifier, IsTag}
 use Rattle.acl_posix.specs.Entries.{Entries, IsEntry, tags}
 use Rattle.acl_posix.specs.Mask.{effective_of}
-use Rattle.acl_posix.specs.Texts.{perm_text, word_text, long_word, short_word, qualifier_text, entry_text, mark_text}
+use Rattle.acl_posix.specs.Texts.{word_text, long_word, short_word, qualifier_text, entry_text, mark_text}
 use Rattle.acl_posix.specs.internal.Writing.{lead, form_word, ending, entry_out, part_out}
+use Rattle.acl_posix.proofs.Tags.{length-tags_of}
 use Rattle.acl_posix.proofs.Lookups.{entries_sorted}
 
 -- ---- an entry
@@ -175,10 +177,6 @@ tags_within : (es : List (Tag × ℕ)) → AllByRecursion IsEntry es → AllByRe
 tags_within [] h = tt
 tags_within (e ∷ es) h = (h.0.0, tags_within es h.1)
 
-tags_length : (es : List (Tag × ℕ)) → length (tags es) ≡ length es
-tags_length [] = refl
-tags_length (e ∷ es) = ap (λ (n : ℕ). suc n) (tags_length es)
-
 -- the entries of a part have fewer than 2^62 bytes
 pub part_under : (form : Form) (part : Part) (acl : Entries) (first : Bool) → All IsEntry (fin.entries acl)
     → length (part_out form part acl first (fin.entries acl)) < 2 ^ 62
@@ -186,4 +184,4 @@ part_under form part acl first h =
     let within = recursion_from_All IsEntry (fin.entries acl) h in
     let count = count_from 0 (tags (fin.entries acl)) (omega arith) (all_above_0 (tags (fin.entries acl)))
     (tags_within (fin.entries acl) within) (entries_sorted acl) in
-    omega (arith, count, tags_length (fin.entries acl), part_short form part acl first (fin.entries acl) within)
+    omega (arith, count, length-tags_of (fin.entries acl), part_short form part acl first (fin.entries acl) within)

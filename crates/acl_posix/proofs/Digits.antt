@@ -46,6 +46,11 @@ ten_digits bs i few h =
     let least : 1 ≤ 10 = omega arith in
     omega (arith, digits_value-lt 10 (take i bs) (all_small (take i bs) h), pow-le-pow_right {n = 10} least most)
 
+-- a number has a digit
+pub some_digit : (bs : List ℕ) → is_number bs ≡ true → 0 < length bs
+some_digit [] h = absurd cc
+some_digit (b ∷ bs) h = omega arith
+
 -- each byte of a number is a digit
 pub digits_all : (bs : List ℕ) → is_number bs ≡ true → list_all is_ascii_digit bs ≡ true
 digits_all bs h =

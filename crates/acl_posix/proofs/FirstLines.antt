@@ -11,16 +11,17 @@ use Rattle.std.proofs.lemmas.List.Folds.{list_all-append}
 use Rattle.std.proofs.lemmas.List.Splits.{slice_split_at}
 use Rattle.std.proofs.lemmas.Slice.Eq.{strip_prefix_is}
 use Rattle.acl_perm.specs.Lines.{lines_of, is_all_blank}
+use Rattle.acl_perm.specs.Shown.{perm_text}
 use Rattle.acl_posix.specs.declared.text_fault.Part.{Part}
 use Rattle.acl_posix.specs.declared.text_fault.Part.TheVariants as parts
 use Rattle.acl_posix.specs.Tag.{Tag, user_obj, user, group_obj, group, mask, other, is_named, qualifier}
 use Rattle.acl_posix.specs.Names.{Table, is_number}
 use Rattle.acl_posix.specs.Fields.{id_of}
 use Rattle.acl_posix.specs.Grammar.{Spells}
-use Rattle.acl_posix.specs.Texts.{long_word, perm_text}
+use Rattle.acl_posix.specs.Texts.{long_word}
 use Rattle.acl_posix.specs.internal.WrittenLine.{IsEntryBefore, IsFirstLine, IsIdBefore, IsPermBefore, letter_of}
 use Rattle.acl_posix.proofs.Again.{is_plain, Plain, long_is, long_mark, IsQualifierOf, fields_text, perm_alone, starts_filled, access_spelled, default_spelled}
-use Rattle.acl_posix.proofs.Digits.{digits_all}
+use Rattle.acl_posix.proofs.Digits.{digits_all, some_digit}
 use Rattle.acl_posix.proofs.Whole.{Text, text_not, text_append, text_from_plain, fields_are_text, text_piece, nowhere}
 
 -- ---- digits
@@ -51,10 +52,6 @@ number_of : (bs : List ℕ) → 0 < length bs → list_all is_ascii_digit bs ≡
 number_of [] some h = absurd (omega (arith, some))
 number_of (b ∷ bs) some h = let filled : eqb (length (b ∷ bs)) 0 ≡ false = grind (arith, nat_tests) in
     rw filled h
-
-some_digit : (bs : List ℕ) → is_number bs ≡ true → 0 < length bs
-some_digit [] h = absurd cc
-some_digit (b ∷ bs) h = omega arith
 
 -- the digits before a colon are the id
 pub id_found : (bs rest : List ℕ) (i value : ℕ) → i < length bs → 0 < i → get_or bs i 0 ≡ 58

@@ -14,6 +14,7 @@ use Rattle.acl_posix.specs.Fields.{word_of, id_of, id_in, permissions_of}
 use Rattle.acl_posix.specs.Grammar.{TextPiece, EntryFields, fields_of, PartEntry, HasFields, HasTag, Spells, colon}
 use Rattle.acl_posix.specs.TextFault.{names_of, IsPieceFault, IsPlace, MayName}
 use Rattle.acl_perm.specs.internal.Steps.{◌>>=◌}
+use Rattle.acl_posix.proofs.Digits.{some_digit}
 use Rattle.acl_posix.specs.internal.Reading.{read_word, read_tag, read_permissions, read_named, read_unnamed, read_three, read_fields, read_piece}
 
 -- what an answer says of a piece
@@ -58,7 +59,7 @@ permissions_say names piece fields tag has spelled =
     >>= (λ perm. Ok (made fields tag perm)))) [
       | None ↦ λ is.
           record { fields = fields; has = has; tag = tag; has_tag = spelled; no_set = is; place = place }
-      | Some perm ↦ λ is. record { fields = fields; has = has; part = refl; tag = spelled; permissions = is }
+      | Some perm ↦ λ is. record { fields = fields; has = has; is_part = refl; has_tag = spelled; is_perm = is }
     ] refl
 
 abbrev After : Table → TextPiece → EntryFields → Result Tag TextFault → Type 0
@@ -247,10 +248,10 @@ has_read names line piece fields has = rw (has.filled, has.cut) refl
 pub spelled_read : (names : Table) (line : ℕ) (piece : Span) (entry : PartEntry) → Spells names piece entry
     → read_piece names line piece ≡ Ok entry
 unfolding read_permissions
-spelled_read names line piece entry h =
+spelled_read names line piece (part, (tag, perm)) h =
     let start = has_read names line piece h.fields h.has ∙ regroup names line h.fields in
-    let tagged : TagIsRead names line h.fields entry.1.0 = tag_read names line h.fields entry.1.0 h.tag in
-    rw (start, tagged, h.permissions, h.part) refl
+    let tagged : TagIsRead names line h.fields tag = tag_read names line h.fields tag h.has_tag in
+    rw (start, tagged, h.is_perm, h.is_part) refl
 
 -- a qualifier that may not be
 unnamed_fault : (names : Table) (line : ℕ) (fields : EntryFields) (w : TagWord) → names_of names w ≡ None
@@ -262,11 +263,6 @@ unnamed_fault names line fields word.User e some = absurd cc
 unnamed_fault names line fields word.Group e some = absurd cc
 unnamed_fault names line fields word.Mask e some = rw (no_test _ some) refl
 unnamed_fault names line fields word.Other e some = rw (no_test _ some) refl
-
--- digits alone are not nothing
-number_some : (q : List ℕ) → is_number q ≡ true → 0 < length q
-number_some [] h = absurd cc
-number_some (x ∷ xs) h = omega arith
 
 -- a qualifier that is no id
 abbrev IdFault : Ids → List ℕ → ℕ → ℕ → TextFault → Type 0
@@ -315,7 +311,7 @@ fault_read names piece (faults.Qualifier line column) h =
     (unnamed_fault names piece.line h.fields h.word h.no_names h.qualifier)
 fault_read names piece (faults.Id line column) h =
     rw (h.named.has.filled, h.named.has.cut, h.named.is_word, h.place.same_line, h.place.same_column)
-    (named_fault names piece.line h.fields h.named.word h.ids h.named.has_names (number_some _ h.digits)
+    (named_fault names piece.line h.fields h.named.word h.ids h.named.has_names (some_digit _ h.digits)
     (faults.Id piece.line (start_of h.fields.qualifier)) (λ of_id. rw (h.digits, h.no_id) refl))
 fault_read names piece (faults.UnknownName line column) h =
     rw (h.named.has.filled, h.named.has.cut, h.named.is_word, h.place.same_line, h.place.same_column)

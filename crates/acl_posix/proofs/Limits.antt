@@ -94,7 +94,7 @@ spelled_within names [] [] h s = tt
 spelled_within names [] (entry ∷ entries) h s = absurd s
 spelled_within names (piece ∷ pieces) [] h s = absurd s
 spelled_within names (piece ∷ pieces) (entry ∷ entries) h s = (
-  (tag_within names _ _ entry.1.0 h s.0.tag, perm_within _ entry.1.1 s.0.permissions),
+  (tag_within names _ _ entry.1.0 h s.0.has_tag, perm_within _ entry.1.1 s.0.is_perm),
   spelled_within names pieces entries h s.1,
 )
 

@@ -14,6 +14,7 @@ use Rattle.std.proofs.lemmas.Cmp.{tied_itself}
 use Rattle.std.proofs.lemmas.Map.Keys.{Less-from_sorted, sorted_head, sorted_tail}
 use Rattle.std.specs.FinMap as fin
 use Rattle.std.specs.FinMap.Entries.{below_all}
+use Rattle.acl_perm.proofs.Bools.{both_hold}
 use Rattle.acl_posix.specs.declared.tag.Tag.{Tag as TagOfCode}
 use Rattle.acl_posix.specs.declared.tag.Tag.TheVariants as code
 use Rattle.acl_posix.specs.declared.entry.Entry.{Entry}
@@ -57,22 +58,18 @@ is_less Less h = refl
 is_less Equal h = absurd h
 is_less Greater h = absurd h
 
-parts : (a b : Bool) → T (a && b) → T a × T b
-parts true b h = (tt, h)
-parts false b h = absurd h
-
 from_below : (t : Tag) (ps : List (Tag × ℕ)) → T (below_all tag_cmp t ps)
     → AllByRecursion (λ y. tag_cmp t y ≡ Less) (tags ps)
 from_below t [] h = tt
 from_below t (p ∷ ps) h =
-    let both = parts (is_lt (tag_cmp t p.0)) (below_all tag_cmp t ps) h in
+    let both = both_hold (is_lt (tag_cmp t p.0)) (below_all tag_cmp t ps) h in
     (is_less (tag_cmp t p.0) both.0, from_below t ps both.1)
 
 from_sorted : (ps : List (Tag × ℕ)) → T (fin.is_sorted tag_cmp ps) → IsSorted ps
 unfolding IsStrictlySortedBy
 from_sorted [] h = tt
 from_sorted (p ∷ ps) h =
-    let both = parts (below_all tag_cmp p.0 ps) (fin.is_sorted tag_cmp ps) h in
+    let both = both_hold (below_all tag_cmp p.0 ps) (fin.is_sorted tag_cmp ps) h in
     (from_below p.0 ps both.0, from_sorted ps both.1)
 
 -- the entries of a set are in canonical order

@@ -15,6 +15,7 @@ use Rattle.std.proofs.lemmas.Bool.{cases_lt}
 use Rattle.std.proofs.lemmas.List.{get_or_default, take_more, take_all, get_or-map, length-map}
 use Rattle.std.proofs.lemmas.Map.Keys.{Less-from_sorted, sorted_from_all_adjacent}
 use Rattle.std.specs.FinMap.{find, get, insert, get-from_entries, get-insert, from_entries_push, same_map}
+use Rattle.acl_perm.proofs.Orders.{is_less}
 use Rattle.acl_perm.specs.declared.perm.Perm.{Perm}
 use Rattle.acl_posix.specs.declared.tag.Tag.{Tag as TagOfCode}
 use Rattle.acl_posix.specs.declared.entry.Entry.{Entry}
@@ -231,11 +232,6 @@ sorted_distinct ps h place lt repeat =
 -- each tag up to a place is less than the next
 abbrev pub IsRising : List Entry → ℕ → Type 0
 IsRising es place = (k : ℕ) (d : Entry) → k + 1 < place → code_cmp (get_or es k d).tag (get_or es (k + 1) d).tag ≡ Less
-
-is_less : (o : Ordering) → is_lt o ≡ true → o ≡ Less
-is_less Less h = refl
-is_less Equal h = absurd cc
-is_less Greater h = absurd cc
 
 -- up to the second entry nothing is to compare
 pub rising_start : (es : List Entry) → IsRising es 1

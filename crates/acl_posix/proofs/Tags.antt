@@ -6,6 +6,7 @@ use Rattle.std.specs.declared.cmp.Ordering.{Ordering}
 use Rattle.std.specs.declared.cmp.Ordering.TheVariants.{Less, Equal, Greater}
 use Rattle.std.proofs.lemmas.Map.Lookups.{exact_pairs, exact_unsigned}
 use Rattle.std.specs.FinMap.{IsAntisymmetric}
+use Rattle.acl_perm.specs.internal.FedAlike.{is_equal}
 use Rattle.acl_posix.specs.declared.entry.Entry.{Entry}
 use Rattle.acl_posix.specs.Tag.{Tag, rank, qualifier, tag_of, tag_cmp}
 use Rattle.acl_posix.specs.internal.TagCode.{tag_from, tag_again}
@@ -18,14 +19,9 @@ exact_tags x y e =
     (rank y, qualifier y) e in
     sym (tag_again x) ∙ ap (λ (p : ℕ × ℕ). tag_from p.0 p.1) both ∙ tag_again y
 
-equal : (o : Ordering) → is_eq o ≡ true → o ≡ Equal
-equal Less h = absurd cc
-equal Equal h = refl
-equal Greater h = absurd cc
-
 -- tags that a test finds equal are equal
 pub same_tag : (q l : Tag) → eq_by_cmp tag_cmp q l ≡ true → q ≡ l
-same_tag q l h = exact_tags q l (equal (tag_cmp q l) h)
+same_tag q l h = exact_tags q l (is_equal (tag_cmp q l) h)
 
 -- a tag that is less than another is not equal to it, either way round
 pub unequal_less : (a b : Tag) → tag_cmp a b ≡ Less → eq_by_cmp tag_cmp a b ≡ false

@@ -10,6 +10,7 @@ use Rattle.std.proofs.lemmas.List.Elements.{All-weaker, All-push, All-from_recur
 use Rattle.std.proofs.lemmas.List.Splits.{slice_split_none, slice_split_at}
 use Rattle.std.proofs.lemmas.List.Folds.{list_all-append}
 use Rattle.acl_perm.specs.Lines.{Span, spans, cut_at, is_all_blank, before_mark, lines_of}
+use Rattle.acl_perm.specs.Shown.{perm_text}
 use Rattle.acl_posix.specs.declared.file.PosixFile.{PosixFile}
 use Rattle.acl_posix.specs.declared.text_fault.Part.{Part}
 use Rattle.acl_posix.specs.declared.text_fault.Part.TheVariants as parts
@@ -19,7 +20,7 @@ use Rattle.acl_posix.specs.Valid.{missing}
 use Rattle.acl_posix.specs.Mask.{effective_of}
 use Rattle.acl_posix.specs.Names.{Table}
 use Rattle.acl_posix.specs.Grammar.{TextPiece, PartEntry, Spells, SpellAll, line_pieces, numbered, pieces_from, pieces_of, access_of, default_of, IsAclOf, IsDefaultOf, Reads}
-use Rattle.acl_posix.specs.Texts.{perm_text, long_word, short_word, qualifier_text, long_entry, short_entry, long_default, short_default, effective_mark, line, default_entries, default_mark, canonical_text, shown_text, with_commas, short_text, IsDefault, IsFile}
+use Rattle.acl_posix.specs.Texts.{long_word, short_word, qualifier_text, long_entry, short_entry, long_default, short_default, effective_mark, line, default_entries, default_mark, canonical_text, shown_text, with_commas, short_text, IsDefault, IsFile}
 use Rattle.acl_posix.specs.internal.TagCode.{tags_total}
 use Rattle.acl_posix.proofs.Tags.{exact_tags}
 use Rattle.acl_posix.proofs.Repeats.{sorted_distinct}

@@ -93,13 +93,17 @@ HasTag names fields tag = SpellsTag names (trimmed fields.tag.bytes) (trimmed fi
 abbrev pub PartEntry : Type 0
 PartEntry = Part × (Tag × ℕ)
 
--- a piece spells an entry of a part
-pub record Spells (names : Table) (piece : Span) (entry : PartEntry) : Type 0 where
+-- a piece spells an entry of this part, with this tag and these permissions
+pub record SpellsEntry (names : Table) (piece : Span) (part : Part) (tag : Tag) (perm : ℕ) : Type 0 where
   pub fields : EntryFields
   pub has : HasFields piece fields
-  pub part : fields.part ≡ entry.0
-  pub tag : HasTag names fields entry.1.0
-  pub permissions : permissions_of (trimmed fields.permissions.bytes) ≡ Some entry.1.1
+  pub is_part : fields.part ≡ part
+  pub has_tag : HasTag names fields tag
+  pub is_perm : permissions_of (trimmed fields.permissions.bytes) ≡ Some perm
+
+-- a piece spells an entry of a part
+abbrev pub Spells : Table → Span → PartEntry → Type 0
+Spells names piece (part, (tag, perm)) = SpellsEntry names piece part tag perm
 
 -- pieces spell entries, one each
 abbrev pub SpellAll : Table → List TextPiece → List PartEntry → Type 0

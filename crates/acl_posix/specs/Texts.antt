@@ -3,6 +3,7 @@
 use Rattle.std.specs.Prelude.{ℕ, ◌==◌, List, [], ◌∷◌, ◌++◌, codes, decimal, bit_and, map, take, Option, Some, None, option_map, unwrap_or, if◌then◌else◌}
 use Rattle.std.specs.List.{flat_map, All}
 use Rattle.std.specs.FinMap as set
+use Rattle.acl_perm.specs.Shown.{perm_text}
 use Rattle.acl_posix.specs.declared.file.PosixFile.{PosixFile}
 use Rattle.acl_posix.specs.declared.form.Form.{Form}
 use Rattle.acl_posix.specs.declared.form.Form.TheVariants.{Canonical, Shown, Short}
@@ -12,14 +13,6 @@ use Rattle.acl_posix.specs.Tag.{Tag, row}
 use Rattle.acl_posix.specs.Entries.{Entries, IsEntry}
 use Rattle.acl_posix.specs.Valid.{IsValid}
 use Rattle.acl_posix.specs.Mask.{effective_of}
-
--- a letter, or - where the bit is absent
-abbrev pub letter : ℕ → ℕ → ℕ → ℕ
-letter perm bit shown = if bit_and perm bit == bit then shown else 45
-
--- three characters: r, w and x, each replaced by - where it is absent
-abbrev pub perm_text : ℕ → List ℕ
-perm_text perm = letter perm 4 114 ∷ letter perm 2 119 ∷ letter perm 1 120 ∷ []
 
 -- a tag word, in full
 abbrev pub word_text : TagWord → List ℕ

@@ -1,8 +1,9 @@
 //! The text of one entry, which is put together from its end: each part in front of what stands behind it.
 ghost use Rattle.std.specs.Prelude.{◌≡◌, ◌+◌, ◌≤◌, ◌++◌, ◌∷◌, [], ◌==◌, bit_and, drop, if◌then◌else◌};
+ghost use Rattle.acl_perm.specs.Shown.{letter, perm_text};
 ghost use Rattle.acl_posix.specs.Entries.{pair_of};
 ghost use Rattle.acl_posix.specs.Tag.{tag_of};
-ghost use Rattle.acl_posix.specs.Texts.{entry_text, letter, mark_text, perm_text, qualifier_text};
+ghost use Rattle.acl_posix.specs.Texts.{entry_text, mark_text, qualifier_text};
 ghost use Rattle.acl_posix.specs.internal.Writing.{ending, entry_out, form_word, lead, IsPut};
 
 use crate::entry::Entry;

@@ -1,7 +1,7 @@
 //! Lines as the canonical text has them, at one go. `reader` takes every other line apart.
 ghost use Rattle.std.specs.Prelude.{◌≡◌, [], ◌∷◌, ◌++◌, IfSome};
 ghost use Rattle.acl_posix.specs.Entries.{pair_of};
-ghost use Rattle.acl_posix.specs.Texts.{perm_text};
+ghost use Rattle.acl_perm.specs.Shown.{perm_text};
 ghost use Rattle.acl_posix.specs.internal.WrittenLine.{
   letter_of,
   AreFieldsBefore,

@@ -2,12 +2,13 @@
 -- needs.
 use Rattle.std.specs.Prelude.{ℕ, ◌≡◌, ◌<◌, ◌++◌, Bool, true, List, [], ◌∷◌, length, Some, if◌then◌else◌}
 use Rattle.acl_perm.specs.Lines.{lines_of}
+use Rattle.acl_perm.specs.Shown.{perm_text}
 use Rattle.acl_posix.specs.declared.text_fault.Part.{Part}
 use Rattle.acl_posix.specs.Tag.{Tag, is_named, qualifier}
 use Rattle.acl_posix.specs.Names.{Table, is_number}
 use Rattle.acl_posix.specs.Fields.{id_of}
 use Rattle.acl_posix.specs.Grammar.{Spells, line_pieces}
-use Rattle.acl_posix.specs.Texts.{long_word, perm_text}
+use Rattle.acl_posix.specs.Texts.{long_word}
 
 -- an id in digits and a colon stand before the rest
 pub record IsIdBefore (bytes : List ℕ) (id : ℕ) (rest : List ℕ) : Type 0 where
