@@ -1,8 +1,8 @@
 -- What tests tell of the tests that they are made of, for all crates: std's lemmas, by the names that the proofs here
--- give them, and three of our own.
+-- give them, and three of this library.
 use Rattle.std.proofs.Common.{◌≡◌, Bool, true, false, cond, refl}
 use Rattle.std.specs.Prelude.{◌&&◌, T}
--- both of two tests hold, or one of two
+-- where two tests hold together each holds, and where one of two holds it is the first or the second
 pub use Rattle.std.proofs.lemmas.Bool.{and_parts as and_true, or_cases as or_true}
 -- what a denied test tells
 pub use Rattle.std.proofs.lemmas.Bool.{not-true as not_true, not-false as not_false}

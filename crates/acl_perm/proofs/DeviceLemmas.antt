@@ -1,4 +1,4 @@
--- Facts about known bytes.
+-- What a sink is known to hold after one more put of a text.
 use Rattle.std.proofs.Common.{◌+◌, ℕ, List, Option, take, drop}
 use Rattle.std.proofs.Math.Seq.{take-add}
 use Rattle.std.proofs.KnownBytes.{Appends-trans}

@@ -12,7 +12,7 @@ use Rattle.acl_perm.specs.Situation.{Situation, matches}
 use Rattle.acl_perm.specs.Order.{principal_name}
 use Rattle.acl_perm.specs.Overlap.{Overlap, may_overlap}
 
--- a name is itself
+-- a name is equal to itself
 pub itself : (name : List ℕ) → bytes_eq name name ≡ true
 itself name = (bytes_eq-Decides name name).1 refl
 
@@ -90,7 +90,7 @@ pub two_users : (p q : PrincipalRef) (name other : Bor (List ℕ)) (answer : Boo
     → answer ≡ may_overlap (principal p) (principal q)
 two_users p q name other answer pe qe e = rw (pe, qe) e
 
--- the first is no user
+-- two principals of which the first is no user overlap
 pub first_no_user : (p q : PrincipalRef) → ((name : Bor (List ℕ)) → p ≡ code.User name → ⊥)
     → true ≡ may_overlap (principal p) (principal q)
 first_no_user code.Owner q none = refl
@@ -99,7 +99,7 @@ first_no_user code.Group q none = refl
 first_no_user (code.GroupNamed name) q none = refl
 first_no_user code.Everyone q none = refl
 
--- the second is no user
+-- two principals of which the second is no user overlap
 pub second_no_user : (p q : PrincipalRef) → ((name : Bor (List ℕ)) → q ≡ code.User name → ⊥)
     → true ≡ may_overlap (principal p) (principal q)
 second_no_user code.Owner q none = refl

@@ -7,7 +7,7 @@ use Rattle.std.specs.Io.KnownBytes.{Appends}
 use Rattle.acl_perm.specs.Pieces.{WritesFrom}
 use Rattle.acl_perm.specs.declared.whole.WriteFault.{WriteFault}
 
--- one more piece is out
+-- where one more piece went out, the whole is what is out with that piece, and the rest
 pub moved_on : (p piece rest whole : List ℕ) → whole ≡ p ++ (piece ++ rest) → whole ≡ (p ++ piece) ++ rest
 moved_on p piece rest whole e = e ∙ sym (append_assoc p piece rest)
 
@@ -104,7 +104,7 @@ out_all start done a b whole rest h e =
       subst (λ (xs : List ℕ). Appends a b xs) (sym all) h.known,
     )
 
--- a part of a text and the rest of it
+-- a text whose first part is out goes out with its second
 pub written_both : (a b c : Option (List ℕ)) (start done : ℕ) (one two : List ℕ) (r : Result ℕ WriteFault)
     → done ≡ start + length one → Appends a b one → WritesFrom b c done two r → WritesFrom a c start (one ++ two) r
 written_both a b c start done one two (Ok n) count known said =

@@ -17,7 +17,7 @@ counted wanted bytes at n r inside is = record {
   found = run_in_chunk_stops (λ b. eqb b wanted) bytes at n r 0 inside is;
 }
 
--- so many bytes more in which it does not stand
+-- where a byte does not stand in a front, nor in what follows, it does not stand in them together
 pub absent_on : (wanted : ℕ) (bytes : List ℕ) (at mid to : ℕ) → IsAbsent wanted bytes 0 mid
     → IsAbsent wanted bytes at to → at ≤ mid → IsAbsent wanted bytes 0 to
 absent_on wanted bytes at mid to front rest le = λ k low high. elim (cases_lt k mid) [
@@ -34,7 +34,7 @@ first_place wanted bytes at n place front inside lt p = sym (position_or_len_is 
     (λ k high. absent_on wanted bytes at at (at + place) front p.before (omega arith) k (omega arith) high)
     (λ _. p.found lt))
 
--- and so is the place among the last bytes, or their number where it stands nowhere
+-- a byte that does not stand before the last bytes has its first place among them, or none
 pub last_place : (wanted : ℕ) (bytes : List ℕ) (at mid n place : ℕ) → IsAbsent wanted bytes 0 mid → at ≤ mid
     → at + n ≡ length bytes → IsPlaceIn wanted bytes at n place
     → at + place ≡ position_or_len (λ b. eqb b wanted) bytes

@@ -96,7 +96,7 @@ same_set m n h = same_from_bits m n (λ k. same_bit m n k (h k))
 pub no_bit : (k : ℕ) → has_bit 0 k ≡ false
 no_bit k = ap (λ (d : ℕ). eqb d 1) (bit_at-zero k)
 
--- any other set has one
+-- a set that is not empty has a bit
 pub some_bit : (n : ℕ) → n < 2 ^ 32 → n ≢ 0 → (k : ℕ) × (has_bit n k ≡ true)
 some_bit n lt ne =
     let t = bit_at-trailing_zeros w32 n (omega arith) lt in
@@ -117,7 +117,7 @@ subset m n = (
   λ h. same_set (bit_and m n) n (λ k. has_bit-and m n k ∙ narrower (has_bit m k) (has_bit n k) (h k)),
 )
 
--- the same as a test
+-- the test that one set is a part of another
 pub subset_test : (m n : ℕ) → (eqb (bit_and m n) n ≡ true) ↔ IsSubset n m
 subset_test m n = let s = subset m n in (λ t. s.0 (eqb-true _ _ t), λ h. eq-eqb _ _ (s.1 h))
 
@@ -156,11 +156,11 @@ intersection_is m n = has_bit-and m n
 pub w8_difference : (m n : ℕ) → m < 2 ^ 8 → n < 2 ^ 8 → IsDifference m n (bit_and m (bit_not w8 n))
 w8_difference m n ml nl k = has_bit-clear w8 m n k ml nl
 
--- at 16 bits
+-- the set of what the first has and the second has not, at 16 bits
 pub w16_difference : (m n : ℕ) → m < 2 ^ 16 → n < 2 ^ 16 → IsDifference m n (bit_and m (bit_not w16 n))
 w16_difference m n ml nl k = has_bit-clear w16 m n k ml nl
 
--- of two sets of rights
+-- the set of what the first set of rights has and the second has not
 pub mask_difference : (m n : ℕ) → IsMask m → IsMask n → IsDifference m n (bit_and m (bit_not w32 n))
 mask_difference m n p q k = has_bit-clear w32 m n k (IsMask-lt m p) (IsMask-lt n q)
 

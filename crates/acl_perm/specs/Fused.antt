@@ -25,7 +25,7 @@ pub record TakesCall {T E : Type 0} (device device_after : Fused T) (r : Result 
   pub spent : fused_calls device ≡ 0 → IsErr r × (device_after ≡ device)
   -- the call is counted
   pub counted : fused_calls device_after ≡ fused_calls device - 1
-  -- it passes at most a step's bytes
+  -- a call passes at most a step's bytes
   pub short : IfOk r (λ n. n ≤ fused_step device)
-  -- which stays as it was
+  -- the most bytes of a call stay as they were
   pub step : fused_step device_after ≡ fused_step device

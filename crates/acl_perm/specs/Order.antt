@@ -14,7 +14,7 @@ use Rattle.acl_perm.specs.declared.key.Key.{Key as KeyOfCode}
 abbrev pub principal_rank : Principal → ℕ
 principal_rank p = (row p).rank
 
--- the name of a user or of a group; the others have none
+-- the name of a user or of a group; `OWNER@`, `GROUP@` and `EVERYONE@` have none
 abbrev pub principal_name : Principal → List ℕ
 principal_name p = (row p).name
 

@@ -8,7 +8,7 @@ use Rattle.acl_perm.specs.Situation.{Situation, matches}
 abbrev pub Overlap : Principal → Principal → Type 0
 Overlap p q = (s : Situation) × IsTrue (matches s p) × IsTrue (matches s q)
 
--- the same by cases: two user names overlap only as one name, all others always
+-- whether two principals overlap, by cases: two user names only where they are one name, and any other two always
 abbrev pub may_overlap : Principal → Principal → Bool
 may_overlap owner q = true
 may_overlap (user name) owner = true

@@ -14,7 +14,7 @@ pub record Writes {K : Type 0} (holds : K → Option (List ℕ)) (failures : K �
   pub none_failed : OnOk r (failures sink_after ≡ failures sink)
   -- a beginning of the text went out, and its length is told
   pub err : IfErr r (λ fault. Appends (holds sink) (holds sink_after) (take fault.written text))
-  -- that was not all of it
+  -- the beginning that went out was not all of the text
   pub short : IfErr r (λ fault. fault.written < length text)
   -- one put failed
   pub failed : OnErr r (failures sink_after ≡ one_more (failures sink))

@@ -20,7 +20,7 @@ pub record Row : Type 0 where
   pub is_user : Bool
   pub is_everyone : Bool
 
--- `OWNER@`, then users, then `GROUP@`, then groups, then `EVERYONE@`
+-- what there is to say of each principal; their order is `OWNER@`, users, `GROUP@`, groups, `EVERYONE@`
 abbrev pub row : Principal → Row
 row owner = record { rank = 0; name = []; is_user = false; is_everyone = false }
 row (user name) = record { rank = 1; name = name; is_user = true; is_everyone = false }

@@ -1,4 +1,4 @@
--- The code's words, and what its proofs need (this library's own): no clause of a public call cites them.
+-- What only the code and its proofs need (this library's own): no clause of a public call cites it.
 
 -- where a byte stands first
 pub mod Places

@@ -16,7 +16,7 @@ pub struct Counted<T> {
 impl<T> Counted<T> {
     ghost use Rattle.acl_perm.specs.Counted.{counted_failures, counted_inner};
 
-    /// No call failed yet.
+    /// The reader or writer, of which no call failed yet.
     pub fn new(inner: T) -> Counted<T>
         ensures inner { counted_inner result ≡ inner }
         ensures failures { counted_failures result ≡ 0 }
@@ -39,7 +39,7 @@ impl<T> Counted<T> {
         self.failures
     }
 
-    // A call failed or not.
+    // Counts a call, if it failed.
     fn count(&mut self, has_failed: bool)
         ensures inner { counted_inner self.new ≡ counted_inner self.old }
         ensures failures { counted_failures self.new

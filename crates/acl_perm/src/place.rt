@@ -37,7 +37,7 @@ fn place_in_short(bytes: &[u8], wanted: u8) -> usize
     last + place_in::<8>(bytes, last, wanted)
 }
 
-// The same of 16 bytes and more.
+// The first place of 16 bytes and more, or their number: sixteen at a time, and then the last sixteen.
 #[inline(always)]
 fn place_in_long(bytes: &[u8], wanted: u8) -> usize
     requires { 16 ≤ length bytes.now }

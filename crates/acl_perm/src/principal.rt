@@ -134,7 +134,7 @@ impl<'a> Hash for Principal<'a> {
     }
 }
 
-/// Whether both can speak of one requester: all can, but two users of different names.
+/// Whether two principals can speak of one requester: any two can, but two users of different names.
 pub fn overlaps(p: Principal<'_>, q: Principal<'_>) -> bool
     // Some situation, whose names may be empty, matches both.
     ensures meaning { IsTrue result ↔ Overlap (principal p.entry) (principal q.entry) }

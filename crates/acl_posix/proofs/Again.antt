@@ -29,7 +29,7 @@ use Rattle.acl_posix.specs.Texts.{word_text, long_word, short_word, qualifier_te
 abbrev pub is_plain : ℕ → Bool
 is_plain b = (b == 45) || (nat_le 48 b && nat_le b 57) || (nat_le 97 b && nat_le b 122)
 
--- minus signs, digits and lower case letters alone
+-- bytes that are all lowercase letters, digits or -
 abbrev pub Plain : List ℕ → Type 0
 Plain bs = list_all is_plain bs ≡ true
 
@@ -204,7 +204,7 @@ unfolding trimmed
 tab_trimmed =
     of_each (λ p. trimmed (perm_text p ++ 9 ∷ []) ≡ perm_text p) refl refl refl refl refl refl refl refl
 
--- no colon, as a test
+-- the test that a byte is no colon
 abbrev not_colon : ℕ → Bool
 not_colon b = not (eqb b 58)
 
@@ -215,7 +215,7 @@ tab_no_colon : (p : ℕ) → p < 8 → list_all not_colon (perm_text p ++ 9 ∷ 
 tab_no_colon =
     of_each (λ p. list_all not_colon (perm_text p ++ 9 ∷ []) ≡ true) refl refl refl refl refl refl refl refl
 
--- the same with a tab behind them
+-- permissions with a tab behind them are a field
 pub perm_tab : (p : ℕ) → p < 8 → IsPermText p (perm_text p ++ 9 ∷ [])
 perm_tab p h = record {
   trims = tab_trimmed p h;
@@ -234,12 +234,12 @@ pub record IsQualifierOf (t : Tag) (q : List ℕ) : Type 0 where
   pub plain : Plain q
   pub spells : (names : Table) (w : List ℕ) → word_of w ≡ Some (row t).word → SpellsTag names w q t
 
--- a qualifier as it is written is one
+-- a qualifier as it is written spells its tag behind the word of the tag
 pub written_qualifier : (t : Tag) → IsTag t → IsQualifierOf t (qualifier_text t)
 written_qualifier t h =
     record { plain = qualifier_plain t h; spells = λ names w means. tag_spelled names w t h means }
 
--- three fields
+-- a word, a qualifier and permissions with colons between them
 abbrev pub fields_text : List ℕ → List ℕ → List ℕ → List ℕ
 fields_text w q ps = w ++ 58 ∷ (q ++ 58 ∷ ps)
 
@@ -256,7 +256,7 @@ pub starts_filled : (w rest : List ℕ) → Plain w → 0 < length w → is_all_
 starts_filled [] rest h some = absurd (omega (arith, some))
 starts_filled (b ∷ bs) rest h some = ap (λ t. t && is_all_blank (bs ++ rest)) (plain_not b (and_true _ _ h).0).0
 
--- where the fields stand
+-- the fields of a written entry, with the columns at which they stand
 abbrev fields_at : ℕ → Part → List ℕ → List ℕ → List ℕ → EntryFields
 fields_at column part w q ps = record {
   part = part;
@@ -309,7 +309,7 @@ access_spelled names column w t q p ps hq lt hw hp = record {
   is_perm = ap permissions_of hp.trims ∙ perm_again p lt;
 }
 
--- and with a mark their entry of the default part
+-- three written fields behind a mark spell their entry of the default part
 pub default_spelled : (names : Table) (column : ℕ) (d w : List ℕ) (t : Tag) (q : List ℕ) (p : ℕ) (ps : List ℕ)
     → IsMark d → IsQualifierOf t q → p < 8 → IsWordOf t w → IsPermText p ps
     → Spells names (record { column = column; bytes = d ++ 58 ∷ fields_text w q ps }) (parts.Default, (t, p))

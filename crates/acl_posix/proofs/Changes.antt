@@ -92,7 +92,7 @@ same_tags : (es : List Entry) (l : Tag) (i : ℕ) (d e : Entry) → IsAt (tags (
 same_tags es l i d e at same =
     ap (λ (ps : List (Tag × ℕ)). tags ps) (written es l i d e at same) ∙ tags_put (pairs es) l e.perm.bits i at
 
--- other permissions at the place of a tag
+-- a list with other permissions at the place of a tag is in order, and its set has them
 pub edited : (E : Entries) (es : List Entry) (l : Tag) (i : ℕ) (d e : Entry) → as_set (pairs es) ≡ E
     → IsSorted (pairs es) → IsAt (fin.keys E) l i → tag_of e.tag ≡ tag_of (get_or es i d).tag
     → IsEdit E l e.perm.bits (set es i e)
@@ -162,7 +162,7 @@ tags-insert ps zero p = refl
 tags-insert [] (suc i) p = refl
 tags-insert (x ∷ ps) (suc i) p = ap (λ (ls : List Tag). x.0 ∷ ls) (tags-insert ps i p)
 
--- one more entry, in the gap for its tag
+-- a list with one more entry, in the gap for its tag, is in order, and its set has that entry
 pub inserted : (E : Entries) (es : List Entry) (i : ℕ) (e : Entry) → as_set (pairs es) ≡ E → IsSorted (pairs es)
     → IsGap (fin.keys E) (tag_of e.tag) i → IsEdit E (tag_of e.tag) e.perm.bits (insert es i e)
 inserted E es i e view h at =

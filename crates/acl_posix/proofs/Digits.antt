@@ -38,7 +38,7 @@ all_small (b ∷ bs) h = elim (is_ascii_digit b)
       | false ↦ λ is rest. absurd cc
     ] refl h
 
--- the number of ten digits or fewer
+-- ten digits or fewer stand for a number below 10^10
 pub ten_digits : (bs : List ℕ) (i : ℕ) → i ≤ 10 → list_all is_ascii_digit (take i bs) ≡ true
     → digits_value 10 (take i bs) < 10000000000
 ten_digits bs i few h =
@@ -60,13 +60,13 @@ digits_all bs h =
       | false ↦ λ e. absurd cc
     ] h
 
--- one digit more: ten times the value and the digit
+-- the value of digits with one more behind them: ten times their value, and that digit
 pub digit_more : (bs : List ℕ) (i : ℕ) → i < length bs → is_ascii_digit (get_or bs i 0) ≡ true
     → digits_value 10 (take (i + 1) bs) ≡ digits_value 10 (take i bs) * 10 + (get_or bs i 0 - 48)
 digit_more bs i lt h = digits_value_more 10 bs i lt
     ∙ ap (λ (d : ℕ). digits_value 10 (take i bs) * 10 + d) (digit_is _ h)
 
--- the same of a number
+-- the value of the first digits of a number, with one more of them
 pub value_more : (bs : List ℕ) (i : ℕ) → i < length bs → is_number bs ≡ true
     → digits_value 10 (take (i + 1) bs) ≡ digits_value 10 (take i bs) * 10 + (get_or bs i 0 - 48)
 value_more bs i lt h = digit_more bs i lt (all_at bs i lt (digits_all bs h))
@@ -80,7 +80,7 @@ front_le n zero bs = grows n bs
 front_le n (suc i) [] = omega arith
 front_le n (suc i) (b ∷ bs) = front_le (n * 10 + digit_value b) i bs
 
--- digits that pass the limit before their end
+-- digits whose first ones pass the greatest id spell no id
 pub too_large : (bs : List ℕ) (i : ℕ) → 4294967294 < digits_value 10 (take i bs) → None ≡ id_of bs
 unfolding id_of
 too_large bs i h = let le = front_le 0 i bs in grind (arith, nat_tests)

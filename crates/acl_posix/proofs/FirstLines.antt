@@ -39,7 +39,7 @@ digits_plain (b ∷ bs) h =
       | false ↦ λ is rest. absurd cc
     ] refl h
 
--- one digit more
+-- digits with one more behind them are digits
 pub digits_more : (bs : List ℕ) (i : ℕ) → i < length bs → list_all is_ascii_digit (take i bs) ≡ true
     → is_ascii_digit (get_or bs i 0) ≡ true → list_all is_ascii_digit (take (i + 1) bs) ≡ true
 digits_more bs i lt h is =
@@ -70,7 +70,7 @@ id_found bs rest i value lt some colon digits is small behind =
       value = rw fits (ap (λ (n : ℕ). Some n) (sym is));
     }
 
--- what stands behind a beginning
+-- bytes with a beginning are that beginning and what stands behind it
 pub behind_is : (bs beginning : List ℕ) (r : Option (Bor (List ℕ)))
     → MatchOption r (pointwise eqb (take (length beginning) bs) beginning ≡ false)
     (λ x. (pointwise eqb (take (length beginning) bs) beginning ≡ true) × (x.now ≡ drop (length beginning) bs)

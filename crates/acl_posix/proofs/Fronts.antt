@@ -5,7 +5,7 @@ use Rattle.std.proofs.lemmas.Fmt.{length-decimal-le}
 use Rattle.std.proofs.lemmas.List.{drop_all}
 use Rattle.acl_posix.specs.internal.Writing.{IsPut}
 
--- one part in front of another
+-- bytes put in front of bytes that were put are put together
 pub put_both : {a b old mid new : List ℕ} {end middle start : ℕ} → IsPut b old mid end middle
     → IsPut a mid new middle start → IsPut (a ++ b) old new end start
 put_both {a} {b} {old} {mid} {new} {end} {middle} {start} behind front = record {
@@ -13,7 +13,7 @@ put_both {a} {b} {old} {mid} {new} {end} {middle} {start} behind front = record 
   written = front.written ∙ ap (λ (xs : List ℕ). a ++ xs) behind.written ∙ sym (append_assoc a b (drop end old));
 }
 
--- what stands in front of nothing
+-- bytes put at the end of a room are what stands there
 pub put_whole : {bytes old new : List ℕ} {start : ℕ} → length old ≡ 64 → IsPut bytes old new 64 start
     → drop start new ≡ bytes
 put_whole {bytes} {old} long put = put.written

@@ -1,4 +1,4 @@
--- What is read of a piece is spelled by it, and a fault of it is its fault; and the other way round.
+-- A piece is read as an entry exactly if it spells that entry, and has a fault exactly if reading it tells that fault.
 use Rattle.std.proofs.Common.{◌≡◌, ℕ, ◌<◌, true, false, cond, eqb, List, [], ◌∷◌, length, Some, None, Result, Ok, Err, refl, ap, ◌∙◌, subst, arith}
 use Rattle.std.specs.Prelude.{option_map, ok_or}
 use Rattle.std.specs.FinMap as fin
@@ -41,7 +41,7 @@ here line span = record { same_line = refl; same_column = refl }
 abbrev made : EntryFields → Tag → ℕ → PartEntry
 made fields tag perm = (fields.part, (tag, perm))
 
--- the rest, where the tag is known
+-- what reading answers where the tag is known
 abbrev ended : ℕ → EntryFields → Tag → Result PartEntry TextFault
 ended line fields tag = read_permissions line fields.permissions >>= (λ perm. Ok (made fields tag perm))
 
@@ -88,7 +88,7 @@ unnamed_say names piece fields w tag has is none spelled =
           }
     ] refl
 
--- a tag that may have one
+-- a tag that may have a qualifier
 named_say : (names : Table) (piece : TextPiece) (fields : EntryFields) (w : TagWord) (alone : Tag) (of_id : ℕ → Tag)
     (ids : Ids) → HasFields piece.span fields → word_of (trimmed fields.tag.bytes) ≡ Some w
     → names_of names w ≡ Some ids
@@ -227,7 +227,7 @@ tag_read names line fields (group id) h =
 tag_read names line fields mask h = rw (h.0, h.1) refl
 tag_read names line fields other h = rw (h.0, h.1) refl
 
--- the tag and then the rest
+-- reading three fields is reading the tag, and then the permissions
 regroup : (names : Table) (line : ℕ) (fields : EntryFields)
     → read_three names line fields
     ≡ ((read_word line fields.tag >>= (λ w. read_tag names line fields.qualifier w)) >>= (λ tag. ended line fields tag))
@@ -253,7 +253,7 @@ spelled_read names line piece (part, (tag, perm)) h =
     let tagged : TagIsRead names line h.fields tag = tag_read names line h.fields tag h.has_tag in
     rw (start, tagged, h.is_perm, h.is_part) refl
 
--- a qualifier that may not be
+-- a qualifier of a tag word that has none is told
 unnamed_fault : (names : Table) (line : ℕ) (fields : EntryFields) (w : TagWord) → names_of names w ≡ None
     → 0 < length (trimmed fields.qualifier.bytes)
     → (read_tag names line fields.qualifier w >>= (λ tag. ended line fields tag))
@@ -264,7 +264,7 @@ unnamed_fault names line fields word.Group e some = absurd cc
 unnamed_fault names line fields word.Mask e some = rw (no_test _ some) refl
 unnamed_fault names line fields word.Other e some = rw (no_test _ some) refl
 
--- a qualifier that is no id
+-- a qualifier that is no id and no name of the table is told
 abbrev IdFault : Ids → List ℕ → ℕ → ℕ → TextFault → Type 0
 IdFault ids q line column fault = (of_id : ℕ → Tag) → by_qualifier ids q of_id line column ≡ Err fault
 
@@ -292,7 +292,7 @@ named_fault names line fields word.Group ids e some fault h =
 named_fault names line fields word.Mask ids e some fault h = absurd cc
 named_fault names line fields word.Other ids e some fault h = absurd cc
 
--- permissions that are no set
+-- a field that is no set of permissions is told
 no_set_fault : (line : ℕ) (fields : EntryFields) (tag : Tag) (fault : TextFault)
     → permissions_of (trimmed fields.permissions.bytes) ≡ None
     → fault ≡ faults.Permission line (start_of fields.permissions) → ended line fields tag ≡ Err fault

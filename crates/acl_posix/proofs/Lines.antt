@@ -151,7 +151,7 @@ pub on_told : (table : Table) (n : ℕ) (text : List ℕ) (so_far next : Lists) 
 on_told table n text so_far next None h = read_none table next ∙ sym h
 on_told table n text so_far next (Some rest) h = sym h.0
 
--- and the number of its first line fits
+-- the number of the first line of what is left of a text fits
 pub on_fits : (table : Table) (n : ℕ) (whole text : List ℕ) (so_far next : Lists) (rest : Option (Bor (List ℕ)))
     → ReadsOn table n text so_far next rest → n + length text ≤ length whole + 1 → NumberFits (n + 1) whole rest
 on_fits table n whole text so_far next None h fits = tt

@@ -22,7 +22,7 @@ union_step u p ps =
     elim (is_masked p.0) as (λ b. fold (λ (v : ℕ) (q : Tag × ℕ). bit_or v q.1) u (cond b (p ∷ rest) rest)
     ≡ union_from (cond b (bit_or u p.1) u) ps) [ true ↦ refl | false ↦ refl ]
 
--- one more entry of a list
+-- a loop that goes on by one entry keeps the union that it comes to
 pub union_more : (u v total : ℕ) (es : List Entry) (i : ℕ) (e : Entry) → i < length es → e ≡ get_or es i e
     → v ≡ joined u (pair_of e) → union_from u (pairs (drop i es)) ≡ total
     → union_from v (pairs (drop (i + 1) es)) ≡ total
@@ -33,6 +33,6 @@ union_more u v total es i e lt read is so_far =
     ∙ union_step u (pair_of (get_or es i e)) rest in
     ap (λ (n : ℕ). union_from n rest) (is ∙ ap (λ (x : Entry). joined u (pair_of x)) read) ∙ sym next ∙ so_far
 
--- no entry is left
+-- where no entry is left, the union so far is all
 pub union_done : (u : ℕ) (es : List Entry) (i : ℕ) → length es ≤ i → union_from u (pairs (drop i es)) ≡ u
 union_done u es i le = ap (λ (x : List Entry). union_from u (pairs x)) (drop_all i es le)

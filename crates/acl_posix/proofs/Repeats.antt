@@ -7,7 +7,6 @@ use Rattle.std.specs.List.Sorted.{IsStrictlySortedBy}
 use Rattle.std.specs.Map.{lookup}
 use Rattle.std.specs.BTreeMap.{is_at, insert_entry}
 use Rattle.std.specs.Ordering.{is_lt, eq_by_cmp, match_ordering}
-use Rattle.std.specs.declared.cmp.Ordering.{Ordering}
 use Rattle.std.specs.declared.cmp.Ordering.TheVariants.{Less, Equal, Greater}
 use Rattle.std.specs.Cmp.{eq_by_cmp_equiv}
 use Rattle.std.proofs.lemmas.Cmp.{tied_itself}
@@ -219,7 +218,7 @@ distinct_fault ps l i is distinct =
 
 -- ---- a list that stands in canonical order
 
--- no tag of it stands twice
+-- in a list in canonical order no tag stands twice
 pub sorted_distinct : (ps : List (Tag × ℕ)) → IsSorted ps → IsDistinct ps
 sorted_distinct ps h place lt repeat =
     let len = length-tags_of ps in

@@ -88,7 +88,7 @@ one_cause : (es : List (Tag × ℕ)) (a b : Cause) → IsFaultOf es (acl_fault a
 one_cause es a b h k = sym (cause_again a) ∙ ap cause_of
     (one_fault es (acl_fault a) (acl_fault b) (refuses a) (refuses b) h k) ∙ cause_again b
 
--- a valid list has none
+-- a valid list has no cause
 valid_cause : (es : List (Tag × ℕ)) (why : Cause) → IsValidList es → IsFaultOf es (acl_fault why) → ⊥
 valid_cause es why h k = no_fault es (acl_fault why) h (refuses why) k
 

@@ -11,7 +11,7 @@ use Rattle.acl_posix.specs.internal.Reading.{Lists, added, read_piece, read_piec
 use Rattle.acl_posix.proofs.Judged.{Says, piece_says, spelled_read, fault_read}
 use Rattle.acl_posix.proofs.Lines.{read_next, read_fault, read_append}
 
--- these entries behind those read so far
+-- the lists read so far, with some entries behind them
 abbrev pub joined : Lists → List PartEntry → Lists
 joined lists entries =
     record { access = lists.access ++ access_of entries; default = lists.default ++ default_of entries }
@@ -39,7 +39,7 @@ abbrev pub SaysAll : Table → Lists → List TextPiece → Result Lists TextFau
 SaysAll names lists pieces (Ok made) = SpellLists names lists pieces made
 SaysAll names lists pieces (Err fault) = IsFirstFault names pieces fault
 
--- one more piece before them
+-- what an answer says of pieces it says with one more piece before them
 says_next : (names : Table) (lists : Lists) (piece : TextPiece) (pieces : List TextPiece) (entry : PartEntry)
     (answer : Result Lists TextFault) → Spells names piece.span entry → SaysAll names (added lists entry) pieces answer
     → SaysAll names lists (piece ∷ pieces) answer

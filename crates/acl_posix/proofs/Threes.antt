@@ -1,4 +1,4 @@
--- Pieces of three fields.
+-- Cutting a piece at colons: one with a third colon has more than three fields.
 use Rattle.std.proofs.Common.{◌≡◌, ℕ, Bool, true, false, cond, eqb, List, [], ◌∷◌, Option, Some, None, refl, sym, ap, subst}
 use Rattle.std.specs.List.{slice_split, onto_first}
 use Rattle.acl_perm.specs.declared.lines.Piece.{Piece}

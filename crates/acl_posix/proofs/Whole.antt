@@ -38,11 +38,11 @@ is_text b = is_plain b || eqb b 58
 abbrev pub Text : List ℕ → Type 0
 Text bs = list_all is_text bs ≡ true
 
--- none of them is a line feed, a mark or a comma
+-- a plain byte or a colon is no line feed, mark or comma
 pub text_not : (b : ℕ) → is_text b ≡ true → (eqb b 10 ≡ false) × (eqb b 35 ≡ false) × (eqb b 44 ≡ false)
 text_not b h = (grind (arith, nat_tests), grind (arith, nat_tests), grind (arith, nat_tests))
 
--- plain bytes are
+-- plain bytes are plain bytes and colons
 pub text_from_plain : (bs : List ℕ) → Plain bs → Text bs
 text_from_plain [] h = refl
 text_from_plain (b ∷ bs) h =
@@ -52,7 +52,7 @@ text_from_plain (b ∷ bs) h =
       | false ↦ λ e. absurd cc
     ] h
 
--- one text behind the other
+-- plain bytes and colons with such bytes behind them are plain bytes and colons
 pub text_append : (xs ys : List ℕ) → Text xs → Text ys → Text (xs ++ ys)
 text_append xs ys hx hy = list_all-append is_text xs ys ∙ ap (λ t. t && list_all is_text ys) hx ∙ hy
 
@@ -61,7 +61,7 @@ pub fields_are_text : (w q : List ℕ) (p : ℕ) → Plain w → Plain q → p <
 fields_are_text w q p hw hq hp = text_append w (58 ∷ (q ++ 58 ∷ perm_text p)) (text_from_plain w hw)
     (text_append q (58 ∷ perm_text p) (text_from_plain q hq) (text_from_plain (perm_text p) (perm_plain p hp)))
 
--- a byte that is none of these stands nowhere
+-- a byte that is neither plain nor a colon stands nowhere among such bytes
 pub nowhere : (c : ℕ) (bs : List ℕ) → ((b : ℕ) → is_text b ≡ true → eqb b c ≡ false) → Text bs
     → All (λ b. eqb b c ≡ false) bs
 nowhere c bs each h = All-weaker (λ b. is_text b ≡ true) (λ b. eqb b c ≡ false) each bs
@@ -149,7 +149,7 @@ pub record IsLineOf (names : Table) (bytes : List ℕ) (entry : PartEntry) : Typ
   pub one : line_pieces bytes ≡ record { column = 1; bytes = piece } ∷ []
   pub spells : Spells names (record { column = 1; bytes = piece }) entry
 
--- the comment is cut off
+-- the comment of a line is cut off
 marked_at : (xs rest : List ℕ) → AllByRecursion (λ b. eqb b 35 ≡ false) xs
     → position_or_len (λ b. eqb b 35) (xs ++ 35 ∷ rest) ≡ length xs
 marked_at [] rest h = refl
@@ -189,7 +189,7 @@ plain_line names part f e w h = record {
   spells = w.spells names 1 e h;
 }
 
--- a tab and a comment behind an entry
+-- an entry with a tab and a comment behind it is a line
 all_push : (c : ℕ) (bs : List ℕ) → eqb 9 c ≡ false → All (λ b. eqb b c ≡ false) bs
     → All (λ b. eqb b c ≡ false) (bs ++ 9 ∷ [])
 all_push c bs tab h = All-push (λ b. eqb b c ≡ false) bs 9 h tab
@@ -241,7 +241,7 @@ lines_split f (e ∷ es) rest h =
     ∙ slice_split_at (λ b. eqb b 10) (f e) 10 (flat_map (λ e. line (f e)) es ++ rest) h.0 refl
     ∙ ap (λ (xs : List (List ℕ)). f e ∷ xs) (lines_split f es rest h.1)
 
--- entries of a part
+-- entries with the part that they belong to
 abbrev pub in_part : Part → List (Tag × ℕ) → List PartEntry
 in_part part es = map (λ e. (part, e)) es
 

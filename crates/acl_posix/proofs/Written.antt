@@ -13,7 +13,7 @@ use Rattle.acl_posix.specs.Tag.{mask}
 use Rattle.acl_posix.specs.internal.Writing.{entry_out, masked_by, part_out}
 use Rattle.acl_posix.proofs.Fronts.{line_from}
 
--- the next entry, whose line stands from a place of a room on, and those behind it
+-- the text of the entries that are left is the line of the next one, and the text of those behind it
 pub entry_next : {i eff : ℕ} {e : Entry} {limit : Option ℕ} (form : Form) (part : Part) (acl : Entries) (first : Bool)
     (es : List Entry) (room : List ℕ) (start : ℕ) → i < length es → e ≡ slice_index_or es i e → length room ≡ 64
     → drop start room ≡ entry_out form part first eff (pair_of e) → eff ≡ masked_by limit (pair_of e)

@@ -55,7 +55,7 @@ pub record EntryFields : Type 0 where
   pub qualifier : Span
   pub permissions : Span
 
--- three fields and no more
+-- the fields of an entry that three spans are; none where there are fewer or more
 abbrev pub three_of : Part → List Span → Option EntryFields
 three_of part [] = None
 three_of part (a ∷ []) = None

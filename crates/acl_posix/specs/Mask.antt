@@ -1,6 +1,5 @@
--- The mask of a set of entries: the most that users by id and groups can have (acl(5), "ACL ENTRIES"; POSIX.1e draft
--- 17,
--- section 23.1.2).
+-- The mask of a set of entries: the most that users by id and groups can have (acl(5), "ACL ENTRIES"; POSIX.1e
+-- draft 17, section 23.1.2).
 use Rattle.std.specs.Prelude.{ℕ, bit_and, bit_or, unwrap_or, List, if◌then◌else◌}
 use Rattle.std.specs.List.{fold, filter}
 use Rattle.std.specs.FinMap as set
@@ -15,7 +14,7 @@ class_union entries = fold (λ union entry. bit_or union entry.1) 0 (filter (λ 
 abbrev pub with_mask : Entries → Entries
 with_mask entries = set.insert entries mask (class_union (set.entries entries))
 
--- what an entry grants: what MASK has too of an entry of the file group class, all of any other
+-- what an entry grants: of an entry of the file group class what MASK has too, and of any other entry all
 abbrev pub effective_of : Entries → Tag × ℕ → ℕ
 effective_of entries entry =
     if is_masked entry.0 then bit_and entry.1 (unwrap_or (set.get entries mask) entry.1) else entry.1

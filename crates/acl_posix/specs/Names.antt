@@ -64,9 +64,9 @@ pub record AddsName (ids : Ids) (name : List ℕ) (before after with_name : Tabl
     : Type 0 where
   -- the name is added, and nothing else
   pub added : OnOk r (after ≡ with_name)
-  -- it was free to be added
+  -- the name was free to be added
   pub free : OnOk r (name_fault ids name ≡ None)
   -- a refusal says why it is not added
   pub fault : IfErr r (IsNameFault ids name)
-  -- and leaves the table as it was
+  -- a refusal leaves the table as it was
   pub kept : OnErr r (after ≡ before)

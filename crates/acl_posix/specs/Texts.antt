@@ -1,6 +1,6 @@
 -- The texts of the ACLs of a file, as functions of the sets of entries alone (acl(5), "LONG TEXT FORM" and "SHORT TEXT
 -- FORM"). That ids are decimal, and where the effective permissions are shown, are this library's own.
-use Rattle.std.specs.Prelude.{ℕ, ◌==◌, List, [], ◌∷◌, ◌++◌, codes, decimal, bit_and, map, take, Option, Some, None, option_map, unwrap_or, if◌then◌else◌}
+use Rattle.std.specs.Prelude.{ℕ, ◌==◌, List, [], ◌∷◌, ◌++◌, codes, decimal, map, take, Option, Some, None, option_map, unwrap_or, if◌then◌else◌}
 use Rattle.std.specs.List.{flat_map, All}
 use Rattle.std.specs.FinMap as set
 use Rattle.acl_perm.specs.Shown.{perm_text}
@@ -25,7 +25,7 @@ word_text Other = codes "other"
 abbrev pub long_word : Tag → List ℕ
 long_word tag = word_text (row tag).word
 
--- the first letter of that word
+-- the first letter of the word of a tag
 abbrev pub short_word : Tag → List ℕ
 short_word tag = take 1 (long_word tag)
 
@@ -61,7 +61,7 @@ mark_text effective perm = if effective == perm then [] else 9 ∷ (codes "#effe
 unfoldable pub effective_mark : Entries → Tag × ℕ → List ℕ
 effective_mark acl entry = mark_text (effective_of acl entry) entry.1
 
--- a line
+-- bytes and the line feed that ends their line
 abbrev pub line : List ℕ → List ℕ
 line bytes = bytes ++ 10 ∷ []
 
@@ -75,13 +75,13 @@ abbrev pub default_mark : Option Entries → Tag × ℕ → List ℕ
 default_mark None entry = []
 default_mark (Some acl) entry = effective_mark acl entry
 
--- a line an entry, in canonical order
+-- each entry on a line of its own, in canonical order
 unfoldable pub canonical_text : Entries → Option Entries → List ℕ
 canonical_text access default =
     flat_map (λ entry. line (long_entry entry)) (set.entries access)
     ++ flat_map (λ entry. line (long_default entry)) (default_entries default)
 
--- the same, with the effective permissions of each entry that the mask cuts
+-- the canonical text, with the effective permissions of each entry that the mask cuts
 unfoldable pub shown_text : Entries → Option Entries → List ℕ
 shown_text access default =
     flat_map (λ entry. line (long_entry entry ++ effective_mark access entry)) (set.entries access)

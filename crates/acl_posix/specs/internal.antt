@@ -1,6 +1,6 @@
--- The code's words (this library's own): no clause of a public call cites them.
+-- What only the code and its proofs need (this library's own): no clause of a public call cites it.
 
--- the order of the tags of the code, and tags and sets of entries as numbers
+-- the order of the tags of the code with its proof, and tags and sets of entries as numbers
 pub mod TagCode
 -- what is built while a list is put in order, and the fault of a tag that stands twice
 pub mod TagMap

@@ -5,8 +5,8 @@ use crate::*;
 use std::alloc::Global;
 use std::process::Abort;
 
-// A whole write to a sink that passes so many calls, and then fails: the answer, how many failures were counted, and how
-// many bytes went out.
+// A whole write to a sink that passes so many calls, and then fails: the answer, how many failures were counted, and
+// how many bytes went out.
 fn stopped_write(calls: u64) -> (Result<(), WriteFault>, u64, usize) {
     let mut room = [0u8; 7];
     let mut sink = Counted::new(Fused::new(room.as_mut_slice(), calls, 2));

@@ -1,5 +1,5 @@
--- How the code reads pieces one after the other, as functions: this library's own words, which only
--- code needs. What public clauses say of texts stands in Grammar and TextFault.
+-- How the code reads pieces one after the other, as functions (this library's own). What public clauses say of texts
+-- stands in Grammar and TextFault.
 use Rattle.std.specs.Prelude.{ℕ, ◌≡◌, ◌+◌, ◌<◌, ◌≤◌, ◌==◌, List, [], ◌∷◌, ◌++◌, length, Option, Some, None, Result, Ok, Err, option_map, ok_or, if◌then◌else◌}
 use Rattle.std.specs.Borrow.{Bor}
 use Rattle.std.specs.FinMap as fin
@@ -51,7 +51,7 @@ read_tag names line span word.Group = read_named group_obj (λ id. group id) nam
 read_tag names line span word.Mask = read_unnamed mask line span
 read_tag names line span word.Other = read_unnamed other line span
 
--- the fields of code
+-- the fields that the code cuts, as the grammar has them
 abbrev pub view_fields : EntryPieces → EntryFields
 view_fields fields = record {
   part = fields.part;
@@ -103,15 +103,15 @@ pub record Lists : Type 0 where
   pub access : List (Tag × ℕ)
   pub default : List (Tag × ℕ)
 
--- the lists of code
+-- the lists that the code fills
 abbrev pub lists_of : EntryLists → Lists
 lists_of lists = record { access = pairs lists.access.items; default = pairs lists.default.items }
 
--- no entry of either part
+-- the lists without an entry
 abbrev pub no_lists : Lists
 no_lists = record { access = []; default = [] }
 
--- one more entry
+-- the lists with one more entry, behind the others of its part
 abbrev pub added : Lists → PartEntry → Lists
 added lists (Access, entry) = record { access = lists.access ++ entry ∷ []; default = lists.default }
 added lists (Default, entry) = record { access = lists.access; default = lists.default ++ entry ∷ [] }

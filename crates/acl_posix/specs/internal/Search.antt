@@ -1,5 +1,5 @@
--- What a search of the code answers, and no contract of a public call cites (this library's own): the place of a tag in
--- a list in canonical order, or the place where it would go.
+-- What a search answers: the place of a tag in a list in canonical order, or the place where it would go (this
+-- library's own).
 use Rattle.std.specs.Prelude.{ℕ, ◌≡◌, ◌<◌, ◌≤◌, List, length, get_or, Result, MatchResult}
 use Rattle.std.specs.declared.cmp.Ordering.TheVariants.{Less, Greater}
 use Rattle.acl_posix.specs.Tag.{Tag, tag_cmp}

@@ -1,5 +1,5 @@
--- The order of the tags of the code, and tags and sets of entries as numbers (this library's own). Its proofs stand here
--- since `Ord` and the models of the code cite them, and code can cite what stands in specs/ alone.
+-- The order of the tags of the code, and tags and sets of entries as numbers (this library's own). Its proofs stand
+-- here since `Ord` and the models of the code cite them, and code can cite what stands in specs/ alone.
 use Rattle.std.specs.Prelude.{ℕ, zero, suc, ◌≡◌, refl}
 use Rattle.std.specs.FinMap as set
 use Rattle.std.specs.Coded.{Coded, code_by, coded×, coded_ℕ}

@@ -1,5 +1,5 @@
--- What the code builds while it judges a list, and no contract of a public call cites (this library's own): a map from
--- tags to permissions, and the fault of a tag that stands twice.
+-- What the code builds while it judges a list: a map from tags to permissions, and the fault of a tag that stands twice
+-- (this library's own).
 use Rattle.std.specs.Prelude.{ℕ, List, map, if◌then◌else◌}
 use Rattle.acl_perm.specs.declared.perm.Perm.{Perm}
 use Rattle.acl_posix.specs.declared.tag.Tag.{Tag as TagOfCode}

@@ -1,5 +1,5 @@
--- How the code puts a text together, an entry after the other: this library's own words, which only
--- code needs. What public clauses say of the texts stands in Texts.
+-- How the code puts a text together, an entry after the other (this library's own). What public clauses say of the
+-- texts stands in Texts.
 use Rattle.std.specs.Prelude.{ℕ, ◌≡◌, ◌+◌, Bool, true, false, List, [], ◌∷◌, ◌++◌, codes, drop, length, bit_and, unwrap_or, Option, Some, None, if◌then◌else◌}
 use Rattle.std.specs.FinMap as set
 use Rattle.acl_posix.specs.declared.form.Form.{Form}
@@ -29,34 +29,34 @@ lead Shown Default first = codes "default:"
 lead Short Access first = if first then [] else codes ","
 lead Short Default first = if first then codes "d:" else codes ",d:"
 
--- the word of a tag
+-- the word of a tag, in full or as its first letter
 abbrev pub form_word : Form → Tag → List ℕ
 form_word Canonical tag = long_word tag
 form_word Shown tag = long_word tag
 form_word Short tag = short_word tag
 
--- what stands behind an entry
+-- what stands behind the fields of an entry
 abbrev pub ending : Form → ℕ → ℕ → List ℕ
 ending Canonical effective perm = 10 ∷ []
 ending Shown effective perm = mark_text effective perm ++ 10 ∷ []
 ending Short effective perm = []
 
--- an entry with all that belongs to it
+-- what goes out for an entry: what stands before it, its fields, and what stands behind it
 unfoldable pub entry_out : Form → Part → Bool → ℕ → Tag × ℕ → List ℕ
 entry_out form part first effective entry =
     lead form part first ++ (entry_text (form_word form entry.0) entry ++ ending form effective entry.1)
 
--- the entries of a part
+-- what goes out for the entries of a part
 abbrev pub part_out : Form → Part → Entries → Bool → List (Tag × ℕ) → List ℕ
 part_out form part acl first [] = []
 part_out form part acl first (entry ∷ entries) =
     entry_out form part first (effective_of acl entry) entry ++ part_out form part acl false entries
 
--- the entries of the default part
+-- what goes out for the default part, if there is one
 abbrev pub default_out : Form → Option Entries → List ℕ
 default_out form None = []
 default_out form (Some acl) = part_out form Default acl false (set.entries acl)
 
--- a text
+-- what goes out for a file
 abbrev pub text_out : Form → Entries → Option Entries → List ℕ
 text_out form access default = part_out form Access access true (set.entries access) ++ default_out form default

@@ -1,5 +1,4 @@
--- Lines as the canonical text has them, which the code reads at one go: this library's own words, which only code
--- needs.
+-- Lines as the canonical text has them, which the code reads at one go (this library's own).
 use Rattle.std.specs.Prelude.{ℕ, ◌≡◌, ◌<◌, ◌++◌, Bool, true, List, [], ◌∷◌, length, Some, if◌then◌else◌}
 use Rattle.acl_perm.specs.Lines.{lines_of}
 use Rattle.acl_perm.specs.Shown.{perm_text}
