@@ -1,4 +1,4 @@
-//! One entry.
+//! An entry of a list: a tag, and what it has.
 ghost use Rattle.std.specs.Prelude.{◌≡◌, option_map};
 ghost use Rattle.acl_posix.specs.Entries.{pair_of};
 ghost use Rattle.acl_posix.specs.internal.Writing.{masked_by};

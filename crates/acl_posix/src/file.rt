@@ -1,4 +1,4 @@
-//! The ACLs of a file, and those of a new one.
+//! The two ACLs of a file, and those that a new file gets.
 ghost use Rattle.std.specs.Prelude.{◌≡◌, IfOk, Some, option_map};
 ghost use Rattle.acl_posix.specs.Create.{created_access, created_default, cut};
 

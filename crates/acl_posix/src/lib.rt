@@ -1,4 +1,4 @@
-//! POSIX.1e access control lists: validity, the access check, the mode and the mask, and what a new file gets.
+//! POSIX.1e access control lists: validity, the access check, the mode and the mask, what a new file gets, and texts.
 #![tactic(auto)]
 
 mod acl;

@@ -1,4 +1,4 @@
-//! What want of memory is among the faults of each kind.
+//! Want of memory is a fault of each kind: so `?` hands it on, whatever a call answers.
 ghost use Rattle.std.specs.Prelude.{◌≡◌};
 ghost use Rattle.acl_posix.specs.declared.fault.AclFault.TheVariants as acl;
 ghost use Rattle.acl_posix.specs.declared.names.NameFault.TheVariants as name;

@@ -20,7 +20,7 @@ pub enum NameFault {
     /// The name is digits alone, so a text that has it means an id.
     #[error("DigitsOnly")]
     DigitsOnly,
-    /// The name is in this half of the table.
+    /// The table has the name already: of a user where a user is added, of a group where a group is.
     #[error("Taken")]
     Taken,
     /// Memory ran out.

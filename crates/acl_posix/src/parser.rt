@@ -54,10 +54,8 @@ fn default_of(alloc: Global, entries: Vec<Entry>) -> Result<Option<PosixAcl>, Te
     if entries.is_empty() {
         return Ok(None);
     }
-    match part_of(alloc, Part::Default, entries) {
-        Ok(acl) => Ok(Some(acl)),
-        Err(fault) => Err(fault),
-    }
+    let acl = part_of(alloc, Part::Default, entries)?;
+    Ok(Some(acl))
 }
 
 /// The ACL of these entries of a part.

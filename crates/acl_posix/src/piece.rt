@@ -28,10 +28,7 @@ fn word_at(field: Piece, line: usize) -> Result<TagWord, TextFault>
     ensures { result ≡ read_word line (span_of field.entry) }
 {
     let column = field.start();
-    match read_word(trimmed(field.bytes)) {
-        Some(word) => Ok(word),
-        None => Err(TextFault::Tag { line, column }),
-    }
+    read_word(trimmed(field.bytes)).ok_or(TextFault::Tag { line, column })
 }
 
 #[tactic(auto, unfolding(crate::specs::internal::Reading::read_permissions))]
@@ -40,10 +37,7 @@ fn permissions_at(field: Piece, line: usize) -> Result<Perm, TextFault>
     ensures { mapped (λ perm. perm.bits) result ≡ read_permissions line (span_of field.entry) }
 {
     let column = field.start();
-    match read_permissions(trimmed(field.bytes)) {
-        Some(perm) => Ok(perm),
-        None => Err(TextFault::Permission { line, column }),
-    }
+    read_permissions(trimmed(field.bytes)).ok_or(TextFault::Permission { line, column })
 }
 
 #[tactic(auto, unfolding(crate::specs::internal::Reading::read_tag))]

@@ -50,10 +50,8 @@ fn read_line(
     while let Some(piece) = rest {
         let (first, after) = piece.cut(b',');
         let (part, entry) = read_piece(first, number, names)?;
-        match push(lists, part, entry) {
-            Ok(()) => rest = after,
-            Err(_) => return Err(TextFault::Memory),
-        }
+        push(lists, part, entry)?;
+        rest = after;
     }
     Ok(())
 }
@@ -71,10 +69,8 @@ fn read_first<'a>(
         (read_pieces names.now (lists_of lists.old) (pieces_from number (lines_of text.now)))) }
 {
     if let Some(line) = written_line(text) {
-        return match push(lists, line.part, line.entry) {
-            Ok(()) => Ok(Some(line.rest)),
-            Err(_) => Err(TextFault::Memory),
-        };
+        push(lists, line.part, line.entry)?;
+        return Ok(Some(line.rest));
     }
     let (line, rest) = cut_line(text);
     read_line(line, number, names, lists)?;

@@ -50,7 +50,7 @@ impl SortedEntries {
         Ok(SortedEntries { items })
     }
 
-    /// The same entries once more.
+    /// A copy of the entries.
     pub(crate) fn copy(&self, alloc: Global) -> Result<SortedEntries, AllocError>
         ensures { IfOk result (λ entries. entries ≡ self.now) }
     {

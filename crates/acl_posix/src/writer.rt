@@ -46,10 +46,7 @@ fn put_part<S: Sink>(
             *entry,
             entry.masked_by(mask),
         );
-        match put_next(sink, done, &line[start..]) {
-            Ok(count) => done = count,
-            Err(fault) => return Err(fault),
-        }
+        done = put_next(sink, done, &line[start..])?;
         is_first = false;
     }
     Ok(done)
@@ -102,10 +99,8 @@ impl PosixFile {
         ensures { Writes S.contents S.failure_count sink.old sink.new
             (form_text form self.now.access self.now.default) result }
     {
-        match put_file(sink, form, &self.access, self.default.as_ref()) {
-            Ok(_) => Ok(()),
-            Err(fault) => Err(fault),
-        }
+        put_file(sink, form, &self.access, self.default.as_ref())?;
+        Ok(())
     }
 
     /// Writes the canonical text: a line an entry in canonical order, and the default ACL behind the access ACL. The
@@ -142,10 +137,8 @@ impl PosixAcl {
         ensures { Writes S.contents S.failure_count sink.old sink.new
             (form_text form self.now None) result }
     {
-        match put_file(sink, form, self, None) {
-            Ok(_) => Ok(()),
-            Err(fault) => Err(fault),
-        }
+        put_file(sink, form, self, None)?;
+        Ok(())
     }
 
     /// Writes the canonical text: a line an entry in canonical order, and the default ACL behind the access ACL. The

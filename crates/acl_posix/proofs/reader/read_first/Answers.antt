@@ -7,18 +7,18 @@ use Rattle.acl_perm.proofs.LineLemmas.{lines_left, lines_next}
 use Rattle.acl_posix.proofs.Lines.{read_lines_fault, reads_first, reads_on}
 use Rattle.acl_posix.proofs.reader.read_first.Goals as goal
 
-pub returns-in-Ok : goal.returns-in-Ok
-returns-in-Ok c =
+pub returns-in-Some : goal.returns-in-Some
+returns-in-Some c =
     let line = c.in-Some.line in
     let lists = lists_of c.args.lists.now in
     subst (λ (next : Lists). ReadsOn c.args.names.now c.args.number c.args.text.now lists next (Some line.rest))
-    (sym c.in-Ok.ensures)
+    (sym c.in_ok-push.ensures)
     (reads_first c.args.names.now c.args.number c.args.text.now lists line.part (pair_of line.entry) line.rest
     c.in-Some.ensures)
 
 pub returns-in_err-read_line : goal.returns-in_err-read_line
 returns-in_err-read_line c =
-    let p = err_from_is_err_and c.from_residual.result c.from_residual.ensures.1 in
+    let p = err_from_is_err_and c.from_residual-in_err-read_line.result c.from_residual-in_err-read_line.ensures.1 in
     let lists = lists_of c.args.lists.now in
     rw (p.1, p.2)
     (read_lines_fault c.args.names.now c.args.number lists c.cut_line.result.0.now (lines_left c.cut_line.result.1) _

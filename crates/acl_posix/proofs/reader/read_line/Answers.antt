@@ -47,7 +47,7 @@ loop-rest-preserved c =
     record {
       told =
           ap (λ (ls : Lists). read_pieces c.args.names.now ls (numbered c.args.number (pieces_left c.cut.result.1)))
-          c.in-Ok.ensures
+          c.in_ok-push.ensures
           ∙ sym (read_next c.args.names.now (lists_of c.loop-rest.lists)
           (record { line = c.args.number; span = span_of c.cut.result.0 })
           (numbered c.args.number (pieces_left c.cut.result.1)) _ (sym c.in_ok-part.ensures))

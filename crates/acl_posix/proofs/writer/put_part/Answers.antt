@@ -1,6 +1,6 @@
 use Rattle.std.proofs.Common.{ℕ, List, sym, ap, refl, ◌∙◌, arith}
 use Rattle.std.proofs.lemmas.List.{drop_all}
-use Rattle.acl_perm.specs.Devices.{one_more}
+use Rattle.std.proofs.lemmas.Result.{err_from_is_err_and}
 use Rattle.acl_posix.specs.declared.entry.Entry.{Entry}
 use Rattle.acl_posix.specs.Tag.{Tag}
 use Rattle.acl_posix.specs.Entries.{pairs}
@@ -23,26 +23,24 @@ put_next-requires g c =
     c.put_entry-start.array_long c.put_entry-start.ensures.text c.masked_by.ensures c.mask-mask.ensures in
     next_fits c.args.done c.loop-entry.done _ _ _ _ _ _ c.loop-entry.invariant.out next c.requires.room
 
-pub returns-in-Err-clause-written : goal.returns-in-Err-clause-written
-returns-in-Err-clause-written g c =
+pub returns-in_err-done-clause-written : goal.returns-in_err-done-clause-written
+returns-in_err-done-clause-written g c =
+    let p = err_from_is_err_and c.from_residual.result c.from_residual.ensures.1 in
     let next = entry_next _ _ c.args.acl.now _ _ _ _ c.loop-entry-test.true c.entry-item.is
     c.put_entry-start.array_long c.put_entry-start.ensures.text c.masked_by.ensures c.mask-mask.ensures in
-    let said = c.in-Err.ensures.written in
-    out_cut c.args.done c.loop-entry.done c.in-Err.fault.written _ _ _ _ _ _ _ c.loop-entry.invariant.out next said.0
-    said.1 said.2
-
-pub returns-in-Err-clause-failed : goal.returns-in-Err-clause-failed
-returns-in-Err-clause-failed g c = c.in-Err.ensures.failed ∙ ap one_more c.loop-entry.invariant.same
+    let said = c.in_err-done.ensures.written in
+    rw (p.1, p.2)
+    (out_cut c.args.done c.loop-entry.done _ _ _ _ _ _ _ _ c.loop-entry.invariant.out next said.0 said.1 said.2)
 
 pub loop-entry-preserved : goal.loop-entry-preserved
 loop-entry-preserved g c =
     let next = entry_next _ _ c.args.acl.now _ _ _ _ c.loop-entry-test.true c.entry-item.is
     c.put_entry-start.array_long c.put_entry-start.ensures.text c.masked_by.ensures c.mask-mask.ensures in
-    let said = c.in-Ok.ensures.written in
+    let said = c.in_ok-done.ensures.written in
     record {
-      out = out_more c.args.done c.loop-entry.done c.in-Ok.count _ _ _ _ _ _ _ c.loop-entry.invariant.out next said.0
+      out = out_more c.args.done c.loop-entry.done _ _ _ _ _ _ _ _ c.loop-entry.invariant.out next said.0
           said.1;
-      same = c.in-Ok.ensures.none_failed ∙ c.loop-entry.invariant.same;
+      same = c.in_ok-done.ensures.none_failed ∙ c.loop-entry.invariant.same;
     }
 
 pub returns-clause-written : goal.returns-clause-written
