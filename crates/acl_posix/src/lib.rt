@@ -41,5 +41,3 @@ pub use text_fault::{Cause, Part, TextFault};
 mod speed;
 #[cfg(test)]
 mod tests;
-#[cfg(test)]
-mod text_tests;

@@ -1,0 +1,109 @@
+//! What is answered where memory is ample: no call is refused.
+
+use super::faults::{FAULTS, is_judged, is_refused, is_refused_repeated, zeros_are_read};
+use super::harness::Who::{Group, Mask, Other, Owner};
+use super::harness::{DEFAULT, Memory, NO_OWNER, has_rows};
+use super::names::add_each;
+use super::samples::{LISTED, is_read, names_of};
+use super::writing::TEXTS;
+use super::{changes, checks, creation, lists};
+use crate::*;
+use acl_perm::Perm;
+use std::test::Fail;
+
+#[test]
+fn worked_lists_are_answered(rt: HostRuntime) {
+    let memory = Memory::ample(rt.alloc());
+    lists::whole_lists(&rt, memory);
+    lists::cut_lists(&rt, memory);
+    lists::messages(&rt, memory);
+    changes::effective_permissions(&rt, memory);
+    changes::modes(&rt, memory);
+    changes::changed_lists(&rt, memory);
+    checks::requests(&rt, memory);
+    creation::new_files(&rt, memory);
+}
+
+// A list of a hundred entries.
+fn hundred(memory: Memory) -> Result<PosixAcl, AclFault> {
+    let mut entries = memory.entries(DEFAULT)?;
+    for value in 0..95 {
+        entries.push(Entry {
+            tag: Tag::Group(Id { value }),
+            perm: Perm::ALL,
+        })?;
+    }
+    PosixAcl::from_entries(memory.alloc, entries)
+}
+
+// A copy, which gets a mask.
+fn masked(memory: Memory) -> Result<PosixAcl, Fail> {
+    let acl = memory.acl(NO_OWNER)?;
+    let mut added = acl.copy(memory.alloc)?;
+    added.calc_mask()?;
+    Ok(added)
+}
+
+// Each copy of a list of any length is made, and a mask is added to it.
+#[test]
+fn copies_are_made_and_masks_added(rt: HostRuntime) -> Result<(), Fail> {
+    let memory = Memory::ample(rt.alloc());
+    let copy = hundred(memory)?.copy(memory.alloc)?;
+    assert!(rt; copy.entries().len() == 100);
+    let added = masked(memory)?;
+    assert!(rt; has_rows(&added, (&[Owner, Group, Mask, Other], b"0777")));
+    Ok(())
+}
+
+#[test]
+fn each_text_is_read_and_written_again(rt: HostRuntime) -> Result<(), Fail> {
+    let names = names_of(rt.alloc()).ok_or("names are added")?;
+    for (text, form, wanted) in TEXTS {
+        assert!(rt; is_read(rt.alloc(), &names, text, form, wanted));
+    }
+    Ok(())
+}
+
+#[test]
+fn the_first_fault_of_a_text_is_told(rt: HostRuntime) -> Result<(), Fail> {
+    let names = names_of(rt.alloc()).ok_or("names are added")?;
+    for (text, wanted) in FAULTS {
+        assert!(rt; is_refused(rt.alloc(), &names, text, wanted), "{wanted}");
+    }
+    let nobody = Names::new(rt.alloc());
+    let unknown = TextFault::UnknownName { line: 5, column: 6 };
+    assert!(rt; is_refused(rt.alloc(), &nobody, LISTED, unknown));
+    Ok(())
+}
+
+#[test]
+fn each_beginning_of_a_text_is_judged(rt: HostRuntime) -> Result<(), Fail> {
+    let names = names_of(rt.alloc()).ok_or("names are added")?;
+    for len in 0..=LISTED.len() {
+        let (front, _) = LISTED.split_at(len.min(LISTED.len()));
+        let fault = parse(rt.alloc(), front, &names).err();
+        assert!(rt; is_judged(fault), "{len}");
+    }
+    Ok(())
+}
+
+// An id may have a thousand zeros in front, and not a thousand digits; a million commas are refused at the first.
+#[test]
+fn long_texts_are_judged(rt: HostRuntime) {
+    let alloc = rt.alloc();
+    assert!(rt; zeros_are_read(alloc));
+    let id = TextFault::Id { line: 1, column: 3 };
+    assert!(rt; is_refused_repeated(alloc, b"u:", b'9', 1000, b":r--", id));
+    let empty = TextFault::EmptyEntry { line: 1, column: 1 };
+    assert!(rt; is_refused_repeated(alloc, b"", b',', 1_000_000, b"", empty));
+}
+
+#[test]
+fn names_are_added_once(rt: HostRuntime) -> Result<(), Fail> {
+    let mut names = Names::new(rt.alloc());
+    add_each(&rt, &mut names, Id { value: 1 }, Id { value: 2 });
+    let text = b"u::,u:7a:,g::,g:7a:,m::,o::";
+    let wanted = b"u::---,u:1:---,g::---,g:2:---,m::---,o::---";
+    assert!(rt; is_read(rt.alloc(), &names, text, Form::Short, wanted));
+    Ok(())
+}

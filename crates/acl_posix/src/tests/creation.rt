@@ -1,0 +1,58 @@
+//! The ACLs of new files and directories.
+
+use super::harness::Who::{Eve, Group, Mask, Other, Owner};
+use super::harness::{DEFAULT, Memory, Rows, has_rows};
+use crate::*;
+use acl_perm::Mode;
+use std::process::Abort;
+
+const PLAIN: Rows = (&[Owner, Group, Other], b"644");
+
+const CUT: Rows = (&[Owner, Eve, Group, Mask, Other], b"67540");
+
+fn is_made(file: &PosixFile, access: Rows, is_inherited: bool) -> bool {
+    has_rows(&file.access, access)
+        && match &file.default {
+            Some(default) => is_inherited && has_rows(default, DEFAULT),
+            None => !is_inherited,
+        }
+}
+
+// What a file gets in a directory with the default ACL `DEFAULT`, or with none.
+fn new_file(
+    memory: Memory,
+    has_default: bool,
+    mode: Mode,
+    umask: Mode,
+    dir: bool,
+) -> Result<PosixFile, AclFault> {
+    if has_default {
+        let default = memory.acl(DEFAULT)?;
+        Ok(create(memory.alloc, Some(&default), mode, umask, dir)?)
+    } else {
+        Ok(create(memory.alloc, None, mode, umask, dir)?)
+    }
+}
+
+/// The ACLs of a new file or directory, with a umask that has no part where there is a default ACL.
+pub fn new_files<A: Abort>(rt: &A, memory: Memory) {
+    // Whether there is a default ACL, mode and umask, whether a directory is made, and the access ACL of what is made.
+    let table: [(bool, u16, u16, bool, Rows); 4] = [
+        (true, 0o640, 0o077, false, CUT),
+        (true, 0o640, 0o077, true, CUT),
+        (false, 0o666, 0o022, false, PLAIN),
+        (false, 0o666, 0o022, true, PLAIN),
+    ];
+    for (has_default, mode, umask, dir, access) in table {
+        let (mode, umask) = (Mode { bits: mode }, Mode { bits: umask });
+        match new_file(memory, has_default, mode, umask, dir) {
+            Ok(file) => assert!(rt; is_made(&file, access, has_default && dir)),
+            Err(fault) => assert!(rt; memory.may_want(Some(fault))),
+        }
+    }
+}
+
+#[test]
+fn new_files_get_their_lists_or_memory_is_wanting(rt: HostRuntime) {
+    new_files(&rt, Memory::scarce(rt.alloc()));
+}

@@ -1,0 +1,126 @@
+//! What the tests of this crate share: entries by rows of a table, and where the calls get their memory.
+
+use crate::*;
+use Who::{Amy, Bob, Eve, Group, Guests, Mask, Ops, Other, Owner, Staff};
+use acl_perm::Perm;
+use std::alloc::Global;
+
+/// Whom an entry speaks of; the named users have the ids 5, 7 and 1001, and the named groups 5, 50 and 60.
+#[derive(Clone, Copy, Debug)]
+pub enum Who {
+    Owner,
+    Eve,
+    Bob,
+    Amy,
+    Group,
+    Guests,
+    Staff,
+    Ops,
+    Mask,
+    Other,
+}
+
+impl Who {
+    pub fn tag(self) -> Tag {
+        match self {
+            Owner => Tag::UserObj,
+            Eve => Tag::User(Id { value: 5 }),
+            Bob => Tag::User(Id { value: 7 }),
+            Amy => Tag::User(Id { value: 1001 }),
+            Group => Tag::GroupObj,
+            Guests => Tag::Group(Id { value: 5 }),
+            Staff => Tag::Group(Id { value: 50 }),
+            Ops => Tag::Group(Id { value: 60 }),
+            Mask => Tag::Mask,
+            Other => Tag::Other,
+        }
+    }
+}
+
+/// Whom a list speaks of, and a digit of permissions for each.
+pub type Rows = (&'static [Who], &'static [u8]);
+
+/// `u::rw-,u:1001:rw-,g::r--,g:50:rw-,m::r--,o::r--`, in another order
+pub const SHARED: Rows = (&[Other, Mask, Staff, Owner, Amy, Group], b"446664");
+
+/// Whom it speaks of, in canonical order
+pub const ORDERED: &[Who] = &[Owner, Amy, Group, Staff, Mask, Other];
+
+/// `u::rwx,g::---,g:50:r--,g:60:-w-,m::rw-,o::---`
+pub const TWO_GROUPS: Rows = (&[Owner, Group, Staff, Ops, Mask, Other], b"704260");
+
+/// `u::rwx,u:5:rwx,g::r-x,m::rwx,o::r-x`
+pub const DEFAULT: Rows = (&[Owner, Eve, Group, Mask, Other], b"77575");
+
+/// `u::---,g::rwx,o::rwx`
+pub const NO_OWNER: Rows = (&[Owner, Group, Other], b"077");
+
+/// `u::rwx,g::rwx,m::r--,o::rwx`
+pub const MASKED: Rows = (&[Owner, Group, Mask, Other], b"7747");
+
+/// The permissions of a digit in ASCII.
+pub fn perm_of(digit: u8) -> Option<Perm> {
+    Perm::new(digit.wrapping_sub(b'0'))
+}
+
+/// Where the calls get their memory, and whether it may be wanting, which is then an answer to every row.
+#[derive(Clone, Copy)]
+pub struct Memory {
+    pub alloc: Global,
+    pub is_ample: bool,
+}
+
+impl Memory {
+    pub fn ample(alloc: Global) -> Memory {
+        let is_ample = true;
+        Memory { alloc, is_ample }
+    }
+
+    pub fn scarce(alloc: Global) -> Memory {
+        let is_ample = false;
+        Memory { alloc, is_ample }
+    }
+
+    /// The entries of some rows.
+    pub fn entries(self, (names, digits): Rows) -> Result<Vec<Entry>, AclFault> {
+        let mut entries = Vec::new(self.alloc);
+        for (who, digit) in names.iter().zip(digits) {
+            if let Some(perm) = perm_of(*digit) {
+                entries.push(Entry {
+                    tag: who.tag(),
+                    perm,
+                })?;
+            }
+        }
+        Ok(entries)
+    }
+
+    /// The list of some rows, in any order.
+    pub fn acl(self, rows: Rows) -> Result<PosixAcl, AclFault> {
+        PosixAcl::from_entries(self.alloc, self.entries(rows)?)
+    }
+
+    /// Whether a call may have been refused with this fault.
+    pub fn may_want(self, fault: Option<AclFault>) -> bool {
+        !self.is_ample && fault == Some(AclFault::Memory)
+    }
+}
+
+/// Whether a list has these rows, in this order.
+pub fn has_rows(acl: &PosixAcl, (names, digits): Rows) -> bool {
+    let entries = acl.entries();
+    entries.len() == names.len()
+        && entries
+            .iter()
+            .zip(names)
+            .all(|(entry, who)| entry.tag == who.tag())
+        && has_digits(entries, digits)
+}
+
+fn has_digits(entries: &[Entry], digits: &[u8]) -> bool {
+    entries.len() == digits.len()
+        && entries
+            .iter()
+            .zip(digits)
+            .all(|(entry, digit)| perm_of(*digit) == Some(entry.perm))
+}

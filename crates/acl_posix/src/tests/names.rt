@@ -1,0 +1,86 @@
+//! Tables of names, and texts with names where memory may be wanting.
+
+use super::samples::{
+    LISTED_CANONICAL, LISTED_SHORT, SHORT, SHOWN, TWO_MASKS, TWO_MASKS_SHOWN, is_written,
+};
+use crate::*;
+use std::alloc::Global;
+use std::process::Abort;
+
+/// Adds names to both halves of a table: which are added, and that a refused one changes nothing.
+pub fn add_each(rt: &impl Abort, names: &mut Names, one: Id, two: Id) {
+    assert!(rt; names.add_user(b"", one) == Err(NameFault::EmptyName));
+    assert!(rt; names.add_user(b"007", one) == Err(NameFault::DigitsOnly));
+    assert!(rt; names.add_user(b"7a", one) == Ok(()));
+    assert!(rt; names.add_user(b"7a", two) == Err(NameFault::Taken));
+    assert!(rt; names.add_group(b"7a", two) == Ok(()));
+    assert!(rt; names.add_group(b"7a", two) == Err(NameFault::Taken));
+}
+
+// Adds a name of each half of the table. A call that is refused memory leaves the table as it was, so that it can be
+// made again.
+fn add_names(rt: &impl Abort, names: &mut Names) -> Option<()> {
+    let id = Id::new(1002)?;
+    let added = names.add_user(b"bob", id);
+    match added {
+        Ok(()) => assert!(rt; names.add_user(b"bob", id) == Err(NameFault::Taken)),
+        Err(fault) => {
+            assert!(rt; fault == NameFault::Memory);
+            assert!(rt; names.user(b"bob") == None);
+            assert!(rt; names.group(b"bob") == None);
+        }
+    }
+    let id = Id::new(50)?;
+    match names.add_group(b"staff ops", id) {
+        Ok(()) => assert!(rt; names.add_group(b"staff ops", id) == Err(NameFault::Taken)),
+        Err(fault) => {
+            assert!(rt; fault == NameFault::Memory);
+            assert!(rt; names.group(b"staff ops") == None);
+        }
+    }
+    assert!(rt; names.user(b"bob").is_some() == added.is_ok());
+    Some(())
+}
+
+const ROWS: [(&[u8], Form, &[u8]); 4] = [
+    (SHORT, Form::Shown, SHOWN),
+    (LISTED_SHORT, Form::Canonical, LISTED_CANONICAL),
+    (TWO_MASKS, Form::Shown, TWO_MASKS_SHOWN),
+    (
+        b"u::,u:bob:r,g::,g:staff ops:w,m::,o::",
+        Form::Short,
+        b"u::---,u:1002:r--,g::---,g:50:-w-,m::---,o::---",
+    ),
+];
+
+// Whether a text is read and written, or memory wanted, or a name that is not there.
+fn may_be_read(
+    alloc: Global,
+    names: &Names,
+    has_both: bool,
+    (text, form, wanted): (&[u8], Form, &[u8]),
+) -> bool {
+    match parse(alloc, text, names) {
+        Ok(file) => is_written(&file, form, wanted),
+        Err(TextFault::UnknownName { line, .. }) => !has_both && line == 1,
+        Err(fault) => fault == TextFault::Memory,
+    }
+}
+
+// Names, a text with them, and its forms, where memory may be wanting: it is an answer then, and no other is.
+#[test]
+fn texts_are_read_and_written_or_memory_is_wanting(rt: HostRuntime) {
+    let mut names = Names::new(rt.alloc());
+    assert!(rt; add_names(&rt, &mut names).is_some());
+    let has_both = names.user(b"bob").is_some() && names.group(b"staff ops").is_some();
+    for row in ROWS {
+        assert!(rt; may_be_read(rt.alloc(), &names, has_both, row));
+    }
+    match parse(rt.alloc(), b"u::,u:7:r,u:007:w,g::,m::,o::", &names) {
+        Ok(_) => assert!(rt; false, "an id that stands twice"),
+        Err(TextFault::Invalid(part, cause)) => {
+            assert!(rt; (part, cause) == (Part::Access, Cause::Duplicate(2)));
+        }
+        Err(fault) => assert!(rt; fault == TextFault::Memory),
+    }
+}
