@@ -1,6 +1,6 @@
 -- The bits of the image of permissions.
 use Rattle.std.proofs.Common.{◌≡◌, ℕ, zero, suc, ◌+◌, ◌-◌, ◌*◌, ◌^◌, ◌<◌, Bool, true, false, cond, eqb, ltb, List, [], ◌∷◌, refl, sym, ap, ◌∙◌, arith}
-use Rattle.std.specs.Prelude.{◌||◌, count_ones, bit_and, not}
+use Rattle.std.specs.Prelude.{◌||◌, count_ones, bit_and, bit_or, not}
 use Rattle.std.specs.Int.{bit_at, w8}
 use Rattle.std.proofs.lemmas.Bool.{ltb-true, true≢false}
 use Rattle.std.proofs.lemmas.Nat.Bits.{and_pow, bit_at-lt}
@@ -73,12 +73,12 @@ pub image_none : count_ones (image 0) ≡ 0
 unfolding image lib.Count.ones
 image_none = refl
 
--- the image as code sums it up
-pub image_parts : (p : ℕ) → p < 8 → cond (eqb (bit_and p 4) 0) 0 1 + cond (eqb (bit_and p 2) 0) 0 6 + cond
-    (eqb (bit_and p 1) 0) 0 32 ≡ image p
+-- the image as code joins it of its three parts
+pub image_parts : (p : ℕ) → p < 8 → bit_or (bit_or (cond (eqb (bit_and p 4) 4) 1 0) (cond (eqb (bit_and p 2) 2) 6 0))
+    (cond (eqb (bit_and p 1) 1) 32 0) ≡ image p
 unfolding image
-image_parts = same_answers 8 (λ p. cond (eqb (bit_and p 4) 0) 0 1 + cond (eqb (bit_and p 2) 0) 0 6 + cond
-    (eqb (bit_and p 1) 0) 0 32) image refl
+image_parts = same_answers 8 (λ p. bit_or (bit_or (cond (eqb (bit_and p 4) 4) 1 0) (cond (eqb (bit_and p 2) 2) 6 0))
+    (cond (eqb (bit_and p 1) 1) 32 0)) image refl
 
 -- the other rights of a byte are of no image
 record Others : Type 0 where

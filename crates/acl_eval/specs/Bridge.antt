@@ -14,14 +14,15 @@ use Rattle.acl_posix.specs.Mask.{effective_of}
 use Rattle.acl_nfs4.specs.Ace.{Ace}
 use Rattle.acl_nfs4.specs.Spelling.{IsAccepted}
 use Rattle.acl_nfs4.specs.Who.{owner_name, group_name, everyone_name}
+use Rattle.acl_eval.specs.Permissions.{read, write, execute}
 use Rattle.acl_eval.specs.declared.bridging.BridgeFault.{BridgeFault}
 use Rattle.acl_eval.specs.declared.bridging.BridgeFault.TheVariants.{Limits, Memory}
 
 -- the rights that permissions stand for: read is READ_DATA (0x1), write is WRITE_DATA (0x2) and APPEND_DATA (0x4),
 -- execute is EXECUTE (0x20)
 unfoldable pub image : ℕ → ℕ
-image perm = (if has_bit perm 2 then 0x1 else 0) + (if has_bit perm 1 then 0x2 + 0x4 else 0)
-    + (if has_bit perm 0 then 0x20 else 0)
+image perm = (if has_bit perm read then 0x1 else 0) + (if has_bit perm write then 0x2 + 0x4 else 0)
+    + (if has_bit perm execute then 0x20 else 0)
 
 -- the who of the ACEs of an entry: the name of an id is its decimal digits; MASK has no ACE
 abbrev pub who_of : Tag → List ℕ
@@ -44,9 +45,13 @@ is_group tag = rank tag == 2 || rank tag == 3
 abbrev pub is_other : Tag → Bool
 is_other tag = rank tag == 5
 
--- their flags: IDENTIFIER_GROUP on named groups, and no other
+-- the flag IDENTIFIER_GROUP alone
+abbrev pub identifier_group_alone : ℕ
+identifier_group_alone = 0x40
+
+-- the flags of the ACEs of an entry: IDENTIFIER_GROUP on named groups, and no other
 abbrev pub flags_of : Tag → ℕ
-flags_of tag = if is_group tag && is_named tag then 0x40 else 0
+flags_of tag = if is_group tag && is_named tag then identifier_group_alone else 0
 
 -- the ACE of a tag with what these permissions stand for; there is none where there are no permissions
 unfoldable pub ace_of : Kind → Tag → ℕ → List Ace

@@ -8,6 +8,7 @@ pub mod Laws
 pub mod Names
 pub mod Inheritance
 pub mod InheritanceLaws
+pub mod Permissions
 pub mod ListMode
 pub mod Unnamed
 pub mod Settled

@@ -8,6 +8,7 @@ ghost use Rattle.acl_nfs4.specs.Spelling.{IsAccepted};
 ghost use Rattle.acl_eval.specs.Bridge.{IsBridgeFault, ace_of, allow_of, bridge_list, decide_of, deny_of, flags_of, image, is_group, is_other, is_user, who_of};
 ghost use Rattle.acl_eval.specs.BridgeBody.{Adds, cost_of, fault_of, part_of};
 
+use crate::permissions::{EXECUTE, READ, WRITE, WRITE_RIGHTS};
 use acl_nfs4::{AceRef, Acl, Flags, Kind, MOST_WEIGHT, Mask, PushFault};
 use acl_perm::Perm;
 use acl_posix::{Entry, PosixAcl, Tag};
@@ -202,7 +203,7 @@ fn flags_of(tag: Tag) -> Flags
     ensures { result.bits ≡ flags_of (tag_of tag) }
 {
     match tag {
-        Tag::Group(_) => Flags { bits: 0x40 },
+        Tag::Group(_) => Flags::IDENTIFIER_GROUP,
         Tag::UserObj | Tag::User(_) | Tag::GroupObj | Tag::Mask | Tag::Other => Flags::NONE,
     }
 }
@@ -211,16 +212,19 @@ fn flags_of(tag: Tag) -> Flags
 fn image(perm: Perm) -> Mask
     ensures { result.bits ≡ image perm.bits }
 {
-    Mask {
-        bits: rights(perm.bits, 4, 0x1)
-            + rights(perm.bits, 2, 0x2 + 0x4)
-            + rights(perm.bits, 1, 0x20),
-    }
+    rights_of(perm, READ, Mask::READ_DATA)
+        | rights_of(perm, WRITE, WRITE_RIGHTS)
+        | rights_of(perm, EXECUTE, Mask::EXECUTE)
 }
 
 // The rights of one permission, where it is there.
-fn rights(perm: u8, permission: u8, rights: u32) -> u32
-    ensures { result ≡ (if bit_and perm permission == 0 then 0 else rights) }
+fn rights_of(perm: Perm, permission: Perm, rights: Mask) -> Mask
+    ensures { result.bits
+        ≡ (if bit_and perm.bits permission.bits == permission.bits then rights.bits else 0) }
 {
-    if perm & permission == 0 { 0 } else { rights }
+    if perm.contains(permission) {
+        rights
+    } else {
+        Mask::NONE
+    }
 }

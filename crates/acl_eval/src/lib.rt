@@ -18,6 +18,7 @@ mod harness;
 mod inherit;
 pub mod laws;
 mod mode;
+mod permissions;
 mod situation;
 #[cfg(test)]
 mod speed;

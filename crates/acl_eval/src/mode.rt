@@ -5,8 +5,10 @@ ghost use Rattle.acl_perm.specs.Principal.{Principal as PrincipalOf, principal};
 ghost use Rattle.acl_nfs4.specs.Ace.{Ace, ace};
 ghost use Rattle.acl_nfs4.specs.Who.{principal_of};
 ghost use Rattle.acl_eval.specs.ListMode.{is_for_group, is_for_others, is_for_owner, mode_of_list, perm_of};
+ghost use Rattle.acl_eval.specs.Permissions.{append_data, execute_right, read_data, write_data};
 ghost use Rattle.acl_eval.specs.Settled.{settled};
 
+use crate::permissions::{EXECUTE, READ, WRITE, WRITE_RIGHTS};
 use acl_nfs4::{AceRef, Aces};
 use acl_perm::{Kind, Mask, Mode, Perm, Principal};
 
@@ -63,14 +65,6 @@ struct Class {
     left: Mask,
 }
 
-const READ_DATA: u32 = 0x01;
-
-const WRITE_DATA: u32 = 0x02;
-
-const APPEND_DATA: u32 = 0x04;
-
-const EXECUTE: u32 = 0x20;
-
 impl Class {
     fn new() -> Class
         ensures granted { result.granted.bits ≡ 0 }
@@ -90,7 +84,7 @@ impl Class {
             → settled test result.granted.bits result.left.bits list bit
             ≡ settled test self.granted.bits self.left.bits (ace item.now ∷ list) bit }
     {
-        if !speaks || item.flags.is_inherit_only() {
+        if !speaks || !item.takes_part() {
             return self;
         }
         let granted = match item.kind {
@@ -106,50 +100,36 @@ impl Class {
     fn perm(self) -> Perm
         ensures { result.bits ≡ perm_of (has_bit self.granted.bits) }
     {
-        let bits = self.granted.bits;
-        Perm {
-            bits: part(can_read(bits), 4) + part(can_write(bits), 2) + part(can_execute(bits), 1),
-        }
+        part(READ, can_read(self.granted))
+            | part(WRITE, can_write(self.granted))
+            | part(EXECUTE, can_execute(self.granted))
     }
 }
 
-#[tactic(auto, using(crate::proofs::BitTests::bit_tests))]
-fn can_read(bits: u32) -> bool
-    ensures { result ≡ has_bit bits 0 }
+#[tactic(auto, using(crate::proofs::Bits::single_bits))]
+fn can_read(granted: Mask) -> bool
+    ensures { result ≡ has_bit granted.bits read_data }
 {
-    (bits & READ_DATA) != 0
+    granted.contains(Mask::READ_DATA)
 }
 
-#[tactic(auto, using(crate::proofs::BitTests::bit_tests))]
-fn can_write_in_place(bits: u32) -> bool
-    ensures { result ≡ has_bit bits 1 }
+#[tactic(auto, using(crate::proofs::Bits::both_1_2))]
+fn can_write(granted: Mask) -> bool
+    ensures { result ≡ (has_bit granted.bits write_data && has_bit granted.bits append_data) }
 {
-    (bits & WRITE_DATA) != 0
+    granted.contains(WRITE_RIGHTS)
 }
 
-#[tactic(auto, using(crate::proofs::BitTests::bit_tests))]
-fn can_append(bits: u32) -> bool
-    ensures { result ≡ has_bit bits 2 }
+#[tactic(auto, using(crate::proofs::Bits::single_bits))]
+fn can_execute(granted: Mask) -> bool
+    ensures { result ≡ has_bit granted.bits execute_right }
 {
-    (bits & APPEND_DATA) != 0
+    granted.contains(Mask::EXECUTE)
 }
 
-fn can_write(bits: u32) -> bool
-    ensures { result ≡ (has_bit bits 1 && has_bit bits 2) }
+// The permission alone, where it is granted.
+fn part(perm: Perm, is_granted: bool) -> Perm
+    ensures { result.bits ≡ (if is_granted then perm.bits else 0) }
 {
-    can_write_in_place(bits) && can_append(bits)
-}
-
-#[tactic(auto, using(crate::proofs::BitTests::bit_tests))]
-fn can_execute(bits: u32) -> bool
-    ensures { result ≡ has_bit bits 5 }
-{
-    (bits & EXECUTE) != 0
-}
-
-fn part(is_granted: bool, value: u8) -> u8
-    ensures value { result ≡ (if is_granted then value else 0) }
-    ensures small { result ≤ value }
-{
-    if is_granted { value } else { 0 }
+    if is_granted { perm } else { Perm::NONE }
 }

@@ -56,10 +56,10 @@ impl<'a> Standing<'a> {
         ensures { result ≡ speaks (situation self.now.object self.now.requester) (ace item.now) }
     {
         let last = item.who[item.who.len() - 1];
-        if last != b'@' && !(item.flags.is_inherit_only() | item.flags.is_group()) {
+        if last != b'@' && item.takes_part() && !item.flags.is_group() {
             return last == self.last && self.requester.is_user(item.who);
         }
-        !item.flags.is_inherit_only() && self.is_match(item.principal())
+        item.takes_part() && self.is_match(item.principal())
     }
 
     // Kept out of `is_meant_by`, which is then small enough to be inlined.
