@@ -20,7 +20,7 @@ use Rattle.acl_posix.specs.Check as posix
 use Rattle.acl_posix.specs.Check.{Object, Requester, contains, grants}
 use Rattle.acl_eval.proofs.ValidChecks.{mask_contains, plain, complete, plain_check}
 use Rattle.acl_posix.proofs.Tags.{same_tag}
-use Rattle.acl_eval.specs.Bridge.{is_user, is_group, is_other, bridge_list}
+use Rattle.acl_eval.specs.Bridge.{is_user_tag, is_group_tag, is_other_tag, bridge_list}
 use Rattle.acl_eval.specs.BridgeLaws.{by_name, IsAsked, IsAccess}
 use Rattle.acl_eval.proofs.Runs.{run}
 use Rattle.acl_eval.proofs.Images.{Stands, contains_single}
@@ -101,7 +101,7 @@ owner_least (group id) h = cc
 owner_least mask h = cc
 owner_least other h = cc
 
-other_only : (l : Tag) → eq_by_cmp tag_cmp other l ≡ false → is_other l ≡ false
+other_only : (l : Tag) → eq_by_cmp tag_cmp other l ≡ false → is_other_tag l ≡ false
 other_only user_obj h = refl
 other_only (user id) h = refl
 other_only group_obj h = refl
@@ -109,7 +109,7 @@ other_only (group id) h = refl
 other_only mask h = refl
 other_only other h = absurd cc
 
-other_last : (l : Tag) → T (is_lt (tag_cmp other l)) → is_other l ≡ false
+other_last : (l : Tag) → T (is_lt (tag_cmp other l)) → is_other_tag l ≡ false
 other_last l h = other_only l (ap is_eq (less (tag_cmp other l) h))
 
 -- ---- the owner
@@ -126,7 +126,7 @@ owner_decides E s j p r (e ∷ ps) speak sorted f =
     → cond t (Some e.1) (fin.find tag_cmp user_obj ps) ≡ Some p → first (users_test s) (bit_of E j) (e ∷ ps) r
     ≡ has_bit p j) [
       | true ↦ λ same g.
-          ap (λ (l : Tag). cond (is_user l && concerns s l) (bit_of E j (l, e.1))
+          ap (λ (l : Tag). cond (is_user_tag l && concerns s l) (bit_of E j (l, e.1))
           (first (users_test s) (bit_of E j) ps r)) (sym (same_tag user_obj e.0 same))
           ∙ ap (λ (t : Bool). cond t (has_bit e.1 j) (first (users_test s) (bit_of E j) ps r)) speak
           ∙ ap (λ (n : ℕ). has_bit n j) (same_Some e.1 p g)
@@ -156,7 +156,7 @@ user_decides E object requester want j b r (e ∷ ps) right a all differ =
 
 -- ---- the group class
 
-group_masked : (l : Tag) → is_group l ≡ true → is_masked l ≡ true
+group_masked : (l : Tag) → is_group_tag l ≡ true → is_masked l ≡ true
 group_masked user_obj h = absurd cc
 group_masked (user id) h = absurd cc
 group_masked group_obj h = refl
@@ -179,11 +179,11 @@ join false true false d = refl
 join false false false d = refl
 
 any_split : (E : Entries) (s : Situation) (j : ℕ) (ps : List (Tag × ℕ))
-    → list_any (λ e. is_group e.0 && concerns s e.0) ps ≡ (list_any (allows_test E s j) ps || list_any
+    → list_any (λ e. is_group_tag e.0 && concerns s e.0) ps ≡ (list_any (allows_test E s j) ps || list_any
     (denies_test E s j) ps)
 any_split E s j [] = refl
 any_split E s j (e ∷ ps) =
-    ap (λ (z : Bool). z || list_any (λ x. is_group x.0 && concerns s x.0) ps) (split (is_group e.0) (bit_of E j e)
+    ap (λ (z : Bool). z || list_any (λ x. is_group_tag x.0 && concerns s x.0) ps) (split (is_group_tag e.0) (bit_of E j e)
     (concerns s e.0))
     ∙ ap (λ (z : Bool). (allows_test E s j e || denies_test E s j e) || z) (any_split E s j ps)
     ∙ join (allows_test E s j e) (denies_test E s j e) (list_any (allows_test E s j) ps)
@@ -221,7 +221,7 @@ others_decide E s want j b (e ∷ ps) right sorted =
           (front (below_all tag_cmp e.0 ps) (is_sorted tag_cmp ps) sorted)) in
           ap (λ (z : Bool). others_test E s j e || z) behind
           ∙ or_false_right (others_test E s j e)
-          ∙ ap (λ (l : Tag). is_other l && (bit_of E j (l, e.1) && concerns s l)) is
+          ∙ ap (λ (l : Tag). is_other_tag l && (bit_of E j (l, e.1) && concerns s l)) is
           ∙ and_true_right (has_bit e.1 j)
           ∙ sym (contains_single e.1 j want right.power right.some)
       | false ↦ λ same.
@@ -248,13 +248,13 @@ class_decides E object requester want j b right a all =
     let matched : Bool = posix.any_matches E og requester.groups in
     let allowed : Bool = list_any (allows_test E s j) es in
     let last : Bool = cond (list_any (others_test E s j) es) true false in
-    let some : list_any (λ e. is_group e.0 && concerns s e.0) es ≡ matched =
-    any_alike (λ e. is_group e.0 && concerns s e.0) (λ e. posix.matches og requester.groups e.0) es
-    (everywhere IsEntry (λ e. (is_group e.0 && concerns s e.0) ≡ posix.matches og requester.groups e.0)
+    let some : list_any (λ e. is_group_tag e.0 && concerns s e.0) es ≡ matched =
+    any_alike (λ e. is_group_tag e.0 && concerns s e.0) (λ e. posix.matches og requester.groups e.0) es
+    (everywhere IsEntry (λ e. (is_group_tag e.0 && concerns s e.0) ≡ posix.matches og requester.groups e.0)
     (λ e is. group_test object requester e.0 a gs is.0) es all) in
     let one : (e : Tag × ℕ) → IsEntry e → allows_test E s j e
     ≡ ((posix.matches og requester.groups e.0 && contains e.1 want) && mask_contains E want) = λ e is.
-    reorder (is_group e.0) (bit_of E j e) (contains e.1 want) (mask_contains E want) (concerns s e.0)
+    reorder (is_group_tag e.0) (bit_of E j e) (contains e.1 want) (mask_contains E want) (concerns s e.0)
     (λ g. masked E e want j b right (group_masked e.0 g))
     ∙ ap (λ (z : Bool). (z && contains e.1 want) && mask_contains E want) (group_test object requester e.0 a gs is.0) in
     let granted : allowed ≡ (posix.any_contains E og requester.groups want && mask_contains E want) =

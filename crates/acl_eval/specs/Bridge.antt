@@ -34,16 +34,16 @@ who_of mask = []
 who_of other = everyone_name
 
 -- USER_OBJ and USER
-abbrev pub is_user : Tag → Bool
-is_user tag = rank tag == 0 || rank tag == 1
+abbrev pub is_user_tag : Tag → Bool
+is_user_tag tag = rank tag == 0 || rank tag == 1
 
 -- GROUP_OBJ and GROUP
-abbrev pub is_group : Tag → Bool
-is_group tag = rank tag == 2 || rank tag == 3
+abbrev pub is_group_tag : Tag → Bool
+is_group_tag tag = rank tag == 2 || rank tag == 3
 
 -- OTHER
-abbrev pub is_other : Tag → Bool
-is_other tag = rank tag == 5
+abbrev pub is_other_tag : Tag → Bool
+is_other_tag tag = rank tag == 5
 
 -- the flag IDENTIFIER_GROUP alone
 abbrev pub identifier_group_alone : ℕ
@@ -51,7 +51,7 @@ identifier_group_alone = 0x40
 
 -- the flags of the ACEs of an entry: IDENTIFIER_GROUP on named groups, and no other
 abbrev pub flags_of : Tag → ℕ
-flags_of tag = if is_group tag && is_named tag then identifier_group_alone else 0
+flags_of tag = if is_group_tag tag && is_named tag then identifier_group_alone else 0
 
 -- the ACE of a tag with what these permissions stand for; there is none where there are no permissions
 unfoldable pub ace_of : Kind → Tag → ℕ → List Ace
@@ -79,10 +79,10 @@ each which aces entries = flat_map aces (filter (λ entry. which entry.0) entrie
 -- enough; and what OTHER allows
 unfoldable pub bridge_list : Entries → List Ace
 bridge_list entries =
-    each is_user (decide_of entries) (set.entries entries)
-    ++ each is_group (allow_of entries) (set.entries entries)
-    ++ each is_group (deny_of entries) (set.entries entries)
-    ++ each is_other (allow_of entries) (set.entries entries)
+    each is_user_tag (decide_of entries) (set.entries entries)
+    ++ each is_group_tag (allow_of entries) (set.entries entries)
+    ++ each is_group_tag (deny_of entries) (set.entries entries)
+    ++ each is_other_tag (allow_of entries) (set.entries entries)
 
 -- Limits where the list is not accepted, and nowhere else; memory is wanted only where it is
 abbrev pub IsBridgeFault : List Ace → BridgeFault → Type 0

@@ -5,8 +5,8 @@ ghost use Rattle.acl_perm.specs.Profile.{full};
 ghost use Rattle.acl_posix.specs.Tag.{tag_of};
 ghost use Rattle.acl_posix.specs.Entries.{pair_of};
 ghost use Rattle.acl_nfs4.specs.Spelling.{IsAccepted};
-ghost use Rattle.acl_eval.specs.Bridge.{IsBridgeFault, ace_of, allow_of, bridge_list, decide_of, deny_of, flags_of, image, is_group, is_other, is_user, who_of};
-ghost use Rattle.acl_eval.specs.BridgeBody.{Adds, cost_of, fault_of, part_of};
+ghost use Rattle.acl_eval.specs.Bridge.{IsBridgeFault, ace_of, allow_of, bridge_list, decide_of, deny_of, flags_of, image, is_group_tag, is_other_tag, is_user_tag, who_of};
+ghost use Rattle.acl_eval.specs.internal.BridgeBody.{Adds, cost_of, fault_of, part_of};
 
 use crate::permissions::{EXECUTE, READ, WRITE, WRITE_RIGHTS};
 use acl_nfs4::{AceRef, Acl, Flags, Kind, MOST_WEIGHT, Mask, PushFault};
@@ -101,28 +101,28 @@ fn push_entry(list: &mut Acl, acl: &PosixAcl, entry: Entry, part: Part) -> Resul
     ensures { Adds list.old list.new (part_of acl.now part (pair_of entry ∷ [])) result }
 {
     match part {
-        Part::Users if is_user(entry.tag) => push_decided(list, acl, entry),
-        Part::GroupAllows if is_group(entry.tag) => push_allowed(list, acl, entry),
-        Part::GroupDenies if is_group(entry.tag) => push_denied(list, acl, entry),
-        Part::Others if is_other(entry.tag) => push_allowed(list, acl, entry),
+        Part::Users if is_user_tag(entry.tag) => push_decided(list, acl, entry),
+        Part::GroupAllows if is_group_tag(entry.tag) => push_allowed(list, acl, entry),
+        Part::GroupDenies if is_group_tag(entry.tag) => push_denied(list, acl, entry),
+        Part::Others if is_other_tag(entry.tag) => push_allowed(list, acl, entry),
         _ => Ok(()),
     }
 }
 
-fn is_user(tag: Tag) -> bool
-    ensures { result ≡ is_user (tag_of tag) }
+fn is_user_tag(tag: Tag) -> bool
+    ensures { result ≡ is_user_tag (tag_of tag) }
 {
     matches!(tag, Tag::UserObj | Tag::User(_))
 }
 
-fn is_group(tag: Tag) -> bool
-    ensures { result ≡ is_group (tag_of tag) }
+fn is_group_tag(tag: Tag) -> bool
+    ensures { result ≡ is_group_tag (tag_of tag) }
 {
     matches!(tag, Tag::GroupObj | Tag::Group(_))
 }
 
-fn is_other(tag: Tag) -> bool
-    ensures { result ≡ is_other (tag_of tag) }
+fn is_other_tag(tag: Tag) -> bool
+    ensures { result ≡ is_other_tag (tag_of tag) }
 {
     matches!(tag, Tag::Other)
 }

@@ -1,12 +1,12 @@
 //! The mode of a list.
 ghost use Rattle.std.specs.Prelude.{◌≡◌, ◌≤◌, ◌∷◌, ◌&&◌, if◌then◌else◌, ℕ, List, Bool};
 ghost use Rattle.acl_perm.specs.Bits.{all_rights, has_bit};
-ghost use Rattle.acl_perm.specs.Principal.{Principal as PrincipalOf, principal};
+ghost use Rattle.acl_perm.specs.Principal.{principal};
 ghost use Rattle.acl_nfs4.specs.Ace.{Ace, ace};
 ghost use Rattle.acl_nfs4.specs.Who.{principal_of};
-ghost use Rattle.acl_eval.specs.ListMode.{is_for_group, is_for_others, is_for_owner, mode_of_list, perm_of};
+ghost use Rattle.acl_eval.specs.ListMode.{mode_of_list, perm_of};
 ghost use Rattle.acl_eval.specs.Permissions.{append_data, execute_right, read_data, write_data};
-ghost use Rattle.acl_eval.specs.Settled.{settled};
+ghost use Rattle.acl_eval.specs.internal.Settled.{decides_for, settled};
 
 use crate::permissions::{EXECUTE, READ, WRITE, WRITE_RIGHTS};
 use acl_nfs4::{AceRef, Aces};
@@ -18,80 +18,74 @@ use acl_perm::{Kind, Mask, Mode, Perm, Principal};
 pub fn mode_of(aces: Aces<'_>) -> Mode
     ensures { result.bits ≡ mode_of_list aces.entry }
 {
-    let mut owner = Class::new();
-    let mut group = Class::new();
-    let mut others = Class::new();
+    let mut owner = Decided::new();
+    let mut group = Decided::new();
+    let mut others = Decided::new();
     for ace in aces {
         let whom = ace.principal();
-        owner = owner.after(&ace, is_for_owner(whom));
-        group = group.after(&ace, is_for_group(whom));
-        others = others.after(&ace, is_for_others(whom));
+        owner = owner.after(&ace, FileClass::Owner, whom);
+        group = group.after(&ace, FileClass::Group, whom);
+        others = others.after(&ace, FileClass::Others, whom);
     }
     Mode::from_parts(owner.perm(), group.perm(), others.perm())
 }
 
-fn is_for_owner(whom: Principal<'_>) -> bool
-    ensures { result ≡ is_for_owner (principal whom.entry) }
-{
-    match whom {
-        Principal::Owner | Principal::Everyone => true,
-        Principal::User(_) | Principal::Group | Principal::GroupNamed(_) => false,
-    }
-}
-
-fn is_for_group(whom: Principal<'_>) -> bool
-    ensures { result ≡ is_for_group (principal whom.entry) }
-{
-    match whom {
-        Principal::Group | Principal::Everyone => true,
-        Principal::Owner | Principal::User(_) | Principal::GroupNamed(_) => false,
-    }
-}
-
-fn is_for_others(whom: Principal<'_>) -> bool
-    ensures { result ≡ is_for_others (principal whom.entry) }
-{
-    match whom {
-        Principal::Everyone => true,
-        Principal::Owner | Principal::User(_) | Principal::Group | Principal::GroupNamed(_) =>
-            false,
-    }
-}
-
-// What is granted to a class of the mode, and the rights that no ACE has decided yet.
+// A part of the mode.
 #[derive(Clone, Copy)]
-struct Class {
+enum FileClass {
+    Owner,
+    Group,
+    Others,
+}
+
+impl FileClass {
+    // Whether the ACEs of a principal decide for the class. Those of `EVERYONE@` decide for each.
+    fn is_decided_by(self, whom: Principal<'_>) -> bool
+        ensures { result ≡ decides_for self (principal whom.entry) }
+    {
+        match whom {
+            Principal::Owner => matches!(self, FileClass::Owner),
+            Principal::Group => matches!(self, FileClass::Group),
+            Principal::Everyone => true,
+            Principal::User(_) | Principal::GroupNamed(_) => false,
+        }
+    }
+}
+
+// What the ACEs so far grant a class, and the rights that none of them has decided.
+#[derive(Clone, Copy)]
+struct Decided {
     granted: Mask,
     left: Mask,
 }
 
-impl Class {
-    fn new() -> Class
+impl Decided {
+    fn new() -> Decided
         ensures granted { result.granted.bits ≡ 0 }
         ensures left { result.left.bits ≡ all_rights }
     {
-        Class {
+        Decided {
             granted: Mask::NONE,
             left: Mask::ALL,
         }
     }
 
-    // The same after one more ACE, which may speak of the class.
+    // The same after one more ACE, which names this principal: it decides what no ACE before it has.
     #[tactic(auto)]
-    fn after(self, item: &AceRef<'_>, speaks: bool) -> Class
-        ensures { (test : PrincipalOf → Bool) (list : List Ace) (bit : ℕ)
-            → speaks ≡ test (principal_of (ace item.now))
-            → settled test result.granted.bits result.left.bits list bit
-            ≡ settled test self.granted.bits self.left.bits (ace item.now ∷ list) bit }
+    fn after(self, item: &AceRef<'_>, class: FileClass, whom: Principal<'_>) -> Decided
+        requires { principal whom ≡ principal_of (ace item.now) }
+        ensures { (list : List Ace) (bit : ℕ)
+            → settled (decides_for class) result.granted.bits result.left.bits list bit
+            ≡ settled (decides_for class) self.granted.bits self.left.bits (ace item.now ∷ list) bit }
     {
-        if !speaks || !item.takes_part() {
+        if !class.is_decided_by(whom) || !item.takes_part() {
             return self;
         }
         let granted = match item.kind {
             Kind::Allow => self.granted.union(self.left.intersection(item.mask)),
             Kind::Deny => self.granted,
         };
-        Class {
+        Decided {
             granted,
             left: self.left.difference(item.mask),
         }

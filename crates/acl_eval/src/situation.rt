@@ -74,7 +74,7 @@ impl<'a> Requester<'a> {
     }
 
     /// Whether this is the user.
-    pub(crate) fn is_user(&self, name: &[u8]) -> bool
+    pub(crate) fn is_named(&self, name: &[u8]) -> bool
         ensures { result ≡ bytes_eq (user_of self.now) name.now }
     {
         self.user == name

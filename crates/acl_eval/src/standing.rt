@@ -4,7 +4,7 @@ ghost use Rattle.acl_perm.specs.Principal.{group, owner, principal};
 ghost use Rattle.acl_perm.specs.Situation.{matches};
 ghost use Rattle.acl_nfs4.specs.Ace.{ace};
 ghost use Rattle.acl_eval.specs.Situation.{situation, user_of};
-ghost use Rattle.acl_eval.specs.Names.{last_of};
+ghost use Rattle.acl_eval.specs.internal.LastByte.{last_of};
 ghost use Rattle.acl_eval.specs.Scan.{speaks};
 
 use crate::situation::{Object, Requester};
@@ -42,7 +42,7 @@ impl<'a> Standing<'a> {
         Standing {
             object,
             requester,
-            is_owner: requester.is_user(object.owner()),
+            is_owner: requester.is_named(object.owner()),
             is_in_owning_group: requester.is_in(object.group()),
             last: last_byte(requester.user()),
         }
@@ -57,7 +57,7 @@ impl<'a> Standing<'a> {
     {
         let last = item.who[item.who.len() - 1];
         if last != b'@' && item.takes_part() && !item.flags.is_group() {
-            return last == self.last && self.requester.is_user(item.who);
+            return last == self.last && self.requester.is_named(item.who);
         }
         item.takes_part() && self.is_match(item.principal())
     }
@@ -70,7 +70,7 @@ impl<'a> Standing<'a> {
     {
         match whom {
             Principal::Owner => self.is_owner,
-            Principal::User(name) => self.requester.is_user(name),
+            Principal::User(name) => self.requester.is_named(name),
             Principal::Group => self.is_in_owning_group,
             Principal::GroupNamed(name) => self.requester.is_in(name),
             Principal::Everyone => true,

@@ -1,5 +1,4 @@
--- What the code keeps while it makes the list of a POSIX ACL, and no contract of a public call cites (this library's
--- own): the list part by part, and the weight that entries cost.
+-- The list of a POSIX ACL while it is made, part by part, and the weight that its entries cost: this library's own.
 use Rattle.std.specs.Prelude.{◌≡◌, ℕ, List, ◌++◌, count_ones, Result, Ok, Err}
 use Rattle.acl_perm.specs.Profile.{full}
 use Rattle.acl_posix.specs.Tag.{Tag, user_obj, user, group_obj, group, mask, other}
@@ -12,14 +11,14 @@ use Rattle.acl_eval.specs.declared.bridging.Part.{Part}
 use Rattle.acl_eval.specs.declared.bridging.Part.TheVariants.{Users, GroupAllows, GroupDenies, Others}
 use Rattle.acl_eval.specs.declared.bridging.BridgeFault.{BridgeFault}
 use Rattle.acl_eval.specs.declared.bridging.BridgeFault.TheVariants.{Limits, Memory}
-use Rattle.acl_eval.specs.Bridge.{image, each, is_user, is_group, is_other, allow_of, deny_of, decide_of}
+use Rattle.acl_eval.specs.Bridge.{image, each, is_user_tag, is_group_tag, is_other_tag, allow_of, deny_of, decide_of}
 
 -- the four parts of the list
 abbrev pub part_of : Entries → Part → List (Tag × ℕ) → List Ace
-part_of entries Users = each is_user (decide_of entries)
-part_of entries GroupAllows = each is_group (allow_of entries)
-part_of entries GroupDenies = each is_group (deny_of entries)
-part_of entries Others = each is_other (allow_of entries)
+part_of entries Users = each is_user_tag (decide_of entries)
+part_of entries GroupAllows = each is_group_tag (allow_of entries)
+part_of entries GroupDenies = each is_group_tag (deny_of entries)
+part_of entries Others = each is_other_tag (allow_of entries)
 
 -- the number of mask bits that an entry costs, over all its ACEs: what read, write and execute stand for is allowed or
 -- denied, but OTHER denies nothing and MASK has no ACE

@@ -1,4 +1,4 @@
--- Parts of names (this library's own): words that only code needs.
+-- The last byte of a name, by which most names are told apart: this library's own.
 use Rattle.std.specs.Prelude.{ℕ, ◌-◌, List, length, slice_index}
 
 -- the last byte, or 0 where there is none
