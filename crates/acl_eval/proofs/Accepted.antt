@@ -149,7 +149,8 @@ group_has l h = ap (λ (b : Bool). (is_user_tag l || b) || is_other_tag l) h
     ∙ ap (λ (b : Bool). b || is_other_tag l) (or_true_right (is_user_tag l))
 
 other_has : (l : Tag) → is_other_tag l ≡ true → has_aces l ≡ true
-other_has l h = ap (λ (b : Bool). (is_user_tag l || is_group_tag l) || b) h ∙ or_true_right (is_user_tag l || is_group_tag l)
+other_has l h =
+    ap (λ (b : Bool). (is_user_tag l || is_group_tag l) || b) h ∙ or_true_right (is_user_tag l || is_group_tag l)
 
 aces_good : (E : Entries) → AllByRecursion IsEntry (fin.entries E) → AllByRecursion Good (bridge_list E)
 unfolding bridge_list
@@ -164,10 +165,11 @@ aces_good E all =
     let b = of_part is_group_tag (allow_of E) es (λ e is g. allows e is (group_has e.0 g)) all in
     let c = of_part is_group_tag (deny_of E) es (λ e is g. denies e is (group_has e.0 g)) all in
     let d = of_part is_other_tag (allow_of E) es (λ e is o. allows e is (other_has e.0 o)) all in
-    together (each is_user_tag (decide_of E) es ++ each is_group_tag (allow_of E) es ++ each is_group_tag (deny_of E) es)
-    (each is_other_tag (allow_of E) es)
-    (together (each is_user_tag (decide_of E) es ++ each is_group_tag (allow_of E) es) (each is_group_tag (deny_of E) es)
-    (together (each is_user_tag (decide_of E) es) (each is_group_tag (allow_of E) es) a b) c) d
+    let users = each is_user_tag (decide_of E) es in
+    let group_allows = each is_group_tag (allow_of E) es in
+    let group_denies = each is_group_tag (deny_of E) es in
+    together (users ++ group_allows ++ group_denies) (each is_other_tag (allow_of E) es)
+    (together (users ++ group_allows) group_denies (together users group_allows a b) c) d
 
 -- each ACE of the list may stand in a list
 pub aces_stand : (E : Entries) → AllByRecursion IsEntry (fin.entries E) → AllByRecursion (IsAce full) (bridge_list E)

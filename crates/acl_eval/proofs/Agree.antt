@@ -23,7 +23,8 @@ use Rattle.acl_posix.proofs.Tags.{same_tag}
 use Rattle.acl_eval.specs.Bridge.{is_user_tag, is_group_tag, is_other_tag, bridge_list}
 use Rattle.acl_eval.specs.BridgeLaws.{by_name, IsAsked, IsAccess}
 use Rattle.acl_eval.proofs.Runs.{run}
-use Rattle.acl_eval.proofs.Images.{Stands, contains_single}
+use Rattle.acl_eval.proofs.Bits.{contains_power}
+use Rattle.acl_eval.proofs.Images.{Stands}
 use Rattle.acl_eval.proofs.BridgeNames.{concerns, user_test, group_test, same_name}
 use Rattle.acl_eval.proofs.EntryRuns.{first, bit_of, users_test, allows_test, denies_test, others_test, class_answer, everywhere, run_bridge}
 
@@ -53,11 +54,11 @@ masked_bit : (o : Option ℕ) (n j want : ℕ) → want ≡ 2 ^ j → 0 < want �
     → has_bit (bit_and n (unwrap_or o n)) j ≡ (contains n want && contains (unwrap_or o 7) want)
 masked_bit None n j want e pos all =
     has_bit-and n n j ∙ and_twice (has_bit n j) ∙ sym (and_true_right (has_bit n j))
-    ∙ ap (λ (z : Bool). z && true) (sym (contains_single n j want e pos))
+    ∙ ap (λ (z : Bool). z && true) (sym (contains_power n j want e pos))
     ∙ ap (λ (z : Bool). contains n want && z) (sym all)
 masked_bit (Some m) n j want e pos all =
-    has_bit-and n m j ∙ ap (λ (z : Bool). z && has_bit m j) (sym (contains_single n j want e pos))
-    ∙ ap (λ (z : Bool). contains n want && z) (sym (contains_single m j want e pos))
+    has_bit-and n m j ∙ ap (λ (z : Bool). z && has_bit m j) (sym (contains_power n j want e pos))
+    ∙ ap (λ (z : Bool). contains n want && z) (sym (contains_power m j want e pos))
 
 -- a bit of an entry that MASK limits is one of the entry and of MASK
 masked : (E : Entries) (e : Tag × ℕ) (want j b : ℕ) → IsRight want j b → is_masked e.0 ≡ true
@@ -183,8 +184,8 @@ any_split : (E : Entries) (s : Situation) (j : ℕ) (ps : List (Tag × ℕ))
     (denies_test E s j) ps)
 any_split E s j [] = refl
 any_split E s j (e ∷ ps) =
-    ap (λ (z : Bool). z || list_any (λ x. is_group_tag x.0 && concerns s x.0) ps) (split (is_group_tag e.0) (bit_of E j e)
-    (concerns s e.0))
+    ap (λ (z : Bool). z || list_any (λ x. is_group_tag x.0 && concerns s x.0) ps)
+    (split (is_group_tag e.0) (bit_of E j e) (concerns s e.0))
     ∙ ap (λ (z : Bool). (allows_test E s j e || denies_test E s j e) || z) (any_split E s j ps)
     ∙ join (allows_test E s j e) (denies_test E s j e) (list_any (allows_test E s j) ps)
     (list_any (denies_test E s j) ps)
@@ -210,7 +211,7 @@ none_behind E s j (e ∷ ps) h =
 others_decide : (E : Entries) (s : Situation) (want j b : ℕ) (ps : List (Tag × ℕ)) → IsRight want j b
     → T (is_sorted tag_cmp ps)
     → list_any (others_test E s j) ps ≡ contains (unwrap_or (fin.find tag_cmp other ps) 0) want
-others_decide E s want j b [] right sorted = sym (contains_single 0 j want right.power right.some ∙ no_bit j)
+others_decide E s want j b [] right sorted = sym (contains_power 0 j want right.power right.some ∙ no_bit j)
 others_decide E s want j b (e ∷ ps) right sorted =
     elim (eq_by_cmp tag_cmp other e.0) as (λ t. eq_by_cmp tag_cmp other e.0 ≡ t → list_any (others_test E s j) (e ∷ ps)
     ≡ contains (unwrap_or (cond t (Some e.1) (fin.find tag_cmp other ps)) 0) want) [
@@ -223,7 +224,7 @@ others_decide E s want j b (e ∷ ps) right sorted =
           ∙ or_false_right (others_test E s j e)
           ∙ ap (λ (l : Tag). is_other_tag l && (bit_of E j (l, e.1) && concerns s l)) is
           ∙ and_true_right (has_bit e.1 j)
-          ∙ sym (contains_single e.1 j want right.power right.some)
+          ∙ sym (contains_power e.1 j want right.power right.some)
       | false ↦ λ same.
           ap (λ (z : Bool). (z && (bit_of E j e && concerns s e.0)) || list_any (others_test E s j) ps)
           (other_only e.0 same)
@@ -298,7 +299,7 @@ agrees_plainly E object requester want j b access a right =
           let found = some_value (fin.get E user_obj) (complete E access.valid).owner in
           owner_decides E s j found.0 class es (same_name requester.user object.user a.asker a.owner ∙ is)
           (fin.entries_sorted E) (sym (fin.get-entries E user_obj) ∙ found.1)
-          ∙ sym (contains_single found.0 j want right.power right.some)
+          ∙ sym (contains_power found.0 j want right.power right.some)
           ∙ ap (λ (o : Option ℕ). contains (unwrap_or o 0) want) (sym found.1)
       | false ↦ λ is.
           user_decides E object requester want j b class es right a all is

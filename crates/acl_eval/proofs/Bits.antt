@@ -9,28 +9,28 @@ by_digit : (d p : ℕ) → d < 2 → 0 < p → eqb (d * p) p ≡ eqb d 1
 by_digit d p lt pos = grind arith
 
 -- a set has all of a power of two exactly if it has that bit
-single : (n k p : ℕ) → p ≡ 2 ^ k → 0 < p → eqb (bit_and n p) p ≡ has_bit n k
-single n k p e pos =
+pub contains_power : (n k p : ℕ) → p ≡ 2 ^ k → 0 < p → eqb (bit_and n p) p ≡ has_bit n k
+contains_power n k p e pos =
     ap (λ (m : ℕ). eqb m p) (ap (bit_and n) e ∙ and_pow n k ∙ ap (λ (q : ℕ). bit_at n k * q) (sym e))
     ∙ by_digit (bit_at n k) p (bit_at-lt n k) pos
 
 -- bit 0
-pub single_0 : (n : ℕ) → eqb (bit_and n 1) 1 ≡ has_bit n 0
-single_0 n = single n 0 1 refl (omega arith)
+pub contains_0 : (n : ℕ) → eqb (bit_and n 1) 1 ≡ has_bit n 0
+contains_0 n = contains_power n 0 1 refl (omega arith)
 
 -- bit 1
-pub single_1 : (n : ℕ) → eqb (bit_and n 2) 2 ≡ has_bit n 1
-single_1 n = single n 1 2 refl (omega arith)
+pub contains_1 : (n : ℕ) → eqb (bit_and n 2) 2 ≡ has_bit n 1
+contains_1 n = contains_power n 1 2 refl (omega arith)
 
 -- bit 2
-pub single_2 : (n : ℕ) → eqb (bit_and n 4) 4 ≡ has_bit n 2
-single_2 n = single n 2 4 refl (omega arith)
+pub contains_2 : (n : ℕ) → eqb (bit_and n 4) 4 ≡ has_bit n 2
+contains_2 n = contains_power n 2 4 refl (omega arith)
 
 -- bit 5
-pub single_5 : (n : ℕ) → eqb (bit_and n 32) 32 ≡ has_bit n 5
-single_5 n = single n 5 32 refl (omega arith)
+pub contains_5 : (n : ℕ) → eqb (bit_and n 32) 32 ≡ has_bit n 5
+contains_5 n = contains_power n 5 32 refl (omega arith)
 
-pub ruleset single_bits = (single_0, single_1, single_2, single_5)
+pub ruleset single_bits = (contains_0, contains_1, contains_2, contains_5)
 
 halves : (m : ℕ) → eqb ((m % 4) * 2) 6 ≡ (eqb (m % 2) 1 && eqb (m / 2 % 2) 1)
 halves m = grind arith

@@ -66,7 +66,8 @@ child_within set kind flags f h is e =
 
     waits_in : Some (waits flags) ≡ Some f → IsWithin set f
     waits_in q = subst (IsWithin set) (same_Some _ _ q)
-        (union_within set (goes_on flags) inherit_only_alone (part_within set flags kept_on_the_way is) (inherit_only_within set h))
+        (union_within set (goes_on flags) inherit_only_alone (part_within set flags kept_on_the_way is)
+        (inherit_only_within set h))
 
     by : (kind : ChildKind) (p d n : Bool) → has_bit flags file_inherit ≡ p → has_bit flags directory_inherit ≡ d
         → has_bit flags no_propagate_inherit ≡ n → child_flags kind flags ≡ Some f → IsWithin set f

@@ -165,6 +165,6 @@ run_bridge E s j b st js all =
     ∙ ap (λ (z : Bool). cond (list_any (allows_test E s j) es) true z) refuse in
     run-append (D ++ A ++ N) O s b false ∙ run-append (D ++ A) N s b (run O s b false)
     ∙ run-append D A s b (run N s b (run O s b false))
-    ∙ run_each is_user_tag (decide_of E) (λ e. concerns s e.0) (bit_of E j) s b (run A s b (run N s b (run O s b false)))
-    es decides
+    ∙ run_each is_user_tag (decide_of E) (λ e. concerns s e.0) (bit_of E j) s b
+    (run A s b (run N s b (run O s b false))) es decides
     ∙ ap (λ (z : Bool). first (users_test s) (bit_of E j) es z) class

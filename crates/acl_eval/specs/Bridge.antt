@@ -62,11 +62,11 @@ ace_of kind tag perm = if perm == 0 then []
 abbrev pub allow_of : Entries → Tag × ℕ → List Ace
 allow_of entries entry = ace_of Allow entry.0 (effective_of entries entry)
 
--- what it denies: those of read, write and execute that it doesn't allow
+-- what an entry denies: those of read, write and execute that it doesn't allow
 abbrev pub deny_of : Entries → Tag × ℕ → List Ace
 deny_of entries entry = ace_of Deny entry.0 (7 - effective_of entries entry)
 
--- first the one, then the other
+-- what an entry allows, and then what it denies
 abbrev pub decide_of : Entries → Tag × ℕ → List Ace
 decide_of entries entry = allow_of entries entry ++ deny_of entries entry
 

@@ -22,12 +22,13 @@ no_propagate_inherit = 2
 abbrev pub inherited : ℕ
 inherited = 7
 
--- the flags that say nothing of inheritance: SUCCESSFUL_ACCESS (0x10), FAILED_ACCESS (0x20) and IDENTIFIER_GROUP (0x40)
+-- the flags that say nothing of inheritance: SUCCESSFUL_ACCESS (0x10), FAILED_ACCESS (0x20) and IDENTIFIER_GROUP
+-- (0x40)
 abbrev pub kept_at_the_end : ℕ
 kept_at_the_end = 0x70
 
--- beside these FILE_INHERIT (0x01), DIRECTORY_INHERIT (0x02) and NO_PROPAGATE_INHERIT (0x04): all flags but INHERIT_ONLY
--- and INHERITED
+-- the flags that say nothing of inheritance, and FILE_INHERIT (0x01), DIRECTORY_INHERIT (0x02) and NO_PROPAGATE_INHERIT
+-- (0x04): all but INHERIT_ONLY and INHERITED
 abbrev pub kept_on_the_way : ℕ
 kept_on_the_way = 0x77
 

@@ -1,4 +1,4 @@
-//! The NFSv4 list that stands for a POSIX ACL.
+//! The NFSv4 list that stands for a POSIX ACL, which is made part by part once its weight is known.
 ghost use Rattle.std.specs.Prelude.{◌≡◌, ◌≤◌, ◌↔◌, ◌==◌, ◌-◌, IsTrue, IfErr, IfOk, OnOk, [], ◌∷◌, bit_and, if◌then◌else◌};
 ghost use Rattle.std.specs.FinMap as set;
 ghost use Rattle.acl_perm.specs.Profile.{full};
@@ -73,7 +73,7 @@ fn is_within(acl: &PosixAcl) -> bool
     true
 }
 
-// The number of mask bits that an entry costs.
+// The number of mask bits that an entry costs, over all its ACEs.
 fn cost_of(entry: Entry) -> u32
     ensures cost { result ≡ cost_of (tag_of entry.tag) entry.perm.bits }
     ensures small { result ≤ 32 }
@@ -85,7 +85,7 @@ fn cost_of(entry: Entry) -> u32
     }
 }
 
-// A part, over all entries.
+// Adds one part of the list.
 fn push_part(list: &mut Acl, acl: &PosixAcl, part: Part) -> Result<(), BridgeFault>
     ensures { Adds list.old list.new (part_of acl.now part (set.entries acl.now)) result }
 {
@@ -96,7 +96,7 @@ fn push_part(list: &mut Acl, acl: &PosixAcl, part: Part) -> Result<(), BridgeFau
     Ok(())
 }
 
-// What an entry adds to a part.
+// Adds what one entry has in a part.
 fn push_entry(list: &mut Acl, acl: &PosixAcl, entry: Entry, part: Part) -> Result<(), BridgeFault>
     ensures { Adds list.old list.new (part_of acl.now part (pair_of entry ∷ [])) result }
 {
@@ -127,7 +127,7 @@ fn is_other_tag(tag: Tag) -> bool
     matches!(tag, Tag::Other)
 }
 
-// What an entry allows, and then what it denies.
+// Adds what an entry allows, and then what it denies.
 fn push_decided(list: &mut Acl, acl: &PosixAcl, entry: Entry) -> Result<(), BridgeFault>
     ensures { Adds list.old list.new (decide_of acl.now (pair_of entry)) result }
 {
@@ -135,28 +135,28 @@ fn push_decided(list: &mut Acl, acl: &PosixAcl, entry: Entry) -> Result<(), Brid
     push_denied(list, acl, entry)
 }
 
-// What an entry allows.
+// Adds what an entry allows.
 fn push_allowed(list: &mut Acl, acl: &PosixAcl, entry: Entry) -> Result<(), BridgeFault>
     ensures { Adds list.old list.new (allow_of acl.now (pair_of entry)) result }
 {
     push_ace(list, Kind::Allow, entry.tag, acl.effective(entry))
 }
 
-// What an entry denies.
+// Adds what an entry denies.
 fn push_denied(list: &mut Acl, acl: &PosixAcl, entry: Entry) -> Result<(), BridgeFault>
     ensures { Adds list.old list.new (deny_of acl.now (pair_of entry)) result }
 {
     push_ace(list, Kind::Deny, entry.tag, rest_of(acl.effective(entry)))
 }
 
-// The permissions that are not there.
+// What is denied where these permissions are allowed.
 fn rest_of(perm: Perm) -> Perm
     ensures { result.bits ≡ 7 - perm.bits }
 {
     Perm::ALL.difference(perm)
 }
 
-// The ACE of a tag with these permissions, and none where there are none.
+// Adds the ACE of a tag with these permissions. Where there are none it adds no ACE, so none is without a bit.
 fn push_ace(list: &mut Acl, kind: Kind, tag: Tag, perm: Perm) -> Result<(), BridgeFault>
     ensures { Adds list.old list.new (ace_of kind (tag_of tag) perm.bits) result }
 {

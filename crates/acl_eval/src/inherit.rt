@@ -1,4 +1,4 @@
-//! What a new object inherits.
+//! What a new object inherits of the list of its directory.
 ghost use Rattle.std.specs.Prelude.{◌≡◌, IfOk, IsTrue, option_map};
 ghost use Rattle.acl_perm.specs.Bits.{has_bit, inherit_only};
 ghost use Rattle.acl_perm.specs.Profile.{Profile};
@@ -42,7 +42,7 @@ const KEPT_AT_THE_END: Flags = Flags {
     bits: Flags::SUCCESSFUL_ACCESS.bits | Flags::FAILED_ACCESS.bits | Flags::IDENTIFIER_GROUP.bits,
 };
 
-// What an ACE that is handed on keeps: beside those the ones that say to what.
+// What an ACE that is handed on keeps of its flags: also those that say to what it is handed on.
 const KEPT_ON_THE_WAY: Flags = Flags {
     bits: KEPT_AT_THE_END.bits
         | Flags::FILE_INHERIT.bits

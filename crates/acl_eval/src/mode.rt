@@ -1,4 +1,4 @@
-//! The mode of a list.
+//! The mode of a list: what it grants the owner, the group and others.
 ghost use Rattle.std.specs.Prelude.{◌≡◌, ◌≤◌, ◌∷◌, ◌&&◌, if◌then◌else◌, ℕ, List, Bool};
 ghost use Rattle.acl_perm.specs.Bits.{all_rights, has_bit};
 ghost use Rattle.acl_perm.specs.Principal.{principal};
@@ -6,7 +6,7 @@ ghost use Rattle.acl_nfs4.specs.Ace.{Ace, ace};
 ghost use Rattle.acl_nfs4.specs.Who.{principal_of};
 ghost use Rattle.acl_eval.specs.ListMode.{mode_of_list, perm_of};
 ghost use Rattle.acl_eval.specs.Permissions.{append_data, execute_right, read_data, write_data};
-ghost use Rattle.acl_eval.specs.internal.Settled.{decides_for, settled};
+ghost use Rattle.acl_eval.specs.internal.Settled.{decides_for, settled_in};
 
 use crate::permissions::{EXECUTE, READ, WRITE, WRITE_RIGHTS};
 use acl_nfs4::{AceRef, Aces};
@@ -30,7 +30,7 @@ pub fn mode_of(aces: Aces<'_>) -> Mode
     Mode::from_parts(owner.perm(), group.perm(), others.perm())
 }
 
-// A part of the mode.
+// Whom one octal digit of a mode speaks of.
 #[derive(Clone, Copy)]
 enum FileClass {
     Owner,
@@ -70,13 +70,12 @@ impl Decided {
         }
     }
 
-    // The same after one more ACE, which names this principal: it decides what no ACE before it has.
+    // What is decided after one more ACE, which names this principal: it decides only what no ACE before it has.
     #[tactic(auto)]
     fn after(self, item: &AceRef<'_>, class: FileClass, whom: Principal<'_>) -> Decided
         requires { principal whom ≡ principal_of (ace item.now) }
         ensures { (list : List Ace) (bit : ℕ)
-            → settled (decides_for class) result.granted.bits result.left.bits list bit
-            ≡ settled (decides_for class) self.granted.bits self.left.bits (ace item.now ∷ list) bit }
+            → settled_in class result list bit ≡ settled_in class self (ace item.now ∷ list) bit }
     {
         if !class.is_decided_by(whom) || !item.takes_part() {
             return self;
@@ -121,7 +120,7 @@ fn can_execute(granted: Mask) -> bool
     granted.contains(Mask::EXECUTE)
 }
 
-// The permission alone, where it is granted.
+// The permission where it is granted, and else none.
 fn part(perm: Perm, is_granted: bool) -> Perm
     ensures { result.bits ≡ (if is_granted then perm.bits else 0) }
 {

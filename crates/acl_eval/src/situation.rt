@@ -1,4 +1,4 @@
-//! Who asks, and of whose object.
+//! Who asks, and of whose object: no name of these is empty.
 ghost use Rattle.std.specs.Prelude.{◌≡◌, ◌<◌, ◌↔◌, IfSome, IsSome, All, length, map};
 ghost use Rattle.std.specs.List.{list_any};
 ghost use Rattle.std.specs.Str.{bytes_eq};

@@ -1,4 +1,4 @@
-//! How a requester stands to an object, for one ACE after the other.
+//! How a requester stands to an object, so that what is the same for each ACE of a list is told once.
 ghost use Rattle.std.specs.Prelude.{◌≡◌, ◌≤◌, length};
 ghost use Rattle.acl_perm.specs.Principal.{group, owner, principal};
 ghost use Rattle.acl_perm.specs.Situation.{matches};
@@ -35,9 +35,10 @@ fn last_byte(name: &[u8]) -> u8
 }
 
 impl<'a> Standing<'a> {
+    ghost use Rattle.acl_eval.specs.internal.Asked.{asked};
+
     pub(crate) fn new(object: Object<'a>, requester: Requester<'a>) -> Self
-        ensures { situation result.object result.requester
-            ≡ situation object.entry requester.entry }
+        ensures { asked result ≡ situation object.entry requester.entry }
     {
         Standing {
             object,
@@ -53,7 +54,7 @@ impl<'a> Standing<'a> {
     #[inline(always)]
     pub(crate) fn is_meant_by(&self, item: &AceRef<'_>) -> bool
         requires { 1 ≤ length item.now.who.now }
-        ensures { result ≡ speaks (situation self.now.object self.now.requester) (ace item.now) }
+        ensures { result ≡ speaks (asked self.now) (ace item.now) }
     {
         let last = item.who[item.who.len() - 1];
         if last != b'@' && item.takes_part() && !item.flags.is_group() {
@@ -66,7 +67,7 @@ impl<'a> Standing<'a> {
     #[inline(never)]
     fn is_match(&self, whom: Principal<'_>) -> bool
         ensures { result
-            ≡ matches (situation self.now.object self.now.requester) (principal whom.entry) }
+            ≡ matches (asked self.now) (principal whom.entry) }
     {
         match whom {
             Principal::Owner => self.is_owner,
