@@ -1,8 +1,9 @@
-//! What a new file or directory inherits, row by row and over all flags.
+//! What a new file or directory inherits, row by row and over all flags (RFC 8881, section 6.2.1.4.1, has the flags).
+
 use super::harness::{ALLOW, AceRow, DENY, built, kept, passes};
-use super::*;
+use crate::*;
 use ChildKind::{Directory, File};
-use acl_nfs4::{AceRef, Acl, AclView, Flags, Kind, PushFault};
+use acl_nfs4::{AceRef, Acl, Flags, Kind, PushFault};
 use acl_perm::Mask;
 use std::alloc::Global;
 use std::process::Abort;
@@ -74,75 +75,57 @@ fn a_child_inherits_by_its_kind(rt: HostRuntime) {
     assert!(rt; passes(created(&rt, rt.alloc())));
 }
 
-// The flags of RFC 8881, section 6.2.1.4.1.
-#[derive(Clone, Copy)]
-struct FlagSet {
-    file: bool,
-    directory: bool,
-    no_propagate: bool,
-    inherit_only: bool,
-    success: bool,
-    failed: bool,
-    group: bool,
-    inherited: bool,
-}
-
-fn flag_set(flags: u32) -> FlagSet {
-    FlagSet {
-        file: flags & 0x01 == 0x01,
-        directory: flags & 0x02 == 0x02,
-        no_propagate: flags & 0x04 == 0x04,
-        inherit_only: flags & 0x08 == 0x08,
-        success: flags & 0x10 == 0x10,
-        failed: flags & 0x20 == 0x20,
-        group: flags & 0x40 == 0x40,
-        inherited: flags & 0x80 == 0x80,
-    }
-}
-
 // Whether an ACE of a directory is one of what is created in it.
-fn is_taken(kind: ChildKind, parent: &FlagSet) -> bool {
+fn is_taken(kind: ChildKind, parent: Flags) -> bool {
+    let for_files = parent.contains(Flags::FILE_INHERIT);
     match kind {
-        File => parent.file,
-        Directory => parent.directory || parent.file && !parent.no_propagate,
+        File => for_files,
+        Directory => {
+            parent.contains(Flags::DIRECTORY_INHERIT)
+                || for_files && !parent.contains(Flags::NO_PROPAGATE_INHERIT)
+        }
     }
 }
 
 // Whether it is handed on further below what is created.
-fn is_handed_on(kind: ChildKind, parent: &FlagSet) -> bool {
-    kind == Directory && !parent.no_propagate
+fn is_handed_on(kind: ChildKind, parent: Flags) -> bool {
+    kind == Directory && !parent.contains(Flags::NO_PROPAGATE_INHERIT)
 }
+
+// The flags that say nothing of inheritance.
+const LASTING: [Flags; 3] = [
+    Flags::SUCCESSFUL_ACCESS,
+    Flags::FAILED_ACCESS,
+    Flags::IDENTIFIER_GROUP,
+];
 
 // Whether these are its flags there: those of inheritance where it is handed on, with INHERIT_ONLY exactly where it is
 // for files alone; those that say nothing of inheritance as they were; and never INHERITED.
-fn are_flags(kind: ChildKind, parent: &FlagSet, new: &FlagSet) -> bool {
+fn are_flags(kind: ChildKind, parent: Flags, new: Flags) -> bool {
     let on = is_handed_on(kind, parent);
-    new.file == (on && parent.file)
-        && new.directory == (on && parent.directory)
-        && !new.no_propagate
-        && new.inherit_only == (on && !parent.directory)
-        && new.success == parent.success
-        && new.failed == parent.failed
-        && new.group == parent.group
-        && !new.inherited
+    let for_directories = parent.contains(Flags::DIRECTORY_INHERIT);
+    new.contains(Flags::FILE_INHERIT) == (on && parent.contains(Flags::FILE_INHERIT))
+        && new.contains(Flags::DIRECTORY_INHERIT) == (on && for_directories)
+        && new.contains(Flags::INHERIT_ONLY) == (on && !for_directories)
+        && !new.contains(Flags::NO_PROPAGATE_INHERIT)
+        && !new.contains(Flags::INHERITED)
+        && LASTING
+            .iter()
+            .all(|flag| new.contains(*flag) == parent.contains(*flag))
 }
 
 // Whether what is created has of an ACE with these flags what the rules give it.
-fn is_by_the_rules(list: &Acl, kind: ChildKind, flags: u32) -> bool {
-    let parent = flag_set(flags);
+fn is_by_the_rules(list: &Acl, kind: ChildKind, parent: Flags) -> bool {
     match list.aces().next() {
-        Some(ace) => {
-            is_taken(kind, &parent)
-                && are_flags(kind, &parent, &flag_set(u32::from(ace.flags.bits())))
-        }
-        None => !is_taken(kind, &parent),
+        Some(ace) => is_taken(kind, parent) && are_flags(kind, parent, ace.flags),
+        None => !is_taken(kind, parent),
     }
 }
 
-fn creates_by_the_rules(alloc: Global, kind: ChildKind, flags: u32) -> Result<bool, PushFault> {
-    let parent = built(alloc, &[with_flags(ALICE, flags)])?;
+fn creates_by_the_rules(alloc: Global, kind: ChildKind, bits: u8) -> Result<bool, PushFault> {
+    let parent = built(alloc, &[with_flags(ALICE, u32::from(bits))])?;
     let list = child_of(alloc, &parent, kind)?;
-    Ok(list.len() < 2 && is_by_the_rules(&list, kind, flags))
+    Ok(list.len() < 2 && is_by_the_rules(&list, kind, Flags { bits }))
 }
 
 // Whether what is created has each of so many ACEs.
@@ -151,7 +134,7 @@ fn creates_many(alloc: Global, count: usize, kind: ChildKind) -> Result<bool, Pu
     for _ in 0..count {
         parent.push(AceRef {
             kind: DENY,
-            flags: Flags { bits: 0x03 },
+            flags: Flags::FILE_INHERIT | Flags::DIRECTORY_INHERIT,
             mask: Mask::NONE,
             who: b"alice",
         })?;
@@ -164,62 +147,6 @@ fn may_alice_read(list: &Acl) -> Option<bool> {
     let object = Object::new(b"bob", b"staff")?;
     let requester = Requester::new(b"alice", &[])?;
     Some(grants(list.aces(), &object, &requester, Mask::new(1)?))
-}
-
-// DENY WRITE_DATA OWNER@, ALLOW READ_DATA, WRITE_DATA and APPEND_DATA EVERYONE@.
-const NO_WRITE: &[u8; 56] = b"\0\0\0\x02\
-    \0\0\0\x01\0\0\0\0\0\0\0\x02\0\0\0\x06OWNER@\0\0\
-    \0\0\0\0\0\0\0\0\0\0\0\x07\0\0\0\x09EVERYONE@\0\0\0";
-
-static MODES: [(&[AceRow], u16); 14] = [
-    (
-        &[(DENY, 0, 2, b"OWNER@"), (ALLOW, 0, 7, b"EVERYONE@")],
-        0o466,
-    ),
-    (
-        &[
-            (ALLOW, 0, 1, b"OWNER@"),
-            (DENY, 0, 1, b"EVERYONE@"),
-            (ALLOW, 0x08, 6, b"GROUP@"),
-            (ALLOW, 0, 0x20, b"EVERYONE@"),
-        ],
-        0o511,
-    ),
-    (&[], 0),
-    (&[(ALLOW, 0, 0x27, b"OWNER@")], 0o700),
-    (&[(ALLOW, 0, 0x27, b"GROUP@")], 0o070),
-    (&[(ALLOW, 0, 0x27, b"EVERYONE@")], 0o777),
-    (&[(ALLOW, 0, 0x27, b"bob")], 0),
-    (&[(ALLOW, 0x40, 0x27, b"staff")], 0),
-    (&[(ALLOW, 0x40, 0x27, b"GROUP@")], 0o070),
-    (&[(ALLOW, 0, 0x01, b"EVERYONE@")], 0o444),
-    (&[(ALLOW, 0, 0x02, b"EVERYONE@")], 0),
-    (&[(ALLOW, 0, 0x04, b"EVERYONE@")], 0),
-    (&[(ALLOW, 0, 0x06, b"EVERYONE@")], 0o222),
-    (&[(ALLOW, 0, 0x20, b"EVERYONE@")], 0o111),
-];
-
-#[test]
-fn a_view_has_its_mode(rt: HostRuntime) {
-    let mode = match AclView::parse_whole(NO_WRITE) {
-        Ok(list) => Some(mode_of(list.aces()).bits()),
-        Err(_) => None,
-    };
-    assert!(rt; mode == Some(0o466));
-}
-
-/// A list has the mode that the rows say.
-pub fn modes(rt: &impl Abort, alloc: Global) -> Result<(), PushFault> {
-    for (rows, mode) in MODES {
-        let list = built(alloc, rows)?;
-        assert!(rt; mode_of(list.aces()).bits() == mode);
-    }
-    Ok(())
-}
-
-#[test]
-fn a_list_has_its_mode(rt: HostRuntime) {
-    assert!(rt; passes(modes(&rt, rt.alloc())));
 }
 
 mod ample {
@@ -239,7 +166,7 @@ mod ample {
 
     #[test]
     fn every_set_of_flags_is_inherited_by_the_rules(rt: HostRuntime) {
-        for flags in 0..256u32 {
+        for flags in 0..=255u8 {
             for kind in [File, Directory] {
                 assert!(rt;
                     creates_by_the_rules(rt.alloc(), kind, flags) == Ok(true),

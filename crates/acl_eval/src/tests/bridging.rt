@@ -1,6 +1,7 @@
 //! Bridged lists, row by row, and how many entries a list takes.
+
 use super::harness::{kept, passes};
-use super::*;
+use crate::*;
 use acl_nfs4::{Acl, PushFault, parse_text};
 use acl_perm::{Mask, Perm};
 use acl_posix::{Entry, Id, Names, PosixAcl, PosixFile, Tag, parse};
