@@ -6,7 +6,7 @@ use Rattle.acl_nfs4.specs.Limits.{most_aces}
 use Rattle.acl_nfs4.specs.internal.Progress.{IsScanned, Ends}
 use Rattle.acl_nfs4.proofs.Streaming.{text_short, text_many, judged_is}
 use Rattle.acl_nfs4.proofs.Within.{code_profile}
-use Rattle.acl_nfs4.proofs.feed.judge.Goals as goal
+use Rattle.acl_nfs4.proofs.feed.step.judge.Goals as goal
 
 pub returns-in-None-clause-judged : goal.returns-in-None-clause-judged
 returns-in-None-clause-judged c =
@@ -15,14 +15,16 @@ returns-in-None-clause-judged c =
       | inl lt ↦ lt
       | inr long ↦ absurd (none long)
     ] in
-    text_short (profile_of c.args.profile) c.args.text.now c.in-None.ensures.bytes short
+    rw (c.at_fault.ensures, c.at_front.ensures)
+    (text_short (profile_of c.args.profile) c.args.text.now c.in-None.ensures.bytes short)
 
 pub returns-then-count-gt-MOST_ACES-clause-judged : goal.returns-then-count-gt-MOST_ACES-clause-judged
 returns-then-count-gt-MOST_ACES-clause-judged c =
     let n : c.in-Some.count ≡ number (take 4 c.args.text.now) = c.in-Some.ensures.value in
     let long : 4 ≤ length c.args.text.now = c.in-Some.ensures.whole.0 refl in
-    text_many (profile_of c.args.profile) c.args.text.now c.in-Some.ensures.bytes long
-    (subst (λ (k : ℕ). most_aces < k) n c.if-count-gt-MOST_ACES.true)
+    rw (c.at_fault-then-count-gt-MOST_ACES.ensures, c.at_front-then-count-gt-MOST_ACES.ensures)
+    (text_many (profile_of c.args.profile) c.args.text.now c.in-Some.ensures.bytes long
+    (subst (λ (k : ℕ). most_aces < k) n c.if-count-gt-MOST_ACES.true))
 
 pub returns-else-count-gt-MOST_ACES-clause-judged : goal.returns-else-count-gt-MOST_ACES-clause-judged
 returns-else-count-gt-MOST_ACES-clause-judged c =
