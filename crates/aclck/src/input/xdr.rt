@@ -63,7 +63,7 @@ impl Model for Pulled {
     ghost invariant = { λ s. (s.start ≤ s.end) × (s.end ≤ piece_len) };
 }
 
-// The same, and a clause that says that they are bytes.
+// The bytes that it is given, with a clause that says that they are bytes, which their type alone does not.
 fn seen(bytes: &[u8]) -> &[u8]
     ensures is { result.now ≡ bytes.now }
     ensures bytes { IsBytes result.now }
@@ -92,7 +92,7 @@ impl Pulled {
         seen(&self.room[self.start..self.end])
     }
 
-    // So many bytes belong to a value.
+    // Takes so many bytes away, which belong to a value.
     fn take(&mut self, count: usize)
         requires { count ≤ length self.old }
         ensures { self.new ≡ drop count self.old }

@@ -1,15 +1,12 @@
-use Rattle.std.proofs.Common.{◌∙◌, ap, codes, List, Option, [], map, unwrap_or}
+use Rattle.std.proofs.Common.{◌∙◌, ap, codes, List, Option, [], unwrap_or}
 use Rattle.std.proofs.lemmas.Result.{IfOk-weaker}
-use Rattle.std.specs.Borrow.{Bor}
 use Rattle.clap.proofs.WalkLemmas.{raw_values-rows}
 use Rattle.clap.specs.Words.{Text, found_of}
-use Rattle.aclck.proofs.line.words_in.Goals as goal
+use Rattle.aclck.specs.Line.{texts}
+use Rattle.aclck.proofs.command.words_in.Goals as goal
 
 abbrev or_none : Option (List Text) → List Text
 or_none o = unwrap_or o []
-
-abbrev all_texts : List (Bor Text) → List Text
-all_texts = map (λ g. g.now)
 
 pub returns-in-Some : goal.returns-in-Some
 returns-in-Some c =
@@ -19,4 +16,4 @@ returns-in-Some c =
 pub returns-in-None : goal.returns-in-None
 returns-in-None c =
     let e = c.in-None.ensures ∙ raw_values-rows (found_of c.args.matches.now) (codes "words") in
-    ap all_texts c.new.ensures.items ∙ ap or_none e
+    ap texts c.new.ensures.items ∙ ap or_none e
