@@ -18,7 +18,7 @@ use Rattle.acl_nfs4.specs.Stream.{Finishes, IsCut, Refuses, Standing}
 use Rattle.acl_nfs4.specs.Stream.Standing.{done, more}
 use Rattle.acl_nfs4.specs.declared.xdr.fault.Fault.{Fault}
 use Rattle.acl_nfs4.specs.declared.xdr.fault.Reason.{Reason}
-use Rattle.acl_nfs4.specs.declared.xdr.fault.Reason.TheVariants.{Memory, Truncated}
+use Rattle.acl_nfs4.specs.declared.xdr.fault.Reason.TheVariants.{Truncated}
 use Rattle.acl_nfs4.proofs.Completion.{begins, who_bounds as stage_bounds}
 use Rattle.acl_nfs4.proofs.Body.{is_found}
 use Rattle.acl_nfs4.proofs.Exactly.{one_reason}
@@ -28,7 +28,7 @@ use Rattle.acl_nfs4.proofs.Lengths.{spelling_short}
 use Rattle.acl_nfs4.proofs.OneFault.{never_truncated, value_or_fault}
 use Rattle.acl_nfs4.proofs.Pieces.{breaks_whole}
 use Rattle.aclck.specs.ListInput.{ListEnds, RefusalEnds, ValueEnds, piece_len}
-use Rattle.aclck.specs.internal.Reading.{EndsNot, ReadsLittle, ReadsNone, ReadsPart, ReadsValue, is_failed_pull}
+use Rattle.aclck.specs.internal.Reading.{EndsNot, IsTold, ReadsLittle, ReadsNone, ReadsPart, ReadsValue, is_failed_pull}
 use Rattle.aclck.specs.declared.input.xdr.ListFault.{ListFault}
 use Rattle.aclck.specs.declared.input.xdr.ListFault.TheVariants as unread
 use Rattle.aclck.specs.declared.input.xdr.Value.{Value}
@@ -242,10 +242,6 @@ end_reads p left given text pulled pull new_pulled old mid new feed (Err e) part
       near = omega (arith, cut_end p (text ++ pull) f.offset cut.1.0 all all.breaks, ap length whole);
       all = λ t. end;
     })
-
--- what is told of a fault
-abbrev pub IsTold : ListFault → Fault → Type 0
-IsTold e f = (e ≡ unread.Memory) ⊎ ((e ≡ unread.Refused f) × (f.reason ≢ Memory))
 
 -- a text goes on behind a beginning that is cut short, to the end of a value
 value_behind_cut : (p : Profile) (text pull : List ℕ) (list : List Ace) (end : ℕ) → IsProfile p → IsCut p text

@@ -1,5 +1,5 @@
 -- A command's own command line, by `clap`'s functions for simple commands (this library's own).
-use Rattle.std.specs.Prelude.{◌≡◌, ◌∷◌, [], List, Option, Some, None, Bool, Result, Ok, Err, codes, false, if◌then◌else◌, map, option_map, true, unwrap_or}
+use Rattle.std.specs.Prelude.{◌≡◌, ◌∷◌, [], List, Option, Some, None, Bool, Result, Ok, Err, codes, false, map, option_map, true, unwrap_or}
 use Rattle.std.specs.Option.{option_map_or}
 use Rattle.std.specs.Borrow.{Bor}
 use Rattle.std.specs.Str.{bytes_eq}

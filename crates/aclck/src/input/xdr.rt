@@ -1,11 +1,10 @@
 //! Lists that an input spells, read as it comes.
-ghost use Rattle.std.specs.Prelude.{◌≡◌, ◌≢◌, ◌⊎◌, ◌<◌, ◌≤◌, ◌^◌, [], IfErr, IfOk, Ok, OnErr, OnOk, drop, false, length, true};
+ghost use Rattle.std.specs.Prelude.{◌≡◌, ◌⊎◌, ◌<◌, ◌≤◌, ◌^◌, [], IfErr, IfOk, Ok, OnErr, OnOk, drop, false, length, true};
 ghost use Rattle.std.specs.Io.KnownBytes.{Consumes, IsAtEnd, Keeps};
 ghost use Rattle.acl_perm.specs.Devices.{failures_after};
 ghost use Rattle.acl_perm.specs.Profile.{profile_of};
 ghost use Rattle.acl_nfs4.specs.Spelling.{Xdr};
 ghost use Rattle.acl_nfs4.specs.Stream.{Finishes};
-ghost use Rattle.acl_nfs4.specs.declared.xdr.fault.Reason.TheVariants.{Memory};
 ghost use Rattle.aclck.specs.Compare.{AreTwo};
 ghost use Rattle.aclck.specs.ListInput.{piece_len};
 ghost use Rattle.aclck.specs.internal.Reading.{EndsNot, ReadsInput, ReadsNone, ReadsValue, StandsBelow, has_pull_failed, later, one_list, two_lists};
@@ -37,6 +36,20 @@ impl From<ListFault> for RunFault {
             ListFault::Refused(fault) => RunFault::Nfs(fault),
             ListFault::Read => RunFault::Read,
             ListFault::Memory => RunFault::Memory,
+        }
+    }
+}
+
+impl From<Fault> for ListFault {
+    ghost use Rattle.aclck.specs.internal.Reading.{IsTold};
+
+    ghost from_gives = { λ fault list. IsTold list fault };
+
+    fn from(fault: Fault) -> ListFault {
+        if fault.reason == Reason::Memory {
+            ListFault::Memory
+        } else {
+            ListFault::Refused(fault)
         }
     }
 }
@@ -131,18 +144,6 @@ pub(crate) struct Value {
     pub(crate) len: u64,
 }
 
-// A fault of a list, which may be want of memory.
-fn list_fault(fault: Fault) -> ListFault
-    ensures { (result ≡ ListFault.Memory)
-        ⊎ ((result ≡ ListFault.Refused fault) × (fault.reason ≢ Memory)) }
-{
-    if fault.reason == Reason::Memory {
-        ListFault::Memory
-    } else {
-        ListFault::Refused(fault)
-    }
-}
-
 /// Reads one list of the profile, from what is left of the last pull on. What the input has behind it is left. A fault
 /// counts from the list's first byte. After a refusal nothing more is read.
 pub(crate) fn read_value<S: Source>(
@@ -168,7 +169,7 @@ pub(crate) fn read_value<S: Source>(
                 pulled.take(taken);
                 return finish(feed, fed + taken as u64);
             }
-            Fed::Refused(fault) => return Err(list_fault(fault)),
+            Fed::Refused(fault) => return Err(ListFault::from(fault)),
         }
         fed += pulled.left().len() as u64;
         if !pulled.pull(source)? {
@@ -183,10 +184,10 @@ fn finish(feed: Feed, len: u64) -> Result<Value, ListFault>
     ensures fault { IfErr result (λ e. (e ≡ ListFault.Memory)
         ⊎ ((fault : Fault) × (e ≡ ListFault.Refused fault) × Finishes feed (Err fault))) }
 {
-    match feed.finish() {
-        Ok(list) => Ok(Value { list, len }),
-        Err(fault) => Err(list_fault(fault)),
-    }
+    Ok(Value {
+        list: feed.finish()?,
+        len,
+    })
 }
 
 /// Whether the input ends behind a value of so many bytes, of which the last pull may have given more.

@@ -57,9 +57,7 @@ pub(crate) fn read<'a, 'w: 'a>(
         return Err(LineFault::Usage);
     };
     let profile = profile_in(matches)?;
-    let Some(mask) = mask_in(text_of(matches, "mask"), profile.masks) else {
-        return Err(LineFault::Usage);
-    };
+    let mask = mask_in(text_of(matches, "mask"), profile.masks).ok_or(LineFault::Usage)?;
     Ok(CheckNfs {
         object,
         requester,

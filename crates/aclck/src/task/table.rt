@@ -40,9 +40,7 @@ pub(crate) fn read(matches: &ArgMatches<'_>) -> Result<BitTable, LineFault>
     ensures { Reads table_held (table_in (rows_in matches.now)) result }
 {
     let profile = profile_in(matches)?;
-    let Some(bit) = bit_in(text_of(matches, "bit"), profile.masks) else {
-        return Err(LineFault::Usage);
-    };
+    let bit = bit_in(text_of(matches, "bit"), profile.masks).ok_or(LineFault::Usage)?;
     Ok(BitTable { bit, profile })
 }
 
