@@ -54,86 +54,69 @@ impl From<Fault> for ListFault {
     }
 }
 
-// How many bytes a pull asks for at most.
-const PIECE: usize = 4096;
-
-/// What the last pull of an input gave and no value has taken.
-#[derive(Drop)]
-pub(crate) struct Pulled {
-    room: [u8; PIECE],
-    start: usize,
-    end: usize,
-}
-
-impl Model for Pulled {
-    ghost use Rattle.std.specs.Prelude.{◌≤◌, ◌-◌, List, ℕ, drop, take};
-    ghost use Rattle.aclck.specs.ListInput.{piece_len};
-
-    ghost Value = { List ℕ };
-
-    ghost view = { λ s. take (s.end - s.start) (drop s.start s.room) };
-
-    ghost invariant = { λ s. (s.start ≤ s.end) × (s.end ≤ piece_len) };
-}
-
-// The bytes that it is given, with a clause that says that they are bytes, which their type alone does not.
-fn seen(bytes: &[u8]) -> &[u8]
-    ensures is { result.now ≡ bytes.now }
-    ensures bytes { IsBytes result.now }
+/// Reads the list of the profile that an input is, and nothing more, by pulls of at most 4,096 bytes. Nothing is read
+/// after a refusal, or after a byte behind the list.
+pub(crate) fn read_list<S: Source>(
+    alloc: Global,
+    source: &mut S,
+    profile: Profile,
+) -> Result<Acl, RunFault>
+    ensures { ReadsInput (one_list (profile_of profile)) (Xdr (profile_of profile))
+        (S.remaining source.old) (S.remaining source.new)
+        (S.failure_count source.old) (S.failure_count source.new) result }
 {
-    bytes
+    let mut pulled = Pulled::new();
+    let Value { list, len } = read_value(alloc, source, &mut pulled, profile)?;
+    read_end(source, &mut pulled, len)?;
+    Ok(list)
 }
 
-impl Pulled {
-    /// Nothing was pulled yet.
-    pub(crate) fn new() -> Pulled
-        ensures { result ≡ [] }
-    {
-        Pulled {
-            room: [0; PIECE],
-            start: 0,
-            end: 0,
+/// Two lists.
+#[derive(Drop)]
+pub(crate) struct TwoLists {
+    pub(crate) first: Acl,
+    pub(crate) second: Acl,
+}
+
+/// Reads the two lists of the profile that an input is, one after the other, and nothing more, as `read_list` does. A
+/// fault counts from the start of the input.
+pub(crate) fn read_two<S: Source>(
+    alloc: Global,
+    source: &mut S,
+    profile: Profile,
+) -> Result<TwoLists, RunFault>
+    ensures { ReadsInput (two_lists (profile_of profile))
+        (λ (two : TwoLists). AreTwo (profile_of profile) two.first two.second)
+        (S.remaining source.old) (S.remaining source.new)
+        (S.failure_count source.old) (S.failure_count source.new) result }
+{
+    let mut pulled = Pulled::new();
+    let first = read_value(alloc, source, &mut pulled, profile)?;
+    match read_value(alloc, source, &mut pulled, profile) {
+        Ok(second) => {
+            read_end(source, &mut pulled, first.len + second.len)?;
+            Ok(TwoLists {
+                first: first.list,
+                second: second.list,
+            })
         }
+        Err(fault) => Err(RunFault::from(behind(fault, first.len))),
     }
+}
 
-    /// What is left.
-    fn left(&self) -> &[u8]
-        ensures is { result.now ≡ self.now }
-        ensures short { length self.now ≤ piece_len }
-        ensures bytes { IsBytes result.now }
-    {
-        seen(&self.room[self.start..self.end])
-    }
-
-    // Takes so many bytes away, which belong to a value.
-    fn take(&mut self, count: usize)
-        requires { count ≤ length self.old }
-        ensures { self.new ≡ drop count self.old }
-    {
-        self.start += count;
-    }
-
-    // What is left is done with: what one more pull gives stands in its place. Whether that is any byte.
-    fn pull<S: Source>(&mut self, source: &mut S) -> Result<bool, ListFault>
-        ensures given { OnOk result
-            (Consumes (S.remaining source.old) (S.remaining source.new) self.new) }
-        ensures some { IfOk result (λ came. came ≡ true → 0 < length self.new) }
-        ensures end { IfOk result (λ came.
-            came ≡ false → (self.new ≡ []) × IsAtEnd (S.remaining source.new)) }
-        ensures failed { IfErr result (λ e. e ≡ ListFault.Read) }
-        ensures kept { OnErr result (Keeps (S.remaining source.old) (S.remaining source.new)) }
-        ensures short { length self.new ≤ piece_len }
-        ensures reads { S.failure_count source.new
-            ≡ failures_after (S.failure_count source.old) (has_pull_failed result) }
-    {
-        match source.pull(&mut self.room) {
-            Ok(count) => {
-                self.start = 0;
-                self.end = count;
-                Ok(count > 0)
-            }
-            Err(_) => Err(ListFault::Read),
-        }
+// The fault of what stands behind so many bytes, counted from their start.
+fn behind(fault: ListFault, len: u64) -> ListFault
+    requires fault { StandsBelow (2 ^ 32) fault }
+    requires len { len < 2 ^ 32 }
+    ensures { result ≡ later fault len }
+{
+    match fault {
+        ListFault::Refused(found) => ListFault::Refused(Fault {
+            offset: found.offset + len,
+            reason: found.reason,
+        }),
+        ListFault::Read => ListFault::Read,
+        ListFault::Memory => ListFault::Memory,
     }
 }
 
@@ -218,68 +201,85 @@ pub(crate) fn read_end<S: Source>(
     }
 }
 
-/// Reads the list of the profile that an input is, and nothing more, by pulls of at most 4,096 bytes. Nothing is read
-/// after a refusal, or after a byte behind the list.
-pub(crate) fn read_list<S: Source>(
-    alloc: Global,
-    source: &mut S,
-    profile: Profile,
-) -> Result<Acl, RunFault>
-    ensures { ReadsInput (one_list (profile_of profile)) (Xdr (profile_of profile))
-        (S.remaining source.old) (S.remaining source.new)
-        (S.failure_count source.old) (S.failure_count source.new) result }
-{
-    let mut pulled = Pulled::new();
-    let Value { list, len } = read_value(alloc, source, &mut pulled, profile)?;
-    read_end(source, &mut pulled, len)?;
-    Ok(list)
-}
+// How many bytes a pull asks for at most.
+const PIECE: usize = 4096;
 
-/// Two lists.
+/// What the last pull of an input gave and no value has taken.
 #[derive(Drop)]
-pub(crate) struct TwoLists {
-    pub(crate) first: Acl,
-    pub(crate) second: Acl,
+pub(crate) struct Pulled {
+    room: [u8; PIECE],
+    start: usize,
+    end: usize,
 }
 
-/// Reads the two lists of the profile that an input is, one after the other, and nothing more, as `read_list` does. A
-/// fault counts from the start of the input.
-pub(crate) fn read_two<S: Source>(
-    alloc: Global,
-    source: &mut S,
-    profile: Profile,
-) -> Result<TwoLists, RunFault>
-    ensures { ReadsInput (two_lists (profile_of profile))
-        (λ (two : TwoLists). AreTwo (profile_of profile) two.first two.second)
-        (S.remaining source.old) (S.remaining source.new)
-        (S.failure_count source.old) (S.failure_count source.new) result }
-{
-    let mut pulled = Pulled::new();
-    let first = read_value(alloc, source, &mut pulled, profile)?;
-    match read_value(alloc, source, &mut pulled, profile) {
-        Ok(second) => {
-            read_end(source, &mut pulled, first.len + second.len)?;
-            Ok(TwoLists {
-                first: first.list,
-                second: second.list,
-            })
+impl Model for Pulled {
+    ghost use Rattle.std.specs.Prelude.{◌≤◌, ◌-◌, List, ℕ, drop, take};
+    ghost use Rattle.aclck.specs.ListInput.{piece_len};
+
+    ghost Value = { List ℕ };
+
+    ghost view = { λ s. take (s.end - s.start) (drop s.start s.room) };
+
+    ghost invariant = { λ s. (s.start ≤ s.end) × (s.end ≤ piece_len) };
+}
+
+impl Pulled {
+    /// Nothing was pulled yet.
+    pub(crate) fn new() -> Pulled
+        ensures { result ≡ [] }
+    {
+        Pulled {
+            room: [0; PIECE],
+            start: 0,
+            end: 0,
         }
-        Err(fault) => Err(RunFault::from(behind(fault, first.len))),
+    }
+
+    /// What is left.
+    fn left(&self) -> &[u8]
+        ensures is { result.now ≡ self.now }
+        ensures short { length self.now ≤ piece_len }
+        ensures bytes { IsBytes result.now }
+    {
+        seen(&self.room[self.start..self.end])
+    }
+
+    // Takes so many bytes away, which belong to a value.
+    fn take(&mut self, count: usize)
+        requires { count ≤ length self.old }
+        ensures { self.new ≡ drop count self.old }
+    {
+        self.start += count;
+    }
+
+    // What is left is done with: what one more pull gives stands in its place. Whether that is any byte.
+    fn pull<S: Source>(&mut self, source: &mut S) -> Result<bool, ListFault>
+        ensures given { OnOk result
+            (Consumes (S.remaining source.old) (S.remaining source.new) self.new) }
+        ensures some { IfOk result (λ came. came ≡ true → 0 < length self.new) }
+        ensures end { IfOk result (λ came.
+            came ≡ false → (self.new ≡ []) × IsAtEnd (S.remaining source.new)) }
+        ensures failed { IfErr result (λ e. e ≡ ListFault.Read) }
+        ensures kept { OnErr result (Keeps (S.remaining source.old) (S.remaining source.new)) }
+        ensures short { length self.new ≤ piece_len }
+        ensures reads { S.failure_count source.new
+            ≡ failures_after (S.failure_count source.old) (has_pull_failed result) }
+    {
+        match source.pull(&mut self.room) {
+            Ok(count) => {
+                self.start = 0;
+                self.end = count;
+                Ok(count > 0)
+            }
+            Err(_) => Err(ListFault::Read),
+        }
     }
 }
 
-// The fault of what stands behind so many bytes, counted from their start.
-fn behind(fault: ListFault, len: u64) -> ListFault
-    requires fault { StandsBelow (2 ^ 32) fault }
-    requires len { len < 2 ^ 32 }
-    ensures { result ≡ later fault len }
+// The bytes that it is given, with a clause that says that they are bytes, which their type alone does not.
+fn seen(bytes: &[u8]) -> &[u8]
+    ensures is { result.now ≡ bytes.now }
+    ensures bytes { IsBytes result.now }
 {
-    match fault {
-        ListFault::Refused(found) => ListFault::Refused(Fault {
-            offset: found.offset + len,
-            reason: found.reason,
-        }),
-        ListFault::Read => ListFault::Read,
-        ListFault::Memory => ListFault::Memory,
-    }
+    bytes
 }
