@@ -9,10 +9,10 @@ pub(crate) mod evaluation;
 mod inversions;
 pub(crate) mod mentioned;
 pub(crate) mod outcome;
-mod rows;
 mod search;
 mod situation;
 pub(crate) mod small_set;
+mod standing;
 
 use crate::comparison::mentioned::mentioned;
 use crate::comparison::outcome::answer;

@@ -14,9 +14,9 @@ use Rattle.acl_normal.specs.internal.FirstPlaces.{AreFirstFrom, AreWhoms, IsFirs
 use Rattle.acl_normal.specs.internal.Passes.{list_of}
 use Rattle.acl_normal.specs.internal.SetSearch.{is_granted_to}
 use Rattle.acl_normal.specs.SmallSituations.{is_among}
-use Rattle.acl_normal.specs.declared.comparison.rows.First.{First}
-use Rattle.acl_normal.specs.declared.comparison.rows.Whom.{Whom}
-use Rattle.acl_normal.specs.declared.comparison.rows.Whom.TheVariants.{Everyone, Nobody, One}
+use Rattle.acl_normal.specs.declared.comparison.standing.First.{First}
+use Rattle.acl_normal.specs.declared.comparison.standing.Whom.{Whom}
+use Rattle.acl_normal.specs.declared.comparison.standing.Whom.TheVariants.{Everyone, Nobody, One}
 use Rattle.acl_perm.specs.Bits.{has_bit}
 use Rattle.acl_perm.specs.Principal.{Principal, everyone}
 
@@ -47,7 +47,7 @@ regroup false y z = refl
 
 -- the first key of the rest decides, or none of it
 pub first_taken : (xs : List Ace) (a : Ace) (b i : ℕ) (p : Principal) → drop i xs ≡ a ∷ drop (i + 1) xs
-    → (has_bit a.mask b && is_of a p) ≡ true → IsFirstFrom xs b i p (record { place = i; allows = is_allow a.kind })
+    → (has_bit a.mask b && is_of a p) ≡ true → IsFirstFrom xs b i p (record { place = i; kind = a.kind })
 first_taken xs a b i p is h =
     let head : ((has_bit a.mask b && takes_part a) && is_among (principal_of a) (everyone ∷ p ∷ [])) ≡ true =
     regroup (has_bit a.mask b) (takes_part a) (is_among (principal_of a) (everyone ∷ p ∷ [])) ∙ h in
@@ -76,11 +76,11 @@ first_kept xs a b i p f is h later =
           ∙ ap (λ t. cond t (is_allow a.kind) (is_granted_to (drop (i + 1) xs) (p ∷ []) b)) head);
     }
 
--- behind the last place that is_counted
+-- at the first place of everyone, or behind the list
 pub first_end : (ps : List Principal) (xs : List Ace) (ws : List Whom) (b e k : ℕ) → k < length ps → e ≤ length xs
     → (e < length xs → stops_at xs ws b e ≡ true) → AreWhoms ps xs ws
     → IsFirstFrom xs b e (slice_index_or ps k everyone)
-    (record { place = e; allows = is_allow (slice_index_or xs e no_ace).kind })
+    (record { place = e; kind = (slice_index_or xs e no_ace).kind })
 first_end ps xs ws b e k lk le stop all = go (cases_lt e (length xs))
   where
     at : (a : Ace) (w : Whom) → stops b a w ≡ true → IsWhom ps a w
@@ -90,7 +90,7 @@ first_end ps xs ws b e k lk le stop all = go (cases_lt e (length xs))
 
     go : (e < length xs) ⊎ (length xs ≤ e)
         → IsFirstFrom xs b e (slice_index_or ps k everyone)
-        (record { place = e; allows = is_allow (slice_index_or xs e no_ace).kind })
+        (record { place = e; kind = (slice_index_or xs e no_ace).kind })
     go (inl lt) = first_taken xs (slice_index_or xs e no_ace) b e (slice_index_or ps k everyone)
         (drop_more xs e no_ace lt) (at _ _ (stop lt) (whom_at ps xs ws e lt all))
     go (inr past) =
@@ -105,7 +105,7 @@ first_end ps xs ws b e k lk le stop all = go (cases_lt e (length xs))
 -- all begin with what stands at the end
 pub firsts_start : (ps : List Principal) (xs : List Ace) (ws : List Whom) (b e : ℕ) (firsts : List First) (f : First)
     (n : ℕ) → firsts ≡ replicate n f → n ≡ length ps → f.place ≡ e
-    → f.allows ≡ is_allow (slice_index_or xs e no_ace).kind → e ≤ length xs
+    → f.kind ≡ (slice_index_or xs e no_ace).kind → e ≤ length xs
     → (e < length xs → stops_at xs ws b e ≡ true) → AreWhoms ps xs ws → AreFirstFrom ps xs b e firsts
 firsts_start ps xs ws b e firsts f n is count fp fa le stop all = record {
   count = ap length is ∙ length-replicate n f ∙ count;
@@ -121,7 +121,7 @@ firsts_start ps xs ws b e firsts f n is count fp fa le stop all = record {
     at k lt p a = record {
       place = ap (λ v. v.place) (value k lt) ∙ fp ∙ p;
       allows =
-          ap (λ v. v.allows) (value k lt) ∙ fa ∙ a;
+          ap (λ v. is_allow v.kind) (value k lt) ∙ ap is_allow fa ∙ a;
     }
 
 -- one key earlier
@@ -149,7 +149,7 @@ firsts_step ps xs a Everyone b i old is s h later =
 firsts_step ps xs a (One j) b i old is s h later = go (has_bit a.mask b) refl
   where
     new : First
-    new = record { place = i; allows = is_allow a.kind }
+    new = record { place = i; kind = a.kind }
 
     at : has_bit a.mask b ≡ true → (k : ℕ) → k < length ps → (k ≡ j) ⊎ (k ≡ j → ⊥)
         → IsFirstFrom xs b i (slice_index_or ps k everyone) (slice_index_or (slice_set old j new) k no_first)

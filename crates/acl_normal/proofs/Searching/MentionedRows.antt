@@ -29,7 +29,7 @@ use Rattle.acl_normal.specs.internal.MentionedRows.{AreByRow, AreMentionedRows, 
 use Rattle.acl_normal.specs.internal.Passes.{list_of}
 use Rattle.acl_normal.specs.internal.Rows.{AreRowNumbers, is_named, row_of}
 use Rattle.acl_normal.specs.internal.SetSearch.{IsRising, principals}
-use Rattle.acl_normal.specs.declared.comparison.rows.Whom.{Whom}
+use Rattle.acl_normal.specs.declared.comparison.standing.Whom.{Whom}
 use Rattle.acl_perm.proofs.Orders.{principal_exact}
 use Rattle.acl_perm.specs.Order.{principal_cmp}
 use Rattle.acl_perm.specs.Principal.{Principal, everyone, principal}

@@ -12,10 +12,11 @@ use Rattle.acl_normal.proofs.Unique.Names.{bytes_eq_same}
 use Rattle.acl_normal.proofs.Searching.SetEvaluation.{granted_to-cons}
 use Rattle.acl_normal.proofs.Searching.SetSearchLemmas.{found_right}
 use Rattle.acl_normal.specs.Keys.{principal_eq}
-use Rattle.acl_normal.specs.internal.FirstPlaces.{Agrees, AgreesAt, IsRow, SameAlone, first_place, inverts, inverts_any}
+use Rattle.acl_normal.specs.internal.Classes.{is_users}
+use Rattle.acl_normal.specs.internal.FirstPlaces.{Agrees, AgreesAt, IsStanding, SameAlone, first_place, inverts, inverts_any}
 use Rattle.acl_normal.specs.internal.SetSearch.{FindsFirst, differ, is_granted_to}
 use Rattle.acl_normal.specs.SmallSets.{pairs, partners}
-use Rattle.acl_normal.specs.declared.comparison.rows.Row.{Row}
+use Rattle.acl_normal.specs.declared.comparison.standing.Standing.{Standing}
 use Rattle.acl_perm.specs.Bits.{has_bit}
 use Rattle.acl_perm.specs.Overlap.{may_overlap}
 use Rattle.acl_perm.specs.Principal.{Principal, everyone, user, is_user}
@@ -108,23 +109,27 @@ other_choice false true true false h e = cc
 other_choice false true false true h e = cc
 
 -- what the rows say of a pair, in both lists
-pub here_is : (xs ys : List Ace) (b : ℕ) (p q : Principal) (r s : Row) → IsRow xs ys b p r → IsRow xs ys b q s
-    → is_granted_to xs (p ∷ q ∷ []) b ≡ cond (nat_lt s.here.place r.here.place) s.here.allows r.here.allows
+pub here_is : (xs ys : List Ace) (b : ℕ) (p q : Principal) (r s : Standing) → IsStanding xs ys b p r
+    → IsStanding xs ys b q s
+    → is_granted_to xs (p ∷ q ∷ []) b
+    ≡ cond (nat_lt s.here.place r.here.place) (is_allow s.here.kind) (is_allow r.here.kind)
 here_is xs ys b p q r s h i = pair_granted xs p q b
     ∙ rw (← h.here.place, ← i.here.place, ← h.here.allows, ← i.here.allows) refl
 
 -- and in the second list
-pub there_is : (xs ys : List Ace) (b : ℕ) (p q : Principal) (r s : Row) → IsRow xs ys b p r → IsRow xs ys b q s
+pub there_is : (xs ys : List Ace) (b : ℕ) (p q : Principal) (r s : Standing) → IsStanding xs ys b p r
+    → IsStanding xs ys b q s
     → SameAlone r → SameAlone s → is_granted_to ys (p ∷ q ∷ []) b
-    ≡ cond (nat_lt s.there.place r.there.place) s.here.allows r.here.allows
+    ≡ cond (nat_lt s.there.place r.there.place) (is_allow s.here.kind) (is_allow r.here.kind)
 there_is xs ys b p q r s h i u v =
     pair_granted ys p q b ∙ rw (← h.there.place, ← i.there.place, ← h.there.allows, ← i.there.allows, ← u, ← v) refl
 
 -- a pair that is not inverted is granted alike
-pub not_inverted : (xs ys : List Ace) (b : ℕ) (p q : Principal) (r s : Row) → IsRow xs ys b p r → IsRow xs ys b q s
+pub not_inverted : (xs ys : List Ace) (b : ℕ) (p q : Principal) (r s : Standing) → IsStanding xs ys b p r
+    → IsStanding xs ys b q s
     → SameAlone r → SameAlone s → inverts r s ≡ false → may_overlap p q ≡ true
     → is_granted_to xs (p ∷ q ∷ []) b ≡ is_granted_to ys (p ∷ q ∷ []) b
-not_inverted xs ys b p q r s h i u v e o = here_is xs ys b p q r s h i ∙ go (r.user && s.user) refl
+not_inverted xs ys b p q r s h i u v e o = here_is xs ys b p q r s h i ∙ go (is_users r.class && is_users s.class) refl
     ∙ sym (there_is xs ys b p q r s h i u v)
   where
     one_value : (l m x y : Bool) → x ≡ y → cond l x y ≡ cond m x y
@@ -133,28 +138,34 @@ not_inverted xs ys b p q r s h i u v e o = here_is xs ys b p q r s h i ∙ go (r
     one_value false true x y k = sym k
     one_value false false x y k = refl
 
-    go : (t : Bool) → (r.user && s.user) ≡ t
-        → cond (nat_lt s.here.place r.here.place) s.here.allows r.here.allows
-        ≡ cond (nat_lt s.there.place r.there.place) s.here.allows r.here.allows
+    go : (t : Bool) → (is_users r.class && is_users s.class) ≡ t
+        → cond (nat_lt s.here.place r.here.place) (is_allow s.here.kind) (is_allow r.here.kind)
+        ≡ cond (nat_lt s.there.place r.there.place) (is_allow s.here.kind) (is_allow r.here.kind)
     go true k =
-        let users = and_parts r.user s.user k in
-        let same : p ≡ q = both_users p q (sym h.user ∙ users.0) (sym i.user ∙ users.1) o in
+        let users = and_parts (is_users r.class) (is_users s.class) k in
+        let same : p ≡ q = both_users p q (sym h.class ∙ users.0) (sym i.class ∙ users.1) o in
         one_value _ _ _ _ (i.here.allows ∙ ap (λ x. is_granted_to xs (x ∷ []) b) (sym same) ∙ sym h.here.allows)
-    go false k = same_choice (nat_lt s.here.place r.here.place) (nat_lt s.there.place r.there.place) r.here.allows
-        s.here.allows (sym (ap (λ t. (not t && differ r.here.allows s.here.allows) && differ
+    go false k = same_choice (nat_lt s.here.place r.here.place) (nat_lt s.there.place r.there.place)
+        (is_allow r.here.kind)
+        (is_allow s.here.kind) (sym (ap (λ t. (not t && differ (is_allow r.here.kind) (is_allow s.here.kind)) && differ
         (nat_lt s.here.place r.here.place) (nat_lt s.there.place r.there.place)) k) ∙ e)
 
 -- one that is inverted may overlap, and is not
-pub inverted : (xs ys : List Ace) (b : ℕ) (p q : Principal) (r s : Row) → IsRow xs ys b p r → IsRow xs ys b q s
+pub inverted : (xs ys : List Ace) (b : ℕ) (p q : Principal) (r s : Standing) → IsStanding xs ys b p r
+    → IsStanding xs ys b q s
     → SameAlone r → SameAlone s → inverts r s ≡ true
     → (may_overlap p q ≡ true) × (is_granted_to xs (p ∷ q ∷ []) b ≢ is_granted_to ys (p ∷ q ∷ []) b)
 inverted xs ys b p q r s h i u v e =
-    let outer = and_parts (not (r.user && s.user) && differ r.here.allows s.here.allows)
+    let outer = and_parts (not (is_users r.class && is_users s.class)
+        && differ (is_allow r.here.kind) (is_allow s.here.kind))
     (differ (nat_lt s.here.place r.here.place) (nat_lt s.there.place r.there.place)) e in
-    let inner = and_parts (not (r.user && s.user)) (differ r.here.allows s.here.allows) outer.0 in (
-      not_both_users p q (ap2_and (sym h.user) (sym i.user) ∙ not_true (r.user && s.user) inner.0),
-      λ same. other_choice (nat_lt s.here.place r.here.place) (nat_lt s.there.place r.there.place) r.here.allows
-          s.here.allows (and_from (differ r.here.allows s.here.allows)
+    let inner = and_parts (not (is_users r.class && is_users s.class))
+        (differ (is_allow r.here.kind) (is_allow s.here.kind)) outer.0 in (
+      not_both_users p q (ap2_and (sym h.class) (sym i.class)
+      ∙ not_true (is_users r.class && is_users s.class) inner.0),
+      λ same. other_choice (nat_lt s.here.place r.here.place) (nat_lt s.there.place r.there.place)
+      (is_allow r.here.kind)
+          (is_allow s.here.kind) (and_from (differ (is_allow r.here.kind) (is_allow s.here.kind))
           (differ (nat_lt s.here.place r.here.place) (nat_lt s.there.place r.there.place)) inner.1 outer.1)
           (sym (here_is xs ys b p q r s h i) ∙ same ∙ there_is xs ys b p q r s h i u v),
     )
@@ -167,8 +178,9 @@ inverted xs ys b p q r s h i u v e =
     not_true false k = refl
 
 -- a principal agrees with all the others on the bit just where its row inverts none
-pub agrees_from_rows : (xs ys : List Ace) (b : ℕ) (p : Principal) (r : Row) (ps : List Principal) (rows : List Row)
-    → IsRow xs ys b p r → SameAlone r → AllZip (IsRow xs ys b) ps rows → AllByRecursion SameAlone rows
+pub agrees_from_rows : (xs ys : List Ace) (b : ℕ) (p : Principal) (r : Standing) (ps : List Principal)
+    (rows : List Standing)
+    → IsStanding xs ys b p r → SameAlone r → AllZip (IsStanding xs ys b) ps rows → AllByRecursion SameAlone rows
     → inverts_any r rows ≡ false → AgreesAt xs ys ps b p
 agrees_from_rows xs ys b p r [] [] h u z all e = tt
 agrees_from_rows xs ys b p r (q ∷ ps) (s ∷ rows) h u z all e =
@@ -177,8 +189,8 @@ agrees_from_rows xs ys b p r (q ∷ ps) (s ∷ rows) h u z all e =
 agrees_from_rows xs ys b p r _ _ h u z all e = absurd z
 
 -- and doesn't where it inverts one
-pub not_agrees_from_rows : (xs ys : List Ace) (b : ℕ) (p : Principal) (r : Row) (ps : List Principal)
-    (rows : List Row) → IsRow xs ys b p r → SameAlone r → AllZip (IsRow xs ys b) ps rows
+pub not_agrees_from_rows : (xs ys : List Ace) (b : ℕ) (p : Principal) (r : Standing) (ps : List Principal)
+    (rows : List Standing) → IsStanding xs ys b p r → SameAlone r → AllZip (IsStanding xs ys b) ps rows
     → AllByRecursion SameAlone rows → inverts_any r rows ≡ true → AgreesAt xs ys ps b p → ⊥
 not_agrees_from_rows xs ys b p r [] [] h u z all e a = cc
 not_agrees_from_rows xs ys b p r (q ∷ ps) (s ∷ rows) h u z all e a =

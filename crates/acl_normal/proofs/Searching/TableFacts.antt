@@ -12,28 +12,36 @@ use Rattle.acl_eval.specs.Column.{takes_part}
 use Rattle.acl_nfs4.specs.Ace.{Ace, ace}
 use Rattle.acl_nfs4.specs.Who.{principal_of}
 use Rattle.acl_nfs4.specs.declared.ace.AceRef.{AceRef}
-use Rattle.acl_normal.specs.internal.FirstPlaces.{AreRows, IsRow, first_place, inverts, inverts_any, no_row}
+use Rattle.acl_normal.specs.internal.FirstPlaces.{AreStandings, IsStanding, first_place, inverts, inverts_any, no_standing}
+use Rattle.acl_normal.specs.internal.Classes.{is_users}
 use Rattle.acl_normal.specs.internal.Passes.{list_of}
-use Rattle.acl_normal.specs.internal.PlaceTables.{HasPlaces, IsFirstOf, IsScattered, IsTable, Raises, is_counted, is_of_sort, is_told, most_at, most_before, other_place, place_of}
+use Rattle.acl_normal.specs.internal.PlaceTables.{HasPlaces, IsFirstOf, IsScattered, IsTable, Raises, is_counted, is_of_camp, is_told, most_at, most_before, other_place, place_of}
 use Rattle.acl_normal.specs.internal.SetSearch.{differ}
 use Rattle.acl_normal.specs.SmallSituations.{is_among}
-use Rattle.acl_normal.specs.declared.comparison.inversions.Sort.{Sort}
-use Rattle.acl_normal.specs.declared.comparison.rows.Row.{Row}
+use Rattle.acl_normal.specs.declared.class.Class.{Class}
+use Rattle.acl_normal.specs.declared.class.Class.TheVariants.{Others, Users}
+use Rattle.acl_normal.specs.declared.comparison.inversions.Camp.{Camp}
+use Rattle.acl_normal.specs.declared.comparison.inversions.Side.{Side}
+use Rattle.acl_normal.specs.declared.comparison.inversions.Side.TheVariants.{Here, There}
+use Rattle.acl_normal.specs.declared.comparison.standing.Standing.{Standing}
 use Rattle.acl_perm.specs.Bits.{has_bit}
+use Rattle.acl_perm.specs.Kind.{is_allow}
+use Rattle.acl_perm.specs.declared.kind.Kind.{Kind}
+use Rattle.acl_perm.specs.declared.kind.Kind.TheVariants.{Allow, Deny}
 use Rattle.acl_perm.specs.Principal.{Principal, everyone}
 
--- the sort of a row
-abbrev pub sort_of : Row → Sort
-sort_of r = record { allows = r.here.allows; user = r.user }
+-- the camp of a row
+abbrev pub camp_of : Standing → Camp
+camp_of r = record { kind = r.here.kind; class = r.class }
 
 -- the greatest of two parts is the greater of theirs
-pub most_at-append : (q : Sort) (w : Bool) (k : ℕ) (xs ys : List Row)
+pub most_at-append : (q : Camp) (w : Side) (k : ℕ) (xs ys : List Standing)
     → most_at q w k (xs ++ ys) ≡ max (most_at q w k xs) (most_at q w k ys)
 most_at-append q w k [] ys = omega arith
 most_at-append q w k (r ∷ xs) ys = let ih = most_at-append q w k xs ys in omega arith
 
 -- nothing stands just before place 0
-pub at_zero : (q : Sort) (w : Bool) (rows : List Row) → most_at q w 0 rows ≡ 0
+pub at_zero : (q : Camp) (w : Side) (rows : List Standing) → most_at q w 0 rows ≡ 0
 at_zero q w [] = refl
 at_zero q w (r ∷ rows) = rw (ne_eqb (place_of w r + 1) 0 (λ e. absurd (omega arith)), at_zero q w rows)
     (none (is_counted q r))
@@ -43,7 +51,7 @@ at_zero q w (r ∷ rows) = rw (ne_eqb (place_of w r + 1) 0 (λ e. absurd (omega 
     none false = refl
 
 -- nothing stands before place 0
-pub before_zero : (q : Sort) (w : Bool) (rows : List Row) → most_before q w 0 rows ≡ 0
+pub before_zero : (q : Camp) (w : Side) (rows : List Standing) → most_before q w 0 rows ≡ 0
 before_zero q w [] = refl
 before_zero q w (r ∷ rows) =
     rw (le-ltb (place_of w r) 0 (omega arith), before_zero q w rows) (none (is_counted q r))
@@ -76,7 +84,7 @@ one_more true k j v = go (cases_order j k)
     ) refl
 
 -- one place on, those just before it are added
-pub before_more : (q : Sort) (w : Bool) (k : ℕ) (rows : List Row)
+pub before_more : (q : Camp) (w : Side) (k : ℕ) (rows : List Standing)
     → most_before q w (k + 1) rows ≡ max (most_at q w (k + 1) rows) (most_before q w k rows)
 before_more q w k [] = refl
 before_more q w k (r ∷ rows) =
@@ -84,8 +92,8 @@ before_more q w k (r ∷ rows) =
     let ih = before_more q w k rows in
     omega arith
 
--- some row is_counted, stands before k, and isn't before v in the other list
-abbrev pub any_over : Sort → Bool → ℕ → ℕ → List Row → Bool
+-- some row counts, stands before k, and isn't before v in the other list
+abbrev pub any_over : Camp → Side → ℕ → ℕ → List Standing → Bool
 any_over q w k v [] = false
 any_over q w k v (r ∷ rows) =
     (is_counted q r && (nat_lt (place_of w r) k && not (nat_lt (other_place w r) v))) || any_over q w k v rows
@@ -98,7 +106,7 @@ over_head true false v x m = grind (arith, nat_tests)
 over_head false l v x m = grind (arith, nat_tests)
 
 -- the greatest is over a number exactly if some row is
-pub over_is : (q : Sort) (w : Bool) (k v : ℕ) (rows : List Row)
+pub over_is : (q : Camp) (w : Side) (k v : ℕ) (rows : List Standing)
     → nat_lt v (most_before q w k rows) ≡ any_over q w k v rows
 over_is q w k v [] = le-ltb v 0 (omega arith)
 over_is q w k v (r ∷ rows) =
@@ -117,32 +125,33 @@ either_order true false false x y = refl
 either_order false l m x y = refl
 
 -- a row inverts another just where the tables, in one direction or in the other, say so
-pub inverts_is : (r : Row) (rows : List Row)
-    → inverts_any r rows ≡ (any_over (sort_of r) false r.here.place r.there.place rows || any_over
-    (sort_of r) true r.there.place r.here.place rows)
+pub inverts_is : (r : Standing) (rows : List Standing)
+    → inverts_any r rows ≡ (any_over (camp_of r) Here r.here.place r.there.place rows || any_over
+    (camp_of r) There r.there.place r.here.place rows)
 inverts_is r [] = refl
 inverts_is r (s ∷ rows) =
     ap (λ t. inverts r s || t) (inverts_is r rows)
-    ∙ either_order (is_counted (sort_of r) s) (nat_lt s.here.place r.here.place)
-    (nat_lt s.there.place r.there.place) (any_over (sort_of r) false r.here.place r.there.place rows)
-    (any_over (sort_of r) true r.there.place r.here.place rows)
+    ∙ either_order (is_counted (camp_of r) s) (nat_lt s.here.place r.here.place)
+    (nat_lt s.there.place r.there.place) (any_over (camp_of r) Here r.here.place r.there.place rows)
+    (any_over (camp_of r) There r.there.place r.here.place rows)
 
 -- the same, by what the tables hold
-pub inverts_by_tables : (r : Row) (rows : List Row) (f s : ℕ)
-    → f ≡ most_before (sort_of r) false r.here.place rows
-    → s ≡ most_before (sort_of r) true r.there.place rows
+pub inverts_by_tables : (r : Standing) (rows : List Standing) (f s : ℕ)
+    → f ≡ most_before (camp_of r) Here r.here.place rows
+    → s ≡ most_before (camp_of r) There r.there.place rows
     → inverts_any r rows ≡ (nat_lt r.there.place f || nat_lt r.here.place s)
 inverts_by_tables r rows f s h i =
     inverts_is r rows ∙ rw (
       h,
       i,
-      over_is (sort_of r) false r.here.place r.there.place rows,
+      over_is (camp_of r) Here r.here.place r.there.place rows,
       over_is
-          (sort_of r) true r.there.place r.here.place rows,
+          (camp_of r) There r.there.place r.here.place rows,
     ) refl
 
 -- a row that counts raises what stands behind its place
-pub raises_set : (q : Sort) (w : Bool) (r : Row) (old new : List ℕ) (j v : ℕ) → j < length old → is_counted q r ≡ true
+pub raises_set : (q : Camp) (w : Side) (r : Standing) (old new : List ℕ) (j v : ℕ) → j < length old
+    → is_counted q r ≡ true
     → j ≡ place_of w r + 1 → v ≡ other_place w r + 1 → new ≡ slice_set old j (max (slice_index_or old j 0) v)
     → Raises q w r old new
 raises_set q w r old new j v lt c jk vk is =
@@ -163,11 +172,11 @@ raises_set q w r old new j v lt c jk vk is =
         ∙ rw (c, ne_eqb (place_of w r + 1) k (λ e. n (sym e ∙ sym jk))) (omega arith)
 
 -- one that doesn't leaves it
-pub raises_none : (q : Sort) (w : Bool) (r : Row) (old : List ℕ) → is_counted q r ≡ false → Raises q w r old old
+pub raises_none : (q : Camp) (w : Side) (r : Standing) (old : List ℕ) → is_counted q r ≡ false → Raises q w r old old
 raises_none q w r old c = record { count = refl; each = λ k lk. rw c (omega arith) }
 
 -- before the first row all is zero
-pub scatter_start : (q : Sort) (w : Bool) (size n : ℕ) (table : List ℕ) → table ≡ replicate n 0 → n ≡ size + 2
+pub scatter_start : (q : Camp) (w : Side) (size n : ℕ) (table : List ℕ) → table ≡ replicate n 0 → n ≡ size + 2
     → IsScattered q w size [] table
 scatter_start q w size n table is e =
     record {
@@ -177,7 +186,8 @@ scatter_start q w size n table is e =
     }
 
 -- one more row
-pub scatter_more : (q : Sort) (w : Bool) (size i : ℕ) (rows : List Row) (d : Row) (old new : List ℕ) → i < length rows
+pub scatter_more : (q : Camp) (w : Side) (size i : ℕ) (rows : List Standing) (d : Standing) (old new : List ℕ)
+    → i < length rows
     → Raises q w (slice_index_or rows i d) old new → IsScattered q w size (take i rows) old
     → IsScattered q w size (take (i + 1) rows) new
 scatter_more q w size i rows d old new lt up h = record {
@@ -197,19 +207,20 @@ scatter_more q w size i rows d old new lt up h = record {
     whole k e = omega arith
 
 -- the places below k are finished
-pub record IsSummed (q : Sort) (w : Bool) (size k : ℕ) (rows : List Row) (table : List ℕ) : Type 0 where
+pub record IsSummed (q : Camp) (w : Side) (size k : ℕ) (rows : List Standing) (table : List ℕ) : Type 0 where
   pub count : length table ≡ size + 2
   pub done : (j : ℕ) → j < k → slice_index_or table j 0 ≡ most_before q w j rows
   pub left : (j : ℕ) → k ≤ j → j < size + 2 → slice_index_or table j 0 ≡ most_at q w j rows
 
 -- after all rows
-pub scatter_all : (q : Sort) (w : Bool) (size i : ℕ) (rows : List Row) (table : List ℕ) → length rows ≤ i
+pub scatter_all : (q : Camp) (w : Side) (size i : ℕ) (rows : List Standing) (table : List ℕ) → length rows ≤ i
     → IsScattered q w size (take i rows) table → IsScattered q w size rows table
 scatter_all q w size i rows table le h =
     record { count = h.count; each = λ k lt. h.each k lt ∙ ap (most_at q w k) (take_all i rows le) }
 
 -- nothing stands before place 0
-pub summed_start : (q : Sort) (w : Bool) (size : ℕ) (rows : List Row) (table : List ℕ) → IsScattered q w size rows table
+pub summed_start : (q : Camp) (w : Side) (size : ℕ) (rows : List Standing) (table : List ℕ)
+    → IsScattered q w size rows table
     → IsSummed q w size 1 rows table
 summed_start q w size rows table h = record {
   count = h.count;
@@ -220,7 +231,8 @@ summed_start q w size rows table h = record {
 }
 
 -- one more place
-pub summed_more : (q : Sort) (w : Bool) (size k x y : ℕ) (rows : List Row) (old new : List ℕ) → 0 < k → k < size + 2
+pub summed_more : (q : Camp) (w : Side) (size k x y : ℕ) (rows : List Standing) (old new : List ℕ) → 0 < k
+    → k < size + 2
     → x ≡ slice_index_or old k x → y ≡ slice_index_or old (k - 1) y → new ≡ slice_set old k (max x y)
     → IsSummed q w size k rows old → IsSummed q w size (k + 1) rows new
 summed_more q w size k x y rows old new pos lt xi yi is h = record {
@@ -250,64 +262,69 @@ summed_more q w size k x y rows old new pos lt xi yi is h = record {
     at j l (inr n) = get_or-set_other old k j (max x y) 0 n ∙ h.done j (omega arith)
 
 -- after the last place the table is done
-pub summed_done : (q : Sort) (w : Bool) (size k : ℕ) (rows : List Row) (table : List ℕ) → size + 2 ≤ k
+pub summed_done : (q : Camp) (w : Side) (size k : ℕ) (rows : List Standing) (table : List ℕ) → size + 2 ≤ k
     → IsSummed q w size k rows table → IsTable q w size rows table
 summed_done q w size k rows table le h = record { count = h.count; each = λ j lt. h.done j (omega arith) }
 
 -- the places of one of the rows
-pub places_at : (size i : ℕ) (rows : List Row) (d : Row) → i < length rows → AllByRecursion (HasPlaces size) rows
+pub places_at : (size i : ℕ) (rows : List Standing) (d : Standing) → i < length rows
+    → AllByRecursion (HasPlaces size) rows
     → HasPlaces size (slice_index_or rows i d)
 places_at size i [] d lt h = absurd (omega arith)
 places_at size zero (r ∷ rows) d lt h = h.0
 places_at size (suc i) (r ∷ rows) d lt h = places_at size i rows d (omega arith) h.1
 
--- its places are within the lists, in either order
-pub key_within : (w : Bool) (size : ℕ) (r : Row) → HasPlaces size r → (place_of w r ≤ size) × (other_place w r ≤ size)
-key_within true size r h = (h.there, h.here)
-key_within false size r h = (h.here, h.there)
+-- types that don't differ are the same
+same_kind : (k l : Kind) → not (differ (is_allow k) (is_allow l)) ≡ true → k ≡ l
+same_kind Deny Deny h = refl
+same_kind Allow Allow h = refl
+same_kind Deny Allow h = cc
+same_kind Allow Deny h = cc
 
--- answers that don't differ are the same
-not_differ : (x y : Bool) → not (differ x y) ≡ true → x ≡ y
-not_differ true true h = refl
-not_differ false false h = refl
-not_differ true false h = cc
-not_differ false true h = cc
+-- and so are classes
+same_class : (k l : Class) → not (differ (is_users k) (is_users l)) ≡ true → k ≡ l
+same_class Users Users h = refl
+same_class Others Others h = refl
+same_class Users Others h = cc
+same_class Others Users h = cc
 
--- a row of a sort has that sort
-pub kind_is : (q : Sort) (r : Row) → is_of_sort q r ≡ true → q ≡ sort_of r
-kind_is q r h = let p = and_parts (not (differ q.allows r.here.allows)) (not (differ q.user r.user)) h in
-    ap (λ v. record { allows = v; user = q.user }) (not_differ q.allows r.here.allows p.0)
-    ∙ ap (λ v. record { allows = r.here.allows; user = v }) (not_differ q.user r.user p.1)
+-- a row of a camp has that camp
+pub camp_is : (q : Camp) (r : Standing) → is_of_camp q r ≡ true → q ≡ camp_of r
+camp_is q r h = let p = and_parts (not (differ (is_allow q.kind) (is_allow r.here.kind)))
+    (not (differ (is_users q.class) (is_users r.class))) h in
+    ap (λ v. record { kind = v; class = q.class }) (same_kind q.kind r.here.kind p.0)
+    ∙ ap (λ v. record { kind = r.here.kind; class = v }) (same_class q.class r.class p.1)
 
--- what the two tables say of a row of their sort
-pub by_kind : (q : Sort) (size : ℕ) (rows : List Row) (r : Row) (forward back : List ℕ) → is_of_sort q r ≡ true
-    → HasPlaces size r → IsTable q false size rows forward → IsTable q true size rows back
+-- what the two tables say of a row of their camp
+pub by_camp : (q : Camp) (size : ℕ) (rows : List Standing) (r : Standing) (forward back : List ℕ)
+    → is_of_camp q r ≡ true
+    → HasPlaces size r → IsTable q Here size rows forward → IsTable q There size rows back
     → inverts_any r rows ≡ (nat_lt r.there.place (slice_index_or forward r.here.place 0) || nat_lt r.here.place
     (slice_index_or back r.there.place 0))
-by_kind q size rows r forward back k p f b =
-    let own = kind_is q r k in
+by_camp q size rows r forward back k p f b =
+    let own = camp_is q r k in
     let here_in = p.here in
     let there_in = p.there in
     inverts_by_tables r rows (slice_index_or forward r.here.place 0) (slice_index_or back r.there.place 0)
-    (f.each r.here.place (omega arith) ∙ ap (λ v. most_before v false r.here.place rows) own)
-    (b.each r.there.place (omega arith) ∙ ap (λ v. most_before v true r.there.place rows) own)
+    (f.each r.here.place (omega arith) ∙ ap (λ v. most_before v Here r.here.place rows) own)
+    (b.each r.there.place (omega arith) ∙ ap (λ v. most_before v There r.there.place rows) own)
 
 -- a row that is told inverts another
-pub found_true : (q : Sort) (size : ℕ) (rows : List Row) (r : Row) (forward back : List ℕ) (t : Bool)
-    → t ≡ is_told q r forward back → t ≡ true → HasPlaces size r → IsTable q false size rows forward
-    → IsTable q true size rows back → inverts_any r rows ≡ true
+pub found_true : (q : Camp) (size : ℕ) (rows : List Standing) (r : Standing) (forward back : List ℕ) (t : Bool)
+    → t ≡ is_told q r forward back → t ≡ true → HasPlaces size r → IsTable q Here size rows forward
+    → IsTable q There size rows back → inverts_any r rows ≡ true
 found_true q size rows r forward back t h e p f b =
-    let parts = and_parts (is_of_sort q r)
+    let parts = and_parts (is_of_camp q r)
     (nat_lt r.there.place (slice_index_or forward r.here.place 0) || nat_lt r.here.place
     (slice_index_or back r.there.place 0)) (sym h ∙ e) in
-    by_kind q size rows r forward back parts.0 p f b ∙ parts.1
+    by_camp q size rows r forward back parts.0 p f b ∙ parts.1
 
--- one of the sort that is not told inverts none
-pub found_false : (q : Sort) (size : ℕ) (rows : List Row) (r : Row) (forward back : List ℕ) (t : Bool)
-    → t ≡ is_told q r forward back → t ≡ false → HasPlaces size r → IsTable q false size rows forward
-    → IsTable q true size rows back → is_of_sort q r ≡ true → inverts_any r rows ≡ false
+-- one of the camp that is not told inverts none
+pub found_false : (q : Camp) (size : ℕ) (rows : List Standing) (r : Standing) (forward back : List ℕ) (t : Bool)
+    → t ≡ is_told q r forward back → t ≡ false → HasPlaces size r → IsTable q Here size rows forward
+    → IsTable q There size rows back → is_of_camp q r ≡ true → inverts_any r rows ≡ false
 found_false q size rows r forward back t h e p f b k =
-    by_kind q size rows r forward back k p f b
+    by_camp q size rows r forward back k p f b
     ∙ sym (ap (λ v. v && (nat_lt r.there.place (slice_index_or forward r.here.place 0) || nat_lt r.here.place
     (slice_index_or back r.there.place 0))) k)
     ∙ sym h ∙ e
@@ -323,8 +340,8 @@ first_place_within ps b (a ∷ xs) =
     go false h = omega arith
 
 -- the places of rows are within the lists
-pub rows_within : (ps : List Principal) (xs ys : List Ace) (b size : ℕ) (rows : List Row) → length xs ≤ size
-    → length ys ≤ size → AllZip (IsRow xs ys b) ps rows → AllByRecursion (HasPlaces size) rows
+pub rows_within : (ps : List Principal) (xs ys : List Ace) (b size : ℕ) (rows : List Standing) → length xs ≤ size
+    → length ys ≤ size → AllZip (IsStanding xs ys b) ps rows → AllByRecursion (HasPlaces size) rows
 rows_within [] xs ys b size [] lx ly z = tt
 rows_within (p ∷ ps) xs ys b size (r ∷ rows) lx ly z = (
   record {
@@ -337,38 +354,41 @@ rows_within (p ∷ ps) xs ys b size (r ∷ rows) lx ly z = (
 rows_within _ xs ys b size _ lx ly z = absurd z
 
 -- the same, as the code holds the rows
-pub slice_within : (ps : List Principal) (first second : List AceRef) (b size : ℕ) (items slice : List Row)
-    → slice ≡ items → length first ≤ size → length second ≤ size → AreRows ps (list_of first) (list_of second) b items
+pub slice_within : (ps : List Principal) (first second : List AceRef) (b size : ℕ) (items slice : List Standing)
+    → slice ≡ items → length first ≤ size → length second ≤ size
+    → AreStandings ps (list_of first) (list_of second) b items
     → AllByRecursion (HasPlaces size) slice
 slice_within ps first second b size items slice is lx ly h =
     subst (λ v. AllByRecursion (HasPlaces size) v) (sym is)
     (rows_within ps (list_of first) (list_of second) b size items (omega (arith, length-map first ace))
     (omega (arith, length-map second ace)) h.each)
 
--- the first row of a sort that is told
-pub first_of_kind : (q : Sort) (size limit k : ℕ) (rows : List Row) (forward back fs bs : List ℕ) (t : Bool)
+-- the first row of a camp that is told
+pub first_of_camp : (q : Camp) (size limit k : ℕ) (rows : List Standing) (forward back fs bs : List ℕ) (t : Bool)
     → k < limit → limit ≤ length rows
-    → ((j : ℕ) → j < k → is_of_sort q (slice_index_or rows j no_row) ≡ true
-    → inverts_any (slice_index_or rows j no_row) rows ≡ false) → AllByRecursion (HasPlaces size) rows
-    → IsTable q false size rows forward → IsTable q true size rows back → fs ≡ forward → bs ≡ back
-    → t ≡ is_told q (slice_index_or rows k no_row) fs bs → t ≡ true → IsFirstOf q rows limit k
-first_of_kind q size limit k rows forward back fs bs t lt le before places f b fe be h e = record {
+    → ((j : ℕ) → j < k → is_of_camp q (slice_index_or rows j no_standing) ≡ true
+    → inverts_any (slice_index_or rows j no_standing) rows ≡ false) → AllByRecursion (HasPlaces size) rows
+    → IsTable q Here size rows forward → IsTable q There size rows back → fs ≡ forward → bs ≡ back
+    → t ≡ is_told q (slice_index_or rows k no_standing) fs bs → t ≡ true → IsFirstOf q rows limit k
+first_of_camp q size limit k rows forward back fs bs t lt le before places f b fe be h e = record {
   within = omega arith;
   before = before;
-  at = λ _. found_true q size rows (slice_index_or rows k no_row) fs bs t h e
-      (places_at size k rows no_row (omega arith) places) (subst (λ v. IsTable q false size rows v) (sym fe) f)
-      (subst (λ v. IsTable q true size rows v) (sym be) b);
+  at = λ _. found_true q size rows (slice_index_or rows k no_standing) fs bs t h e
+      (places_at size k rows no_standing (omega arith) places) (subst (λ v. IsTable q Here size rows v) (sym fe) f)
+      (subst (λ v. IsTable q There size rows v) (sym be) b);
 }
 
 -- one more row of which none is told
-pub not_of_kind : (q : Sort) (size k : ℕ) (rows : List Row) (forward back fs bs : List ℕ) (t : Bool)
-    → k < length rows → AllByRecursion (HasPlaces size) rows → IsTable q false size rows forward
-    → IsTable q true size rows back → fs ≡ forward → bs ≡ back
-    → t ≡ is_told q (slice_index_or rows k no_row) fs bs → t ≡ false
-    → is_of_sort q (slice_index_or rows k no_row) ≡ true → inverts_any (slice_index_or rows k no_row) rows ≡ false
-not_of_kind q size k rows forward back fs bs t lt places f b fe be h e =
-    found_false q size rows (slice_index_or rows k no_row) fs bs t h e (places_at size k rows no_row lt places)
-    (subst (λ v. IsTable q false size rows v) (sym fe) f) (subst (λ v. IsTable q true size rows v) (sym be) b)
+pub not_of_camp : (q : Camp) (size k : ℕ) (rows : List Standing) (forward back fs bs : List ℕ) (t : Bool)
+    → k < length rows → AllByRecursion (HasPlaces size) rows → IsTable q Here size rows forward
+    → IsTable q There size rows back → fs ≡ forward → bs ≡ back
+    → t ≡ is_told q (slice_index_or rows k no_standing) fs bs → t ≡ false
+    → is_of_camp q (slice_index_or rows k no_standing) ≡ true
+    → inverts_any (slice_index_or rows k no_standing) rows ≡ false
+not_of_camp q size k rows forward back fs bs t lt places f b fe be h e =
+    found_false q size rows (slice_index_or rows k no_standing) fs bs t h e
+    (places_at size k rows no_standing lt places)
+    (subst (λ v. IsTable q Here size rows v) (sym fe) f) (subst (λ v. IsTable q There size rows v) (sym be) b)
 
 -- a row raises the table, or leaves it
 pub ruleset raising = (raises_set, raises_none)

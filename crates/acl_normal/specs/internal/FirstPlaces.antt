@@ -6,14 +6,16 @@ use Rattle.acl_eval.specs.Column.{takes_part}
 use Rattle.acl_eval.specs.Grant.{is_allow}
 use Rattle.acl_nfs4.specs.Ace.{Ace}
 use Rattle.acl_nfs4.specs.Who.{principal_of}
+use Rattle.acl_normal.specs.internal.Classes.{is_users}
 use Rattle.acl_normal.specs.internal.Passes.{list_of}
 use Rattle.acl_normal.specs.internal.SetSearch.{AreRightsOf, GrantAlikeTo, differ, is_granted_to, principals}
 use Rattle.acl_normal.specs.SmallSituations.{is_among}
-use Rattle.acl_normal.specs.declared.comparison.rows.Compared.{Compared}
-use Rattle.acl_normal.specs.declared.comparison.rows.First.{First}
-use Rattle.acl_normal.specs.declared.comparison.rows.Row.{Row}
-use Rattle.acl_normal.specs.declared.comparison.rows.Whom.{Whom}
-use Rattle.acl_normal.specs.declared.comparison.rows.Whom.TheVariants.{Everyone, Nobody, One}
+use Rattle.acl_normal.specs.declared.class.Class.TheVariants.{Users}
+use Rattle.acl_normal.specs.declared.comparison.standing.Compared.{Compared}
+use Rattle.acl_normal.specs.declared.comparison.standing.First.{First}
+use Rattle.acl_normal.specs.declared.comparison.standing.Standing.{Standing}
+use Rattle.acl_normal.specs.declared.comparison.standing.Whom.{Whom}
+use Rattle.acl_normal.specs.declared.comparison.standing.Whom.TheVariants.{Everyone, Nobody, One}
 use Rattle.acl_perm.specs.Bits.{all_rights, has_bit}
 use Rattle.acl_perm.specs.Overlap.{may_overlap}
 use Rattle.acl_perm.specs.Principal.{Principal, everyone, is_user}
@@ -30,21 +32,21 @@ first_place set bit (a ∷ list) =
 -- the first ACE of a principal, or of everyone
 pub record IsFirst (list : List Ace) (bit : ℕ) (p : Principal) (f : First) : Type 0 where
   pub place : f.place ≡ first_place (p ∷ []) bit list
-  pub allows : f.allows ≡ is_granted_to list (p ∷ []) bit
+  pub allows : is_allow f.kind ≡ is_granted_to list (p ∷ []) bit
 
 -- what both lists say first of a principal
-pub record IsRow (list other : List Ace) (bit : ℕ) (p : Principal) (r : Row) : Type 0 where
+pub record IsStanding (list other : List Ace) (bit : ℕ) (p : Principal) (r : Standing) : Type 0 where
   pub here : IsFirst list bit p r.here
   pub there : IsFirst other bit p r.there
-  pub user : r.user ≡ is_user p
+  pub class : is_users r.class ≡ is_user p
 
 -- of two that may overlap and are of different types, the one comes first in one list, and not in the other
-abbrev pub inverts : Row → Row → Bool
-inverts r s = (not (r.user && s.user) && differ r.here.allows s.here.allows)
+abbrev pub inverts : Standing → Standing → Bool
+inverts r s = (not (is_users r.class && is_users s.class) && differ (is_allow r.here.kind) (is_allow s.here.kind))
     && differ (nat_lt s.here.place r.here.place) (nat_lt s.there.place r.there.place)
 
 -- the row inverts one of the others
-abbrev pub inverts_any : Row → List Row → Bool
+abbrev pub inverts_any : Standing → List Standing → Bool
 inverts_any r = list_any (inverts r)
 
 -- on one bit, the lists grant alike wherever this principal and another that may overlap match
@@ -84,12 +86,12 @@ AreWhoms whole list ws = AllZip (IsWhom whole) list ws
 
 -- what stands for a first ACE behind a list of them
 abbrev pub no_first : First
-no_first = record { place = 0; allows = false }
+no_first = record { place = 0; kind = Deny }
 
 -- what the ACEs from a place on say first
 pub record IsFirstFrom (list : List Ace) (bit i : ℕ) (p : Principal) (f : First) : Type 0 where
   pub place : f.place ≡ first_place (p ∷ []) bit (drop i list) + i
-  pub allows : f.allows ≡ is_granted_to (drop i list) (p ∷ []) bit
+  pub allows : is_allow f.kind ≡ is_granted_to (drop i list) (p ∷ []) bit
 
 -- of each principal
 pub record AreFirstFrom (whole : List Principal) (list : List Ace) (bit i : ℕ) (firsts : List First) : Type 0 where
@@ -98,8 +100,8 @@ pub record AreFirstFrom (whole : List Principal) (list : List Ace) (bit i : ℕ)
       → IsFirstFrom list bit i (slice_index_or whole k everyone) (slice_index_or firsts k no_first)
 
 -- each row tells of its principal
-pub record AreRows (whole : List Principal) (list other : List Ace) (bit : ℕ) (rows : List Row) : Type 0 where
-  pub each : AllZip (IsRow list other bit) whole rows
+pub record AreStandings (whole : List Principal) (list other : List Ace) (bit : ℕ) (rows : List Standing) : Type 0 where
+  pub each : AllZip (IsStanding list other bit) whole rows
 
 -- what stands for an ACE behind a list
 abbrev pub no_ace : Ace
@@ -119,16 +121,16 @@ stops_at list ws bit k = stops bit (slice_index_or list k no_ace) (slice_index_o
 abbrev pub put : List First → Ace → Whom → ℕ → ℕ → List First
 put firsts a Nobody place bit = firsts
 put firsts a (One i) place bit =
-    if has_bit a.mask bit then slice_set firsts i (record { place = place; allows = is_allow a.kind }) else firsts
+    if has_bit a.mask bit then slice_set firsts i (record { place = place; kind = a.kind }) else firsts
 put firsts a Everyone place bit = firsts
 
 -- what stands for a row behind a list of them
-abbrev pub no_row : Row
-no_row = record { here = no_first; there = no_first; user = false }
+abbrev pub no_standing : Standing
+no_standing = record { here = no_first; there = no_first; class = Users }
 
 -- both lists say the same of the principal alone
-abbrev pub SameAlone : Row → Type 0
-SameAlone r = r.here.allows ≡ r.there.allows
+abbrev pub SameAlone : Standing → Type 0
+SameAlone r = is_allow r.here.kind ≡ is_allow r.there.kind
 
 -- what is asked of each right
 abbrev pub OnAll : (ℕ → ℕ → Type 0) → ℕ → Type 0
@@ -166,8 +168,8 @@ pub record IsCompared (c : Compared) : Type 0 where
 -- ---- what is asked of two lists that are compared, right by right
 
 -- each row tells of its principal
-abbrev pub AreRowsOf : Compared → ℕ → List Row → Type 0
-AreRowsOf c bit rows = AreRows (principals c.whole.now) (list_of c.list.now) (list_of c.other.now) bit rows
+abbrev pub AreStandingsOf : Compared → ℕ → List Standing → Type 0
+AreStandingsOf c bit rows = AreStandings (principals c.whole.now) (list_of c.list.now) (list_of c.other.now) bit rows
 
 -- the lists grant alike to each principal alone
 abbrev pub IsAlikeAlone : Compared → Type 0

@@ -9,8 +9,8 @@ use Rattle.acl_nfs4.specs.Who.{principal_of}
 use Rattle.acl_normal.specs.Keys.{principal_eq}
 use Rattle.acl_normal.specs.SmallSets.{is_mentioning, mentioned, mentioned_with}
 use Rattle.acl_normal.specs.SmallSituations.{is_among}
-use Rattle.acl_normal.specs.declared.comparison.rows.Whom.{Whom}
-use Rattle.acl_normal.specs.declared.comparison.rows.Whom.TheVariants.{Everyone, Nobody, One}
+use Rattle.acl_normal.specs.declared.comparison.standing.Whom.{Whom}
+use Rattle.acl_normal.specs.declared.comparison.standing.Whom.TheVariants.{Everyone, Nobody, One}
 use Rattle.acl_normal.specs.internal.FirstPlaces.{AreWhoms, no_ace}
 use Rattle.acl_normal.specs.internal.Rows.{is_named, row_of}
 use Rattle.acl_normal.specs.internal.SetSearch.{IsRising, principals}

@@ -16,7 +16,7 @@ use acl_perm::{Kind, Mask};
 fn own_rights(item: &AceRef<'_>, set: SmallSet<'_>) -> Mask
     ensures { HasBitsOf (ace item.now) (set_of set.entry) result.bits }
 {
-    if !item.flags.is_inherit_only() && set.matches(item.principal()) {
+    if item.takes_part() && set.matches(item.principal()) {
         item.mask
     } else {
         Mask::NONE

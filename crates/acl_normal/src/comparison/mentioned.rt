@@ -10,8 +10,7 @@ ghost use Rattle.acl_normal.specs.internal.Passes.{list_of};
 ghost use Rattle.acl_normal.specs.internal.Rows.{AreRowNumbers};
 ghost use Rattle.acl_normal.specs.internal.SetSearch.{principals};
 
-use super::rows::Whom;
-use super::small_set::is_same;
+use super::standing::Whom;
 use crate::rows::numbers::row_numbers;
 use acl_nfs4::AceRef;
 use acl_perm::Principal;
@@ -25,14 +24,15 @@ struct Numbers<'a> {
 }
 
 // Whom an ACE mentions: its principal, if it takes part and that isn't everyone.
+#[tactic(auto, using(crate::proofs::Unique::Names::everyone_test))]
 fn mentioned_by<'a>(item: &AceRef<'a>) -> Option<Principal<'a>>
     ensures { option_map principal result ≡ mentioned_by (ace item.now) }
 {
     let p = item.principal();
-    if item.flags.is_inherit_only() || is_same(p, Principal::Everyone) {
-        None
-    } else {
+    if item.takes_part() && !p.is_everyone() {
         Some(p)
+    } else {
+        None
     }
 }
 
@@ -88,12 +88,13 @@ fn numbers_of<'a>(alloc: Global, table: &[Option<Principal<'a>>]) -> Result<Numb
 }
 
 // Whom an ACE names, where that number is its principal's.
+#[tactic(auto, using(crate::proofs::Unique::Names::everyone_test))]
 fn whom(item: &AceRef<'_>, number: usize) -> Whom
     ensures { result ≡ whom_of (ace item.now) number }
 {
-    if item.flags.is_inherit_only() {
+    if !item.takes_part() {
         Whom::Nobody
-    } else if is_same(item.principal(), Principal::Everyone) {
+    } else if item.principal().is_everyone() {
         Whom::Everyone
     } else {
         Whom::One(number)

@@ -8,8 +8,8 @@ ghost use Rattle.acl_normal.specs.internal.SetSearch.{Finds, IsRising, principal
 
 use super::evaluation::{grant_alike, rights_of};
 use super::inversions::{first_inverted, first_inverting, first_unlike};
-use super::rows::{Compared, Whom};
 use super::small_set::SmallSet;
+use super::standing::{Compared, Whom};
 use acl_nfs4::AceRef;
 use acl_perm::{Principal, Right};
 use std::alloc::{AllocError, Global};
@@ -25,8 +25,8 @@ impl Compared<'_, '_> {
         for bit in 0..Right::COUNT {
             let right = Right { bit };
             if self.rights.has(right) {
-                let rows = self.rows(alloc, right)?;
-                least = first_unlike(&rows, least);
+                let standings = self.standings(alloc, right)?;
+                least = first_unlike(&standings, least);
             }
         }
         Ok(least)
@@ -44,8 +44,8 @@ impl Compared<'_, '_> {
         for bit in 0..Right::COUNT {
             let right = Right { bit };
             if self.rights.has(right) {
-                let rows = self.rows(alloc, right)?;
-                least = first_inverting(alloc, &rows, size, least)?;
+                let standings = self.standings(alloc, right)?;
+                least = first_inverting(alloc, &standings, size, least)?;
             }
         }
         Ok(least)
@@ -63,9 +63,9 @@ impl Compared<'_, '_> {
         for bit in 0..Right::COUNT {
             let right = Right { bit };
             if self.rights.has(right) {
-                let rows = self.rows(alloc, right)?;
-                let (_, others) = rows.as_slice().split_at(at + 1);
-                least = first_inverted(rows[at], others, least);
+                let standings = self.standings(alloc, right)?;
+                let (_, others) = standings.as_slice().split_at(at + 1);
+                least = first_inverted(standings[at], others, least);
             }
         }
         Ok(least)

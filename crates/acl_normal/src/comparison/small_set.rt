@@ -36,10 +36,11 @@ impl<'a> SmallSet<'a> {
     }
 
     /// Whether the principal is of the set, or everyone.
+    #[tactic(auto, using(crate::proofs::Unique::Names::everyone_test))]
     pub(crate) fn matches(self, p: Principal<'_>) -> bool
         ensures { result ≡ is_among (principal p.entry) (everyone ∷ set_of self.entry) }
     {
-        is_same(p, Principal::Everyone) || self.has(p)
+        p.is_everyone() || self.has(p)
     }
 
     /// The user name of the set, if it has one.

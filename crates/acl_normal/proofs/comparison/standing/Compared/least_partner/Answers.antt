@@ -1,7 +1,7 @@
 use Rattle.std.proofs.Common.{arith, sym, ap, subst, ◌∙◌, length, ◌+◌, drop, slice_index_or}
 use Rattle.std.proofs.lemmas.List.{length-map}
-use Rattle.acl_normal.proofs.comparison.rows.Compared.least_partner.Goals as goal
-use Rattle.acl_normal.proofs.comparison.rows.Compared.least_partner.Goals.{then-has+in_ok-rows, else-has}
+use Rattle.acl_normal.proofs.comparison.standing.Compared.least_partner.Goals as goal
+use Rattle.acl_normal.proofs.comparison.standing.Compared.least_partner.Goals.{then-has+in_ok-standings, else-has}
 use Rattle.acl_normal.proofs.Searching.RowFacts.{Least, least_done, least_skip, others_length, partner_loop, rows_length, unused_with}
 use Rattle.acl_normal.specs.internal.FirstPlaces.{AlikeWith}
 use Rattle.acl_normal.specs.internal.Passes.{list_of}
@@ -13,8 +13,9 @@ pub split_at-requires : goal.split_at-requires
 split_at-requires c = omega (
   arith,
   rows_length (principals c.args.self.now.whole.now)
-      (list_of c.args.self.now.list.now) (list_of c.args.self.now.other.now) c.loop-bit.bit c.in_ok-rows.rows.items
-      c.in_ok-rows.ensures,
+      (list_of c.args.self.now.list.now)
+      (list_of c.args.self.now.other.now) c.loop-bit.bit c.in_ok-standings.standings.items
+      c.in_ok-standings.ensures,
   ap length c.as_slice.ensures.value,
   length-map c.args.self.now.whole.now principal,
   c.requires.at,
@@ -25,20 +26,21 @@ first_inverted-least-requires c =
     omega (
       arith,
       others_length (principals c.args.self.now.whole.now) (list_of c.args.self.now.list.now)
-          (list_of c.args.self.now.other.now) c.loop-bit.bit c.args.at c.in_ok-rows.rows.items c.as_slice.result.now
-          c.split_at.result.1.now c.in_ok-rows.ensures c.as_slice.ensures.value c.split_at.ensures.back,
+          (list_of c.args.self.now.other.now) c.loop-bit.bit c.args.at c.in_ok-standings.standings.items
+          c.as_slice.result.now
+          c.split_at.result.1.now c.in_ok-standings.ensures c.as_slice.ensures.value c.split_at.ensures.back,
       c.loop-bit.invariant.within,
     )
 
 pub loop-bit-preserved : goal.loop-bit-preserved
 loop-bit-preserved c = elim c.if-has.branch [
-  | then-has+in_ok-rows w ↦ subst
+  | then-has+in_ok-standings w ↦ subst
       (λ v. Least (AlikeWith (list_of c.args.self.now.list.now) (list_of c.args.self.now.other.now)
       (slice_index_or (principals c.args.self.now.whole.now) c.args.at everyone)
       (drop (c.args.at + 1) (principals c.args.self.now.whole.now)))
       (length (drop (c.args.at + 1) (principals c.args.self.now.whole.now))) (c.loop-bit.bit + 1) v) (sym w.least-is)
       (partner_loop _ _ _ _ _ _ _ _ _ _ _
-      (omega (arith, length-map c.args.self.now.whole.now principal, c.requires.at)) w.in_ok-rows.ensures
+      (omega (arith, length-map c.args.self.now.whole.now principal, c.requires.at)) w.in_ok-standings.ensures
       w.as_slice.ensures.value w.split_at.ensures.back w.index.ensures c.requires.alone
       (bits_from_mask _ _ c.args.self.now.rights.within (sym c.has.ensures ∙ w.if-has.true))
       w.first_inverted-least.ensures.within w.first_inverted-least.ensures.before

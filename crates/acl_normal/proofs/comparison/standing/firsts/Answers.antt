@@ -1,6 +1,6 @@
 use Rattle.std.proofs.Common.{arith, refl, sym}
 use Rattle.std.proofs.lemmas.List.{length-map}
-use Rattle.acl_normal.proofs.comparison.rows.firsts.Goals as goal
+use Rattle.acl_normal.proofs.comparison.standing.firsts.Goals as goal
 use Rattle.acl_nfs4.specs.Ace.{ace}
 use Rattle.acl_normal.proofs.Searching.FirstPlaceLemmas.{firsts_more, firsts_start, whom_within, whoms_length}
 use Rattle.acl_normal.specs.internal.SetSearch.{principals}
@@ -14,7 +14,7 @@ loop-place-init c = record {
   within = omega arith;
   first =
       firsts_start _ _ _ _ _ _ _ _ (c.in_ok-out.ensures.items_if_clones_equal (λ y e. e))
-      (sym (length-map c.args.whole.now principal)) refl c.allows_at-allows.ensures
+      (sym (length-map c.args.whole.now principal)) refl c.kind_at-kind.ensures
       (omega (arith, length-map c.args.list.now ace, c.place_of_everyone-end.ensures.within))
       (λ lt. c.place_of_everyone-end.ensures.at (omega (arith, length-map c.args.list.now ace))) c.requires;
 }

@@ -1,28 +1,39 @@
-//! Where two lists first speak of each principal.
+//! Where two lists first speak of each principal, and what they say there.
 ghost use Rattle.std.specs.Prelude.{◌≡◌, ◌<◌, ◌≤◌, ℕ, IfOk, false, length, slice_index_or, true, vec_len};
+ghost use Rattle.acl_perm.specs.Kind.{is_allow};
 ghost use Rattle.acl_nfs4.specs.Ace.{ace};
-ghost use Rattle.acl_eval.specs.Grant.{is_allow};
-ghost use Rattle.acl_normal.specs.internal.FirstPlaces.{AreFirstFrom, AreRowsOf, AreWhoms, IsCompared, IsWithin, no_ace, put, stops, stops_at};
+ghost use Rattle.acl_normal.specs.internal.FirstPlaces.{AreFirstFrom, AreStandingsOf, AreWhoms, IsCompared, IsWithin, no_ace, put, stops, stops_at};
 ghost use Rattle.acl_normal.specs.internal.Passes.{list_of};
 ghost use Rattle.acl_normal.specs.internal.SetSearch.{principals};
 
+use crate::class::Class;
 use acl_nfs4::AceRef;
-use acl_perm::{Mask, Principal, Right};
+use acl_perm::{Kind, Mask, Principal, Right};
 use std::alloc::{AllocError, Global};
 
-/// The place of a principal's first ACE with some right, or that of everyone, and whether it allows.
+/// The first ACE that speaks of a principal and has some right: its place in the list, and its type. An ACE of everyone
+/// speaks of each principal.
 #[derive(Clone, Copy)]
 pub(crate) struct First {
     pub place: usize,
-    pub allows: bool,
+    pub kind: Kind,
 }
 
-/// What two lists say first of a principal, and whether it is a user.
+impl First {
+    /// Whether it allows.
+    pub(crate) fn allows(self) -> bool
+        ensures { result ≡ is_allow self.kind }
+    {
+        self.kind.is_allow()
+    }
+}
+
+/// Where a principal stands in two lists: what each of them says first, and the class of the principal.
 #[derive(Clone, Copy)]
-pub(crate) struct Row {
+pub(crate) struct Standing {
     pub here: First,
     pub there: First,
-    pub user: bool,
+    pub class: Class,
 }
 
 /// Whom an ACE names: none of the principals, one of them by its number, or all.
@@ -71,13 +82,13 @@ fn place_of_everyone(list: &[AceRef<'_>], whoms: &[Whom], right: Right) -> usize
     list.len()
 }
 
-// Whether the ACE at a place is there and allows.
-fn allows_at(list: &[AceRef<'_>], place: usize) -> bool
-    ensures { result ≡ is_allow (slice_index_or (list_of list.now) place no_ace).kind }
+// The type of the ACE at a place. Behind the list everything is denied.
+fn kind_at(list: &[AceRef<'_>], place: usize) -> Kind
+    ensures { result ≡ (slice_index_or (list_of list.now) place no_ace).kind }
 {
     match list.get(place) {
-        Some(item) => item.kind.is_allow(),
-        None => false,
+        Some(item) => item.kind,
+        None => Kind::Deny,
     }
 }
 
@@ -90,7 +101,7 @@ fn put_first(out: &mut Vec<First>, item: &AceRef<'_>, whom: Whom, place: usize, 
         if item.mask.has(right) {
             out[i] = First {
                 place,
-                allows: item.kind.is_allow(),
+                kind: item.kind,
             };
         }
     }
@@ -110,8 +121,8 @@ fn firsts(
         (list_of list.now) right.bit 0 v.items) }
 {
     let end = place_of_everyone(list, whoms, right);
-    let allows = allows_at(list, end);
-    let mut out = vec![in alloc; First { place: end, allows }; whole.len()]?;
+    let kind = kind_at(list, end);
+    let mut out = vec![in alloc; First { place: end, kind }; whole.len()]?;
     let mut place = end;
     while place > 0 {
         place -= 1;
@@ -122,21 +133,21 @@ fn firsts(
 
 impl Compared<'_, '_> {
     /// What both lists say first, on a right, of each principal.
-    pub(crate) fn rows(&self, alloc: Global, right: Right) -> Result<Vec<Row>, AllocError>
+    pub(crate) fn standings(&self, alloc: Global, right: Right) -> Result<Vec<Standing>, AllocError>
         requires { IsCompared self.now }
-        ensures { IfOk result (λ v. AreRowsOf self.now right.bit v.items) }
+        ensures { IfOk result (λ v. AreStandingsOf self.now right.bit v.items) }
     {
         let whole = self.whole;
         let here = firsts(alloc, whole, self.list, self.list_whoms, right)?;
         let there = firsts(alloc, whole, self.other, self.other_whoms, right)?;
-        let mut rows = Vec::new(alloc);
+        let mut standings = Vec::new(alloc);
         for i in 0..whole.len() {
-            rows.push(Row {
+            standings.push(Standing {
                 here: here[i],
                 there: there[i],
-                user: whole[i].is_user(),
+                class: Class::of(whole[i]),
             })?;
         }
-        Ok(rows)
+        Ok(standings)
     }
 }

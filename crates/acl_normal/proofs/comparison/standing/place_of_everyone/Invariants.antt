@@ -1,5 +1,5 @@
 use Rattle.std.specs.Prelude.{◌≡◌, ℕ, ◌<◌, false}
-use Rattle.acl_normal.proofs.comparison.rows.place_of_everyone.Given as goal
+use Rattle.acl_normal.proofs.comparison.standing.place_of_everyone.Given as goal
 use Rattle.acl_normal.specs.internal.FirstPlaces.{stops_at}
 use Rattle.acl_normal.specs.internal.Passes.{list_of}
 

@@ -1,5 +1,5 @@
 use Rattle.std.specs.Prelude.{◌≤◌}
-use Rattle.acl_normal.proofs.comparison.rows.firsts.Given as goal
+use Rattle.acl_normal.proofs.comparison.standing.firsts.Given as goal
 use Rattle.acl_normal.specs.internal.FirstPlaces.{AreFirstFrom}
 use Rattle.acl_normal.specs.internal.Passes.{list_of}
 use Rattle.acl_normal.specs.internal.SetSearch.{principals}
