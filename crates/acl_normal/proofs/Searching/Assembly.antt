@@ -4,24 +4,22 @@ use Rattle.std.specs.List.{AllByRecursion}
 use Rattle.std.proofs.Common.{sym, ◌∙◌, ap, subst, arith, suc, zero, inl, inr}
 use Rattle.std.proofs.lemmas.List.{drop_more, take-append-drop, get_or-take, get_or-drop, length-take, length-drop}
 use Rattle.std.proofs.lemmas.Bool.{cases_order, cases_lt}
-use Rattle.std.proofs.lemmas.List.{length-map}
-use Rattle.acl_perm.specs.declared.principal.Principal.{Principal as PrincipalRef}
 use Rattle.acl_eval.specs.Column.{takes_part}
 use Rattle.acl_eval.specs.Grant.{is_allow}
 use Rattle.acl_nfs4.specs.Ace.{Ace}
 use Rattle.acl_nfs4.specs.Who.{principal_of}
 use Rattle.acl_normal.proofs.Unique.Names.{overlaps_back}
-use Rattle.acl_normal.proofs.Searching.Numbers.{principal_at}
 use Rattle.acl_normal.proofs.Searching.PairGrants.{no_pairs, pair_granted, pairs_after}
 use Rattle.acl_normal.proofs.Searching.SetEvaluation.{granted_to-cons}
 use Rattle.acl_normal.proofs.Searching.SetSearchLemmas.{found_left, found_right}
 use Rattle.acl_normal.specs.Keys.{principal_eq}
 use Rattle.acl_normal.specs.internal.FirstPlaces.{Agrees, AgreesAt, AlikeAlone, AlikeWith, AlikeWithAll, IsLeast, OnAll, first_place}
-use Rattle.acl_normal.specs.internal.SetSearch.{Finds, FindsFirst, GrantAlikeTo, is_granted_to, principals}
+use Rattle.acl_normal.specs.internal.SetSearch.{Finds, FindsFirst, GrantAlikeTo, is_granted_to}
+use Rattle.acl_normal.specs.internal.TwoLists.{AreAlikeTo, FindSet, IsFirstMember, IsFirstPartner, IsFirstSingle, TwoLists, all_mentioned, later_than, principal_at}
 use Rattle.acl_normal.specs.SmallSets.{pairs, partners, singles, small_sets}
 use Rattle.acl_perm.specs.Bits.{all_rights, has_bit}
 use Rattle.acl_perm.specs.Overlap.{may_overlap}
-use Rattle.acl_perm.specs.Principal.{Principal, everyone, principal}
+use Rattle.acl_perm.specs.Principal.{Principal, everyone}
 
 -- what holds at each number holds of all
 pub all_from_each : (P : Principal → Type 0) (ps : List Principal)
@@ -237,63 +235,51 @@ pub fast_partner : (xs ys : List Ace) (ps : List Principal) (v z w : ℕ)
 fast_partner xs ys ps v z w l le m lt n lw =
     has_partner xs ys ps z lt (λ k lk. l.before k (omega arith)) m.before (m.at lt) (λ k lk. n.before k (omega arith))
 
--- the same, over the principals of the code
-pub single_answer : (xs ys : List Ace) (names : List PrincipalRef) (d : PrincipalRef) (v : ℕ) → GrantAlikeTo xs ys []
-    → IsLeast (OnAll (AlikeAlone xs ys (principals names))) (length (principals names)) v → v < length names
-    → Finds xs ys (small_sets (principals names)) (Some (principal (slice_index_or names v d) ∷ []))
-single_answer xs ys names d v empty l lt =
-    subst (λ s. Finds xs ys (small_sets (principals names)) (Some (s ∷ []))) (principal_at names d v lt)
-    (fast_single xs ys (principals names) v empty l (omega (arith, length-map names principal)))
+-- ---- two lists that are compared
 
--- that none is found
-pub none_answer : (xs ys : List Ace) (names : List PrincipalRef) (v z : ℕ) → GrantAlikeTo xs ys []
-    → IsLeast (OnAll (AlikeAlone xs ys (principals names))) (length (principals names)) v → length names ≤ v
-    → IsLeast (OnAll (AlikeWithAll xs ys (principals names))) (length (principals names)) z → z ≡ length names
-    → Finds xs ys (small_sets (principals names)) None
-none_answer xs ys names v z empty l le m e =
-    fast_none xs ys (principals names) v z empty l (omega (arith, length-map names principal)) m
-    (omega (arith, length-map names principal))
+-- one is found, by its number
+pub single_answer : (both : TwoLists) (p : Principal) (v : ℕ) → AreAlikeTo both [] → IsFirstSingle both v
+    → v < length (all_mentioned both) → p ≡ principal_at both v → FindSet both (Some (p ∷ []))
+single_answer both p v empty l lt is =
+    subst (λ s. FindSet both (Some (s ∷ []))) (sym is)
+    (fast_single both.first both.second (all_mentioned both) v empty l lt)
+
+-- none is found
+pub none_answer : (both : TwoLists) (v z : ℕ) → AreAlikeTo both [] → IsFirstSingle both v
+    → length (all_mentioned both) ≤ v → IsFirstMember both z → z ≡ length (all_mentioned both) → FindSet both None
+none_answer both v z empty l le m e =
+    fast_none both.first both.second (all_mentioned both) v z empty l le m (omega arith)
 
 -- the least member is one of the principals
-pub member_within : (xs ys : List Ace) (names : List PrincipalRef) (z : ℕ)
-    → IsLeast (OnAll (AlikeWithAll xs ys (principals names))) (length (principals names)) z → (z ≡ length names → ⊥)
-    → z < length names
-member_within xs ys names z m n = omega (arith, m.within, length-map names principal)
+pub member_within : (both : TwoLists) (z : ℕ) → IsFirstMember both z → (z ≡ length (all_mentioned both) → ⊥)
+    → z < length (all_mentioned both)
+member_within both z m n = omega (arith, m.within)
 
 -- and so is its partner
-pub partner_within : (xs ys : List Ace) (names : List PrincipalRef) (v z w : ℕ)
-    → IsLeast (OnAll (AlikeAlone xs ys (principals names))) (length (principals names)) v → length names ≤ v
-    → IsLeast (OnAll (AlikeWithAll xs ys (principals names))) (length (principals names)) z → z < length names
-    → IsLeast (OnAll (AlikeWith xs ys (slice_index_or (principals names) z everyone)
-    (drop (z + 1) (principals names)))) (length (drop (z + 1) (principals names))) w → z + 1 + w < length names
-partner_within xs ys names v z w l le m lt n = go (cases_lt w (length (drop (z + 1) (principals names))))
+pub partner_within : (both : TwoLists) (v z w : ℕ) → IsFirstSingle both v → length (all_mentioned both) ≤ v
+    → IsFirstMember both z → z < length (all_mentioned both) → IsFirstPartner both z w
+    → z + 1 + w < length (all_mentioned both)
+partner_within both v z w l le m lt n = go (cases_lt w (length (later_than both z)))
   where
-    go : (w < length (drop (z + 1) (principals names))) ⊎ (length (drop (z + 1) (principals names)) ≤ w)
-        → z + 1 + w < length names
-    go (inl lw) = omega (arith, length-drop (z + 1) (principals names), length-map names principal)
-    go (inr past) = absurd (fast_partner xs ys (principals names) v z w l (omega (arith, length-map names principal))
-        m (omega (arith, length-map names principal)) n past)
+    go : (w < length (later_than both z)) ⊎ (length (later_than both z) ≤ w) → z + 1 + w < length (all_mentioned both)
+    go (inl lw) = omega (arith, length-drop (z + 1) (all_mentioned both))
+    go (inr past) = absurd (fast_partner both.first both.second (all_mentioned both) v z w l le m lt n past)
 
--- that two are found
-pub pair_answer : (xs ys : List Ace) (names : List PrincipalRef) (d e : PrincipalRef) (v z w i : ℕ)
-    → GrantAlikeTo xs ys [] → IsLeast (OnAll (AlikeAlone xs ys (principals names))) (length (principals names)) v
-    → length names ≤ v → IsLeast (OnAll (AlikeWithAll xs ys (principals names))) (length (principals names)) z
-    → z < length names → IsLeast (OnAll
-    (AlikeWith xs ys (slice_index_or (principals names) z everyone) (drop (z + 1) (principals names))))
-    (length (drop (z + 1) (principals names))) w → i ≡ z + 1 + w
-    → Finds xs ys (small_sets (principals names))
-    (Some (principal (slice_index_or names z d) ∷ principal (slice_index_or names i e) ∷ []))
-pair_answer xs ys names d e v z w i empty l le m lt n is =
-    let inside : z + 1 + w < length names = partner_within xs ys names v z w l le m lt n in
-    let first : slice_index_or (principals names) z everyone ≡ principal (slice_index_or names z d) =
-    principal_at names d z lt in
-    let second : slice_index_or (drop (z + 1) (principals names)) w everyone ≡ principal (slice_index_or names i e) =
-    get_or-drop (z + 1) (principals names) w everyone
-    ∙ ap (λ k. slice_index_or (principals names) k everyone) (sym is) ∙ principal_at names e i (omega arith) in
-    subst (λ s. Finds xs ys (small_sets (principals names)) (Some (s ∷ principal (slice_index_or names i e) ∷ [])))
-    first
-    (subst (λ s. Finds xs ys (small_sets (principals names))
-    (Some (slice_index_or (principals names) z everyone ∷ s ∷ []))) second
-    (fast_pair xs ys (principals names) v z w empty l (omega (arith, length-map names principal)) m
-    (omega (arith, length-map names principal)) n
-    (omega (arith, length-drop (z + 1) (principals names), length-map names principal))))
+-- two are found, by their numbers
+pub pair_answer : (both : TwoLists) (p q : Principal) (v z w i : ℕ) → AreAlikeTo both [] → IsFirstSingle both v
+    → length (all_mentioned both) ≤ v → IsFirstMember both z → z < length (all_mentioned both)
+    → IsFirstPartner both z w → i ≡ z + 1 + w → p ≡ principal_at both z → q ≡ principal_at both i
+    → FindSet both (Some (p ∷ q ∷ []))
+pair_answer both p q v z w i empty l le m lt n at pe qe =
+    subst (λ s. FindSet both (Some (s ∷ q ∷ []))) (sym pe)
+    (subst (λ s. FindSet both (Some (principal_at both z ∷ s ∷ []))) second
+    (fast_pair both.first both.second (all_mentioned both) v z w empty l le m lt n
+    (omega (arith, inside, length-drop (z + 1) (all_mentioned both)))))
+  where
+    inside : z + 1 + w < length (all_mentioned both)
+    inside = partner_within both v z w l le m lt n
+
+    second : slice_index_or (later_than both z) w everyone ≡ q
+    second =
+        get_or-drop (z + 1) (all_mentioned both) w everyone
+        ∙ ap (λ k. slice_index_or (all_mentioned both) k everyone) (sym at) ∙ sym qe

@@ -25,10 +25,14 @@ use Rattle.acl_normal.specs.Places.{key_here}
 use Rattle.acl_normal.specs.SmallSets.{is_mentioning, mentioned, mentioned_with}
 use Rattle.acl_normal.specs.SmallSituations.{is_among}
 use Rattle.acl_normal.specs.internal.FirstPlaces.{AreWhoms, IsWhom, no_ace}
-use Rattle.acl_normal.specs.internal.MentionedRows.{AreByRow, AreMentionedRows, AreNumbers, HasNumber, IsMentionedAt, at_row, held, mentioned_by, noted, whom_of, with_found}
+use Rattle.acl_normal.specs.internal.MentionedRows.{AreByRow, AreMentioned, AreMentionedRows, AreNumbers, HasNumber, IsMentionedAt, at_row, held, mentioned_by, noted, whom_of, with_found}
 use Rattle.acl_normal.specs.internal.Passes.{list_of}
 use Rattle.acl_normal.specs.internal.Rows.{AreRowNumbers, is_named, row_of}
 use Rattle.acl_normal.specs.internal.SetSearch.{IsRising, principals}
+use Rattle.acl_normal.specs.internal.TwoLists.{all_mentioned, two_lists}
+use Rattle.acl_normal.specs.internal.Compared.{IsCompared, lists_in}
+use Rattle.acl_normal.specs.declared.comparison.compared.Compared.TheInside.{Inside}
+use Rattle.acl_normal.specs.declared.comparison.mentioned.Mentions.{Mentions}
 use Rattle.acl_normal.specs.declared.comparison.standing.Whom.{Whom}
 use Rattle.acl_perm.proofs.Orders.{principal_exact}
 use Rattle.acl_perm.specs.Order.{principal_cmp}
@@ -471,15 +475,12 @@ whole_ready list other aces b table t whole numbers e be te by n =
     (subst (λ v. AreByRow (list_of v) (length v) table) be by))
     (subst (λ v. AreNumbers v (length v) whole numbers) te n)
 
--- whom the ACEs name, in the code's other borrows of the same lists
-pub whoms_same : (names n : List PrincipalRef) (list other a b c d : List AceRef) (ws vs : List Whom) → n ≡ names
-    → a ≡ list → b ≡ other → c ≡ list → d ≡ other → vs ≡ ws
-    → AreWhoms (principals names) (list_of a ++ list_of b) ws → AreWhoms (principals n) (list_of c ++ list_of d) vs
-whoms_same names n list other a b c d ws vs ne ae be ce de ve h =
-    subst (λ v. AreWhoms (principals v) (list_of c ++ list_of d) vs) (sym ne)
-    (subst (λ v. AreWhoms (principals names) (list_of c ++ list_of d) v) (sym ve)
-    (subst (λ v. AreWhoms (principals names) (list_of v ++ list_of d) ws) (ae ∙ sym ce)
-    (subst (λ v. AreWhoms (principals names) (list_of a ++ list_of v) ws) (be ∙ sym de) h)))
+-- whom two lists mention, in the code's other borrows of the same lists
+pub mentions_same : (list other a b c d : List AceRef) (m : Mentions) → a ≡ list → b ≡ other → c ≡ list → d ≡ other
+    → AreMentioned (two_lists (list_of a) (list_of b)) m → AreMentioned (two_lists (list_of c) (list_of d)) m
+mentions_same list other a b c d m ae be ce de h =
+    subst (λ v. AreMentioned (two_lists (list_of v) (list_of d)) m) (ae ∙ sym ce)
+    (subst (λ v. AreMentioned (two_lists (list_of a) (list_of v)) m) (be ∙ sym de) h)
 
 -- whom the first list's ACEs name
 pub whoms_first : (ps : List Principal) (list other : List AceRef) (ws part : List Whom) (n : ℕ) → n ≡ length list
@@ -504,6 +505,10 @@ whoms_cover ps list other ws h = omega (arith, go (list_of list) (list_of other)
     go [] ys ws h = omega arith
     go (a ∷ xs) ys [] h = absurd h
     go (a ∷ xs) ys (w ∷ ws) h = omega (arith, go xs ys ws h.1)
+
+-- there are as many principals as the lists mention
+pub all_there : (c : Inside) → IsCompared c → length c.mentioned.now ≡ length (all_mentioned (lists_in c))
+all_there c h = sym (length-map c.mentioned.now principal) ∙ ap length h.mentioned
 
 -- what is known of lists that are compared
 pub ruleset compared_parts = (rights_of_both, rights_of_second, whoms_first, whoms_second)

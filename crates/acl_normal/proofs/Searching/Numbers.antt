@@ -22,9 +22,9 @@ use Rattle.acl_normal.specs.SmallSets.{is_mentioning}
 use Rattle.acl_normal.specs.internal.MentionedRows.{HasNumber, whom_of}
 
 -- the principal of a number
-pub principal_at : (names : List PrincipalRef) (q : PrincipalRef) (i : ℕ) → i < length names
+pub numbered : (names : List PrincipalRef) (q : PrincipalRef) (i : ℕ) → i < length names
     → slice_index_or (principals names) i everyone ≡ principal (slice_index_or names i q)
-principal_at names q i lt = get_or-map principal names i q everyone lt
+numbered names q i lt = get_or-map principal names i q everyone lt
 
 -- one below all others
 pub below_at : (p : Principal) (ps : List Principal) (k : ℕ) → k < length ps

@@ -157,14 +157,14 @@ pub inverted : (xs ys : List Ace) (b : ℕ) (p q : Principal) (r s : Standing) �
     → (may_overlap p q ≡ true) × (is_granted_to xs (p ∷ q ∷ []) b ≢ is_granted_to ys (p ∷ q ∷ []) b)
 inverted xs ys b p q r s h i u v e =
     let outer = and_parts (not (is_users r.class && is_users s.class)
-        && differ (is_allow r.here.kind) (is_allow s.here.kind))
+    && differ (is_allow r.here.kind) (is_allow s.here.kind))
     (differ (nat_lt s.here.place r.here.place) (nat_lt s.there.place r.there.place)) e in
     let inner = and_parts (not (is_users r.class && is_users s.class))
-        (differ (is_allow r.here.kind) (is_allow s.here.kind)) outer.0 in (
+    (differ (is_allow r.here.kind) (is_allow s.here.kind)) outer.0 in (
       not_both_users p q (ap2_and (sym h.class) (sym i.class)
-      ∙ not_true (is_users r.class && is_users s.class) inner.0),
+          ∙ not_true (is_users r.class && is_users s.class) inner.0),
       λ same. other_choice (nat_lt s.here.place r.here.place) (nat_lt s.there.place r.there.place)
-      (is_allow r.here.kind)
+          (is_allow r.here.kind)
           (is_allow s.here.kind) (and_from (differ (is_allow r.here.kind) (is_allow s.here.kind))
           (differ (nat_lt s.here.place r.here.place) (nat_lt s.there.place r.there.place)) inner.1 outer.1)
           (sym (here_is xs ys b p q r s h i) ∙ same ∙ there_is xs ys b p q r s h i u v),

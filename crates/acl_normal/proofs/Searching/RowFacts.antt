@@ -10,12 +10,13 @@ use Rattle.acl_perm.specs.declared.principal.Principal.{Principal as PrincipalRe
 use Rattle.acl_nfs4.specs.Ace.{Ace}
 use Rattle.acl_nfs4.specs.internal.Reading.{read}
 use Rattle.acl_normal.proofs.Searching.FirstPlaceLemmas.{zip_length}
-use Rattle.acl_normal.proofs.Searching.Numbers.{principal_at, zip_push}
+use Rattle.acl_normal.proofs.Searching.Numbers.{numbered, zip_push}
 use Rattle.acl_normal.proofs.Searching.PairGrants.{agrees_from_rows, inverted, not_agrees_from_rows, not_inverted}
 use Rattle.acl_normal.proofs.Searching.SetEvaluation.{unused_denied}
 use Rattle.acl_normal.specs.internal.Classes.{is_users}
 use Rattle.acl_normal.specs.internal.FirstPlaces.{AgreesAt, AlikeAlone, AlikeWith, AlikeWithAll, AreFirstFrom, AreStandings, IsFirst, IsFirstFrom, IsLeast, IsStanding, OnAll, SameAlone, inverts, inverts_any, no_first, no_standing}
-use Rattle.acl_normal.specs.internal.SetSearch.{AreRightsOf, is_granted_to, principals}
+use Rattle.acl_normal.specs.internal.SetSearch.{is_granted_to, principals}
+use Rattle.acl_normal.specs.internal.TwoLists.{AlikeToOne, AlikeToPair, AlikeToPairs, IsUnused, TwoLists, all_mentioned, later_than, principal_at}
 use Rattle.acl_normal.specs.declared.class.Class.{Class}
 use Rattle.acl_normal.specs.declared.comparison.standing.First.{First}
 use Rattle.acl_normal.specs.declared.comparison.standing.Standing.{Standing}
@@ -43,11 +44,11 @@ rows_more names q xs ys b i heres theres h t u old new lt hi ti ui hs ts is all 
           (first_of_all xs b s (slice_index_or heres i no_first) (hs.each i inside));
       there = subst (λ v. IsFirst ys b s v) (sym there)
           (first_of_all ys b s (slice_index_or theres i no_first) (ts.each i inside));
-      class = ui ∙ ap is_user (sym (principal_at names q i lt));
+      class = ui ∙ ap is_user (sym (numbered names q i lt));
     } in
     let longer : principals (take (i + 1) names) ≡ principals (take i names) ++ s ∷ [] =
     ap principals (take_more names i q lt) ∙ map-append principal (take i names) (slice_index_or names i q ∷ [])
-    ∙ ap (λ v. principals (take i names) ++ v ∷ []) (sym (principal_at names q i lt)) in
+    ∙ ap (λ v. principals (take i names) ++ v ∷ []) (sym (numbered names q i lt)) in
     record {
       each = subst (λ v. AllZip (IsStanding xs ys b) v new) (sym longer)
           (subst (λ v. AllZip (IsStanding xs ys b) (principals (take i names) ++ s ∷ []) v) (sym is)
@@ -256,27 +257,42 @@ partner_loop ps xs ys bit at old new row items slice others lt h is split read a
     (subst (λ v. AllByRecursion SameAlone v) (sym rest) (all_drop SameAlone (at + 1) items same))
     has le each stop l
 
--- what no ACE of either list has is denied by both
-pub unused_alike : (xs ys : List Ace) (rights bit : ℕ) (set : List Principal) → AreRightsOf xs rights
-    → AreRightsOf ys rights → has_bit rights bit ≡ false → is_granted_to xs set bit ≡ is_granted_to ys set bit
-unused_alike xs ys rights bit set h i absent = unused_denied xs set rights bit h absent
-    ∙ sym (unused_denied ys set rights bit i absent)
+-- ---- two lists that are compared
 
--- and so the lists agree for each principal with all
-pub unused_agree : (xs ys : List Ace) (rights bit : ℕ) (p : Principal) (ps : List Principal) → AreRightsOf xs rights
-    → AreRightsOf ys rights → has_bit rights bit ≡ false → AgreesAt xs ys ps bit p
-unused_agree xs ys rights bit p [] h i absent = tt
-unused_agree xs ys rights bit p (q ∷ ps) h i absent =
-    (λ _. unused_alike xs ys rights bit (p ∷ q ∷ []) h i absent, unused_agree xs ys rights bit p ps h i absent)
+-- what no ACE of either has is denied by both
+unused_alike : (both : TwoLists) (bit : ℕ) (set : List Principal) → IsUnused both bit
+    → is_granted_to both.first set bit ≡ is_granted_to both.second set bit
+unused_alike both bit set h =
+    unused_denied both.first set bit h.first ∙ sym (unused_denied both.second set bit h.second)
 
--- so the lists grant alike to each principal alone
-pub unused_alone : (xs ys : List Ace) (ps : List Principal) (rights bit : ℕ) → AreRightsOf xs rights
-    → AreRightsOf ys rights → has_bit rights bit ≡ false → (k : ℕ) → AlikeAlone xs ys ps bit k
-unused_alone xs ys ps rights bit h i absent k =
-    unused_alike xs ys rights bit (slice_index_or ps k everyone ∷ []) h i absent
+-- and so they grant it alike to each principal with any of some
+unused_agree : (both : TwoLists) (bit : ℕ) (p : Principal) (ps : List Principal) → IsUnused both bit
+    → AgreesAt both.first both.second ps bit p
+unused_agree both bit p [] h = tt
+unused_agree both bit p (q ∷ ps) h =
+    (λ _. unused_alike both bit (p ∷ q ∷ []) h, unused_agree both bit p ps h)
 
--- and to each with another
-pub unused_with : (xs ys : List Ace) (p : Principal) (ps : List Principal) (rights bit : ℕ) → AreRightsOf xs rights
-    → AreRightsOf ys rights → has_bit rights bit ≡ false → (k : ℕ) → AlikeWith xs ys p ps bit k
-unused_with xs ys p ps rights bit h i absent k _ =
-    unused_alike xs ys rights bit (p ∷ slice_index_or ps k everyone ∷ []) h i absent
+-- to each principal alone
+pub unused_one : (both : TwoLists) (bit : ℕ) → IsUnused both bit → (k : ℕ) → AlikeToOne both bit k
+unused_one both bit h k = unused_alike both bit (principal_at both k ∷ []) h
+
+-- to each with all
+pub unused_pairs : (both : TwoLists) (bit : ℕ) → IsUnused both bit → (k : ℕ) → AlikeToPairs both bit k
+unused_pairs both bit h k = unused_agree both bit (principal_at both k) (all_mentioned both) h
+
+-- and to one with each behind it
+pub unused_pair : (both : TwoLists) (at bit : ℕ) → IsUnused both bit → (k : ℕ) → AlikeToPair both at bit k
+unused_pair both at bit h k _ =
+    unused_alike both bit (principal_at both at ∷ slice_index_or (later_than both at) k everyone ∷ []) h
+
+-- the number so far of the first principal to whom alone they don't grant alike
+abbrev pub LeastSingle : TwoLists → ℕ → ℕ → Type 0
+LeastSingle both bit least = Least (AlikeToOne both) (length (all_mentioned both)) bit least
+
+-- of the first that is one of a pair to whom they don't
+abbrev pub LeastMember : TwoLists → ℕ → ℕ → Type 0
+LeastMember both bit least = Least (AlikeToPairs both) (length (all_mentioned both)) bit least
+
+-- of the first with whom one is such a pair, among those behind it
+abbrev pub LeastPartner : TwoLists → ℕ → ℕ → ℕ → Type 0
+LeastPartner both at bit least = Least (AlikeToPair both at) (length (later_than both at)) bit least

@@ -1,5 +1,5 @@
 -- What a list grants to a small set of principals, as the code finds it: for all rights at once.
-use Rattle.std.specs.Prelude.{◌==◌, ◌≡◌, ◌≢◌, ◌↔◌, ℕ, ◌<◌, ◌≤◌, ◌+◌, ◌^◌, Bool, true, false, not, ◌&&◌, ◌||◌, cond, IsTrue, List, ◌∷◌, refl, drop, length, slice_index_or}
+use Rattle.std.specs.Prelude.{[], ◌==◌, ◌≡◌, ◌≢◌, ◌↔◌, ℕ, ◌<◌, ◌≤◌, ◌+◌, ◌^◌, Bool, true, false, not, ◌&&◌, ◌||◌, cond, IsTrue, List, ◌∷◌, refl, drop, length, slice_index_or}
 use Rattle.std.specs.Bool.{OnFalse}
 use Rattle.std.specs.Int.{bit_at, trailing_zeros, w32}
 use Rattle.std.proofs.Common.{sym, ◌∙◌, ap, subst, arith}
@@ -281,7 +281,6 @@ rights_of_second list here there more h u = record {
 }
 
 -- a right that no ACE has is denied
-pub unused_denied : (list : List Ace) (set : List Principal) (rights bit : ℕ) → AreRightsOf list rights
-    → has_bit rights bit ≡ false → is_granted_to list set bit ≡ false
-unused_denied list set rights bit h absent =
-    ap (λ c. is_allow (verdict (λ r. is_among r (everyone ∷ set)) c)) (h.unused bit absent)
+pub unused_denied : (list : List Ace) (set : List Principal) (bit : ℕ) → column list bit ≡ []
+    → is_granted_to list set bit ≡ false
+unused_denied list set bit none = ap (λ c. is_allow (verdict (λ r. is_among r (everyone ∷ set)) c)) none

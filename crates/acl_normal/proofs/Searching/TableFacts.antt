@@ -5,18 +5,16 @@ use Rattle.std.proofs.lemmas.List.{take_more, take_all, get_or_read, get_or-set_
 use Rattle.std.proofs.lemmas.Bool.{cases_eq, cases_order, eq-eqb, ne_eqb, lt-ltb, le-ltb}
 use Rattle.std.proofs.lemmas.Bool.Decides.{nat_tests}
 use Rattle.std.specs.List.{AllZip}
-use Rattle.std.proofs.lemmas.List.{length-map}
 use Rattle.std.proofs.lemmas.Bool.{and_parts}
 use Rattle.std.specs.List.{AllByRecursion}
 use Rattle.acl_eval.specs.Column.{takes_part}
-use Rattle.acl_nfs4.specs.Ace.{Ace, ace}
+use Rattle.acl_nfs4.specs.Ace.{Ace}
 use Rattle.acl_nfs4.specs.Who.{principal_of}
-use Rattle.acl_nfs4.specs.declared.ace.AceRef.{AceRef}
-use Rattle.acl_normal.specs.internal.FirstPlaces.{AreStandings, IsStanding, first_place, inverts, inverts_any, no_standing}
+use Rattle.acl_normal.specs.internal.FirstPlaces.{IsStanding, first_place, inverts, inverts_any, no_standing}
 use Rattle.acl_normal.specs.internal.Classes.{is_users}
-use Rattle.acl_normal.specs.internal.Passes.{list_of}
 use Rattle.acl_normal.specs.internal.PlaceTables.{HasPlaces, IsFirstOf, IsScattered, IsTable, Raises, is_counted, is_of_camp, is_told, most_at, most_before, other_place, place_of}
 use Rattle.acl_normal.specs.internal.SetSearch.{differ}
+use Rattle.acl_normal.specs.internal.TwoLists.{AreWithin, StandAs, TwoLists, all_mentioned}
 use Rattle.acl_normal.specs.SmallSituations.{is_among}
 use Rattle.acl_normal.specs.declared.class.Class.{Class}
 use Rattle.acl_normal.specs.declared.class.Class.TheVariants.{Others, Users}
@@ -353,15 +351,12 @@ rows_within (p ∷ ps) xs ys b size (r ∷ rows) lx ly z = (
 )
 rows_within _ xs ys b size _ lx ly z = absurd z
 
--- the same, as the code holds the rows
-pub slice_within : (ps : List Principal) (first second : List AceRef) (b size : ℕ) (items slice : List Standing)
-    → slice ≡ items → length first ≤ size → length second ≤ size
-    → AreStandings ps (list_of first) (list_of second) b items
-    → AllByRecursion (HasPlaces size) slice
-slice_within ps first second b size items slice is lx ly h =
-    subst (λ v. AllByRecursion (HasPlaces size) v) (sym is)
-    (rows_within ps (list_of first) (list_of second) b size items (omega (arith, length-map first ace))
-    (omega (arith, length-map second ace)) h.each)
+-- the same, as the code holds them
+pub slice_within : (both : TwoLists) (bit size : ℕ) (items slice : List Standing) → slice ≡ items → AreWithin both size
+    → StandAs both bit items → AllByRecursion (HasPlaces size) slice
+slice_within both bit size items slice is within h =
+    subst (AllByRecursion (HasPlaces size)) (sym is)
+    (rows_within (all_mentioned both) both.first both.second bit size items within.first within.second h.each)
 
 -- the first row of a camp that is told
 pub first_of_camp : (q : Camp) (size limit k : ℕ) (rows : List Standing) (forward back fs bs : List ℕ) (t : Bool)

@@ -7,11 +7,9 @@ use Rattle.acl_eval.specs.Grant.{is_allow}
 use Rattle.acl_nfs4.specs.Ace.{Ace}
 use Rattle.acl_nfs4.specs.Who.{principal_of}
 use Rattle.acl_normal.specs.internal.Classes.{is_users}
-use Rattle.acl_normal.specs.internal.Passes.{list_of}
-use Rattle.acl_normal.specs.internal.SetSearch.{AreRightsOf, GrantAlikeTo, differ, is_granted_to, principals}
+use Rattle.acl_normal.specs.internal.SetSearch.{GrantAlikeTo, differ, is_granted_to}
 use Rattle.acl_normal.specs.SmallSituations.{is_among}
 use Rattle.acl_normal.specs.declared.class.Class.TheVariants.{Users}
-use Rattle.acl_normal.specs.declared.comparison.standing.Compared.{Compared}
 use Rattle.acl_normal.specs.declared.comparison.standing.First.{First}
 use Rattle.acl_normal.specs.declared.comparison.standing.Standing.{Standing}
 use Rattle.acl_normal.specs.declared.comparison.standing.Whom.{Whom}
@@ -157,40 +155,3 @@ abbrev pub AlikeWith : List Ace → List Ace → Principal → List Principal �
 AlikeWith list other p rest bit k = may_overlap p (slice_index_or rest k everyone) ≡ true
     → is_granted_to list (p ∷ slice_index_or rest k everyone ∷ []) bit
     ≡ is_granted_to other (p ∷ slice_index_or rest k everyone ∷ []) bit
-
--- of two lists, whom each ACE names is known, and no ACE has a right past those of both
-pub record IsCompared (c : Compared) : Type 0 where
-  pub here : AreWhoms (principals c.whole.now) (list_of c.list.now) c.list_whoms.now
-  pub there : AreWhoms (principals c.whole.now) (list_of c.other.now) c.other_whoms.now
-  pub here_rights : AreRightsOf (list_of c.list.now) c.rights.bits
-  pub there_rights : AreRightsOf (list_of c.other.now) c.rights.bits
-
--- ---- what is asked of two lists that are compared, right by right
-
--- each row tells of its principal
-abbrev pub AreStandingsOf : Compared → ℕ → List Standing → Type 0
-AreStandingsOf c bit rows = AreStandings (principals c.whole.now) (list_of c.list.now) (list_of c.other.now) bit rows
-
--- the lists grant alike to each principal alone
-abbrev pub IsAlikeAlone : Compared → Type 0
-IsAlikeAlone c = (k : ℕ) → k < length (principals c.whole.now)
-    → OnAll (AlikeAlone (list_of c.list.now) (list_of c.other.now) (principals c.whole.now)) k
-
--- the number of the first principal to whom alone they don't, or of principals
-abbrev pub IsFirstSingle : Compared → ℕ → Type 0
-IsFirstSingle c least =
-    IsLeast (OnAll (AlikeAlone (list_of c.list.now) (list_of c.other.now) (principals c.whole.now)))
-    (length (principals c.whole.now)) least
-
--- of the first that is one of a pair to whom they don't
-abbrev pub IsFirstMember : Compared → ℕ → Type 0
-IsFirstMember c least =
-    IsLeast (OnAll (AlikeWithAll (list_of c.list.now) (list_of c.other.now) (principals c.whole.now)))
-    (length (principals c.whole.now)) least
-
--- behind one principal, of the first with whom it is such a pair, or of those behind it
-abbrev pub IsFirstPartner : Compared → ℕ → ℕ → Type 0
-IsFirstPartner c at least =
-    IsLeast (OnAll (AlikeWith (list_of c.list.now) (list_of c.other.now)
-    (slice_index_or (principals c.whole.now) at everyone) (drop (at + 1) (principals c.whole.now))))
-    (length (drop (at + 1) (principals c.whole.now))) least

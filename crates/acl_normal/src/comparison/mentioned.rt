@@ -9,6 +9,7 @@ ghost use Rattle.acl_normal.specs.internal.MentionedRows.{AreByRow, AreMentioned
 ghost use Rattle.acl_normal.specs.internal.Passes.{list_of};
 ghost use Rattle.acl_normal.specs.internal.Rows.{AreRowNumbers};
 ghost use Rattle.acl_normal.specs.internal.SetSearch.{principals};
+ghost use Rattle.acl_normal.specs.internal.TwoLists.{two_lists};
 
 use super::standing::Whom;
 use crate::rows::numbers::row_numbers;
@@ -137,20 +138,30 @@ fn joined<'a>(
 }
 
 /// The principals that two lists mention, in order, and whom of these each ACE names: of the first list, and then of
-/// the second. One sort puts all ACEs in the order of whom they name.
+/// the second.
+#[derive(Drop)]
+pub(crate) struct Mentions<'a> {
+    pub(crate) principals: Vec<Principal<'a>>,
+    pub(crate) whoms: Vec<Whom>,
+}
+
+/// Whom two lists mention. One sort puts all ACEs in the order of whom they name, so that no principal is looked up.
 pub(crate) fn mentioned<'a>(
     alloc: Global,
     list: &[AceRef<'a>],
     other: &[AceRef<'a>],
-) -> Result<(Vec<Principal<'a>>, Vec<Whom>), AllocError>
-    ensures { IfOk result (AreMentioned (list_of list.now) (list_of other.now)) }
+) -> Result<Mentions<'a>, AllocError>
+    ensures { IfOk result (AreMentioned (two_lists (list_of list.now) (list_of other.now))) }
 {
     let aces = joined(alloc, list, other)?;
     let sorted = row_numbers(alloc, &aces)?;
     let table = by_row(alloc, &aces, &sorted.rows)?;
     let numbers = numbers_of(alloc, &table)?;
     let whoms = whoms(alloc, &aces, &sorted.rows, &numbers)?;
-    Ok((numbers.whole, whoms))
+    Ok(Mentions {
+        principals: numbers.whole,
+        whoms,
+    })
 }
 
 // The length of a name, and 0 where there is none.

@@ -2,13 +2,13 @@
 ghost use Rattle.std.specs.Prelude.{◌≡◌, ◌<◌, ◌≤◌, ℕ, IfOk, false, length, slice_index_or, true, vec_len};
 ghost use Rattle.acl_perm.specs.Kind.{is_allow};
 ghost use Rattle.acl_nfs4.specs.Ace.{ace};
-ghost use Rattle.acl_normal.specs.internal.FirstPlaces.{AreFirstFrom, AreStandingsOf, AreWhoms, IsCompared, IsWithin, no_ace, put, stops, stops_at};
+ghost use Rattle.acl_normal.specs.internal.FirstPlaces.{AreFirstFrom, AreWhoms, IsWithin, no_ace, put, stops, stops_at};
 ghost use Rattle.acl_normal.specs.internal.Passes.{list_of};
 ghost use Rattle.acl_normal.specs.internal.SetSearch.{principals};
 
 use crate::class::Class;
 use acl_nfs4::AceRef;
-use acl_perm::{Kind, Mask, Principal, Right};
+use acl_perm::{Kind, Principal, Right};
 use std::alloc::{AllocError, Global};
 
 /// The first ACE that speaks of a principal and has some right: its place in the list, and its type. An ACE of everyone
@@ -42,17 +42,6 @@ pub(crate) enum Whom {
     Nobody,
     One(usize),
     Everyone,
-}
-
-/// Two lists, the principals that they mention in order, whom each ACE names of these, and the rights of all ACEs.
-#[derive(Clone, Copy)]
-pub(crate) struct Compared<'a, 'b> {
-    pub whole: &'b [Principal<'a>],
-    pub list: &'b [AceRef<'a>],
-    pub other: &'b [AceRef<'a>],
-    pub list_whoms: &'b [Whom],
-    pub other_whoms: &'b [Whom],
-    pub rights: Mask,
 }
 
 // Whether the ACE has the right, and is of everyone.
@@ -107,9 +96,9 @@ fn put_first(out: &mut Vec<First>, item: &AceRef<'_>, whom: Whom, place: usize, 
     }
 }
 
-// What a list says first, on a right, of each of so many principals. All begin with what everyone is told, and the ACEs
-// before that are put from the last to the first, so that the first of each principal stays.
-fn firsts(
+/// What a list says first, on a right, of each of so many principals. All begin with what everyone is told, and the ACEs
+/// before that are put from the last to the first, so that the first of each principal stays.
+pub(crate) fn firsts(
     alloc: Global,
     whole: &[Principal<'_>],
     list: &[AceRef<'_>],
@@ -129,25 +118,4 @@ fn firsts(
         put_first(&mut out, &list[place], whoms[place], place, right);
     }
     Ok(out)
-}
-
-impl Compared<'_, '_> {
-    /// What both lists say first, on a right, of each principal.
-    pub(crate) fn standings(&self, alloc: Global, right: Right) -> Result<Vec<Standing>, AllocError>
-        requires { IsCompared self.now }
-        ensures { IfOk result (λ v. AreStandingsOf self.now right.bit v.items) }
-    {
-        let whole = self.whole;
-        let here = firsts(alloc, whole, self.list, self.list_whoms, right)?;
-        let there = firsts(alloc, whole, self.other, self.other_whoms, right)?;
-        let mut standings = Vec::new(alloc);
-        for i in 0..whole.len() {
-            standings.push(Standing {
-                here: here[i],
-                there: there[i],
-                class: Class::of(whole[i]),
-            })?;
-        }
-        Ok(standings)
-    }
 }

@@ -10,9 +10,9 @@ ghost use Rattle.acl_normal.specs.internal.Passes.{list_of};
 ghost use Rattle.acl_normal.specs.internal.SetSearch.{Finds, GrantAlikeTo, principals};
 
 use crate::comparison::Difference;
+use crate::comparison::compared::Compared;
 use crate::comparison::evaluation::grant_alike;
 use crate::comparison::mentioned::mentioned;
-use crate::comparison::outcome::answer;
 use crate::comparison::small_set::SmallSet;
 use crate::reduce::collected::collect;
 use acl_nfs4::{AceRef, Acl};
@@ -116,9 +116,20 @@ pub fn compare(alloc: Global, first: &Acl, second: &Acl) -> Result<Option<Differ
     // The same answer: None exactly if both lists grant the same, else the first difference.
     ensures { IfOk result (λ told. IsComparison first.now second.now told) }
 {
+    first_difference(alloc, first, second)
+}
+
+// The first difference of two lists. They are borrowed for one time, since they are held as one.
+fn first_difference<'a>(
+    alloc: Global,
+    first: &'a Acl,
+    second: &'a Acl,
+) -> Result<Option<Difference>, AllocError>
+    ensures { IfOk result (IsComparison first.now second.now) }
+{
     let list = collect(alloc, first)?;
     let other = collect(alloc, second)?;
-    let (whole, _) = mentioned(alloc, &list, &other)?;
-    let found = first_set(&list, &other, &whole);
-    answer(alloc, &list, &other, &whole, found)
+    let mentions = mentioned(alloc, &list, &other)?;
+    let found = first_set(&list, &other, &mentions.principals);
+    Compared::of(&list, &other, &mentions).difference(alloc, found)
 }

@@ -17,7 +17,7 @@ returns c =
     let both = ap list_of (c.deref-5.ensures.value ∙ c.in_ok-aces.ensures)
     ∙ map-append ace c.args.list.now c.args.other.now in
     record {
-      whole =
+      in_order =
           whole_ready c.args.list.now c.args.other.now _ _ _ _ _ _ c.in_ok-aces.ensures c.deref-2.ensures.value
           c.deref-4.ensures.value c.in_ok-table.ensures c.in_ok-numbers.ensures;
       whoms =
