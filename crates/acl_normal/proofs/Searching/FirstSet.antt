@@ -80,20 +80,23 @@ pub comparison_of : (both : TwoLists) (xs ys vs ws : List Ace) (answer : Result 
 comparison_of both xs ys vs ws answer is first second =
     subst (λ b. IfOk answer (IsComparison b.first b.second)) (both_are both xs ys vs ws is first second)
 
--- what is told, fact by fact
+-- a weaker fact of what is told
 weaken : (P Q : Option Difference → Type 0) (answer : Result (Option Difference) AllocError)
     → ((told : Option Difference) → P told → Q told) → IfOk answer P → IfOk answer Q
 weaken P Q (Ok told) f h = f told h
 weaken P Q (Err e) f h = h
 
+-- what is told, fact by fact: nothing is told exactly of lists that grant the same
 pub told_same : (xs ys : List Ace) (answer : Result (Option Difference) AllocError) → IfOk answer (IsComparison xs ys)
     → IfOk answer (λ told. IsNone told ↔ SameGrants all_rights xs ys)
 told_same xs ys answer = weaken _ _ answer (λ told h. h.same)
 
+-- the first situation in which they don't is told
 pub told_first : (xs ys : List Ace) (answer : Result (Option Difference) AllocError) → IfOk answer (IsComparison xs ys)
     → IfOk answer (λ told. IfSome told (λ d. IsFirstDifference xs ys (situation_of d) d.bit.bits d.first_grants))
 told_first xs ys answer = weaken _ _ answer (λ told h. h.first)
 
+-- and a requester to whom they don't
 pub told_requester : (xs ys : List Ace) (answer : Result (Option Difference) AllocError)
     → IfOk answer (IsComparison xs ys)
     → IfOk answer (λ told. IfSome told (λ d. TellsApart xs ys (situation_of d) d.bit.bits d.first_grants))

@@ -108,7 +108,7 @@ other_choice false true false false h e = cc
 other_choice false true true false h e = cc
 other_choice false true false true h e = cc
 
--- what the rows say of a pair, in both lists
+-- what the standings say of a pair, in both lists
 pub here_is : (xs ys : List Ace) (b : ℕ) (p q : Principal) (r s : Standing) → IsStanding xs ys b p r
     → IsStanding xs ys b q s
     → is_granted_to xs (p ∷ q ∷ []) b
@@ -177,7 +177,7 @@ inverted xs ys b p q r s h i u v e =
     not_true true k = cc
     not_true false k = refl
 
--- a principal agrees with all the others on the bit just where its row inverts none
+-- a principal agrees with all the others on the bit just where its standing inverts none
 pub agrees_from_rows : (xs ys : List Ace) (b : ℕ) (p : Principal) (r : Standing) (ps : List Principal)
     (rows : List Standing)
     → IsStanding xs ys b p r → SameAlone r → AllZip (IsStanding xs ys b) ps rows → AllByRecursion SameAlone rows

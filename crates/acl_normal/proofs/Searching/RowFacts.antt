@@ -27,7 +27,7 @@ use Rattle.acl_perm.specs.Principal.{Principal, everyone, principal, is_user}
 pub first_of_all : (xs : List Ace) (b : ℕ) (p : Principal) (f : First) → IsFirstFrom xs b 0 p f → IsFirst xs b p f
 first_of_all xs b p f h = let place = h.place in record { place = omega arith; allows = h.allows }
 
--- one more row
+-- one more standing
 pub rows_more : (names : List PrincipalRef) (q : PrincipalRef) (xs ys : List Ace) (b i : ℕ)
     (heres theres : List First) (h t : First) (u : Class) (old new : List Standing) → i < length names
     → h ≡ slice_index_or heres i h → t ≡ slice_index_or theres i t
@@ -56,7 +56,7 @@ rows_more names q xs ys b i heres theres h t u old new lt hi ti ui hs ts is all 
           all.each row));
     }
 
--- the row of a number
+-- the standing of a number
 pub row_at : (ps : List Principal) (xs ys : List Ace) (b k : ℕ) (rows : List Standing) → k < length ps
     → AllZip (IsStanding xs ys b) ps rows
     → IsStanding xs ys b (slice_index_or ps k everyone) (slice_index_or rows k no_standing)
@@ -65,12 +65,12 @@ row_at (p ∷ ps) xs ys b zero (r ∷ rows) lt z = z.0
 row_at (p ∷ ps) xs ys b (suc k) (r ∷ rows) lt z = row_at ps xs ys b k rows (omega arith) z.1
 row_at _ xs ys b k _ lt z = absurd z
 
--- there are as many rows as principals
+-- there are as many standings as principals
 pub rows_length : (ps : List Principal) (xs ys : List Ace) (b : ℕ) (rows : List Standing) → AreStandings ps xs ys b rows
     → length rows ≡ length ps
 rows_length ps xs ys b rows h = zip_length (IsStanding xs ys b) ps rows h.each
 
--- a limit within the principals is within their rows
+-- a limit within the principals is within their standings
 pub rows_limit : (ps : List Principal) (xs ys : List Ace) (b : ℕ) (rows shown : List Standing) (limit : ℕ)
     → AreStandings ps xs ys b rows → shown ≡ rows → limit ≤ length ps → limit ≤ length shown
 rows_limit ps xs ys b rows shown limit h is within =
@@ -165,7 +165,7 @@ all_alone (p ∷ ps) xs ys b (r ∷ rows) z h = (
 )
 all_alone _ xs ys b _ z h = absurd z
 
--- what holds of all rows holds of one
+-- what holds of all standings holds of one
 pub same_at : (rows : List Standing) (k : ℕ) → k < length rows → AllByRecursion SameAlone rows
     → SameAlone (slice_index_or rows k no_standing)
 same_at [] k lt h = absurd (omega arith)
@@ -223,7 +223,7 @@ all_drop P zero xs h = h
 all_drop P (suc n) [] h = h
 all_drop P (suc n) (x ∷ xs) h = all_drop P n xs h.1
 
--- there are as many later rows as later principals
+-- there are as many later standings as later principals
 pub others_length : (ps : List Principal) (xs ys : List Ace) (b at : ℕ) (items slice others : List Standing)
     → AreStandings ps xs ys b items → slice ≡ items → others ≡ drop (at + 1) slice
     → length others ≡ length (drop (at + 1) ps)
@@ -231,7 +231,7 @@ others_length ps xs ys b at items slice others h is split = ap length (split ∙
     ∙ zip_length (IsStanding xs ys b) (drop (at + 1) ps) (drop (at + 1) items)
     (zip_drop (IsStanding xs ys b) (at + 1) ps items h.each)
 
--- the same, as the code holds the rows
+-- the same, as the code holds the standings
 pub partner_loop : (ps : List Principal) (xs ys : List Ace) (bit at old new : ℕ) (row : Standing)
     (items slice others : List Standing) → at < length ps → AreStandings ps xs ys bit items → slice ≡ items
     → others ≡ drop (at + 1) slice → row ≡ slice_index_or items at row

@@ -1,4 +1,4 @@
--- Tables tell which rows invert another.
+-- Tables tell which standings invert another.
 use Rattle.std.specs.Prelude.{◌≡◌, ℕ, ◌<◌, ◌≤◌, ◌+◌, ◌-◌, Bool, true, false, not, ◌&&◌, ◌||◌, ◌==◌, cond, nat_lt, List, [], ◌∷◌, ◌++◌, max, refl, length, take, slice_index_or, slice_set, replicate, ◌⊎◌}
 use Rattle.std.proofs.Common.{sym, ◌∙◌, ap, subst, arith, suc, zero, inl, inr}
 use Rattle.std.proofs.lemmas.List.{take_more, take_all, get_or_read, get_or-set_same, get_or-set_other, get_or-replicate, length-set, length-replicate}
@@ -28,7 +28,7 @@ use Rattle.acl_perm.specs.declared.kind.Kind.{Kind}
 use Rattle.acl_perm.specs.declared.kind.Kind.TheVariants.{Allow, Deny}
 use Rattle.acl_perm.specs.Principal.{Principal, everyone}
 
--- the camp of a row
+-- the camp of a standing
 abbrev pub camp_of : Standing → Camp
 camp_of r = record { kind = r.here.kind; class = r.class }
 
@@ -90,20 +90,20 @@ before_more q w k (r ∷ rows) =
     let ih = before_more q w k rows in
     omega arith
 
--- some row counts, stands before k, and isn't before v in the other list
+-- some standing counts, stands before k, and isn't before v in the other list
 abbrev pub any_over : Camp → Side → ℕ → ℕ → List Standing → Bool
 any_over q w k v [] = false
 any_over q w k v (r ∷ rows) =
     (is_counted q r && (nat_lt (place_of w r) k && not (nat_lt (other_place w r) v))) || any_over q w k v rows
 
--- one row, and the others
+-- one standing, and the others
 over_head : (t l : Bool) (v x m : ℕ)
     → nat_lt v (max (cond (t && l) (x + 1) 0) m) ≡ ((t && (l && not (nat_lt x v))) || nat_lt v m)
 over_head true true v x m = grind (arith, nat_tests)
 over_head true false v x m = grind (arith, nat_tests)
 over_head false l v x m = grind (arith, nat_tests)
 
--- the greatest is over a number exactly if some row is
+-- the greatest is over a number exactly if some standing is
 pub over_is : (q : Camp) (w : Side) (k v : ℕ) (rows : List Standing)
     → nat_lt v (most_before q w k rows) ≡ any_over q w k v rows
 over_is q w k v [] = le-ltb v 0 (omega arith)
@@ -122,7 +122,7 @@ either_order true false true false y = refl
 either_order true false false x y = refl
 either_order false l m x y = refl
 
--- a row inverts another just where the tables, in one direction or in the other, say so
+-- a standing inverts another just where the tables, in one direction or in the other, say so
 pub inverts_is : (r : Standing) (rows : List Standing)
     → inverts_any r rows ≡ (any_over (camp_of r) Here r.here.place r.there.place rows || any_over
     (camp_of r) There r.there.place r.here.place rows)
@@ -147,7 +147,7 @@ inverts_by_tables r rows f s h i =
           (camp_of r) There r.there.place r.here.place rows,
     ) refl
 
--- a row that counts raises what stands behind its place
+-- a standing that counts raises what stands behind its place
 pub raises_set : (q : Camp) (w : Side) (r : Standing) (old new : List ℕ) (j v : ℕ) → j < length old
     → is_counted q r ≡ true
     → j ≡ place_of w r + 1 → v ≡ other_place w r + 1 → new ≡ slice_set old j (max (slice_index_or old j 0) v)
@@ -173,7 +173,7 @@ raises_set q w r old new j v lt c jk vk is =
 pub raises_none : (q : Camp) (w : Side) (r : Standing) (old : List ℕ) → is_counted q r ≡ false → Raises q w r old old
 raises_none q w r old c = record { count = refl; each = λ k lk. rw c (omega arith) }
 
--- before the first row all is zero
+-- before the first standing all is zero
 pub scatter_start : (q : Camp) (w : Side) (size n : ℕ) (table : List ℕ) → table ≡ replicate n 0 → n ≡ size + 2
     → IsScattered q w size [] table
 scatter_start q w size n table is e =
@@ -183,7 +183,7 @@ scatter_start q w size n table is e =
           ∙ get_or-replicate n k 0 0 (omega arith);
     }
 
--- one more row
+-- one more standing
 pub scatter_more : (q : Camp) (w : Side) (size i : ℕ) (rows : List Standing) (d : Standing) (old new : List ℕ)
     → i < length rows
     → Raises q w (slice_index_or rows i d) old new → IsScattered q w size (take i rows) old
@@ -210,7 +210,7 @@ pub record IsSummed (q : Camp) (w : Side) (size k : ℕ) (rows : List Standing) 
   pub done : (j : ℕ) → j < k → slice_index_or table j 0 ≡ most_before q w j rows
   pub left : (j : ℕ) → k ≤ j → j < size + 2 → slice_index_or table j 0 ≡ most_at q w j rows
 
--- after all rows
+-- after all standings
 pub scatter_all : (q : Camp) (w : Side) (size i : ℕ) (rows : List Standing) (table : List ℕ) → length rows ≤ i
     → IsScattered q w size (take i rows) table → IsScattered q w size rows table
 scatter_all q w size i rows table le h =
@@ -264,7 +264,7 @@ pub summed_done : (q : Camp) (w : Side) (size k : ℕ) (rows : List Standing) (t
     → IsSummed q w size k rows table → IsTable q w size rows table
 summed_done q w size k rows table le h = record { count = h.count; each = λ j lt. h.done j (omega arith) }
 
--- the places of one of the rows
+-- the places of one of the standings
 pub places_at : (size i : ℕ) (rows : List Standing) (d : Standing) → i < length rows
     → AllByRecursion (HasPlaces size) rows
     → HasPlaces size (slice_index_or rows i d)
@@ -286,14 +286,14 @@ same_class Others Others h = refl
 same_class Users Others h = cc
 same_class Others Users h = cc
 
--- a row of a camp has that camp
+-- a standing of a camp has that camp
 pub camp_is : (q : Camp) (r : Standing) → is_of_camp q r ≡ true → q ≡ camp_of r
 camp_is q r h = let p = and_parts (not (differ (is_allow q.kind) (is_allow r.here.kind)))
     (not (differ (is_users q.class) (is_users r.class))) h in
     ap (λ v. record { kind = v; class = q.class }) (same_kind q.kind r.here.kind p.0)
     ∙ ap (λ v. record { kind = r.here.kind; class = v }) (same_class q.class r.class p.1)
 
--- what the two tables say of a row of their camp
+-- what the two tables say of a standing of their camp
 pub by_camp : (q : Camp) (size : ℕ) (rows : List Standing) (r : Standing) (forward back : List ℕ)
     → is_of_camp q r ≡ true
     → HasPlaces size r → IsTable q Here size rows forward → IsTable q There size rows back
@@ -307,7 +307,7 @@ by_camp q size rows r forward back k p f b =
     (f.each r.here.place (omega arith) ∙ ap (λ v. most_before v Here r.here.place rows) own)
     (b.each r.there.place (omega arith) ∙ ap (λ v. most_before v There r.there.place rows) own)
 
--- a row that is told inverts another
+-- a standing that is told inverts another
 pub found_true : (q : Camp) (size : ℕ) (rows : List Standing) (r : Standing) (forward back : List ℕ) (t : Bool)
     → t ≡ is_told q r forward back → t ≡ true → HasPlaces size r → IsTable q Here size rows forward
     → IsTable q There size rows back → inverts_any r rows ≡ true
@@ -327,7 +327,7 @@ found_false q size rows r forward back t h e p f b k =
     (slice_index_or back r.there.place 0))) k)
     ∙ sym h ∙ e
 
--- places of rows are within the lists
+-- places of standings are within the lists
 pub first_place_within : (ps : List Principal) (b : ℕ) (xs : List Ace) → first_place ps b xs ≤ length xs
 first_place_within ps b [] = omega arith
 first_place_within ps b (a ∷ xs) =
@@ -337,7 +337,7 @@ first_place_within ps b (a ∷ xs) =
     go true h = omega arith
     go false h = omega arith
 
--- the places of rows are within the lists
+-- the places of standings are within the lists
 pub rows_within : (ps : List Principal) (xs ys : List Ace) (b size : ℕ) (rows : List Standing) → length xs ≤ size
     → length ys ≤ size → AllZip (IsStanding xs ys b) ps rows → AllByRecursion (HasPlaces size) rows
 rows_within [] xs ys b size [] lx ly z = tt
@@ -358,7 +358,7 @@ slice_within both bit size items slice is within h =
     subst (AllByRecursion (HasPlaces size)) (sym is)
     (rows_within (all_mentioned both) both.first both.second bit size items within.first within.second h.each)
 
--- the first row of a camp that is told
+-- the first standing of a camp that is told
 pub first_of_camp : (q : Camp) (size limit k : ℕ) (rows : List Standing) (forward back fs bs : List ℕ) (t : Bool)
     → k < limit → limit ≤ length rows
     → ((j : ℕ) → j < k → is_of_camp q (slice_index_or rows j no_standing) ≡ true
@@ -373,7 +373,7 @@ first_of_camp q size limit k rows forward back fs bs t lt le before places f b f
       (subst (λ v. IsTable q There size rows v) (sym be) b);
 }
 
--- one more row of which none is told
+-- one more standing of which none is told
 pub not_of_camp : (q : Camp) (size k : ℕ) (rows : List Standing) (forward back fs bs : List ℕ) (t : Bool)
     → k < length rows → AllByRecursion (HasPlaces size) rows → IsTable q Here size rows forward
     → IsTable q There size rows back → fs ≡ forward → bs ≡ back
@@ -385,5 +385,5 @@ not_of_camp q size k rows forward back fs bs t lt places f b fe be h e =
     (places_at size k rows no_standing lt places)
     (subst (λ v. IsTable q Here size rows v) (sym fe) f) (subst (λ v. IsTable q There size rows v) (sym be) b)
 
--- a row raises the table, or leaves it
+-- a standing raises the table, or leaves it
 pub ruleset raising = (raises_set, raises_none)

@@ -43,7 +43,7 @@ abbrev pub inverts : Standing → Standing → Bool
 inverts r s = (not (is_users r.class && is_users s.class) && differ (is_allow r.here.kind) (is_allow s.here.kind))
     && differ (nat_lt s.here.place r.here.place) (nat_lt s.there.place r.there.place)
 
--- the row inverts one of the others
+-- a principal inverts one of the others
 abbrev pub inverts_any : Standing → List Standing → Bool
 inverts_any r = list_any (inverts r)
 
@@ -97,9 +97,9 @@ pub record AreFirstFrom (whole : List Principal) (list : List Ace) (bit i : ℕ)
   pub each : (k : ℕ) → k < length whole
       → IsFirstFrom list bit i (slice_index_or whole k everyone) (slice_index_or firsts k no_first)
 
--- each row tells of its principal
-pub record AreStandings (whole : List Principal) (list other : List Ace) (bit : ℕ) (rows : List Standing) : Type 0 where
-  pub each : AllZip (IsStanding list other bit) whole rows
+-- where each principal stands
+pub record AreStandings (whole : List Principal) (list other : List Ace) (bit : ℕ) (standings : List Standing) : Type 0 where
+  pub each : AllZip (IsStanding list other bit) whole standings
 
 -- what stands for an ACE behind a list
 abbrev pub no_ace : Ace
@@ -122,13 +122,31 @@ put firsts a (One i) place bit =
     if has_bit a.mask bit then slice_set firsts i (record { place = place; kind = a.kind }) else firsts
 put firsts a Everyone place bit = firsts
 
--- what stands for a row behind a list of them
+-- what stands for a standing behind a list of them
 abbrev pub no_standing : Standing
 no_standing = record { here = no_first; there = no_first; class = Users }
 
 -- both lists say the same of the principal alone
 abbrev pub SameAlone : Standing → Type 0
 SameAlone r = is_allow r.here.kind ≡ is_allow r.there.kind
+
+-- the first below a limit of which the lists say different things, or the limit
+pub record IsFirstUnlike (standings : List Standing) (limit first : ℕ) : Type 0 where
+  pub within : first ≤ limit
+  pub before : (k : ℕ) → k < first → SameAlone (slice_index_or standings k no_standing)
+  pub at : first < limit → SameAlone (slice_index_or standings first no_standing) → ⊥
+
+-- the first below a limit that inverts another, or the limit
+pub record IsFirstInverting (standings : List Standing) (limit first : ℕ) : Type 0 where
+  pub within : first ≤ limit
+  pub before : (k : ℕ) → k < first → inverts_any (slice_index_or standings k no_standing) standings ≡ false
+  pub at : first < limit → inverts_any (slice_index_or standings first no_standing) standings ≡ true
+
+-- the first of the others below a limit that one inverts, or the limit
+pub record IsFirstInverted (one : Standing) (others : List Standing) (limit first : ℕ) : Type 0 where
+  pub within : first ≤ limit
+  pub before : (k : ℕ) → k < first → inverts one (slice_index_or others k no_standing) ≡ false
+  pub at : first < limit → inverts one (slice_index_or others first no_standing) ≡ true
 
 -- what is asked of each right
 abbrev pub OnAll : (ℕ → ℕ → Type 0) → ℕ → Type 0

@@ -1,5 +1,5 @@
-//! Two lists that are compared, seen as these two lists alone. What is asked of them again and again is found once: whom
-//! they mention, whom each ACE names of these, and which rights any ACE has.
+//! Two lists that are compared, seen as these two lists alone. What the search asks again and again is found once: whom
+//! they mention, whom of these each ACE names, and which rights any ACE has.
 ghost use Rattle.std.specs.Prelude.{◌≡◌, ◌<◌, ◌^◌, IfOk, false, length, true};
 ghost use Rattle.std.specs.Bool.{OnFalse, OnTrue};
 ghost use Rattle.acl_perm.specs.Bits.{all_rights, has_bit};
@@ -19,7 +19,7 @@ use acl_perm::{Mask, Principal, Right};
 use std::alloc::{AllocError, Global};
 use std::marker::Model;
 
-/// Two lists that are compared.
+/// Two lists that are compared. Clauses see the lists alone, since all else follows from them.
 #[derive(Drop)]
 pub(crate) struct Compared<'a, 'b> {
     pub(crate) first: &'b [AceRef<'a>],
@@ -28,7 +28,7 @@ pub(crate) struct Compared<'a, 'b> {
     pub(crate) mentioned: &'b [Principal<'a>],
     /// Whom of these each ACE of the first list names.
     first_whoms: &'b [Whom],
-    /// And each of the second.
+    /// Whom of these each ACE of the second list names.
     second_whoms: &'b [Whom],
     /// The rights of all ACEs.
     rights: Mask,
@@ -46,7 +46,7 @@ impl<'a, 'b> Model for Compared<'a, 'b> {
 }
 
 impl<'a, 'b> Compared<'a, 'b> {
-    /// Two lists, by whom they mention.
+    /// The two lists, once it is known whom they mention.
     #[tactic(auto, using(crate::proofs::Searching::MentionedRows::compared_parts))]
     pub(crate) fn of(
         first: &'b [AceRef<'a>],

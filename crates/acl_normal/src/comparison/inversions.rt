@@ -1,8 +1,8 @@
 //! Which principals two lists name in opposite orders, told by tables in place of going over all pairs.
-ghost use Rattle.std.specs.Prelude.{◌≡◌, ◌&&◌, ◌+◌, ◌<◌, ◌≤◌, ◌^◌, ℕ, IfOk, false, length, not, slice_index_or, true, vec_len};
+ghost use Rattle.std.specs.Prelude.{◌≡◌, ◌&&◌, ◌+◌, ◌<◌, ◌≤◌, ◌^◌, IfOk, length, not, vec_len};
 ghost use Rattle.std.specs.List.{AllByRecursion};
 ghost use Rattle.acl_normal.specs.internal.Classes.{is_users};
-ghost use Rattle.acl_normal.specs.internal.FirstPlaces.{SameAlone, inverts, inverts_any, no_standing};
+ghost use Rattle.acl_normal.specs.internal.FirstPlaces.{IsFirstInverted, IsFirstInverting, IsFirstUnlike, inverts};
 ghost use Rattle.acl_normal.specs.internal.PlaceTables.{HasPlaces, IsFirstOf, IsScattered, IsTable, Raises, is_counted, is_told, other_place, place_of};
 
 use super::standing::Standing;
@@ -13,9 +13,7 @@ use std::alloc::{AllocError, Global};
 /// The first of the standings, below a limit, in which the lists say different things.
 pub(crate) fn first_unlike(standings: &[Standing], limit: usize) -> usize
     requires { limit ≤ length standings.now }
-    ensures within { result ≤ limit }
-    ensures before { (k : ℕ) → k < result → SameAlone (slice_index_or standings.now k no_standing) }
-    ensures at { result < limit → SameAlone (slice_index_or standings.now result no_standing) → ⊥ }
+    ensures { IsFirstUnlike standings.now limit result }
 {
     for k in 0..limit {
         if standings[k].here.allows() != standings[k].there.allows() {
@@ -94,7 +92,7 @@ fn place_of(standing: Standing, side: Side) -> usize
     }
 }
 
-// Where it stands first in the other list.
+// Where a principal stands first in the list of the other side.
 fn other_place(standing: Standing, side: Side) -> usize
     ensures { result ≡ other_place side standing }
 {
@@ -206,11 +204,7 @@ pub(crate) fn first_inverting(
     requires limit { limit ≤ length standings.now }
     requires places { AllByRecursion (HasPlaces size) standings.now }
     requires size { size < 2 ^ 63 }
-    ensures within { IfOk result (λ v. v ≤ limit) }
-    ensures before { IfOk result (λ v. (k : ℕ) → k < v
-        → inverts_any (slice_index_or standings.now k no_standing) standings.now ≡ false) }
-    ensures at { IfOk result (λ v. v < limit
-        → inverts_any (slice_index_or standings.now v no_standing) standings.now ≡ true) }
+    ensures { IfOk result (IsFirstInverting standings.now limit) }
 {
     let allowed_users = first_of(alloc, standings, size, limit, Camp::ALLOWED_USERS)?;
     let allowed = first_of(alloc, standings, size, allowed_users, Camp::ALLOWED_OTHERS)?;
@@ -221,10 +215,7 @@ pub(crate) fn first_inverting(
 /// The first of the others, below a limit, that the principal inverts.
 pub(crate) fn first_inverted(standing: Standing, others: &[Standing], limit: usize) -> usize
     requires { limit ≤ length others.now }
-    ensures within { result ≤ limit }
-    ensures before { (k : ℕ) → k < result
-        → inverts standing (slice_index_or others.now k no_standing) ≡ false }
-    ensures at { result < limit → inverts standing (slice_index_or others.now result no_standing) ≡ true }
+    ensures { IsFirstInverted standing others.now limit result }
 {
     for k in 0..limit {
         if is_inverted(standing, others[k]) {

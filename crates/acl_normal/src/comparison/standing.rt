@@ -96,8 +96,8 @@ fn put_first(out: &mut Vec<First>, item: &AceRef<'_>, whom: Whom, place: usize, 
     }
 }
 
-/// What a list says first, on a right, of each of so many principals. All begin with what everyone is told, and the ACEs
-/// before that are put from the last to the first, so that the first of each principal stays.
+/// What a list says first, on a right, of each of so many principals. All begin with what everyone is told, and the
+/// ACEs before that are put from the last to the first, so that the first of each principal stays.
 pub(crate) fn firsts(
     alloc: Global,
     whole: &[Principal<'_>],
