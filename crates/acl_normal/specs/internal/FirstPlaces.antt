@@ -98,7 +98,8 @@ pub record AreFirstFrom (whole : List Principal) (list : List Ace) (bit i : ℕ)
       → IsFirstFrom list bit i (slice_index_or whole k everyone) (slice_index_or firsts k no_first)
 
 -- where each principal stands
-pub record AreStandings (whole : List Principal) (list other : List Ace) (bit : ℕ) (standings : List Standing) : Type 0 where
+pub record AreStandings (whole : List Principal) (list other : List Ace) (bit : ℕ) (standings : List Standing) :
+    Type 0 where
   pub each : AllZip (IsStanding list other bit) whole standings
 
 -- what stands for an ACE behind a list

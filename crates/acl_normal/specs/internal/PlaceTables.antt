@@ -48,7 +48,8 @@ pub record IsTable (camp : Camp) (side : Side) (size : ℕ) (standings : List St
   pub each : (k : ℕ) → k < size + 2 → slice_index_or table k 0 ≡ most_before camp side k standings
 
 -- at each place the greatest of those just before it
-pub record IsScattered (camp : Camp) (side : Side) (size : ℕ) (standings : List Standing) (table : List ℕ) : Type 0 where
+pub record IsScattered (camp : Camp) (side : Side) (size : ℕ) (standings : List Standing) (table : List ℕ) :
+    Type 0 where
   pub count : length table ≡ size + 2
   pub each : (k : ℕ) → k < size + 2 → slice_index_or table k 0 ≡ most_at camp side k standings
 
