@@ -23,7 +23,7 @@ use Rattle.acl_normal.specs.internal.Alike.{is_either}
 use Rattle.acl_normal.specs.Normal.{is_free, flags_for}
 use Rattle.acl_normal.specs.internal.Plain.{without_principal}
 use Rattle.acl_normal.specs.internal.Emissions.{IsOnce, HasOnceColumns, IsStep, IsEmission}
-use Rattle.acl_normal.specs.internal.Ready.{Marked, key_eq, marks, FitsKeys, IsKeyNumber, IsLeastReady, Frees, HoldsFree, who_for, emitted}
+use Rattle.acl_normal.specs.internal.Ready.{Marked, key_eq, marks, FitsKeys, IsKeyNumber, IsLeastReady, Frees, HoldsFree, Popped, Takes, who_for, emitted}
 use Rattle.acl_normal.specs.internal.Rows.{IsRow, is_named, key_number}
 use Rattle.acl_normal.specs.internal.Counts.{count_left}
 use Rattle.acl_normal.proofs.Unique.Names.{principal_eq_same, principal_eq_itself, overlaps_itself, bytes_eq_same, bytes_eq_itself}
@@ -197,13 +197,6 @@ some_below m (suc n) = go (some_below m n) (has_bit m n) refl
 
 -- ---- the step
 
--- the least of the marked keys was taken, with its bits
-pub record Popped (old : Marked) (q : Key) (m : ℕ) (rest : Marked) : Type 0 where
-  pub is : old q ≡ m
-  pub some : m ≢ 0
-  pub after : (l : Key) → rest l ≡ cond (key_eq l q) 0 (old l)
-  pub least : (l : Key) → old l ≢ 0 → is_le (compare_keys q l) ≡ true
-
 -- the bits of the least number are those of the least key
 pub popped : (xs : List Ace) (old new : List ℕ) (n m : ℕ) → FitsKeys xs old → IsLeastReady old n m
     → new ≡ slice_set old n 0 → (k : IsKeyNumber xs n) → Popped (marks xs old) k.key m (marks xs new)
@@ -229,25 +222,19 @@ pub ready_within : (xs : List Ace) (old : List ℕ) (n m : ℕ) → FitsKeys (no
 ready_within xs old n m f l =
     omega (arith, number_within old n (λ none. l.some (l.is ∙ none)), f.count, outline_length xs)
 
--- the key of the least number was taken
-pub record Takes (xs : List Ace) (old new : List ℕ) (n m : ℕ) (q : Key) : Type 0 where
-  pub row : IsRow (n / 2) q.0 xs
-  pub popped : Popped (marks (nothing_left xs) old) q m (marks (nothing_left xs) new)
-  pub fits : FitsKeys (nothing_left xs) new
-
--- whatever key has that number
+-- the key of the least number is taken, whatever key has that number
 pub takes : (xs : List Ace) (old new : List ℕ) (n m : ℕ) (q : Key) → FitsKeys (nothing_left xs) old
     → IsLeastReady old n m → new ≡ slice_set old n 0
-    → ((k : Key) → is_named k.0 xs ≡ true → n ≡ key_number k xs → q ≡ k) → Takes xs old new n m q
+    → ((k : Key) → is_named k.0 xs ≡ true → n ≡ key_number k xs → q ≡ k) → Takes xs old new (n / 2) q m
 takes xs old new n m q f l set whose = go (f.sound n (λ none. l.some (l.is ∙ none)))
   where
-    go : IsKeyNumber (nothing_left xs) n → Takes xs old new n m q
+    go : IsKeyNumber (nothing_left xs) n → Takes xs old new (n / 2) q m
     go k =
         let named : is_named k.key.0 xs ≡ true = sym (named_outline k.key.0 xs) ∙ k.named in
         let is : n ≡ key_number k.key xs = omega (arith, k.is, row_outline k.key.0 xs) in
         let same : k.key ≡ q = sym (whose k.key named is) in
         record {
-          row =
+          at_row =
               subst (λ (e : Key). IsRow (n / 2) e.0 xs) same (record {
                 named = named;
                 is = number_row k.key xs n is;
@@ -292,14 +279,14 @@ popped_low whole out old rest q m xs d p b l =
     popped_bits old rest q m xs d.free p b ∙ ap (λ c. is_free c q) (d.low b l)
 
 -- they are rights
-pub popped_mask : (whole : List Ace) (out : List Emitted) (old rest : Marked) (q : Key) (m : ℕ) (xs : List Ace)
-    → Drains whole out old xs → Popped old q m rest → IsMask m
-popped_mask whole out old rest q m xs d p = mask_from_bits m (λ b has. go b has (has_bit all_rights b) refl)
+pub popped_mask : (old rest : Marked) (q : Key) (m : ℕ) (xs : List Ace) → HoldsFree old xs → HasRights xs
+    → Popped old q m rest → IsMask m
+popped_mask old rest q m xs free rights p = mask_from_bits m (λ b has. go b has (has_bit all_rights b) refl)
   where
     go : (b : ℕ) → has_bit m b ≡ true → (t : Bool) → has_bit all_rights b ≡ t → has_bit all_rights b ≡ true
     go b has true is = is
     go b has false is =
-        clash (sym has ∙ popped_bits old rest q m xs d.free p b ∙ ap (λ c. is_free c q) (d.rights b is))
+        clash (sym has ∙ popped_bits old rest q m xs free p b ∙ ap (λ c. is_free c q) (rights b is))
       where
         clash : true ≡ false → has_bit all_rights b ≡ true
         clash h = cc
@@ -469,12 +456,12 @@ drain_on whole out more old rest next q m xs a d p is same f =
     }
 
 -- a turn, by number: the outline stays
-pub drain_turn : (whole : List Ace) (out more : List Emitted) (old rest next : List ℕ) (n m : ℕ) (q : Key)
-    (xs ys : List Ace) (a : Emitted) → Drains whole out (marks (nothing_left xs) old) xs → Takes xs old rest n m q
+pub drain_turn : (whole : List Ace) (out more : List Emitted) (old rest next : List ℕ) (row m : ℕ) (q : Key)
+    (xs ys : List Ace) (a : Emitted) → Drains whole out (marks (nothing_left xs) old) xs → Takes xs old rest row q m
     → more ≡ out ++ a ∷ [] → emitted_ace a ≡ emitted q m → ys ≡ take_out q.0 m xs
     → Frees q m ys (marks (nothing_left ys) rest) (marks (nothing_left ys) next)
     → Drains whole more (marks (nothing_left ys) next) ys
-drain_turn whole out more old rest next n m q xs ys a d t is same taken f =
+drain_turn whole out more old rest next row m q xs ys a d t is same taken f =
     let outline : nothing_left ys ≡ nothing_left xs = outline_left q.0 m xs ys taken in
     let frees : Frees q m (take_out q.0 m xs) (marks (nothing_left xs) rest) (marks (nothing_left xs) next) =
     subst (λ v. Frees q m v (marks (nothing_left xs) rest) (marks (nothing_left xs) next)) taken
