@@ -1,9 +1,24 @@
-//! Rights of a number that stands for a set of rights.
-ghost use Rattle.std.specs.Prelude.{◌≡◌, ◌^◌, ◌≤◌, bit_or, IfNone, IfSome};
+//! Rights of masks, and of ACEs.
+ghost use Rattle.std.specs.Prelude.{◌≡◌, ℕ, ◌^◌, ◌≤◌, bit_or, IfNone, IfSome};
+ghost use Rattle.acl_perm.specs.Bits.{has_bit};
+ghost use Rattle.acl_nfs4.specs.Ace.{ace};
 ghost use Rattle.acl_eval.specs.Scan.{without};
+ghost use Rattle.acl_normal.specs.Normal.{counts};
 ghost use Rattle.acl_normal.specs.internal.NextRight.{IsNextRight, LacksFrom};
 
-use acl_perm::Right;
+use acl_nfs4::AceRef;
+use acl_perm::{Mask, Right};
+
+/// The rights with which the ACE takes part.
+pub(crate) fn active(item: AceRef<'_>) -> Mask
+    ensures { (b : ℕ) → has_bit result.bits b ≡ counts b (ace item.entry) }
+{
+    if item.takes_part() {
+        item.mask
+    } else {
+        Mask::NONE
+    }
+}
 
 /// The first right of the mask at or above a bit.
 pub(crate) fn next_right(mask: u32, from: usize) -> Option<Right>

@@ -1,8 +1,8 @@
 -- The masks of the first ACEs of a list, place by place.
 use Rattle.std.proofs.Math.Bool.{and-true, or-false, and-false, or_self}
-use Rattle.std.specs.Prelude.{◌≡◌, ℕ, ◌<◌, ◌≤◌, suc, Bool, true, false, cond, not, ◌||◌, ◌&&◌, List, [], ◌∷◌, ◌++◌, Option, Some, None, is_some, is_none, option_map, length, replicate, take, slice_set, slice_index_or, bit_or, refl}
+use Rattle.std.specs.Prelude.{◌≡◌, ℕ, ◌+◌, ◌<◌, ◌≤◌, suc, Bool, true, false, cond, not, ◌||◌, ◌&&◌, List, [], ◌∷◌, ◌++◌, Option, Some, None, is_some, is_none, option_map, length, replicate, take, slice_set, slice_index_or, bit_or, refl}
 use Rattle.std.proofs.Common.{sym, ◌∙◌, ap, subst, arith, add-one}
-use Rattle.std.proofs.lemmas.List.{append-nil, get_or-replicate, get_or-set_same, get_or-set_other, length-replicate, length-set, length-take-le, take_all, take_more}
+use Rattle.std.proofs.lemmas.List.{append-nil, get_or-replicate, get_or-set_same, get_or-set_other, length-append, length-replicate, length-set, length-take-le, take_all, take_more}
 use Rattle.acl_perm.specs.Bits.{has_bit}
 use Rattle.acl_perm.specs.Principal.{Principal, everyone}
 use Rattle.acl_perm.specs.Profile.{full}
@@ -22,6 +22,7 @@ use Rattle.acl_normal.specs.Left.{IsTidy, KeepsFirsts}
 use Rattle.acl_normal.specs.Normal.{IsQuiet, is_inherit_only, counts}
 use Rattle.acl_normal.specs.Places.{first_at, nothing_left}
 use Rattle.acl_normal.specs.internal.Plain.{unshadowed}
+use Rattle.acl_normal.specs.internal.Reduced.{IsThinned}
 use Rattle.acl_normal.specs.internal.Rows.{AreRowNumbers, is_named, row_of}
 use Rattle.acl_normal.specs.internal.Shown.{aces_in, with_masks}
 use Rattle.acl_normal.proofs.Unique.Accepted.{accepted_masks}
@@ -426,3 +427,110 @@ row_seen aces rows seen place all xs x r l is holds =
       row_below (principal_of (ace x)) (aces_in aces) (named_there (aces_in aces) place (ace x) within at),
       holds.count,
     )
+
+-- ---- the loop
+
+-- what it keeps: the masks of the places that are done, and the bits that are seen in them
+pub record Reaches (aces : List AceRef) (place : ℕ) (masks seen : List ℕ) (all : ℕ) : Type 0 where
+  pub count : length masks ≡ place
+  pub firsts : FirstsTo (aces_in aces) place (with_masks aces masks)
+  pub holds : HoldsSeen (aces_in aces) seen all (with_masks aces masks)
+
+-- before the first place
+pub reaches_none : (aces : List AceRef) (masks seen : List ℕ) → masks ≡ [] → seen ≡ replicate (length aces) 0
+    → Reaches aces 0 masks seen 0
+reaches_none aces masks seen no_mask zeros = record {
+  count = ap length no_mask;
+  firsts = subst (FirstsTo (aces_in aces) 0) (sym none) (firsts_to_start (aces_in aces));
+  holds =
+      subst (HoldsSeen (aces_in aces) seen 0) (sym none)
+      (seen_start (aces_in aces) seen (zeros ∙ ap (λ n. replicate n 0) (sym (length_of aces))));
+}
+  where
+    none : with_masks aces masks ≡ []
+    none = ap (with_masks aces) no_mask ∙ masks_none aces
+
+-- the ACE at the next place, what was seen in its row before, and what takes part of it and is new
+pub record IsNext (aces : List AceRef) (rows : List ℕ) (place : ℕ) (seen : List ℕ) (all : ℕ) (x : AceRef) (here fresh : ℕ)
+    : Type 0 where
+  pub numbers : AreRowNumbers (aces_in aces) rows
+  pub below : place < length aces
+  pub is : x ≡ slice_index_or aces place x
+  pub in_row : here ≡ slice_index_or seen (slice_index_or rows place 0) here
+  pub active : ℕ
+  pub takes_part : (b : ℕ) → has_bit active b ≡ counts b (ace x)
+  pub new : fresh ≡ without active (bit_or here all)
+
+-- one place more
+pub reaches_more : (aces : List AceRef) (rows : List ℕ) (place : ℕ) (masks seen : List ℕ) (all all' : ℕ) (x : AceRef)
+    (here fresh : ℕ) → Reaches aces place masks seen all → IsNext aces rows place seen all x here fresh
+    → all' ≡ cond (principal_eq (principal_of (ace x)) everyone) (bit_or all fresh) all
+    → Reaches aces (place + 1) (masks ++ fresh ∷ [])
+    (slice_set seen (slice_index_or rows place 0) (bit_or here fresh)) all'
+reaches_more aces rows place masks seen all all' x here fresh r next of_all = record {
+  count = length-append masks (fresh ∷ []) ∙ ap (λ n. n + 1) r.count;
+  firsts =
+      subst (FirstsTo whole (place + 1)) (sym shown)
+      (subst (λ n. FirstsTo whole n (with_masks aces masks ++ masked (ace x) fresh ∷ [])) (sym (add-one place))
+      (firsts_to_more whole place _ _ _ r.firsts within is new));
+  holds =
+      subst (HoldsSeen whole _ all') (sym shown)
+      (subst (λ v. HoldsSeen whole v all' (with_masks aces masks ++ masked (ace x) fresh ∷ [])) (sym written)
+      (seen_more whole seen all all' _ _ _ r.holds named new of_all));
+}
+  where
+    whole : List Ace
+    whole = aces_in aces
+
+    row : ℕ
+    row = row_of (principal_of (ace x)) whole
+
+    within : place < length whole
+    within = omega (arith, length_of aces, next.below)
+
+    is : slice_index_or whole place (ace x) ≡ ace x
+    is = index_is aces place x next.below next.is
+
+    at_row : slice_index_or rows place 0 ≡ row
+    at_row = row_here whole rows place (ace x) next.numbers within is
+
+    named : is_named (principal_of (ace x)) whole ≡ true
+    named = named_there whole place (ace x) within is
+
+    there : here ≡ slice_index_or seen row 0
+    there =
+        row_value seen _ row here next.in_row at_row
+        (omega (arith, row_below (principal_of (ace x)) whole named, r.holds.count))
+
+    written : slice_set seen (slice_index_or rows place 0) (bit_or here fresh)
+        ≡ slice_set seen row (bit_or (slice_index_or seen row 0) fresh)
+    written =
+        ap (λ n. slice_set seen n (bit_or here fresh)) at_row
+        ∙ ap (λ v. slice_set seen row (bit_or v fresh)) there
+
+    new : IsFresh (with_masks aces masks) (ace x) fresh
+    new =
+        fresh_is whole seen all (with_masks aces masks) (ace x) next.active fresh r.holds named next.takes_part
+        (next.new ∙ ap (λ v. without next.active (bit_or v all)) there)
+
+    shown : with_masks aces (masks ++ fresh ∷ []) ≡ with_masks aces masks ++ masked (ace x) fresh ∷ []
+    shown =
+        masks_push aces masks x fresh (omega (arith, r.count, next.below))
+        (next.is ∙ ap (λ n. slice_index_or aces n x) (sym r.count))
+
+-- after the last place
+pub reaches_all : (aces : List AceRef) (place : ℕ) (masks seen : List ℕ) (all : ℕ)
+    → Reaches aces place masks seen all → length aces ≤ place → FirstsAre (aces_in aces) (with_masks aces masks)
+reaches_all aces place masks seen all r past =
+    firsts_to_all (aces_in aces) place _ r.firsts (omega (arith, length_of aces, past))
+
+-- these are the list without the bits that an earlier ACE has
+pub reaches_thinned : (aces : List AceRef) (place : ℕ) (masks seen : List ℕ) (all : ℕ) → IsAccepted full (aces_in aces)
+    → Reaches aces place masks seen all → length aces ≤ place → IsThinned (aces_in aces) (with_masks aces masks)
+reaches_thinned aces place masks seen all accepted r past =
+    let are = reaches_all aces place masks seen all r past in
+    record {
+      outline = are.outline;
+      tidy = firsts_tidy (aces_in aces) _ accepted r.firsts.quiet are.columns;
+      firsts = r.firsts.firsts;
+    }

@@ -1,30 +1,16 @@
 //! The first ACEs of a list: those bits that no ACE of the same principal or of `EVERYONE@` precedes.
 ghost use Rattle.std.specs.Prelude.{◌≡◌, ℕ, [], length, IfOk, vec_len};
-ghost use Rattle.acl_perm.specs.Bits.{has_bit};
 ghost use Rattle.acl_perm.specs.Profile.{full};
-ghost use Rattle.acl_nfs4.specs.Ace.{ace};
 ghost use Rattle.acl_nfs4.specs.Spelling.{IsAccepted};
 ghost use Rattle.acl_eval.specs.Column.{column};
-ghost use Rattle.acl_normal.specs.Normal.{counts};
 ghost use Rattle.acl_normal.specs.internal.Plain.{unshadowed};
 ghost use Rattle.acl_normal.specs.internal.Reduced.{IsThinned};
 ghost use Rattle.acl_normal.specs.internal.Rows.{AreRowNumbers};
 ghost use Rattle.acl_normal.specs.internal.Shown.{aces_in, with_masks};
 
-use crate::bits::without;
+use crate::bits::{active, without};
 use acl_nfs4::AceRef;
 use std::alloc::{AllocError, Global};
-
-/// The bits with which the ACE takes part.
-fn active_bits(item: AceRef<'_>) -> u32
-    ensures { (b : ℕ) → has_bit result b ≡ counts b (ace item.entry) }
-{
-    if item.flags.is_inherit_only() {
-        0
-    } else {
-        item.mask.bits()
-    }
-}
 
 /// The masks of the first ACEs, by place: the bits that none of the same principal or of everyone has before.
 /// `rows` are the rows of the principals, by place.
@@ -47,7 +33,7 @@ pub(crate) fn first_masks(
     for place in 0..aces.len() {
         let ace = aces[place];
         let here = &mut seen[rows[place]];
-        let fresh = without(active_bits(ace), *here | everyone);
+        let fresh = without(active(ace).bits(), *here | everyone);
         *here |= fresh;
         masks.push(fresh)?;
         if ace.principal().is_everyone() {

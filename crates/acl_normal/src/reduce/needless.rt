@@ -2,10 +2,9 @@
 ghost use Rattle.std.specs.Prelude.{◌≡◌, ℕ, ◌<◌, Bool, true, false, not, ◌||◌, ◌&&◌, length};
 ghost use Rattle.acl_perm.specs.Bits.{has_bit};
 ghost use Rattle.acl_perm.specs.declared.kind.Kind.{Kind as Sort};
-ghost use Rattle.acl_nfs4.specs.Ace.{ace};
 ghost use Rattle.acl_eval.specs.Column.{column};
 ghost use Rattle.acl_normal.specs.Left.{IsTidy};
-ghost use Rattle.acl_normal.specs.Keys.{ace_key, kind_eq, plain_key};
+ghost use Rattle.acl_normal.specs.Keys.{kind_eq, plain_key};
 ghost use Rattle.acl_normal.specs.internal.Classes.{is_users};
 ghost use Rattle.acl_normal.specs.internal.Needed.{class_mask, default_at, is_kept, later_mask, opposes};
 ghost use Rattle.acl_normal.specs.Places.{same_class};
@@ -134,16 +133,6 @@ fn allowed_to_everyone(aces: &[AceRef<'_>], masks: &[u32]) -> u32
     bits
 }
 
-/// Whom the ACE names, and its type.
-fn key(item: AceRef<'_>) -> Key<'_>
-    ensures { plain_key result ≡ ace_key (ace item.entry) }
-{
-    Key {
-        principal: item.principal(),
-        kind: item.kind,
-    }
-}
-
 /// Drops the bits that no situation needs from the masks of first ACEs: one pass, from the last ACE to the first.
 pub(crate) fn drop_needless(aces: &[AceRef<'_>], masks: &mut [u32])
     requires places { length masks.old ≡ length aces.now }
@@ -162,7 +151,7 @@ pub(crate) fn drop_needless(aces: &[AceRef<'_>], masks: &mut [u32])
     for done in 0..aces.len() {
         let place = aces.len() - 1 - done;
         let ace = aces[place];
-        let at = key(ace);
+        let at = ace.key();
         let mask = masks[place];
         let dropped = needless(at, mask, allowed, opposite(later, at));
         masks[place] = without(mask, dropped);

@@ -3,6 +3,7 @@ use Rattle.std.specs.Prelude.{ℕ, slice_index_or, slice_set}
 use Rattle.std.proofs.lemmas.Bool.{and_parts}
 use Rattle.acl_perm.specs.Bits.{has_bit}
 use Rattle.acl_nfs4.specs.Ace.{ace}
+use Rattle.acl_nfs4.specs.Who.{principal_of}
 use Rattle.acl_normal.specs.Keys.{ace_key}
 use Rattle.acl_normal.specs.Keys.{plain_key}
 use Rattle.acl_normal.specs.Left.{IsTidy, KeepsFirsts}
@@ -43,15 +44,18 @@ loop-done-preserved c =
     let is : slice_index_or shown place item ≡ item =
     masked_at c.args.aces.now c.loop-done.masks place c.index-aces-place.result here count
     c.index-aces-place.is in
+    let own : plain_key c.key-at.result ≡ ace_key (ace c.index-aces-place.result) =
+    ap (λ p. (p, c.key-at.result.kind)) c.key-at.ensures.principal
+    ∙ ap (λ k. (principal_of (ace c.index-aces-place.result), k)) c.key-at.ensures.kind in
     let key_is : plain_key c.key-at.result ≡ key_here shown place =
-    c.key-at.ensures ∙ sym (key_at_index shown place item within ∙ ap ace_key is) in
+    own ∙ sym (key_at_index shown place item within ∙ ap ace_key is) in
     let bits : (b : ℕ) → has_bit c.needless-dropped.result b ≡ true → has_bit mask b ≡ true =
     λ b h. (and_parts (has_bit mask b) _ (sym (c.needless-dropped.ensures b) ∙ h)).0 in
     let taken : new ≡ take_out (plain_key c.key-at.result).0 c.needless-dropped.result shown =
     ap (λ v. with_masks c.args.aces.now (slice_set c.loop-done.masks place v)) c.without.ensures
     ∙ cleared_there c.args.aces.now c.loop-done.masks place c.index-aces-place.result c.needless-dropped.result here
     count c.index-aces-place.is c.loop-done.invariant.tidy bits
-    ∙ ap (λ k. take_out k.0 c.needless-dropped.result shown) (sym c.key-at.ensures) in
+    ∙ ap (λ k. take_out k.0 c.needless-dropped.result shown) (sym own) in
     record {
       drops =
           drops_on whole c.loop-done.done shown c.loop-done.later c.noted-later.result
