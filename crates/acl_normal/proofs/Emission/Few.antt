@@ -4,7 +4,7 @@ use Rattle.std.proofs.Common.{subst, arith}
 use Rattle.acl_nfs4.specs.Ace.{Ace}
 use Rattle.acl_nfs4.specs.declared.ace.AceRef.{AceRef}
 use Rattle.acl_normal.specs.internal.Remaining.{IsRemaining, masks_left, remaining_of}
-use Rattle.acl_normal.specs.internal.Shown.{with_masks}
+use Rattle.acl_normal.specs.internal.Shown.{bits_in, with_masks}
 use Rattle.acl_normal.specs.declared.emit.remaining.Remaining.TheInside.{Inside}
 
 no_more : (aces : List AceRef) (masks : List ℕ) → length (with_masks aces masks) ≤ length aces
@@ -17,6 +17,6 @@ pub remaining_few : (a : Inside) (xs : List Ace) → IsRemaining a → remaining
 remaining_few a xs r is =
     subst (λ v. length v < 2 ^ 63) is (omega (
       arith,
-      no_more a.aces.items (masks_left a.masks.items a.rows.items a.left.items),
+      no_more a.aces.items (masks_left (bits_in a.masks.items) a.rows.items (bits_in a.left.items)),
       r.few,
     ))

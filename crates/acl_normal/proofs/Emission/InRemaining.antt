@@ -6,7 +6,8 @@ use Rattle.std.specs.declared.vec.Vec.{Vec}
 use Rattle.std.proofs.lemmas.Bool.{cases_eq, cases_lt}
 use Rattle.std.proofs.lemmas.List.{get_or-set_same, get_or-set_other, length-map, length-set, map-append, map-set}
 use Rattle.std.proofs.lemmas.Nat.Bits.{bit_at_ones}
-use Rattle.acl_perm.specs.Bits.{has_bit}
+use Rattle.acl_perm.specs.Bits.{all_rights, has_bit}
+use Rattle.acl_perm.specs.declared.mask.Mask.{Mask}
 use Rattle.acl_perm.specs.Principal.{Principal}
 use Rattle.acl_perm.specs.declared.kind.Kind.{Kind}
 use Rattle.acl_nfs4.specs.Ace.{Ace}
@@ -22,11 +23,11 @@ use Rattle.acl_normal.specs.declared.emit.remaining.Remaining.TheInside.{Inside}
 use Rattle.acl_normal.specs.internal.Emissions.{IsOnce}
 use Rattle.acl_normal.specs.internal.Remaining.{AreQueues, IsQueue, IsQueueFrom, IsNumbered, IsRemaining, first_in, masks_left, places_in, remaining_of}
 use Rattle.acl_normal.specs.internal.Rows.{AreRowNumbers, IsRow, row_of}
-use Rattle.acl_normal.specs.internal.Shown.{aces_in, with_masks}
+use Rattle.acl_normal.specs.internal.Shown.{aces_in, bits_in, with_masks}
 use Rattle.acl_normal.specs.internal.Waiting.{HoldWaiting}
 use Rattle.acl_normal.proofs.Merging.WaitingPlaces.{all_places, quiet_counts}
 use Rattle.acl_normal.proofs.Reduction.LaterBits.{has_bit-and}
-use Rattle.acl_normal.proofs.Unique.Bits.{masks_same, no_bits_of_zero}
+use Rattle.acl_normal.proofs.Unique.Bits.{bits_length, bits_set, bits_within, no_bits_of_zero}
 use Rattle.acl_normal.proofs.Emission.Walk.{waits_within}
 use Rattle.acl_normal.proofs.Emission.Remaining.{all_left, left_at, length_left, mask_shown, queue_taken, row_taken, waits_has}
 use Rattle.acl_normal.proofs.Merging.BitTaken.{same_default, slot_below, slot_same}
@@ -36,11 +37,15 @@ use Rattle.acl_normal.proofs.Merging.TakeOut.{none_taken}
 use Rattle.acl_normal.proofs.Unique.Columns.{column_has, column_lacks}
 use Rattle.acl_normal.proofs.Unique.Outline.{length_shown, outline_shown}
 
+-- a mask for each ACE
+masks_count : (s : Inside) → IsRemaining s → length (bits_in s.masks.items) ≡ length s.aces.items
+masks_count s right = bits_length s.masks.items ∙ omega (arith, right.masks, s.masks.ok)
+
 -- as many are left as there are
 pub length_remaining : (s : Inside) → IsRemaining s → length (remaining_of s) ≡ length s.aces.items
 length_remaining s right =
     length_shown s.aces.items _
-    (length_left s.masks.items s.rows.items s.left.items ∙ omega (arith, right.masks, s.masks.ok))
+    (length_left (bits_in s.masks.items) s.rows.items (bits_in s.left.items) ∙ masks_count s right)
 
 -- each column of what remains has each principal once
 pub remaining_once : (s : Inside) (xs : List Ace) → IsRemaining s → remaining_of s ≡ xs → (b : ℕ) → IsOnce (column xs b)
@@ -50,7 +55,7 @@ remaining_once s xs right is b = subst (λ v. IsOnce (column v b)) is (right.lis
 pub outline_of : (s : Inside) → IsRemaining s → nothing_left (remaining_of s) ≡ nothing_left (aces_in s.aces.items)
 outline_of s right =
     outline_shown s.aces.items _
-    (length_left s.masks.items s.rows.items s.left.items ∙ omega (arith, right.masks, s.masks.ok))
+    (length_left (bits_in s.masks.items) s.rows.items (bits_in s.left.items) ∙ masks_count s right)
 
 -- the row of a place is one of those of which something is left
 pub row_of_place : (s : Inside) (i : ℕ) → IsRemaining s → i < length (remaining_of s)
@@ -83,21 +88,22 @@ order_there s i d n right l is = (same, omega (arith, same, right.list.order.wit
 -- the mask that is left at a place
 pub mask_remaining : (s : Inside) (i : ℕ) → IsRemaining s → i < length (remaining_of s)
     → mask_here (remaining_of s) i
-    ≡ bit_and (slice_index_or s.masks.items i 0) (slice_index_or s.left.items (slice_index_or s.rows.items i 0) 0)
+    ≡ bit_and (slice_index_or (bits_in s.masks.items) i 0) (slice_index_or (bits_in s.left.items) (slice_index_or s.rows.items i 0) 0)
 mask_remaining s i right l =
     mask_shown s.aces.items _ i
-    (length_left s.masks.items s.rows.items s.left.items ∙ omega (arith, right.masks, s.masks.ok))
-    ∙ left_at s.masks.items s.rows.items s.left.items i
-    (omega (arith, right.list.rows.count, length_remaining s right, right.masks, s.masks.ok))
-    (omega (arith, l, length_remaining s right, right.masks, s.masks.ok))
+    (length_left (bits_in s.masks.items) s.rows.items (bits_in s.left.items) ∙ masks_count s right)
+    ∙ left_at (bits_in s.masks.items) s.rows.items (bits_in s.left.items) i
+    (omega (arith, right.list.rows.count, length_remaining s right, masks_count s right))
+    (omega (arith, l, length_remaining s right, masks_count s right))
 
 -- the list, where bits of a row are left out
 pub taken_view : (s : Inside) (row m : ℕ) (p : Principal) → IsRemaining s → IsRow row p (remaining_of s)
-    → with_masks s.aces.items (masks_left s.masks.items s.rows.items
-    (slice_set s.left.items row (without (slice_index_or s.left.items row 0) m))) ≡ take_out p m (remaining_of s)
+    → with_masks s.aces.items (masks_left (bits_in s.masks.items) s.rows.items
+    (slice_set (bits_in s.left.items) row (without (slice_index_or (bits_in s.left.items) row 0) m))) ≡ take_out p m (remaining_of s)
 taken_view s row m p right at_row =
-    row_taken p m row s.aces.items s.masks.items s.rows.items s.left.items (row_of_named s row p right at_row)
-    (omega (arith, right.list.rows.count, length_remaining s right, right.masks, s.masks.ok)) right.list.tidy.quiet
+    row_taken p m row s.aces.items (bits_in s.masks.items) s.rows.items (bits_in s.left.items)
+    (omega (arith, row_of_named s row p right at_row, bits_length s.left.items))
+    (omega (arith, right.list.rows.count, length_remaining s right, masks_count s right)) right.list.tidy.quiet
     (λ i l e. row_same (key_here xs i).0 p xs (named_here xs i l) at_row.named
     (sym (right.list.rows.at i l) ∙ e ∙ at_row.is))
     (λ i l e. right.list.rows.at i l ∙ ap (λ v. row_of v xs) e ∙ sym at_row.is)
@@ -106,8 +112,8 @@ taken_view s row m p right at_row =
     xs = remaining_of s
 
 -- what is left is right then
-pub taken_right : (s : Inside) (row m mask : ℕ) (p : Principal) → IsRemaining s → IsRow row p (remaining_of s)
-    → mask ≡ without (slice_index_or s.left.items row 0) m
+pub taken_right : (s : Inside) (row m : ℕ) (mask : Mask) (p : Principal) → IsRemaining s → IsRow row p (remaining_of s)
+    → mask.bits ≡ without (slice_index_or (bits_in s.left.items) row 0) m
     → IsRemaining (record {
       aces = s.aces;
       masks = s.masks;
@@ -135,14 +141,16 @@ taken_right s row m mask p right at_row is = record {
     xs : List Ace
     xs = remaining_of s
 
-    view : with_masks s.aces.items (masks_left s.masks.items s.rows.items (slice_set s.left.items row mask))
+    view : with_masks s.aces.items (masks_left (bits_in s.masks.items) s.rows.items
+        (bits_in (slice_set s.left.items row mask)))
         ≡ take_out p m xs
     view =
-        ap (λ v. with_masks s.aces.items (masks_left s.masks.items s.rows.items (slice_set s.left.items row v))) is
+        ap (λ v. with_masks s.aces.items (masks_left (bits_in s.masks.items) s.rows.items v))
+        (bits_set s.left.items row mask ∙ ap (slice_set (bits_in s.left.items) row) is)
         ∙ taken_view s row m p right at_row
 
-    outline : nothing_left (with_masks s.aces.items (masks_left s.masks.items s.rows.items
-        (slice_set s.left.items row mask))) ≡ nothing_left xs
+    outline : nothing_left (with_masks s.aces.items (masks_left (bits_in s.masks.items) s.rows.items
+        (bits_in (slice_set s.left.items row mask)))) ≡ nothing_left xs
     outline = ap nothing_left view ∙ outline_taken p m xs
 
 -- ---- queues by their slots
@@ -283,72 +291,39 @@ queues_wait xs lists queues f g = record {
 
 -- ---- all is left
 
--- no ACE of a quiet list has a bit of which the column is empty
-no_bit_here : (b : ℕ) (xs : List Ace) (i : ℕ) → IsQuiet xs → column xs b ≡ [] → has_bit (mask_here xs i) b ≡ false
-no_bit_here b [] i quiet h = no_bits_of_zero b
-no_bit_here b (a ∷ xs) i quiet h = go i (counts b a) refl (no_bit_here b xs)
-  where
-    clash : [] ≡ ace_key a ∷ column xs b → ⊥
-    clash e = cc
-
-    go : (i : ℕ) (t : Bool) → counts b a ≡ t
-        → ((j : ℕ) → IsQuiet xs → column xs b ≡ [] → has_bit (mask_here xs j) b ≡ false)
-        → has_bit (mask_here (a ∷ xs) i) b ≡ false
-    go i true e rest = absurd (clash (sym h ∙ column_has b a xs e))
-    go zero false e rest = sym (quiet_counts b a quiet.0) ∙ e
-    go (suc i) false e rest = rest i quiet.1 (sym (column_lacks b a xs e) ∙ h)
-
 -- before anything was emitted the masks are all that is left
-pub all_remains : (aces : List AceRef) (masks rows left : List ℕ) → length masks ≡ length aces
-    → length left ≡ length aces → IsTidy (with_masks aces masks) → AreRowNumbers (with_masks aces masks) rows
-    → ((i : ℕ) → i < length left → slice_index_or left i 0 ≡ 2 ^ 32 - 1) → masks_left masks rows left ≡ masks
-all_remains aces masks rows left e f tidy numbers full =
-    all_left masks rows left (omega (arith, numbers.count, count, e)) (λ i l. here i l)
+pub all_remains : (aces : List AceRef) (masks : List Mask) (rows left : List ℕ) → length masks ≡ length aces
+    → length left ≡ length aces → AreRowNumbers (with_masks aces (bits_in masks)) rows
+    → ((i : ℕ) → i < length left → slice_index_or left i 0 ≡ all_rights)
+    → masks_left (bits_in masks) rows left ≡ bits_in masks
+all_remains aces masks rows left e f numbers full =
+    all_left (bits_in masks) rows left (omega (arith, numbers.count, count, shown)) here
   where
     xs : List Ace
-    xs = with_masks aces masks
+    xs = with_masks aces (bits_in masks)
+
+    shown : length (bits_in masks) ≡ length aces
+    shown = bits_length masks ∙ e
 
     count : length xs ≡ length aces
-    count = length_shown aces masks e
+    count = length_shown aces (bits_in masks) shown
 
-    low : (i b : ℕ) → 21 ≤ b → has_bit (slice_index_or masks i 0) b ≡ false
-    low i b h =
-        ap (λ m. has_bit m b) (sym (mask_shown aces masks i e)) ∙ no_bit_here b xs i tidy.quiet (tidy.low b h)
-
-    same : (i b : ℕ)
-        → has_bit (bit_and (slice_index_or masks i 0) (2 ^ 32 - 1)) b ≡ has_bit (slice_index_or masks i 0) b
-    same i b =
-        has_bit-and (slice_index_or masks i 0) (2 ^ 32 - 1) b ∙ ⊎_elim (λ l. below l) (λ l. above l) (cases_lt b 21)
-      where
-        below : b < 21 → (has_bit (slice_index_or masks i 0) b && has_bit (2 ^ 32 - 1) b)
-            ≡ has_bit (slice_index_or masks i 0) b
-        below l =
-            let one : has_bit (2 ^ 32 - 1) b ≡ true = ap (λ v. v == 1) (bit_at_ones 32 b (omega (arith, l))) in
-            rw one (kept (has_bit (slice_index_or masks i 0) b))
-          where
-            kept : (t : Bool) → (t && true) ≡ t
-            kept true = refl
-            kept false = refl
-
-        above : 21 ≤ b → (has_bit (slice_index_or masks i 0) b && has_bit (2 ^ 32 - 1) b)
-            ≡ has_bit (slice_index_or masks i 0) b
-        above l = rw (low i b l) refl
-
-    here : (i : ℕ) → i < length masks
-        → bit_and (slice_index_or masks i 0) (slice_index_or left (slice_index_or rows i 0) 0)
-        ≡ slice_index_or masks i 0
+    here : (i : ℕ) → i < length (bits_in masks)
+        → bit_and (slice_index_or (bits_in masks) i 0) (slice_index_or left (slice_index_or rows i 0) 0)
+        ≡ slice_index_or (bits_in masks) i 0
     here i l =
-        let within : i < length xs = omega (arith, l, count, e) in
+        let within : i < length xs = omega (arith, l, count, shown) in
         let below = row_below (key_here xs i).0 xs (named_here xs i within) in
         let row : slice_index_or rows i 0 < length left = omega (arith, numbers.at i within, below, count, f) in
-        ap (bit_and (slice_index_or masks i 0)) (full (slice_index_or rows i 0) row) ∙ masks_same _ _ (same i)
+        ap (bit_and (slice_index_or (bits_in masks) i 0)) (full (slice_index_or rows i 0) row)
+        ∙ bits_within masks i (omega (arith, l, bits_length masks))
 
 -- the list begins right
 pub begins_right : (s : Inside) → length s.aces.items < 2 ^ 32 → vec_len s.masks ≡ length s.aces.items
     → vec_len s.left ≡ length s.aces.items
-    → IsNumbered (with_masks s.aces.items s.masks.items) s.rows.items s.order.items
-    → AreQueues (with_masks s.aces.items s.masks.items) s.queues.items
-    → masks_left s.masks.items s.rows.items s.left.items ≡ s.masks.items → IsRemaining s
+    → IsNumbered (with_masks s.aces.items (bits_in s.masks.items)) s.rows.items s.order.items
+    → AreQueues (with_masks s.aces.items (bits_in s.masks.items)) s.queues.items
+    → masks_left (bits_in s.masks.items) s.rows.items (bits_in s.left.items) ≡ (bits_in s.masks.items) → IsRemaining s
 begins_right s few masks left reduced queues all = record {
   few = few;
   masks = masks;
@@ -357,5 +332,5 @@ begins_right s few masks left reduced queues all = record {
   queues = subst (λ v. AreQueues v s.queues.items) view queues;
 }
   where
-    view : with_masks s.aces.items s.masks.items ≡ remaining_of s
+    view : with_masks s.aces.items (bits_in s.masks.items) ≡ remaining_of s
     view = ap (with_masks s.aces.items) (sym all)

@@ -3,7 +3,7 @@ use Rattle.std.proofs.Math.Bool.{and-true, or-false, and-false, or_self}
 use Rattle.std.specs.Prelude.{◌≡◌, ℕ, ◌+◌, ◌<◌, ◌≤◌, suc, Bool, true, false, cond, not, ◌||◌, ◌&&◌, List, [], ◌∷◌, ◌++◌, Option, Some, None, is_some, is_none, option_map, length, replicate, take, slice_set, slice_index_or, bit_or, refl}
 use Rattle.std.proofs.Common.{sym, ◌∙◌, ap, subst, arith, add-one}
 use Rattle.std.proofs.lemmas.List.{append-nil, get_or-replicate, get_or-set_same, get_or-set_other, length-append, length-replicate, length-set, length-take-le, take_all, take_more}
-use Rattle.acl_perm.specs.Bits.{has_bit}
+use Rattle.acl_perm.specs.Bits.{IsDifference, has_bit}
 use Rattle.acl_perm.specs.Principal.{Principal, everyone}
 use Rattle.acl_perm.specs.Profile.{full}
 use Rattle.acl_perm.specs.declared.kind.Kind.{Kind}
@@ -13,8 +13,6 @@ use Rattle.acl_nfs4.specs.Spelling.{IsAccepted}
 use Rattle.acl_nfs4.specs.Who.{principal_of}
 use Rattle.acl_nfs4.specs.declared.ace.AceRef.{AceRef}
 use Rattle.acl_eval.specs.Column.{Column, first_kind, column}
-use Rattle.acl_eval.specs.Scan.{without}
-use Rattle.acl_eval.proofs.Scans.{has_bit-without}
 use Rattle.acl_normal.specs.internal.Alike.{is_either}
 use Rattle.acl_normal.specs.Keys.{Key, ace_key, principal_eq}
 use Rattle.acl_normal.specs.internal.Emissions.{IsOnce}
@@ -283,10 +281,9 @@ seen_start whole seen is = record {
 pub fresh_is : (whole : List Ace) (seen : List ℕ) (all : ℕ) (xs : List Ace) (a : Ace) (active m : ℕ)
     → HoldsSeen whole seen all xs → is_named (principal_of a) whole ≡ true
     → ((b : ℕ) → has_bit active b ≡ counts b a)
-    → m ≡ without active (bit_or (slice_index_or seen (row_of (principal_of a) whole) 0) all) → IsFresh xs a m
+    → IsDifference active (bit_or (slice_index_or seen (row_of (principal_of a) whole) 0) all) m → IsFresh xs a m
 fresh_is whole seen all xs a active m s named act is b =
-    ap (λ v. has_bit v b) is
-    ∙ has_bit-without active (bit_or (slice_index_or seen (row_of (principal_of a) whole) 0) all) b
+    is b
     ∙ ap (λ t. t && not (has_bit (bit_or (slice_index_or seen (row_of (principal_of a) whole) 0) all) b)) (act b)
     ∙ ap (λ t. counts b a && not t) seen_is
     ∙ ap (λ t. counts b a && t) (sym (none_is _))
@@ -303,13 +300,13 @@ fresh_is whole seen all xs a active m s named act is b =
 -- one ACE more is seen
 pub seen_more : (whole : List Ace) (seen : List ℕ) (all all' : ℕ) (xs : List Ace) (a : Ace) (m : ℕ)
     → HoldsSeen whole seen all xs → is_named (principal_of a) whole ≡ true → IsFresh xs a m
-    → all' ≡ cond (principal_eq (principal_of a) everyone) (bit_or all m) all
+    → ((b : ℕ) → has_bit all' b ≡ (has_bit all b || (has_bit m b && principal_eq (principal_of a) everyone)))
     → HoldsSeen whole (slice_set seen (row_of (principal_of a) whole)
     (bit_or (slice_index_or seen (row_of (principal_of a) whole) 0) m)) all' (xs ++ masked a m ∷ [])
 seen_more whole seen all all' xs a m s named fresh is = record {
   count = length-set seen row new ∙ s.count;
   rows = λ p h b. rows p h b (principal_eq (principal_of a) p) refl;
-  everyone = λ b. of_all b (principal_eq (principal_of a) everyone) refl;
+  everyone = λ b. of_all b;
 }
   where
     row : ℕ
@@ -362,20 +359,10 @@ seen_more whole seen all all' xs a m s named fresh is = record {
             ap (principal_eq (principal_of a)) same ∙ principal_eq_itself (principal_of a) in
             cc
 
-    of_all : (b : ℕ) → (t : Bool) → principal_eq (principal_of a) everyone ≡ t
+    of_all : (b : ℕ)
         → has_bit all' b ≡ is_some (first_kind (is_either everyone everyone) (column (xs ++ masked a m ∷ []) b))
-    of_all b true e =
-        ap (λ v. has_bit v b) (is ∙ rw e refl) ∙ has_bit-or all m b ∙ ap (λ t. t || has_bit m b) (s.everyone b)
-        ∙ ap (λ t. is_some (first_kind (is_either everyone everyone) (column xs b)) || t)
-        (sym (and-true (has_bit m b)))
-        ∙ ap (λ t. is_some (first_kind (is_either everyone everyone) (column xs b)) || (has_bit m b && t)) (sym e)
-        ∙ sym (some_is b everyone)
-    of_all b false e =
-        ap (λ v. has_bit v b) (is ∙ rw e refl) ∙ s.everyone b
-        ∙ sym (or-false (is_some (first_kind (is_either everyone everyone) (column xs b))))
-        ∙ ap (λ t. is_some (first_kind (is_either everyone everyone) (column xs b)) || t)
-        (sym (and-false (has_bit m b)))
-        ∙ ap (λ t. is_some (first_kind (is_either everyone everyone) (column xs b)) || (has_bit m b && t)) (sym e)
+    of_all b =
+        is b ∙ ap (λ t. t || (has_bit m b && principal_eq (principal_of a) everyone)) (s.everyone b)
         ∙ sym (some_is b everyone)
 
 -- ---- masks by place
@@ -459,12 +446,12 @@ pub record IsNext (aces : List AceRef) (rows : List ℕ) (place : ℕ) (seen : L
   pub in_row : here ≡ slice_index_or seen (slice_index_or rows place 0) here
   pub active : ℕ
   pub takes_part : (b : ℕ) → has_bit active b ≡ counts b (ace x)
-  pub new : fresh ≡ without active (bit_or here all)
+  pub new : IsDifference active (bit_or here all) fresh
 
 -- one place more
 pub reaches_more : (aces : List AceRef) (rows : List ℕ) (place : ℕ) (masks seen : List ℕ) (all all' : ℕ) (x : AceRef)
     (here fresh : ℕ) → Reaches aces place masks seen all → IsNext aces rows place seen all x here fresh
-    → all' ≡ cond (principal_eq (principal_of (ace x)) everyone) (bit_or all fresh) all
+    → ((b : ℕ) → has_bit all' b ≡ (has_bit all b || (has_bit fresh b && principal_eq (principal_of (ace x)) everyone)))
     → Reaches aces (place + 1) (masks ++ fresh ∷ [])
     (slice_set seen (slice_index_or rows place 0) (bit_or here fresh)) all'
 reaches_more aces rows place masks seen all all' x here fresh r next of_all = record {
@@ -511,7 +498,7 @@ reaches_more aces rows place masks seen all all' x here fresh r next of_all = re
     new : IsFresh (with_masks aces masks) (ace x) fresh
     new =
         fresh_is whole seen all (with_masks aces masks) (ace x) next.active fresh r.holds named next.takes_part
-        (next.new ∙ ap (λ v. without next.active (bit_or v all)) there)
+        (subst (λ v. IsDifference next.active (bit_or v all) fresh) there next.new)
 
     shown : with_masks aces (masks ++ fresh ∷ []) ≡ with_masks aces masks ++ masked (ace x) fresh ∷ []
     shown =

@@ -9,14 +9,12 @@ use Rattle.std.proofs.lemmas.Nat.Bits.{bit_at_and, bit_at-lt}
 use Rattle.acl_perm.specs.Principal.{Principal, everyone}
 use Rattle.acl_perm.specs.declared.kind.Kind.{Kind}
 use Rattle.acl_perm.specs.declared.kind.Kind.TheVariants.{Deny, Allow}
-use Rattle.acl_perm.specs.Bits.{has_bit}
+use Rattle.acl_perm.specs.Bits.{IsUnion, all_rights, has_bit}
 use Rattle.acl_perm.proofs.Sets.{has_bit-or}
 use Rattle.acl_nfs4.specs.Ace.{Ace, ace}
 use Rattle.acl_nfs4.specs.Who.{principal_of}
 use Rattle.acl_nfs4.specs.declared.ace.AceRef.{AceRef}
 use Rattle.acl_eval.specs.Column.{first_kind, column}
-use Rattle.acl_eval.specs.Scan.{without}
-use Rattle.acl_eval.proofs.Scans.{has_bit-without}
 use Rattle.acl_normal.specs.Keys.{principal_eq, Key, kind_eq}
 use Rattle.acl_normal.specs.Places.{same_class, first_at, mask_here}
 use Rattle.acl_normal.specs.internal.Alike.{is_either}
@@ -46,68 +44,14 @@ has_bit-and m n b = go (has_bit m b) refl (has_bit n b) refl
 
 -- ---- the masks by type and class
 
--- before the first turn there is no later ACE
-pub no_later : (k : Kind) (users : Bool) (b : ℕ)
-    → has_bit (later_mask (record {
-      deny = record { users = 0; others = 0 };
-      allow = record { users = 0; others = 0 };
-    }) k users) b ≡ false
-no_later Deny true b = no_bits_of_zero b
-no_later Deny false b = no_bits_of_zero b
-no_later Allow true b = no_bits_of_zero b
-no_later Allow false b = no_bits_of_zero b
-
--- one of two masks with more bits
-abbrev pub with_bits : ByClass → Bool → ℕ → ByClass
-with_bits c true m = record c { users = bit_or c.users m }
-with_bits c false m = record c { others = bit_or c.others m }
-
 same_bit : (t : Bool) → t ≡ (t || false)
 same_bit true = refl
 same_bit false = refl
-
--- the two masks with more bits of a class
-pub with_is : (c : ByClass) (u : Bool) (m : ℕ) (users : Bool) (b : ℕ)
-    → has_bit (class_mask (with_bits c u m) users) b
-    ≡ (has_bit (class_mask c users) b || (same_class u users && has_bit m b))
-with_is c true m true b = has_bit-or c.users m b
-with_is c false m false b = has_bit-or c.others m b
-with_is c true m false b = same_bit (has_bit c.others b)
-with_is c false m true b = same_bit (has_bit c.users b)
 
 -- the bits of a class that an ACE of another type has nothing to say of
 pub noted_other : (c : ByClass) (users : Bool) (b : ℕ)
     → has_bit (class_mask c users) b ≡ (has_bit (class_mask c users) b || false)
 noted_other c users b = same_bit (has_bit (class_mask c users) b)
-
--- ---- what is dropped of a mask
-
--- the bits that are needless
-abbrev pub Needless : ℕ → ℕ → ℕ → Key → ℕ → ℕ → Type 0
-Needless m allowed o k r b = has_bit r b ≡ (has_bit m b && not (is_kept (default_at allowed b) k (has_bit o b)))
-
--- of an ALLOW
-pub needless_allow : (m allowed o : ℕ) (p : Principal) (b : ℕ) → principal_eq p everyone ≡ false
-    → Needless m allowed o (p, Allow) (without (bit_and m allowed) o) b
-needless_allow m allowed o p b ne =
-    has_bit-without (bit_and m allowed) o b ∙ ap (λ t. t && not (has_bit o b)) (has_bit-and m allowed b)
-    ∙ rw ne (bools (has_bit m b) (has_bit allowed b) (has_bit o b))
-  where
-    bools : (x y z : Bool) → ((x && y) && not z) ≡ (x && not (not (kind_eq Allow (cond y Allow Deny)) || z))
-    bools true true z = refl
-    bools true false z = refl
-    bools false y z = refl
-
--- of a DENY
-pub needless_deny : (m allowed o : ℕ) (p : Principal) (b : ℕ) → principal_eq p everyone ≡ false
-    → Needless m allowed o (p, Deny) (without m (bit_or allowed o)) b
-needless_deny m allowed o p b ne =
-    has_bit-without m (bit_or allowed o) b ∙ ap (λ t. has_bit m b && not t) (has_bit-or allowed o b)
-    ∙ rw ne (bools (has_bit m b) (has_bit allowed b) (has_bit o b))
-  where
-    bools : (x y z : Bool) → (x && not (y || z)) ≡ (x && not (not (kind_eq Deny (cond y Allow Deny)) || z))
-    bools x true z = refl
-    bools x false z = refl
 
 -- ---- the default
 
@@ -132,6 +76,19 @@ kind_first b p (a ∷ xs) = go (counts b a) refl (principal_eq (principal_of a) 
     go false e s f ih = rw e (ih ∙ kind_behind (first_at b p xs))
     go true e true f ih = rw (e, f) refl
     go true e false f ih = rw (e, f) (ih ∙ kind_behind (first_at b p xs))
+
+-- a bit that an ACE has is a right, where the columns of other bits are empty
+pub right_there : (b : ℕ) (p : Principal) (xs : List Ace) (e : Kind × ℕ) → first_at b p xs ≡ Some e
+    → (has_bit all_rights b ≡ false → column xs b ≡ []) → has_bit all_rights b ≡ true
+right_there b p xs e there rights = go (has_bit all_rights b) refl
+  where
+    clash : None ≡ Some e.0 → ⊥
+    clash h = cc
+
+    go : (t : Bool) → has_bit all_rights b ≡ t → t ≡ true
+    go true is = refl
+    go false is =
+        absurd (clash (sym (ap (first_kind (is_either p p)) (rights is)) ∙ kind_first b p xs ∙ ap kind_in there))
 
 -- an ACE of everyone that allows has the bit
 abbrev pub allowed_in : ℕ → List Ace → Bool
@@ -209,32 +166,17 @@ allowed_more xs n bits b a h l is =
     ap (allowed_in b) (take_more xs n a l ∙ ap (λ v. take n xs ++ v ∷ []) is) ∙ allowed_push b (take n xs) a
     ∙ ap (λ t. t || (counts b a && (principal_eq (principal_of a) everyone && kind_eq a.kind Allow))) (sym (h b))
 
--- an ACE that allows everyone its bits
-pub allows_with : (xs : List Ace) (n bits : ℕ) (a : Ace) → AllowsTo xs n bits → n < length xs
+-- with what one more ACE allows everyone
+pub allows_more : (xs : List Ace) (n bits added more : ℕ) (a : Ace) → AllowsTo xs n bits → n < length xs
     → slice_index_or xs n a ≡ a → (is_inherit_only a ≡ true → a.mask ≡ 0)
-    → principal_eq (principal_of a) everyone ≡ true → kind_eq a.kind Allow ≡ true
-    → AllowsTo xs (n + 1) (bit_or bits a.mask)
-allows_with xs n bits a h l is quiet e k b =
-    has_bit-or bits a.mask b ∙ ap (λ t. has_bit bits b || t) (sym (counts_mask b a quiet) ∙ sym (all (counts b a)))
-    ∙ ap (λ t. has_bit bits b || (counts b a && (t && true))) (sym e)
-    ∙ ap (λ t. has_bit bits b || (counts b a && (principal_eq (principal_of a) everyone && t))) (sym k)
+    → ((b : ℕ) → has_bit added b
+    ≡ (has_bit a.mask b && (principal_eq (principal_of a) everyone && kind_eq a.kind Allow)))
+    → IsUnion bits added more → AllowsTo xs (n + 1) more
+allows_more xs n bits added more a h l is quiet by both b =
+    both b ∙ ap (λ t. has_bit bits b || t)
+    (by b ∙ ap (λ t. t && (principal_eq (principal_of a) everyone && kind_eq a.kind Allow))
+    (sym (counts_mask b a quiet)))
     ∙ sym (allowed_more xs n bits b a h l is)
-  where
-    all : (t : Bool) → (t && (true && true)) ≡ t
-    all true = refl
-    all false = refl
-
--- one that does not
-pub allows_same : (xs : List Ace) (n bits : ℕ) (a : Ace) → AllowsTo xs n bits → n < length xs
-    → slice_index_or xs n a ≡ a → (principal_eq (principal_of a) everyone && kind_eq a.kind Allow) ≡ false
-    → AllowsTo xs (n + 1) bits
-allows_same xs n bits a h l is e b =
-    none (has_bit bits b) (counts b a) ∙ ap (λ t. has_bit bits b || (counts b a && t)) (sym e)
-    ∙ sym (allowed_more xs n bits b a h l is)
-  where
-    none : (t s : Bool) → t ≡ (t || (s && false))
-    none true s = refl
-    none false s = sym (and-false s)
 
 -- all places
 pub allows_all : (xs : List Ace) (n bits : ℕ) → AllowsTo xs n bits → length xs ≤ n → HasOnceColumns xs → (b : ℕ)

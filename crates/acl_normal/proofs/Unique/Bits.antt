@@ -1,5 +1,5 @@
 -- Single bits of a mask.
-use Rattle.std.specs.Prelude.{◌≡◌, ◌≢◌, ◌⊎◌, ℕ, ◌+◌, ◌-◌, ◌/◌, ◌%◌, ◌^◌, ◌<◌, ◌≤◌, true, false, ◌==◌, Option, Some, None, IfNone, IsSome, bit_and, zero, suc, refl}
+use Rattle.std.specs.Prelude.{◌≡◌, ◌≢◌, ◌⊎◌, ℕ, ◌+◌, ◌-◌, ◌/◌, ◌%◌, ◌^◌, ◌<◌, ◌≤◌, true, false, ◌==◌, List, [], ◌∷◌, ◌++◌, Option, Some, None, IfNone, IsSome, bit_and, length, replicate, slice_index_or, slice_set, zero, suc, refl}
 use Rattle.std.specs.Int.Count.{trailing_of_zero}
 use Rattle.std.specs.Int.{bit_at, trailing_zeros, w32}
 use Rattle.std.proofs.Common.{sym, ◌∙◌, ap, subst, arith, inl, inr, ⊎_elim}
@@ -7,12 +7,16 @@ use Rattle.std.proofs.lemmas.Bool.{eqb-true, eqb-false, ne_eqb, cases_eq, cases_
 use Rattle.std.proofs.lemmas.Nat.Bits.{bit_at_xor, bit_at_and, bit_at-pow_same, bit_at-pow_other, bit_at-lt, same_from_bits, bit_at-zero, bit_at-trailing_zeros}
 use Rattle.std.proofs.Math.Nat.{div-le_self}
 use Rattle.std.proofs.lemmas.Nat.{shr-shr}
-use Rattle.acl_perm.specs.Bits.{has_bit}
+use Rattle.std.proofs.lemmas.List.{get_or-map, length-map, map-append, map-set}
+use Rattle.acl_perm.specs.Bits.{IsDifference, IsMask, has_bit}
+use Rattle.acl_perm.specs.declared.mask.Mask.{Mask}
 -- sets with the same bits are equal
 pub use Rattle.acl_perm.proofs.Sets.{same_set as masks_same}
 use Rattle.acl_perm.specs.declared.right.Right.{Right}
 use Rattle.acl_eval.specs.Scan.{without}
+use Rattle.acl_eval.proofs.Scans.{has_bit-without}
 use Rattle.acl_normal.specs.internal.NextRight.{IsNextRight, LacksFrom}
+use Rattle.acl_normal.specs.internal.Shown.{bits_in}
 
 -- no mask, no bit
 pub no_bits_of_zero : (b : ℕ) → has_bit 0 b ≡ false
@@ -123,3 +127,38 @@ past_absent P m n b step from lacks start = subst P (omega (arith, from)) (go (b
     go (suc k) l =
         subst P (omega arith)
         (step (n + k) (go k (omega (arith, l))) (lacks (n + k) (omega arith) (omega (arith, l))))
+
+-- ---- masks as numbers
+
+-- what one set has and the other has not is the one without the other
+pub difference_is : (m n set : ℕ) → IsDifference m n set → set ≡ without m n
+difference_is m n set is = masks_same set (without m n) (λ b. is b ∙ sym (has_bit-without m n b))
+
+-- a number for each mask
+pub bits_length : (masks : List Mask) → length (bits_in masks) ≡ length masks
+bits_length masks = length-map masks (λ m. m.bits)
+
+-- the number of the mask at a place
+pub bits_at : (masks : List Mask) (i d : ℕ) (m : Mask) → i < length masks → m ≡ slice_index_or masks i m
+    → slice_index_or (bits_in masks) i d ≡ m.bits
+bits_at masks i d m within is = get_or-map (λ m. m.bits) masks i m d within ∙ ap (λ v. v.bits) (sym is)
+
+-- of one mask more
+pub bits_push : (masks : List Mask) (m : Mask) → bits_in (masks ++ m ∷ []) ≡ bits_in masks ++ m.bits ∷ []
+bits_push masks m = map-append (λ m. m.bits) masks (m ∷ [])
+
+-- of a mask in the place of another
+pub bits_set : (masks : List Mask) (i : ℕ) (m : Mask)
+    → bits_in (slice_set masks i m) ≡ slice_set (bits_in masks) i m.bits
+bits_set masks i m = map-set (λ m. m.bits) masks i m
+
+-- of one mask everywhere
+pub bits_all : (n : ℕ) (m : Mask) → bits_in (replicate n m) ≡ replicate n m.bits
+bits_all zero m = refl
+bits_all (suc n) m = ap (λ v. m.bits ∷ v) (bits_all n m)
+
+-- each is a set of rights
+pub bits_within : (masks : List Mask) (i : ℕ) → i < length masks → IsMask (slice_index_or (bits_in masks) i 0)
+bits_within [] i within = absurd (omega (arith, within))
+bits_within (m ∷ masks) zero within = m.within
+bits_within (m ∷ masks) (suc i) within = bits_within masks i (omega (arith, within))

@@ -108,7 +108,7 @@ fn free_after<'a>(
 {
     let opposite = at.kind.other();
     let mut from = 0;
-    while let Some(right) = next_right(mask.bits, from) {
+    while let Some(right) = next_right(mask, from) {
         enter(rows, opposite, Class::Others, right, ready)?;
         if !at.principal.is_user() {
             enter(rows, opposite, Class::Users, right, ready)?;
@@ -165,7 +165,7 @@ pub(crate) fn drain<'a>(
     // The label names the loop for its proof.
     'emitted: while let Some(next) = pop(rows, &mut ready) {
         out.push(next)?;
-        rows.emit(next.row, next.key, next.mask.bits);
+        rows.emit(next.row, next.key, next.mask);
         free_after(rows, next.key, next.mask, &mut ready)?;
     }
     Ok(out)

@@ -1,5 +1,10 @@
+use Rattle.acl_perm.specs.Bits.{IsMask}
+use Rattle.acl_normal.specs.internal.Shown.{bits_in}
 use Rattle.acl_normal.proofs.Reduction.FirstMasks.{Reaches}
 use Rattle.acl_normal.proofs.reduce.first.first_masks.Given as goal
 
 abbrev pub invariant-loop-place : goal.invariant-loop-place
-invariant-loop-place l = Reaches l.aces l.place l.masks.items l.seen.items l.everyone
+invariant-loop-place l = record {
+  within : IsMask l.everyone.0;
+  reaches : Reaches l.aces l.place (bits_in l.masks.items) (bits_in l.seen.items) l.everyone.0;
+}
