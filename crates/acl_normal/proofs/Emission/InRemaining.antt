@@ -1,11 +1,10 @@
 -- What remains of a list, by its fields.
-use Rattle.std.specs.Prelude.{◌≡◌, ◌⊎◌, ℕ, ◌<◌, ◌≤◌, ◌-◌, ◌^◌, ◌==◌, ◌&&◌, zero, suc, Bool, true, false, List, [], ◌∷◌, ◌++◌, bit_and, length, map, slice_index_or, slice_set, refl, vec_len}
+use Rattle.std.specs.Prelude.{◌≡◌, ◌⊎◌, ℕ, ◌<◌, ◌^◌, zero, suc, Bool, false, List, [], ◌∷◌, ◌++◌, bit_and, length, map, slice_index_or, slice_set, refl, vec_len}
 use Rattle.std.specs.Vec.{with_item}
-use Rattle.std.proofs.Common.{Global, sym, ◌∙◌, ap, subst, arith, inl, inr, ⊎_elim}
+use Rattle.std.proofs.Common.{Global, sym, ◌∙◌, ap, subst, arith, inl, inr}
 use Rattle.std.specs.declared.vec.Vec.{Vec}
-use Rattle.std.proofs.lemmas.Bool.{cases_eq, cases_lt}
+use Rattle.std.proofs.lemmas.Bool.{cases_eq}
 use Rattle.std.proofs.lemmas.List.{get_or-set_same, get_or-set_other, length-map, length-set, map-append, map-set}
-use Rattle.std.proofs.lemmas.Nat.Bits.{bit_at_ones}
 use Rattle.acl_perm.specs.Bits.{all_rights, has_bit}
 use Rattle.acl_perm.specs.declared.mask.Mask.{Mask}
 use Rattle.acl_perm.specs.Principal.{Principal}
@@ -14,9 +13,7 @@ use Rattle.acl_nfs4.specs.Ace.{Ace}
 use Rattle.acl_nfs4.specs.declared.ace.AceRef.{AceRef}
 use Rattle.acl_eval.specs.Column.{column}
 use Rattle.acl_eval.specs.Scan.{without}
-use Rattle.acl_normal.specs.Keys.{ace_key}
 use Rattle.acl_normal.specs.Left.{IsTidy}
-use Rattle.acl_normal.specs.Normal.{IsQuiet, counts}
 use Rattle.acl_normal.specs.Places.{key_here, mask_here, nothing_left, slot_of, take_out}
 use Rattle.acl_normal.specs.declared.emit.remaining.Queue.{Queue}
 use Rattle.acl_normal.specs.declared.emit.remaining.Remaining.TheInside.{Inside}
@@ -25,16 +22,14 @@ use Rattle.acl_normal.specs.internal.Remaining.{AreQueues, IsQueue, IsQueueFrom,
 use Rattle.acl_normal.specs.internal.Rows.{AreRowNumbers, IsRow, row_of}
 use Rattle.acl_normal.specs.internal.Shown.{aces_in, bits_in, with_masks}
 use Rattle.acl_normal.specs.internal.Waiting.{HoldWaiting}
-use Rattle.acl_normal.proofs.Merging.WaitingPlaces.{all_places, quiet_counts}
-use Rattle.acl_normal.proofs.Reduction.LaterBits.{has_bit-and}
-use Rattle.acl_normal.proofs.Unique.Bits.{bits_length, bits_set, bits_within, no_bits_of_zero}
+use Rattle.acl_normal.proofs.Merging.WaitingPlaces.{all_places}
+use Rattle.acl_normal.proofs.Unique.Bits.{bits_length, bits_set, bits_within}
 use Rattle.acl_normal.proofs.Emission.Walk.{waits_within}
 use Rattle.acl_normal.proofs.Emission.Remaining.{all_left, left_at, length_left, mask_shown, queue_taken, row_taken, waits_has}
 use Rattle.acl_normal.proofs.Merging.BitTaken.{same_default, slot_below, slot_same}
 use Rattle.acl_normal.proofs.Merging.Quiet.{tidy_taken}
 use Rattle.acl_normal.proofs.Merging.Rows.{named_here, order_alike, outline_taken, row_below, row_same, rows_alike}
 use Rattle.acl_normal.proofs.Merging.TakeOut.{none_taken}
-use Rattle.acl_normal.proofs.Unique.Columns.{column_has, column_lacks}
 use Rattle.acl_normal.proofs.Unique.Outline.{length_shown, outline_shown}
 
 -- a mask for each ACE
@@ -88,7 +83,8 @@ order_there s i d n right l is = (same, omega (arith, same, right.list.order.wit
 -- the mask that is left at a place
 pub mask_remaining : (s : Inside) (i : ℕ) → IsRemaining s → i < length (remaining_of s)
     → mask_here (remaining_of s) i
-    ≡ bit_and (slice_index_or (bits_in s.masks.items) i 0) (slice_index_or (bits_in s.left.items) (slice_index_or s.rows.items i 0) 0)
+    ≡ bit_and (slice_index_or (bits_in s.masks.items) i 0)
+    (slice_index_or (bits_in s.left.items) (slice_index_or s.rows.items i 0) 0)
 mask_remaining s i right l =
     mask_shown s.aces.items _ i
     (length_left (bits_in s.masks.items) s.rows.items (bits_in s.left.items) ∙ masks_count s right)
@@ -99,7 +95,8 @@ mask_remaining s i right l =
 -- the list, where bits of a row are left out
 pub taken_view : (s : Inside) (row m : ℕ) (p : Principal) → IsRemaining s → IsRow row p (remaining_of s)
     → with_masks s.aces.items (masks_left (bits_in s.masks.items) s.rows.items
-    (slice_set (bits_in s.left.items) row (without (slice_index_or (bits_in s.left.items) row 0) m))) ≡ take_out p m (remaining_of s)
+    (slice_set (bits_in s.left.items) row (without (slice_index_or (bits_in s.left.items) row 0) m)))
+    ≡ take_out p m (remaining_of s)
 taken_view s row m p right at_row =
     row_taken p m row s.aces.items (bits_in s.masks.items) s.rows.items (bits_in s.left.items)
     (omega (arith, row_of_named s row p right at_row, bits_length s.left.items))

@@ -438,8 +438,8 @@ reaches_none aces masks seen no_mask zeros = record {
     none = ap (with_masks aces) no_mask ∙ masks_none aces
 
 -- the ACE at the next place, what was seen in its row before, and what takes part of it and is new
-pub record IsNext (aces : List AceRef) (rows : List ℕ) (place : ℕ) (seen : List ℕ) (all : ℕ) (x : AceRef) (here fresh : ℕ)
-    : Type 0 where
+pub record IsNext (aces : List AceRef) (rows : List ℕ) (place : ℕ) (seen : List ℕ) (all : ℕ) (x : AceRef)
+    (here fresh : ℕ) : Type 0 where
   pub numbers : AreRowNumbers (aces_in aces) rows
   pub below : place < length aces
   pub is : x ≡ slice_index_or aces place x

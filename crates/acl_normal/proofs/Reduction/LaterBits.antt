@@ -1,6 +1,5 @@
 -- The masks of what later ACEs have, and of what everyone is allowed.
-use Rattle.std.proofs.Math.Bool.{and-false}
-use Rattle.std.specs.Prelude.{◌≡◌, ℕ, ◌+◌, ◌<◌, ◌≤◌, zero, suc, Bool, true, false, cond, not, ◌||◌, ◌&&◌, List, [], ◌∷◌, ◌++◌, take, Option, Some, None, option_map, bit_or, bit_and, length, slice_index_or, refl}
+use Rattle.std.specs.Prelude.{◌≡◌, ℕ, ◌+◌, ◌<◌, ◌≤◌, zero, suc, Bool, true, false, cond, ◌||◌, ◌&&◌, List, [], ◌∷◌, ◌++◌, take, Option, Some, None, option_map, bit_and, length, slice_index_or, refl}
 use Rattle.std.specs.Int.{bit_at}
 use Rattle.std.proofs.Common.{sym, ◌∙◌, ap, subst, arith}
 use Rattle.std.proofs.lemmas.Bool.{eq-eqb, ne_eqb, eqb-true}
@@ -10,20 +9,19 @@ use Rattle.acl_perm.specs.Principal.{Principal, everyone}
 use Rattle.acl_perm.specs.declared.kind.Kind.{Kind}
 use Rattle.acl_perm.specs.declared.kind.Kind.TheVariants.{Deny, Allow}
 use Rattle.acl_perm.specs.Bits.{IsUnion, all_rights, has_bit}
-use Rattle.acl_perm.proofs.Sets.{has_bit-or}
 use Rattle.acl_nfs4.specs.Ace.{Ace, ace}
 use Rattle.acl_nfs4.specs.Who.{principal_of}
 use Rattle.acl_nfs4.specs.declared.ace.AceRef.{AceRef}
 use Rattle.acl_eval.specs.Column.{first_kind, column}
-use Rattle.acl_normal.specs.Keys.{principal_eq, Key, kind_eq}
-use Rattle.acl_normal.specs.Places.{same_class, first_at, mask_here}
+use Rattle.acl_normal.specs.Keys.{principal_eq, kind_eq}
+use Rattle.acl_normal.specs.Places.{first_at, mask_here}
 use Rattle.acl_normal.specs.internal.Alike.{is_either}
 use Rattle.acl_normal.specs.internal.Emissions.{HasOnceColumns, IsOnce}
 use Rattle.acl_normal.specs.Normal.{IsQuiet, is_inherit_only, counts}
 use Rattle.acl_normal.specs.internal.Plain.{default}
 use Rattle.acl_normal.specs.internal.Shown.{with_masks}
 use Rattle.acl_normal.specs.declared.reduce.needless.ByClass.{ByClass}
-use Rattle.acl_normal.specs.internal.Needed.{class_mask, default_at, later_mask, is_kept}
+use Rattle.acl_normal.specs.internal.Needed.{class_mask, default_at}
 use Rattle.acl_normal.proofs.Unique.Bits.{no_bit, no_bits_of_zero}
 use Rattle.acl_normal.proofs.Reduction.FirstMasks.{masked}
 use Rattle.acl_normal.proofs.Unique.Names.{principal_eq_same}

@@ -145,6 +145,7 @@ fn pop<'a>(rows: &Remaining<'a>, ready: &mut Ready) -> Option<Emitted<'a>>
     let _ = &rows.masks;
     let next = ready.pop()?;
     let key = rows.key_of(next.number);
+    // Only rights are ever free, so that the bits are a mask.
     let mask = Mask { bits: next.bits };
     let row = next.number / 2;
     Some(Emitted { key, mask, row })

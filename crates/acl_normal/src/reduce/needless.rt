@@ -70,7 +70,7 @@ pub(crate) struct Later {
     pub(crate) allow: ByClass,
 }
 
-/// Behind the last ACE there are none.
+/// The bits that ACEs behind the last have: none.
 fn no_later() -> Later
     ensures { (k : Sort) (users : Bool) (b : ℕ) → has_bit (later_mask result k users) b ≡ false }
 {

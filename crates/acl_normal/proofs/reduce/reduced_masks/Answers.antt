@@ -14,7 +14,8 @@ returns c =
     let first = rw c.deref_mut.ensures.value at c.drop_needless.ensures in
     let whole = aces_in c.args.aces.now in
     let r = two_passes whole (with_masks c.args.aces.now (bits_in c.in_ok-masks.masks.items))
-    (with_masks c.args.aces.now (bits_in c.drop_needless.new.masks)) c.requires.accepted c.in_ok-masks.ensures.thinned.outline
+    (with_masks c.args.aces.now (bits_in c.drop_needless.new.masks)) c.requires.accepted
+    c.in_ok-masks.ensures.thinned.outline
     c.in_ok-masks.ensures.columns first.thinned.outline first.thinned.tidy first.columns in
     rw items (record {
       places = c.in_ok-masks.ensures.places;

@@ -14,7 +14,8 @@ key_of-key-requires c =
 pub invariant_of-mask : goal.invariant_of-mask
 invariant_of-mask c =
     let outline = nothing_left c.args.rows.now in
-    let taken = takes _ _ _ _ _ _ c.requires.keys c.in_ok-next.ensures.least c.in_ok-next.ensures.taken c.key_of-key.ensures in
+    let taken = takes _ _ _ _ _ _ c.requires.keys c.in_ok-next.ensures.least c.in_ok-next.ensures.taken
+    c.key_of-key.ensures in
     record {
       within =
           popped_mask (marks outline c.args.ready.now) (marks outline c.pop.new.self) (plain_key c.key_of-key.result)

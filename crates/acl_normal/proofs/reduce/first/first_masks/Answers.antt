@@ -45,7 +45,8 @@ loop-place-preserved c =
     let pushed = ap bits_in c.in_ok-push.ensures.items ∙ bits_push c.loop-place.masks.items fresh in
     let noted : bits_in (slice_set c.loop-place.seen.items row c.union-in-loop-place.result)
     ≡ slice_set seen row (bit_or here fresh.bits) =
-    bits_set c.loop-place.seen.items row c.union-in-loop-place.result ∙ ap (slice_set seen row) c.union-in-loop-place.ensures.value in
+    bits_set c.loop-place.seen.items row c.union-in-loop-place.result
+    ∙ ap (slice_set seen row) c.union-in-loop-place.ensures.value in
     record {
       within = c.union-everyone.result.within;
       reaches =
@@ -84,4 +85,5 @@ returns-clause-thinned c =
 
 pub returns-clause-columns : goal.returns-clause-columns
 returns-clause-columns c =
-    (reaches_all c.args.aces.now c.loop-place.place _ _ _ c.loop-place.invariant.reaches c.loop-place-test.false).columns
+    (reaches_all c.args.aces.now c.loop-place.place _ _ _ c.loop-place.invariant.reaches
+    c.loop-place-test.false).columns

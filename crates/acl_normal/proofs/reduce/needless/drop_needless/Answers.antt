@@ -60,7 +60,8 @@ loop-done-preserved c =
     ∙ (and_parts (has_bit c.index-masks-place.result.bits b) _ (sym (c.needless-dropped.ensures b) ∙ h)).0 in
     let taken : new ≡ take_out key.0 dropped shown =
     ap (with_masks c.args.aces.now) (bits_set c.loop-done.masks place c.difference.result
-    ∙ ap (slice_set masks place) (difference_is _ _ _ c.difference.ensures.meaning ∙ ap (λ v. without v dropped) (sym at)))
+    ∙ ap (slice_set masks place)
+    (difference_is _ _ _ c.difference.ensures.meaning ∙ ap (λ v. without v dropped) (sym at)))
     ∙ cleared_there c.args.aces.now masks place c.index-aces-place.result dropped here count c.index-aces-place.is
     before.tidy bits
     ∙ ap (λ k. take_out k.0 dropped shown) (sym own) in

@@ -24,8 +24,8 @@ loop-right-preserved c =
       c.requires,
       c.args.lists.now.ok,
     ) in (
-      notes_on c.args.place c.args.kind users c.args.mask.bits c.args.lists.now.items lists.items right.bit c.slot.result
-          c.push.new.self
+      notes_on c.args.place c.args.kind users c.args.mask.bits c.args.lists.now.items lists.items right.bit
+          c.slot.result c.push.new.self
           (past_absent (NotesBelow c.args.place c.args.kind users c.args.mask.bits c.args.lists.now.items lists.items)
           c.args.mask.bits c.loop-right.from right.bit
           (notes_skip c.args.place c.args.kind users c.args.mask.bits c.args.lists.now.items lists.items) next.above

@@ -23,7 +23,8 @@ loop-place-preserved c =
     holds_more c.args.aces.now masks place c.index-aces-place.result _ (is_users c.of.result)
     c.loop-place.lists.items
     c.note.new.lists.items c.loop-place.invariant count c.requires.quiet c.loop-place-test.true
-    c.index-aces-place.is (sym (bits_at c.args.masks.now place _ _ (omega (arith, c.loop-place-test.true, c.requires.places))
+    c.index-aces-place.is
+    (sym (bits_at c.args.masks.now place _ _ (omega (arith, c.loop-place-test.true, c.requires.places))
     c.index-masks-place.is))
     (c.of.ensures ∙ ap is_user c.principal.ensures) c.in_ok-note.ensures
 

@@ -12,13 +12,13 @@ index-requires c =
     omega (
       arith,
       s.aces.ok,
-      place_of_left s.aces.items (masks_left (bits_in s.masks.items) s.rows.items (bits_in s.left.items)) c.args.place _ c.self.view_is
-          c.requires,
+      place_of_left s.aces.items (masks_left (bits_in s.masks.items) s.rows.items (bits_in s.left.items))
+          c.args.place _ c.self.view_is c.requires,
     )
 
 pub returns : goal.returns
 returns c =
     let s = c.self.inside in
     ap (λ (v : AceRef). v.kind) c.index.ensures
-    ∙ ap (λ (k : Key). k.1) (key_of_left _ (masks_left (bits_in s.masks.items) s.rows.items (bits_in s.left.items)) _ _ _ c.self.view_is
-    c.requires)
+    ∙ ap (λ (k : Key). k.1) (key_of_left _
+    (masks_left (bits_in s.masks.items) s.rows.items (bits_in s.left.items)) _ _ _ c.self.view_is c.requires)

@@ -28,9 +28,10 @@ invariant_of-result c =
     (omega (arith, c.requires.places, c.args.reduced.aces.ok))
     (omega (arith, c.in_ok-left.ensures.len, c.len.ensures, c.args.reduced.aces.ok))
     c.requires.reduced
-    (subst (λ v. AreQueues (with_masks v (bits_in c.args.reduced.masks.items)) c.in_ok-queues.queues.items) c.deref.ensures.value
-    (subst (λ v. AreQueues (with_masks c.deref.result.now (bits_in v)) c.in_ok-queues.queues.items) c.deref-2.ensures.value
-    c.in_ok-queues.ensures)) (all c)
+    (subst (λ v. AreQueues (with_masks v (bits_in c.args.reduced.masks.items)) c.in_ok-queues.queues.items)
+    c.deref.ensures.value
+    (subst (λ v. AreQueues (with_masks c.deref.result.now (bits_in v)) c.in_ok-queues.queues.items)
+    c.deref-2.ensures.value c.in_ok-queues.ensures)) (all c)
 
 pub returns : goal.returns
 returns c = ap (with_masks c.args.reduced.aces.items) (all c)
