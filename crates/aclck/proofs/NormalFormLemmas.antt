@@ -13,8 +13,8 @@ use Rattle.acl_eval.specs.Grant.{SameGrants}
 use Rattle.acl_eval.proofs.Same.{equivalence}
 use Rattle.acl_normal.specs.Normal.{IsNormal}
 use Rattle.acl_normal.specs.NormalForm.{IsNormalFormOf, Normalises}
-use Rattle.acl_normal.proofs.Unique.Spelled.{IsForm, form_of, forms_tell}
-use Rattle.acl_normal.proofs.Unique.Unique.{unique}
+use Rattle.acl_normal.proofs.unique.Spelled.{IsForm, form_of, forms_tell}
+use Rattle.acl_normal.proofs.unique.Unique.{unique}
 use Rattle.aclck.specs.Answer.{done}
 use Rattle.aclck.specs.Laws.{TellsListsApart}
 use Rattle.aclck.specs.Normalize.{NormalizeAnswer}

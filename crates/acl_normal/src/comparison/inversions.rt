@@ -90,7 +90,7 @@ fn other_place(row: Row, swapped: bool) -> usize
 }
 
 // Raises what stands behind a row's place in the one list to its place in the other, if the row is counted.
-#[tactic(auto, using(crate::proofs::Searching::TableFacts::raising))]
+#[tactic(auto, using(crate::proofs::comparison::TableFacts::raising))]
 fn raise(table: &mut Vec<usize>, row: Row, sort: Sort, swapped: bool)
     requires within { place_of swapped row + 1 < vec_len table.old }
     requires small { other_place swapped row < 2 ^ 63 }
@@ -104,7 +104,7 @@ fn raise(table: &mut Vec<usize>, row: Row, sort: Sort, swapped: bool)
 }
 
 // For each place in one list one more than the greatest place, in the other, of the rows just before it that count.
-#[tactic(auto, using(crate::proofs::Searching::TableFacts::scatter_start))]
+#[tactic(auto, using(crate::proofs::comparison::TableFacts::scatter_start))]
 fn scattered(
     alloc: Global,
     rows: &[Row],
@@ -124,7 +124,7 @@ fn scattered(
 }
 
 // The same of all rows before it that count.
-#[tactic(auto, using(crate::proofs::Searching::TableFacts::summed_done))]
+#[tactic(auto, using(crate::proofs::comparison::TableFacts::summed_done))]
 fn table(
     alloc: Global,
     rows: &[Row],

@@ -52,7 +52,7 @@ fn has_key(other: &AceRef<'_>, item: &AceRef<'_>) -> bool
 }
 
 // The bits at which the other ACE has the key of the ACE, but for those that are blocked.
-#[tactic(auto, using(crate::proofs::PlainForm::Passes::free_alone))]
+#[tactic(auto, using(crate::proofs::plain::Passes::free_alone))]
 fn own_free(other: &AceRef<'_>, item: &AceRef<'_>, blocked: Mask) -> Mask
     ensures { (bit : ℕ) → has_bit result.bits bit
         ≡ (is_free (column (ace other.now ∷ []) bit) (ace_key (ace item.now)) && not (has_bit blocked.bits bit)) }

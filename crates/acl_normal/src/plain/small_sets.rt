@@ -20,7 +20,7 @@ use acl_perm::{Principal, overlaps};
 use std::alloc::{AllocError, Global};
 
 // The first of the principals at which alone the lists differ.
-#[tactic(auto, using(crate::proofs::Searching::SetSearchLemmas::single_ends))]
+#[tactic(auto, using(crate::proofs::comparison::SetSearchLemmas::single_ends))]
 fn first_single<'a>(
     list: &[AceRef<'_>],
     other: &[AceRef<'_>],
@@ -55,7 +55,7 @@ fn pair_differs(
 }
 
 // The first of the rest with which the principal is a pair at which the lists differ.
-#[tactic(auto, using(crate::proofs::Searching::SetSearchLemmas::partner_ends))]
+#[tactic(auto, using(crate::proofs::comparison::SetSearchLemmas::partner_ends))]
 fn first_partner<'a>(
     list: &[AceRef<'_>],
     other: &[AceRef<'_>],
@@ -74,7 +74,7 @@ fn first_partner<'a>(
 }
 
 // The first pair at which the lists differ.
-#[tactic(auto, using(crate::proofs::Searching::SetSearchLemmas::pair_ends))]
+#[tactic(auto, using(crate::proofs::comparison::SetSearchLemmas::pair_ends))]
 fn first_pair<'a>(
     list: &[AceRef<'_>],
     other: &[AceRef<'_>],
@@ -93,7 +93,7 @@ fn first_pair<'a>(
 }
 
 // The first small set at which the lists differ.
-#[tactic(auto, using(crate::proofs::Searching::SetSearchLemmas::empty_differs))]
+#[tactic(auto, using(crate::proofs::comparison::SetSearchLemmas::empty_differs))]
 fn first_set<'a>(
     list: &[AceRef<'_>],
     other: &[AceRef<'_>],

@@ -100,7 +100,7 @@ fn noted(later: Later, at: Key<'_>, mask: u32) -> Later
 }
 
 /// The bits of a mask that its ACE doesn't need.
-#[tactic(auto, using(crate::proofs::Unique::Names::everyone_test))]
+#[tactic(auto, using(crate::proofs::unique::Names::everyone_test))]
 fn needless(at: Key<'_>, mask: u32, allowed: u32, opposite: u32) -> u32
     ensures { (b : ℕ) → has_bit result b
         ≡ (has_bit mask b && not (is_kept (default_at allowed b) (plain_key at.entry) (has_bit opposite b))) }

@@ -4,11 +4,11 @@ use Rattle.acl_normal.specs.internal.Counts.{count_left}
 use Rattle.acl_normal.specs.Keys.{plain_key}
 use Rattle.acl_normal.specs.Places.{nothing_left}
 use Rattle.acl_normal.specs.internal.Ready.{FitsKeys, marks}
-use Rattle.acl_normal.proofs.Emission.Drained.{drain_starts, drain_turn, drain_ends, drain_falls, outline_left, emitted_principal, popped_mask, popped_named, ready_within, takes}
-use Rattle.acl_normal.proofs.Emission.InRemaining.{remaining_once}
-use Rattle.acl_normal.proofs.Emission.Few.{remaining_few}
-use Rattle.acl_normal.proofs.Emission.Marks.{nothing_marked}
-use Rattle.acl_normal.proofs.Emission.InRows.{no_rows, rows_turn}
+use Rattle.acl_normal.proofs.emit.Drained.{drain_starts, drain_turn, drain_ends, drain_falls, outline_left, emitted_principal, popped_mask, popped_named, ready_within, takes}
+use Rattle.acl_normal.proofs.emit.InRemaining.{remaining_once}
+use Rattle.acl_normal.proofs.emit.Few.{remaining_few}
+use Rattle.acl_normal.proofs.emit.Marks.{nothing_marked}
+use Rattle.acl_normal.proofs.emit.InRows.{no_rows, rows_turn}
 use Rattle.acl_normal.specs.internal.Rows.{IsRow}
 use Rattle.acl_normal.proofs.emit.emission.drain.Goals as goal
 

@@ -7,10 +7,10 @@ use Rattle.acl_eval.specs.Scan.{without}
 use Rattle.acl_normal.specs.Keys.{principal_eq}
 use Rattle.acl_normal.specs.internal.Rows.{row_of}
 use Rattle.acl_normal.specs.internal.Shown.{aces_in, with_masks}
-use Rattle.acl_normal.proofs.Reduction.FirstMasks.{FirstsTo, HoldsSeen, IsFresh, firsts_tidy, firsts_to_all, firsts_to_more, firsts_to_start, fresh_is, masked, masks_none, masks_push, named_there, row_here, row_seen, row_value, seen_more, seen_start}
-use Rattle.acl_normal.proofs.Reduction.FirstRows.{index_is, length_of}
-use Rattle.acl_normal.proofs.Merging.Rows.{row_below}
-use Rattle.acl_normal.proofs.Unique.Names.{everyone_test}
+use Rattle.acl_normal.proofs.reduce.FirstMasks.{FirstsTo, HoldsSeen, IsFresh, firsts_tidy, firsts_to_all, firsts_to_more, firsts_to_start, fresh_is, masked, masks_none, masks_push, named_there, row_here, row_seen, row_value, seen_more, seen_start}
+use Rattle.acl_normal.proofs.reduce.FirstRows.{index_is, length_of}
+use Rattle.acl_normal.proofs.rows.Rows.{row_below}
+use Rattle.acl_normal.proofs.unique.Names.{everyone_test}
 use Rattle.acl_normal.proofs.reduce.first.first_masks.Goals as goal
 use Rattle.acl_normal.proofs.reduce.first.first_masks.Goals.{then-is_everyone, else-is_everyone}
 

@@ -1,6 +1,6 @@
 use Rattle.std.specs.Prelude.{◌≡◌, vec_len}
 use Rattle.acl_normal.specs.internal.Shown.{aces_in, with_masks}
-use Rattle.acl_normal.proofs.Reduction.FirstMasks.{FirstsTo, HoldsSeen}
+use Rattle.acl_normal.proofs.reduce.FirstMasks.{FirstsTo, HoldsSeen}
 use Rattle.acl_normal.proofs.reduce.first.first_masks.Given as goal
 
 abbrev pub invariant-loop-place : goal.invariant-loop-place

@@ -6,9 +6,9 @@ use Rattle.acl_nfs4.specs.Ace.{ace}
 use Rattle.acl_nfs4.specs.Who.{principal_of}
 use Rattle.acl_normal.specs.Keys.{kind_eq, principal_eq}
 use Rattle.acl_normal.specs.internal.Shown.{with_masks}
-use Rattle.acl_normal.proofs.Reduction.FirstMasks.{masked}
-use Rattle.acl_normal.proofs.Reduction.LaterBits.{AllowsTo, allows_all, allows_same, allows_start, allows_with, length_masks, masked_at, quiet_index}
-use Rattle.acl_normal.proofs.Unique.Names.{allow_test, everyone_test}
+use Rattle.acl_normal.proofs.reduce.FirstMasks.{masked}
+use Rattle.acl_normal.proofs.reduce.LaterBits.{AllowsTo, allows_all, allows_same, allows_start, allows_with, length_masks, masked_at, quiet_index}
+use Rattle.acl_normal.proofs.unique.Names.{allow_test, everyone_test}
 use Rattle.acl_normal.proofs.reduce.needless.allowed_to_everyone.Goals as goal
 use Rattle.acl_normal.proofs.reduce.needless.allowed_to_everyone.Goals.{then-is_everyone+then-is_allow, else-is_everyone, else-is_everyone-via-then-is_everyone+else-is_allow, else-is_everyone-via-else-is_everyone}
 

@@ -9,11 +9,11 @@ use Rattle.acl_normal.specs.Left.{IsTidy, KeepsFirsts}
 use Rattle.acl_normal.specs.internal.Needed.{default_at, is_kept}
 use Rattle.acl_normal.specs.Places.{key_here, take_out}
 use Rattle.acl_normal.specs.internal.Shown.{with_masks}
-use Rattle.acl_normal.proofs.Merging.Quiet.{tidy_taken}
-use Rattle.acl_normal.proofs.Reduction.FirstMasks.{masked}
-use Rattle.acl_normal.proofs.Reduction.FirstRows.{key_at_index}
-use Rattle.acl_normal.proofs.Reduction.LaterBits.{length_masks, mask_there, masked_at, no_later}
-use Rattle.acl_normal.proofs.Reduction.Unneeded.{cleared_there, taken_firsts, firsts_through, drops_start, drops_on, drops_outline, drops_end}
+use Rattle.acl_normal.proofs.rows.Quiet.{tidy_taken}
+use Rattle.acl_normal.proofs.reduce.FirstMasks.{masked}
+use Rattle.acl_normal.proofs.reduce.FirstRows.{key_at_index}
+use Rattle.acl_normal.proofs.reduce.LaterBits.{length_masks, mask_there, masked_at, no_later}
+use Rattle.acl_normal.proofs.reduce.Unneeded.{cleared_there, taken_firsts, firsts_through, drops_start, drops_on, drops_outline, drops_end}
 use Rattle.acl_normal.proofs.reduce.needless.drop_needless.Goals as goal
 
 pub loop-done-init : goal.loop-done-init

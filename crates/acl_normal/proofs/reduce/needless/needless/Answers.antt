@@ -1,7 +1,7 @@
 use Rattle.std.proofs.Common.{◌∙◌, sym}
 use Rattle.acl_perm.specs.Principal.{principal}
-use Rattle.acl_normal.proofs.Reduction.LaterBits.{needless_allow, needless_deny}
-use Rattle.acl_normal.proofs.Unique.Names.{everyone_test}
+use Rattle.acl_normal.proofs.reduce.LaterBits.{needless_allow, needless_deny}
+use Rattle.acl_normal.proofs.unique.Names.{everyone_test}
 use Rattle.acl_normal.proofs.reduce.needless.needless.Goals as goal
 
 pub returns-in-Allow-kind : goal.returns-in-Allow-kind

@@ -1,8 +1,8 @@
 use Rattle.std.proofs.Common.{arith, sym, subst, ◌∙◌, length, ◌+◌}
 use Rattle.acl_normal.proofs.comparison.rows.Compared.least_member.Goals as goal
 use Rattle.acl_normal.proofs.comparison.rows.Compared.least_member.Goals.{then-has+in_ok-rows+in_ok-least, else-has}
-use Rattle.acl_normal.proofs.Searching.RowFacts.{Least, least_done, least_skip, member_step, rows_limit, unused_agree}
-use Rattle.acl_normal.proofs.Searching.TableFacts.{slice_within}
+use Rattle.acl_normal.proofs.comparison.RowFacts.{Least, least_done, least_skip, member_step, rows_limit, unused_agree}
+use Rattle.acl_normal.proofs.comparison.TableFacts.{slice_within}
 use Rattle.acl_normal.specs.internal.FirstPlaces.{AlikeWithAll, AreRows}
 use Rattle.acl_normal.specs.internal.Passes.{list_of}
 use Rattle.acl_normal.specs.internal.SetSearch.{principals}

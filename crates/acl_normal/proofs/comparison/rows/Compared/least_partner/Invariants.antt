@@ -1,6 +1,6 @@
 use Rattle.std.specs.Prelude.{length, drop, slice_index_or, ◌+◌}
 use Rattle.acl_normal.proofs.comparison.rows.Compared.least_partner.Given as goal
-use Rattle.acl_normal.proofs.Searching.RowFacts.{Least}
+use Rattle.acl_normal.proofs.comparison.RowFacts.{Least}
 use Rattle.acl_normal.specs.internal.FirstPlaces.{AlikeWith}
 use Rattle.acl_normal.specs.internal.Passes.{list_of}
 use Rattle.acl_normal.specs.internal.SetSearch.{principals}

@@ -1,7 +1,7 @@
 use Rattle.std.proofs.Common.{sym, subst, ◌∙◌, length, ◌+◌}
 use Rattle.acl_normal.proofs.comparison.rows.Compared.least_single.Goals as goal
 use Rattle.acl_normal.proofs.comparison.rows.Compared.least_single.Goals.{then-has+in_ok-rows, else-has}
-use Rattle.acl_normal.proofs.Searching.RowFacts.{Least, least_done, least_skip, rows_limit, single_step, unused_alone}
+use Rattle.acl_normal.proofs.comparison.RowFacts.{Least, least_done, least_skip, rows_limit, single_step, unused_alone}
 use Rattle.acl_normal.specs.internal.FirstPlaces.{AlikeAlone, AreRows}
 use Rattle.acl_normal.specs.internal.Passes.{list_of}
 use Rattle.acl_normal.specs.internal.SetSearch.{principals}

@@ -3,8 +3,8 @@ use Rattle.std.proofs.lemmas.Nat.Bits.{shr_and_one}
 use Rattle.acl_perm.specs.Bits.{has_bit}
 use Rattle.acl_normal.specs.Places.{mask_here}
 use Rattle.acl_normal.specs.internal.Remaining.{remaining_of}
-use Rattle.acl_normal.proofs.Emission.InRemaining.{length_remaining, mask_remaining, row_of_place, row_there}
-use Rattle.acl_normal.proofs.Merging.BitTaken.{same_default}
+use Rattle.acl_normal.proofs.emit.InRemaining.{length_remaining, mask_remaining, row_of_place, row_there}
+use Rattle.acl_normal.proofs.rows.BitTaken.{same_default}
 use Rattle.acl_normal.proofs.emit.remaining.Remaining.has.Goals as goal
 
 pub index-requires : goal.index-requires

@@ -3,8 +3,8 @@ use Rattle.acl_perm.specs.Principal.{principal}
 use Rattle.acl_eval.specs.Scan.{without}
 use Rattle.acl_normal.specs.Places.{take_out}
 use Rattle.acl_normal.specs.internal.Rows.{IsRow}
-use Rattle.acl_normal.proofs.Emission.InRemaining.{row_of_named, taken_right, taken_view}
-use Rattle.acl_normal.proofs.Merging.BitTaken.{same_default}
+use Rattle.acl_normal.proofs.emit.InRemaining.{row_of_named, taken_right, taken_view}
+use Rattle.acl_normal.proofs.rows.BitTaken.{same_default}
 use Rattle.acl_normal.proofs.emit.remaining.Remaining.take_out.Goals as goal
 
 pub index-requires : goal.index-requires

@@ -1,4 +1,4 @@
-use Rattle.acl_normal.proofs.Reduction.LaterBits.{with_is}
+use Rattle.acl_normal.proofs.reduce.LaterBits.{with_is}
 use Rattle.std.specs.Prelude.{true, false}
 use Rattle.acl_normal.proofs.reduce.needless.ByClass.with.Goals as goal
 

@@ -2,10 +2,10 @@ use Rattle.std.proofs.Common.{◌≡◌, ◌<◌, ◌^◌, Some, length, slice_i
 use Rattle.acl_perm.specs.Principal.{principal, is_user}
 use Rattle.acl_normal.specs.Places.{first_at, slot_of, take_out}
 use Rattle.acl_normal.specs.internal.Rows.{IsRow}
-use Rattle.acl_normal.proofs.Merging.BitTaken.{emit_right, same_default, NoKeys, slot_below, Without}
-use Rattle.acl_normal.proofs.Merging.FirstPlaces.{first_by_none, first_by_place, first_in}
-use Rattle.acl_normal.proofs.Merging.Rows.{row_below}
-use Rattle.acl_normal.proofs.Merging.TakeOut.{take_none}
+use Rattle.acl_normal.proofs.rows.BitTaken.{emit_right, same_default, NoKeys, slot_below, Without}
+use Rattle.acl_normal.proofs.rows.FirstPlaces.{first_by_none, first_by_place, first_in}
+use Rattle.acl_normal.proofs.rows.Rows.{row_below}
+use Rattle.acl_normal.proofs.rows.TakeOut.{take_none}
 use Rattle.acl_normal.proofs.rows.merged.MergedRows.emit_bit.Goals as goal
 
 pub place_in-requires : goal.place_in-requires
