@@ -28,7 +28,7 @@ use Rattle.acl_nfs4.specs.Spelling.{IsAce, IsAccepted, weight}
 use Rattle.acl_nfs4.proofs.Lists.{weight-cons}
 use Rattle.acl_nfs4.specs.Owned.{IsOwned}
 use Rattle.acl_nfs4.specs.internal.Body.{aces_of}
-use Rattle.acl_eval.specs.Bridge.{image, who_of, flags_of, ace_of, each, is_user, is_group, is_other, allow_of, deny_of, decide_of, bridge_list}
+use Rattle.acl_eval.specs.Bridge.{image, who_of, flags_of, ace_of, each, is_user_tag, is_group_tag, is_other_tag, allow_of, deny_of, decide_of, bridge_list}
 use Rattle.acl_eval.specs.BridgeNames.{NamesDiffer, NamesStand, OnlyLimitsRefuse}
 use Rattle.acl_eval.proofs.Images.{image_mask, image_some}
 use Rattle.acl_eval.proofs.EntryRuns.{effective_lt, everywhere}
@@ -115,7 +115,7 @@ with_who k l p lt fl w =
 
 -- MASK has no ACE in any part
 abbrev has_aces : Tag → Bool
-has_aces l = is_user l || is_group l || is_other l
+has_aces l = is_user_tag l || is_group_tag l || is_other_tag l
 
 each_ace : (k : Kind) (l : Tag) (p : ℕ) → p < 8 → IsTag l → has_aces l ≡ true → AllByRecursion Good (ace_of k l p)
 each_ace k user_obj p lt is h = with_who k user_obj p lt refl is_who-owner
@@ -141,15 +141,16 @@ of_part which f (e ∷ es) g all =
       | false ↦ λ is. rest
     ] refl
 
-user_has : (l : Tag) → is_user l ≡ true → has_aces l ≡ true
+user_has : (l : Tag) → is_user_tag l ≡ true → has_aces l ≡ true
 user_has l h = rw h refl
 
-group_has : (l : Tag) → is_group l ≡ true → has_aces l ≡ true
-group_has l h = ap (λ (b : Bool). (is_user l || b) || is_other l) h
-    ∙ ap (λ (b : Bool). b || is_other l) (or_true_right (is_user l))
+group_has : (l : Tag) → is_group_tag l ≡ true → has_aces l ≡ true
+group_has l h = ap (λ (b : Bool). (is_user_tag l || b) || is_other_tag l) h
+    ∙ ap (λ (b : Bool). b || is_other_tag l) (or_true_right (is_user_tag l))
 
-other_has : (l : Tag) → is_other l ≡ true → has_aces l ≡ true
-other_has l h = ap (λ (b : Bool). (is_user l || is_group l) || b) h ∙ or_true_right (is_user l || is_group l)
+other_has : (l : Tag) → is_other_tag l ≡ true → has_aces l ≡ true
+other_has l h =
+    ap (λ (b : Bool). (is_user_tag l || is_group_tag l) || b) h ∙ or_true_right (is_user_tag l || is_group_tag l)
 
 aces_good : (E : Entries) → AllByRecursion IsEntry (fin.entries E) → AllByRecursion Good (bridge_list E)
 unfolding bridge_list
@@ -159,15 +160,16 @@ aces_good E all =
     (effective_lt E e is.1) is.0 n in
     let denies = λ (e : Tag × ℕ) (is : IsEntry e) (n : has_aces e.0 ≡ true). each_ace Deny e.0 (7 - effective_of E e)
     (omega arith) is.0 n in
-    let a = of_part is_user (decide_of E) es (λ e is u. together (allow_of E e) (deny_of E e)
+    let a = of_part is_user_tag (decide_of E) es (λ e is u. together (allow_of E e) (deny_of E e)
     (allows e is (user_has e.0 u)) (denies e is (user_has e.0 u))) all in
-    let b = of_part is_group (allow_of E) es (λ e is g. allows e is (group_has e.0 g)) all in
-    let c = of_part is_group (deny_of E) es (λ e is g. denies e is (group_has e.0 g)) all in
-    let d = of_part is_other (allow_of E) es (λ e is o. allows e is (other_has e.0 o)) all in
-    together (each is_user (decide_of E) es ++ each is_group (allow_of E) es ++ each is_group (deny_of E) es)
-    (each is_other (allow_of E) es)
-    (together (each is_user (decide_of E) es ++ each is_group (allow_of E) es) (each is_group (deny_of E) es)
-    (together (each is_user (decide_of E) es) (each is_group (allow_of E) es) a b) c) d
+    let b = of_part is_group_tag (allow_of E) es (λ e is g. allows e is (group_has e.0 g)) all in
+    let c = of_part is_group_tag (deny_of E) es (λ e is g. denies e is (group_has e.0 g)) all in
+    let d = of_part is_other_tag (allow_of E) es (λ e is o. allows e is (other_has e.0 o)) all in
+    let users = each is_user_tag (decide_of E) es in
+    let group_allows = each is_group_tag (allow_of E) es in
+    let group_denies = each is_group_tag (deny_of E) es in
+    together (users ++ group_allows ++ group_denies) (each is_other_tag (allow_of E) es)
+    (together (users ++ group_allows) group_denies (together users group_allows a b) c) d
 
 -- each ACE of the list may stand in a list
 pub aces_stand : (E : Entries) → AllByRecursion IsEntry (fin.entries E) → AllByRecursion (IsAce full) (bridge_list E)

@@ -20,10 +20,11 @@ use Rattle.acl_posix.specs.Check as posix
 use Rattle.acl_posix.specs.Check.{Object, Requester, contains, grants}
 use Rattle.acl_eval.proofs.ValidChecks.{mask_contains, plain, complete, plain_check}
 use Rattle.acl_posix.proofs.Tags.{same_tag}
-use Rattle.acl_eval.specs.Bridge.{is_user, is_group, is_other, bridge_list}
+use Rattle.acl_eval.specs.Bridge.{is_user_tag, is_group_tag, is_other_tag, bridge_list}
 use Rattle.acl_eval.specs.BridgeLaws.{by_name, IsAsked, IsAccess}
 use Rattle.acl_eval.proofs.Runs.{run}
-use Rattle.acl_eval.proofs.Images.{Stands, contains_single}
+use Rattle.acl_eval.proofs.Bits.{contains_power}
+use Rattle.acl_eval.proofs.Images.{Stands}
 use Rattle.acl_eval.proofs.BridgeNames.{concerns, user_test, group_test, same_name}
 use Rattle.acl_eval.proofs.EntryRuns.{first, bit_of, users_test, allows_test, denies_test, others_test, class_answer, everywhere, run_bridge}
 
@@ -53,11 +54,11 @@ masked_bit : (o : Option ℕ) (n j want : ℕ) → want ≡ 2 ^ j → 0 < want �
     → has_bit (bit_and n (unwrap_or o n)) j ≡ (contains n want && contains (unwrap_or o 7) want)
 masked_bit None n j want e pos all =
     has_bit-and n n j ∙ and_twice (has_bit n j) ∙ sym (and_true_right (has_bit n j))
-    ∙ ap (λ (z : Bool). z && true) (sym (contains_single n j want e pos))
+    ∙ ap (λ (z : Bool). z && true) (sym (contains_power n j want e pos))
     ∙ ap (λ (z : Bool). contains n want && z) (sym all)
 masked_bit (Some m) n j want e pos all =
-    has_bit-and n m j ∙ ap (λ (z : Bool). z && has_bit m j) (sym (contains_single n j want e pos))
-    ∙ ap (λ (z : Bool). contains n want && z) (sym (contains_single m j want e pos))
+    has_bit-and n m j ∙ ap (λ (z : Bool). z && has_bit m j) (sym (contains_power n j want e pos))
+    ∙ ap (λ (z : Bool). contains n want && z) (sym (contains_power m j want e pos))
 
 -- a bit of an entry that MASK limits is one of the entry and of MASK
 masked : (E : Entries) (e : Tag × ℕ) (want j b : ℕ) → IsRight want j b → is_masked e.0 ≡ true
@@ -101,7 +102,7 @@ owner_least (group id) h = cc
 owner_least mask h = cc
 owner_least other h = cc
 
-other_only : (l : Tag) → eq_by_cmp tag_cmp other l ≡ false → is_other l ≡ false
+other_only : (l : Tag) → eq_by_cmp tag_cmp other l ≡ false → is_other_tag l ≡ false
 other_only user_obj h = refl
 other_only (user id) h = refl
 other_only group_obj h = refl
@@ -109,7 +110,7 @@ other_only (group id) h = refl
 other_only mask h = refl
 other_only other h = absurd cc
 
-other_last : (l : Tag) → T (is_lt (tag_cmp other l)) → is_other l ≡ false
+other_last : (l : Tag) → T (is_lt (tag_cmp other l)) → is_other_tag l ≡ false
 other_last l h = other_only l (ap is_eq (less (tag_cmp other l) h))
 
 -- ---- the owner
@@ -126,7 +127,7 @@ owner_decides E s j p r (e ∷ ps) speak sorted f =
     → cond t (Some e.1) (fin.find tag_cmp user_obj ps) ≡ Some p → first (users_test s) (bit_of E j) (e ∷ ps) r
     ≡ has_bit p j) [
       | true ↦ λ same g.
-          ap (λ (l : Tag). cond (is_user l && concerns s l) (bit_of E j (l, e.1))
+          ap (λ (l : Tag). cond (is_user_tag l && concerns s l) (bit_of E j (l, e.1))
           (first (users_test s) (bit_of E j) ps r)) (sym (same_tag user_obj e.0 same))
           ∙ ap (λ (t : Bool). cond t (has_bit e.1 j) (first (users_test s) (bit_of E j) ps r)) speak
           ∙ ap (λ (n : ℕ). has_bit n j) (same_Some e.1 p g)
@@ -156,7 +157,7 @@ user_decides E object requester want j b r (e ∷ ps) right a all differ =
 
 -- ---- the group class
 
-group_masked : (l : Tag) → is_group l ≡ true → is_masked l ≡ true
+group_masked : (l : Tag) → is_group_tag l ≡ true → is_masked l ≡ true
 group_masked user_obj h = absurd cc
 group_masked (user id) h = absurd cc
 group_masked group_obj h = refl
@@ -179,12 +180,12 @@ join false true false d = refl
 join false false false d = refl
 
 any_split : (E : Entries) (s : Situation) (j : ℕ) (ps : List (Tag × ℕ))
-    → list_any (λ e. is_group e.0 && concerns s e.0) ps ≡ (list_any (allows_test E s j) ps || list_any
+    → list_any (λ e. is_group_tag e.0 && concerns s e.0) ps ≡ (list_any (allows_test E s j) ps || list_any
     (denies_test E s j) ps)
 any_split E s j [] = refl
 any_split E s j (e ∷ ps) =
-    ap (λ (z : Bool). z || list_any (λ x. is_group x.0 && concerns s x.0) ps) (split (is_group e.0) (bit_of E j e)
-    (concerns s e.0))
+    ap (λ (z : Bool). z || list_any (λ x. is_group_tag x.0 && concerns s x.0) ps)
+    (split (is_group_tag e.0) (bit_of E j e) (concerns s e.0))
     ∙ ap (λ (z : Bool). (allows_test E s j e || denies_test E s j e) || z) (any_split E s j ps)
     ∙ join (allows_test E s j e) (denies_test E s j e) (list_any (allows_test E s j) ps)
     (list_any (denies_test E s j) ps)
@@ -210,7 +211,7 @@ none_behind E s j (e ∷ ps) h =
 others_decide : (E : Entries) (s : Situation) (want j b : ℕ) (ps : List (Tag × ℕ)) → IsRight want j b
     → T (is_sorted tag_cmp ps)
     → list_any (others_test E s j) ps ≡ contains (unwrap_or (fin.find tag_cmp other ps) 0) want
-others_decide E s want j b [] right sorted = sym (contains_single 0 j want right.power right.some ∙ no_bit j)
+others_decide E s want j b [] right sorted = sym (contains_power 0 j want right.power right.some ∙ no_bit j)
 others_decide E s want j b (e ∷ ps) right sorted =
     elim (eq_by_cmp tag_cmp other e.0) as (λ t. eq_by_cmp tag_cmp other e.0 ≡ t → list_any (others_test E s j) (e ∷ ps)
     ≡ contains (unwrap_or (cond t (Some e.1) (fin.find tag_cmp other ps)) 0) want) [
@@ -221,9 +222,9 @@ others_decide E s want j b (e ∷ ps) right sorted =
           (front (below_all tag_cmp e.0 ps) (is_sorted tag_cmp ps) sorted)) in
           ap (λ (z : Bool). others_test E s j e || z) behind
           ∙ or_false_right (others_test E s j e)
-          ∙ ap (λ (l : Tag). is_other l && (bit_of E j (l, e.1) && concerns s l)) is
+          ∙ ap (λ (l : Tag). is_other_tag l && (bit_of E j (l, e.1) && concerns s l)) is
           ∙ and_true_right (has_bit e.1 j)
-          ∙ sym (contains_single e.1 j want right.power right.some)
+          ∙ sym (contains_power e.1 j want right.power right.some)
       | false ↦ λ same.
           ap (λ (z : Bool). (z && (bit_of E j e && concerns s e.0)) || list_any (others_test E s j) ps)
           (other_only e.0 same)
@@ -248,13 +249,13 @@ class_decides E object requester want j b right a all =
     let matched : Bool = posix.any_matches E og requester.groups in
     let allowed : Bool = list_any (allows_test E s j) es in
     let last : Bool = cond (list_any (others_test E s j) es) true false in
-    let some : list_any (λ e. is_group e.0 && concerns s e.0) es ≡ matched =
-    any_alike (λ e. is_group e.0 && concerns s e.0) (λ e. posix.matches og requester.groups e.0) es
-    (everywhere IsEntry (λ e. (is_group e.0 && concerns s e.0) ≡ posix.matches og requester.groups e.0)
+    let some : list_any (λ e. is_group_tag e.0 && concerns s e.0) es ≡ matched =
+    any_alike (λ e. is_group_tag e.0 && concerns s e.0) (λ e. posix.matches og requester.groups e.0) es
+    (everywhere IsEntry (λ e. (is_group_tag e.0 && concerns s e.0) ≡ posix.matches og requester.groups e.0)
     (λ e is. group_test object requester e.0 a gs is.0) es all) in
     let one : (e : Tag × ℕ) → IsEntry e → allows_test E s j e
     ≡ ((posix.matches og requester.groups e.0 && contains e.1 want) && mask_contains E want) = λ e is.
-    reorder (is_group e.0) (bit_of E j e) (contains e.1 want) (mask_contains E want) (concerns s e.0)
+    reorder (is_group_tag e.0) (bit_of E j e) (contains e.1 want) (mask_contains E want) (concerns s e.0)
     (λ g. masked E e want j b right (group_masked e.0 g))
     ∙ ap (λ (z : Bool). (z && contains e.1 want) && mask_contains E want) (group_test object requester e.0 a gs is.0) in
     let granted : allowed ≡ (posix.any_contains E og requester.groups want && mask_contains E want) =
@@ -298,7 +299,7 @@ agrees_plainly E object requester want j b access a right =
           let found = some_value (fin.get E user_obj) (complete E access.valid).owner in
           owner_decides E s j found.0 class es (same_name requester.user object.user a.asker a.owner ∙ is)
           (fin.entries_sorted E) (sym (fin.get-entries E user_obj) ∙ found.1)
-          ∙ sym (contains_single found.0 j want right.power right.some)
+          ∙ sym (contains_power found.0 j want right.power right.some)
           ∙ ap (λ (o : Option ℕ). contains (unwrap_or o 0) want) (sym found.1)
       | false ↦ λ is.
           user_decides E object requester want j b class es right a all is

@@ -18,7 +18,8 @@ use Rattle.acl_eval.specs.Bridge.{image, bridge_list}
 use Rattle.acl_eval.specs.BridgeLaws.{by_name, IsAsked, IsAccess, GrantsSingles, KeepsGrants}
 use Rattle.acl_eval.proofs.Runs.{run_grants}
 use Rattle.acl_eval.proofs.Same.{only_bit}
-use Rattle.acl_eval.proofs.Images.{Stands, same_answers, image_bit, rights, contains_single}
+use Rattle.acl_eval.proofs.Bits.{contains_power}
+use Rattle.acl_eval.proofs.Images.{Stands, same_answers, image_bit, rights}
 use Rattle.acl_eval.proofs.ValidChecks.{mask_contains, plain, plain_check}
 use Rattle.acl_eval.proofs.Agree.{IsRight, agrees}
 
@@ -112,9 +113,9 @@ grants_singles entries object requester want access a (inr (inr x)) = rw x
 
 -- one permission of a set
 part : (want j : ℕ) → j < 3 → has_bit want j ≡ true → contains want (2 ^ j) ≡ true
-part want zero lt h = contains_single want 0 1 refl (omega arith) ∙ h
-part want (suc zero) lt h = contains_single want 1 2 refl (omega arith) ∙ h
-part want (suc (suc zero)) lt h = contains_single want 2 4 refl (omega arith) ∙ h
+part want zero lt h = contains_power want 0 1 refl (omega arith) ∙ h
+part want (suc zero) lt h = contains_power want 1 2 refl (omega arith) ∙ h
+part want (suc (suc zero)) lt h = contains_power want 2 4 refl (omega arith) ∙ h
 part want (suc (suc (suc j))) lt h = absurd (omega (arith, lt))
 
 all_contain : (want : ℕ) → want < 8 → contains 7 want ≡ true

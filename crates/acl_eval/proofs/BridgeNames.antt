@@ -21,7 +21,7 @@ use Rattle.acl_posix.specs.Check.{Object, Requester}
 use Rattle.acl_perm.proofs.Bools.{same_answers}
 use Rattle.acl_nfs4.specs.Ace.{Ace}
 use Rattle.acl_nfs4.specs.Who.{owner_name, group_name, everyone_name}
-use Rattle.acl_eval.specs.Bridge.{who_of, flags_of, is_user, is_group}
+use Rattle.acl_eval.specs.Bridge.{who_of, flags_of, is_user_tag, is_group_tag}
 use Rattle.acl_eval.specs.BridgeLaws.{by_name, IsAsked}
 use Rattle.acl_eval.specs.Scan.{speaks}
 
@@ -92,7 +92,7 @@ equal_numbers m n = grind (arith, nat_tests)
 -- of a requester who is not the owner, an ACE of USER_OBJ or USER speaks exactly if it is that of this user
 pub user_test : (object : Object) (requester : Requester) (l : Tag) → IsAsked object requester → IsTag l
     → (requester.user == object.user) ≡ false
-    → (is_user l && concerns (by_name object requester) l) ≡ eq_by_cmp tag_cmp (user requester.user) l
+    → (is_user_tag l && concerns (by_name object requester) l) ≡ eq_by_cmp tag_cmp (user requester.user) l
 user_test object requester user_obj a is differ = same_name requester.user object.user a.asker a.owner ∙ differ
 user_test object requester (user id) a is differ = concerns_user (by_name object requester) id is
     ∙ same_name requester.user id a.asker is ∙ sym (equal_numbers requester.user id)
@@ -104,7 +104,7 @@ user_test object requester other a is differ = refl
 -- an ACE of GROUP_OBJ or GROUP speaks of the requester exactly if the entry matches
 pub group_test : (object : Object) (requester : Requester) (l : Tag) → IsAsked object requester
     → AllByRecursion IsId requester.groups → IsTag l
-    → (is_group l && concerns (by_name object requester) l) ≡ posix.matches object.group requester.groups l
+    → (is_group_tag l && concerns (by_name object requester) l) ≡ posix.matches object.group requester.groups l
 group_test object requester user_obj a gs is = refl
 group_test object requester (user id) a gs is = refl
 group_test object requester group_obj a gs is = is_one object.group requester.groups a.owning_group gs

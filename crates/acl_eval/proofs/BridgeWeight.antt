@@ -19,8 +19,8 @@ use Rattle.acl_nfs4.specs.Spelling.{weight, IsAccepted}
 use Rattle.acl_nfs4.proofs.Lists.{weight-cons}
 use Rattle.acl_eval.specs.declared.bridging.BridgeFault.{BridgeFault}
 use Rattle.acl_eval.specs.declared.bridging.BridgeFault.TheVariants.{Limits, Memory}
-use Rattle.acl_eval.specs.Bridge.{image, who_of, flags_of, ace_of, allow_of, deny_of, decide_of, each, is_user, is_group, is_other, bridge_list, IsBridgeFault}
-use Rattle.acl_eval.specs.BridgeBody.{cost_of, Refuses}
+use Rattle.acl_eval.specs.Bridge.{image, who_of, flags_of, ace_of, allow_of, deny_of, decide_of, each, is_user_tag, is_group_tag, is_other_tag, bridge_list, IsBridgeFault}
+use Rattle.acl_eval.specs.internal.BridgeBody.{cost_of, Refuses}
 use Rattle.acl_eval.proofs.Images.{four_bits, image_none}
 use Rattle.acl_eval.proofs.EntryRuns.{effective_lt}
 use Rattle.acl_eval.proofs.Accepted.{aces_stand, length_within}
@@ -62,8 +62,8 @@ weight_each which f e es =
     ]
 
 entry_cost : (E : Entries) (l : Tag) (n : ℕ) → n < 8
-    → cond (is_user l) (weight (decide_of E (l, n))) 0 + cond (is_group l) (weight (allow_of E (l, n))) 0 + cond
-    (is_group l) (weight (deny_of E (l, n))) 0 + cond (is_other l) (weight (allow_of E (l, n))) 0 ≡ cost_of l n
+    → cond (is_user_tag l) (weight (decide_of E (l, n))) 0 + cond (is_group_tag l) (weight (allow_of E (l, n))) 0 + cond
+    (is_group_tag l) (weight (deny_of E (l, n))) 0 + cond (is_other_tag l) (weight (allow_of E (l, n))) 0 ≡ cost_of l n
 entry_cost E user_obj n lt = omega (
   arith,
   both_weigh E (user_obj, n) lt,
@@ -86,15 +86,15 @@ abbrev pub cost : Tag × ℕ → ℕ
 cost e = cost_of e.0 e.1
 
 total : (E : Entries) (es : List (Tag × ℕ)) → AllByRecursion IsEntry es
-    → weight (each is_user (decide_of E) es) + weight (each is_group (allow_of E) es) + weight
-    (each is_group (deny_of E) es) + weight (each is_other (allow_of E) es) ≡ sum_by cost es
+    → weight (each is_user_tag (decide_of E) es) + weight (each is_group_tag (allow_of E) es) + weight
+    (each is_group_tag (deny_of E) es) + weight (each is_other_tag (allow_of E) es) ≡ sum_by cost es
 total E [] all = refl
 total E (e ∷ es) all = omega (
   arith,
-  weight_each is_user (decide_of E) e es,
-  weight_each is_group (allow_of E) e es,
-  weight_each is_group (deny_of E) e es,
-  weight_each is_other (allow_of E) e es,
+  weight_each is_user_tag (decide_of E) e es,
+  weight_each is_group_tag (allow_of E) e es,
+  weight_each is_group_tag (deny_of E) e es,
+  weight_each is_other_tag (allow_of E) e es,
   entry_cost E e.0 e.1 all.0.1,
   total E es all.1,
   sum_by-cons cost e es,
@@ -106,10 +106,10 @@ weight_bridge : (E : Entries) → AllByRecursion IsEntry (fin.entries E) → wei
 unfolding bridge_list
 weight_bridge E all =
     let es = fin.entries E in
-    let D = each is_user (decide_of E) es in
-    let A = each is_group (allow_of E) es in
-    let N = each is_group (deny_of E) es in
-    let O = each is_other (allow_of E) es in
+    let D = each is_user_tag (decide_of E) es in
+    let A = each is_group_tag (allow_of E) es in
+    let N = each is_group_tag (deny_of E) es in
+    let O = each is_other_tag (allow_of E) es in
     omega (arith, weight-append (D ++ A ++ N) O, weight-append (D ++ A) N, weight-append D A, total E es all)
 
 -- the list is accepted exactly if its weight is within the limit

@@ -17,7 +17,7 @@ use Rattle.acl_nfs4.specs.Within.{IsWithin}
 use Rattle.acl_nfs4.proofs.Lists.{weight-cons}
 use Rattle.acl_eval.specs.declared.inherit.ChildKind.{ChildKind}
 use Rattle.acl_eval.specs.declared.inherit.ChildKind.TheVariants.{File, Directory}
-use Rattle.acl_eval.specs.Inheritance.{child_flags, children, ends, goes_on, waits, with_flags, file_inherit, directory_inherit, no_propagate_inherit}
+use Rattle.acl_eval.specs.Inheritance.{child_flags, children, ends, goes_on, waits, with_flags, file_inherit, directory_inherit, no_propagate_inherit, kept_at_the_end, kept_on_the_way, inherit_only_alone}
 
 -- ---- flags within a set
 
@@ -47,7 +47,7 @@ union_within set m n p q = same_set _ _ (λ k.
     ∙ sym (has_bit-or m n k))
 
 -- a set with INHERIT_ONLY has that flag
-pub inherit_only_within : (set : ℕ) → has_bit set inherit_only ≡ true → IsWithin set 8
+pub inherit_only_within : (set : ℕ) → has_bit set inherit_only ≡ true → IsWithin set inherit_only_alone
 inherit_only_within set h = and_comm 8 set ∙ and_pow set 3
     ∙ ap (λ (d : ℕ). d * 8) (eqb-true (bit_at set 3) 1 h)
 
@@ -59,14 +59,15 @@ child_within set kind flags f h is e =
     refl refl refl e
   where
     ends_in : Some (ends flags) ≡ Some f → IsWithin set f
-    ends_in q = subst (IsWithin set) (same_Some _ _ q) (part_within set flags 0x70 is)
+    ends_in q = subst (IsWithin set) (same_Some _ _ q) (part_within set flags kept_at_the_end is)
 
     goes_on_in : Some (goes_on flags) ≡ Some f → IsWithin set f
-    goes_on_in q = subst (IsWithin set) (same_Some _ _ q) (part_within set flags 0x77 is)
+    goes_on_in q = subst (IsWithin set) (same_Some _ _ q) (part_within set flags kept_on_the_way is)
 
     waits_in : Some (waits flags) ≡ Some f → IsWithin set f
     waits_in q = subst (IsWithin set) (same_Some _ _ q)
-        (union_within set (goes_on flags) 8 (part_within set flags 0x77 is) (inherit_only_within set h))
+        (union_within set (goes_on flags) inherit_only_alone (part_within set flags kept_on_the_way is)
+        (inherit_only_within set h))
 
     by : (kind : ChildKind) (p d n : Bool) → has_bit flags file_inherit ≡ p → has_bit flags directory_inherit ≡ d
         → has_bit flags no_propagate_inherit ≡ n → child_flags kind flags ≡ Some f → IsWithin set f

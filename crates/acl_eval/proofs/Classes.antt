@@ -7,7 +7,7 @@ use Rattle.acl_perm.specs.Mode.{mode_of_parts}
 use Rattle.acl_perm.specs.Principal.{Principal}
 use Rattle.acl_nfs4.specs.Ace.{Ace}
 use Rattle.acl_eval.specs.ListMode.{is_granted_by, perm_of}
-use Rattle.acl_eval.specs.Settled.{settled}
+use Rattle.acl_eval.specs.internal.Settled.{settled}
 
 -- at the end of the list a bit is granted exactly if it was
 pub at_the_end : (test : Principal → Bool) (granted left bit : ℕ)

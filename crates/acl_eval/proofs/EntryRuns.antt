@@ -14,7 +14,7 @@ use Rattle.acl_posix.specs.Tag.{Tag, mask, is_masked}
 use Rattle.acl_posix.specs.Entries.{Entries, IsEntry}
 use Rattle.acl_posix.specs.Mask.{effective_of}
 use Rattle.acl_nfs4.specs.Ace.{Ace}
-use Rattle.acl_eval.specs.Bridge.{image, ace_of, allow_of, deny_of, decide_of, each, is_user, is_group, is_other, bridge_list}
+use Rattle.acl_eval.specs.Bridge.{image, ace_of, allow_of, deny_of, decide_of, each, is_user_tag, is_group_tag, is_other_tag, bridge_list}
 use Rattle.acl_eval.specs.Grant.{is_allow}
 use Rattle.acl_eval.proofs.Runs.{run, run-append}
 use Rattle.acl_eval.proofs.Images.{Stands, complement}
@@ -105,19 +105,19 @@ bit_of E j e = has_bit (effective_of E e) j
 
 -- an entry of a user is asked
 abbrev pub users_test : Situation → Tag × ℕ → Bool
-users_test s e = is_user e.0 && concerns s e.0
+users_test s e = is_user_tag e.0 && concerns s e.0
 
 -- an entry of a group is asked and allows
 abbrev pub allows_test : Entries → Situation → ℕ → Tag × ℕ → Bool
-allows_test E s j e = is_group e.0 && (bit_of E j e && concerns s e.0)
+allows_test E s j e = is_group_tag e.0 && (bit_of E j e && concerns s e.0)
 
 -- an entry of a group is asked and denies
 abbrev pub denies_test : Entries → Situation → ℕ → Tag × ℕ → Bool
-denies_test E s j e = is_group e.0 && (not (bit_of E j e) && concerns s e.0)
+denies_test E s j e = is_group_tag e.0 && (not (bit_of E j e) && concerns s e.0)
 
 -- OTHER is asked and allows
 abbrev pub others_test : Entries → Situation → ℕ → Tag × ℕ → Bool
-others_test E s j e = is_other e.0 && (bit_of E j e && concerns s e.0)
+others_test E s j e = is_other_tag e.0 && (bit_of E j e && concerns s e.0)
 
 -- what the group class and OTHER answer
 abbrev pub class_answer : Entries → Situation → ℕ → List (Tag × ℕ) → Bool
@@ -137,10 +137,10 @@ pub run_bridge : (E : Entries) (s : Situation) (j b : ℕ) → Stands j b → j 
 unfolding bridge_list
 run_bridge E s j b st js all =
     let es = fin.entries E in
-    let D = each is_user (decide_of E) es in
-    let A = each is_group (allow_of E) es in
-    let N = each is_group (deny_of E) es in
-    let O = each is_other (allow_of E) es in
+    let D = each is_user_tag (decide_of E) es in
+    let A = each is_group_tag (allow_of E) es in
+    let N = each is_group_tag (deny_of E) es in
+    let O = each is_other_tag (allow_of E) es in
     let allows =
     everywhere IsEntry (λ e. (t : Bool) → run (allow_of E e) s b t ≡ cond (bit_of E j e && concerns s e.0) true t)
     (λ e is t. run_allow E e s j b t st is.1) es all in
@@ -150,21 +150,21 @@ run_bridge E s j b st js all =
     let decides = everywhere IsEntry (λ e. (t : Bool) → run (decide_of E e) s b t ≡ cond (concerns s e.0)
     (bit_of E j e) t) (λ e is t. run_decide E e s j b t st js is.1) es all in
     let last : run O s b false ≡ cond (list_any (others_test E s j) es) true false =
-    run_each is_other (allow_of E) (λ e. bit_of E j e && concerns s e.0) (λ _. true) s b false es allows
+    run_each is_other_tag (allow_of E) (λ e. bit_of E j e && concerns s e.0) (λ _. true) s b false es allows
     ∙ first_const (others_test E s j) true es false in
     let refuse : run N s b (run O s b false) ≡ cond (list_any (denies_test E s j) es) false
     (cond (list_any (others_test E s j) es) true false) =
-    run_each is_group (deny_of E) (λ e. not (bit_of E j e) && concerns s e.0) (λ _. false) s b
+    run_each is_group_tag (deny_of E) (λ e. not (bit_of E j e) && concerns s e.0) (λ _. false) s b
     (run O s b false) es denies
     ∙ first_const (denies_test E s j) false es (run O s b false)
     ∙ ap (λ (z : Bool). cond (list_any (denies_test E s j) es) false z) last in
     let class : run A s b (run N s b (run O s b false)) ≡ class_answer E s j es =
-    run_each is_group (allow_of E) (λ e. bit_of E j e && concerns s e.0) (λ _. true) s b
+    run_each is_group_tag (allow_of E) (λ e. bit_of E j e && concerns s e.0) (λ _. true) s b
     (run N s b (run O s b false)) es allows
     ∙ first_const (allows_test E s j) true es (run N s b (run O s b false))
     ∙ ap (λ (z : Bool). cond (list_any (allows_test E s j) es) true z) refuse in
     run-append (D ++ A ++ N) O s b false ∙ run-append (D ++ A) N s b (run O s b false)
     ∙ run-append D A s b (run N s b (run O s b false))
-    ∙ run_each is_user (decide_of E) (λ e. concerns s e.0) (bit_of E j) s b (run A s b (run N s b (run O s b false)))
-    es decides
+    ∙ run_each is_user_tag (decide_of E) (λ e. concerns s e.0) (bit_of E j) s b
+    (run A s b (run N s b (run O s b false))) es decides
     ∙ ap (λ (z : Bool). first (users_test s) (bit_of E j) es z) class

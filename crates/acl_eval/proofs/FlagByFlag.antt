@@ -4,10 +4,10 @@ use Rattle.std.specs.Prelude.{bit_and, bit_or, not, None, Some, ◌&&◌, ◌||�
 use Rattle.std.proofs.lemmas.Option.{same_Some}
 use Rattle.acl_perm.proofs.Bools.{and_true_right, and_false_right, or_true_right, or_false_right}
 use Rattle.acl_perm.proofs.Sets.{has_bit-and, has_bit-or}
-use Rattle.acl_perm.specs.Bits.{has_bit, inherit_only}
+use Rattle.acl_perm.specs.Bits.{has_bit, inherit_only, identifier_group}
 use Rattle.acl_eval.specs.declared.inherit.ChildKind.TheVariants.{File, Directory}
-use Rattle.acl_eval.specs.Inheritance.{child_flags, ends, goes_on, waits, file_inherit, directory_inherit, no_propagate_inherit}
-use Rattle.acl_eval.specs.InheritanceLaws.{IsByFlag}
+use Rattle.acl_eval.specs.Inheritance.{child_flags, ends, goes_on, waits, file_inherit, directory_inherit, no_propagate_inherit, inherited, kept_at_the_end, kept_on_the_way, inherit_only_alone}
+use Rattle.acl_eval.specs.InheritanceLaws.{IsByFlag, successful_access, failed_access}
 
 -- a flag that is kept, and one that is cleared
 kept : (n c k : ℕ) → has_bit c k ≡ true → has_bit (bit_and n c) k ≡ has_bit n k
@@ -28,40 +28,49 @@ by_part : (on : Bool) (flags c : ℕ) → has_bit (bit_and flags c) file_inherit
     → has_bit (bit_and flags c) directory_inherit ≡ (on && has_bit flags directory_inherit)
     → has_bit (bit_and flags c) no_propagate_inherit ≡ false
     → has_bit (bit_and flags c) inherit_only ≡ (on && not (has_bit flags directory_inherit))
-    → has_bit c 4 ≡ true → has_bit c 5 ≡ true → has_bit c 6 ≡ true → has_bit c 7 ≡ false
-    → IsByFlag on flags (bit_and flags c)
-by_part on flags c file directory ends waits success failed group inherited = record {
+    → has_bit c successful_access ≡ true → has_bit c failed_access ≡ true → has_bit c identifier_group ≡ true
+    → has_bit c inherited ≡ false → IsByFlag on flags (bit_and flags c)
+by_part on flags c file directory ends waits success failed group not_inherited = record {
   file = file;
   directory = directory;
   ends = ends;
   waits = waits;
-  success = kept flags c 4 success;
-  failed = kept flags c 5 failed;
-  group = kept flags c 6 group;
-  not_inherited = cleared flags c 7 inherited;
+  success = kept flags c successful_access success;
+  failed = kept flags c failed_access failed;
+  group = kept flags c identifier_group group;
+  not_inherited = cleared flags c inherited not_inherited;
 }
 
 ended : (flags : ℕ) → IsByFlag false flags (ends flags)
-ended flags = by_part false flags 0x70 (cleared flags 0x70 0 refl) (cleared flags 0x70 1 refl)
-    (cleared flags 0x70 2 refl) (cleared flags 0x70 3 refl) refl refl refl refl
+ended flags =
+    let gone = λ (k : ℕ) (e : has_bit kept_at_the_end k ≡ false). cleared flags kept_at_the_end k e in
+    by_part false flags kept_at_the_end (gone file_inherit refl) (gone directory_inherit refl)
+    (gone no_propagate_inherit refl) (gone inherit_only refl) refl refl refl refl
 
 handed_on : (flags : ℕ) → has_bit flags no_propagate_inherit ≡ false → has_bit flags directory_inherit ≡ true
     → IsByFlag true flags (goes_on flags)
-handed_on flags n d = by_part true flags 0x77 (kept flags 0x77 0 refl) (kept flags 0x77 1 refl)
-    (kept flags 0x77 2 refl ∙ n) (cleared flags 0x77 3 refl ∙ sym (ap not d)) refl refl refl refl
+handed_on flags n d =
+    let stays = λ (k : ℕ) (e : has_bit kept_on_the_way k ≡ true). kept flags kept_on_the_way k e in
+    by_part true flags kept_on_the_way (stays file_inherit refl) (stays directory_inherit refl)
+    (stays no_propagate_inherit refl ∙ n)
+    (cleared flags kept_on_the_way inherit_only refl ∙ sym (ap not d)) refl refl refl refl
 
 waiting : (flags : ℕ) → has_bit flags no_propagate_inherit ≡ false → has_bit flags directory_inherit ≡ false
     → IsByFlag true flags (waits flags)
-waiting flags n d = let on = goes_on flags in record {
-  file = beside on 8 0 refl ∙ kept flags 0x77 0 refl;
-  directory = beside on 8 1 refl ∙ kept flags 0x77 1 refl;
-  ends = beside on 8 2 refl ∙ kept flags 0x77 2 refl ∙ n;
-  waits = set on 8 3 refl ∙ sym (ap not d);
-  success = beside on 8 4 refl ∙ kept flags 0x77 4 refl;
-  failed = beside on 8 5 refl ∙ kept flags 0x77 5 refl;
-  group = beside on 8 6 refl ∙ kept flags 0x77 6 refl;
-  not_inherited = beside on 8 7 refl ∙ cleared flags 0x77 7 refl;
-}
+waiting flags n d =
+    let on = goes_on flags in
+    let stays = λ (k : ℕ) (e : has_bit inherit_only_alone k ≡ false) (h : has_bit kept_on_the_way k ≡ true).
+    beside on inherit_only_alone k e ∙ kept flags kept_on_the_way k h in
+    record {
+      file = stays file_inherit refl refl;
+      directory = stays directory_inherit refl refl;
+      ends = stays no_propagate_inherit refl refl ∙ n;
+      waits = set on inherit_only_alone inherit_only refl ∙ sym (ap not d);
+      success = stays successful_access refl refl;
+      failed = stays failed_access refl refl;
+      group = stays identifier_group refl refl;
+      not_inherited = beside on inherit_only_alone inherited refl ∙ cleared flags kept_on_the_way inherited refl;
+    }
 
 -- of a file
 pub files_by_flag : (flags f : ℕ) → child_flags File flags ≡ Some f → IsByFlag false flags f

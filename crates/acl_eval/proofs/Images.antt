@@ -1,12 +1,10 @@
 -- The bits of the image of permissions.
-use Rattle.std.proofs.Common.{◌≡◌, ℕ, zero, suc, ◌+◌, ◌-◌, ◌*◌, ◌^◌, ◌<◌, Bool, true, false, cond, eqb, ltb, List, [], ◌∷◌, refl, sym, ap, ◌∙◌, arith}
-use Rattle.std.specs.Prelude.{◌||◌, count_ones, bit_and, not}
-use Rattle.std.specs.Int.{bit_at, w8}
+use Rattle.std.proofs.Common.{◌≡◌, ℕ, zero, suc, ◌+◌, ◌-◌, ◌<◌, Bool, true, false, cond, eqb, ltb, List, [], ◌∷◌, refl, sym, ap, ◌∙◌, arith}
+use Rattle.std.specs.Prelude.{◌||◌, count_ones, bit_and, bit_or, not}
+use Rattle.std.specs.Int.{w8}
 use Rattle.std.proofs.lemmas.Bool.{ltb-true, true≢false}
-use Rattle.std.proofs.lemmas.Nat.Bits.{and_pow, bit_at-lt}
 use Rattle.acl_perm.specs.Bits.{all_rights, has_bit, IsMask}
 use Rattle.acl_perm.proofs.Sets.{has_bit-above}
-use Rattle.acl_posix.specs.Check.{contains}
 use Rattle.acl_eval.specs.Bridge.{image}
 
 -- what a function answers of the numbers below n
@@ -73,12 +71,12 @@ pub image_none : count_ones (image 0) ≡ 0
 unfolding image lib.Count.ones
 image_none = refl
 
--- the image as code sums it up
-pub image_parts : (p : ℕ) → p < 8 → cond (eqb (bit_and p 4) 0) 0 1 + cond (eqb (bit_and p 2) 0) 0 6 + cond
-    (eqb (bit_and p 1) 0) 0 32 ≡ image p
+-- the image as code joins it of its three parts
+pub image_parts : (p : ℕ) → p < 8 → bit_or (bit_or (cond (eqb (bit_and p 4) 4) 1 0) (cond (eqb (bit_and p 2) 2) 6 0))
+    (cond (eqb (bit_and p 1) 1) 32 0) ≡ image p
 unfolding image
-image_parts = same_answers 8 (λ p. cond (eqb (bit_and p 4) 0) 0 1 + cond (eqb (bit_and p 2) 0) 0 6 + cond
-    (eqb (bit_and p 1) 0) 0 32) image refl
+image_parts = same_answers 8 (λ p. bit_or (bit_or (cond (eqb (bit_and p 4) 4) 1 0) (cond (eqb (bit_and p 2) 2) 6 0))
+    (cond (eqb (bit_and p 1) 1) 32 0)) image refl
 
 -- the other rights of a byte are of no image
 record Others : Type 0 where
@@ -126,12 +124,3 @@ complement zero p lt = same_answers 8 (λ p. has_bit (7 - p) 0) (λ p. not (has_
 complement (suc zero) p lt = same_answers 8 (λ p. has_bit (7 - p) 1) (λ p. not (has_bit p 1)) refl p
 complement (suc (suc zero)) p lt = same_answers 8 (λ p. has_bit (7 - p) 2) (λ p. not (has_bit p 2)) refl p
 complement (suc (suc (suc j))) p lt = absurd (omega (arith, lt))
-
-by_digit : (d q : ℕ) → d < 2 → 0 < q → eqb (d * q) q ≡ eqb d 1
-by_digit d q lt pos = grind arith
-
--- permissions hold a single permission where they have its bit
-pub contains_single : (p j want : ℕ) → want ≡ 2 ^ j → 0 < want → contains p want ≡ has_bit p j
-contains_single p j want e pos =
-    ap (λ (q : ℕ). eqb (bit_and p q) q) e ∙ ap (λ (m : ℕ). eqb m (2 ^ j)) (and_pow p j) ∙ by_digit (bit_at p j) (2 ^ j)
-    (bit_at-lt p j) (omega (arith, e, pos))

@@ -1,4 +1,4 @@
-pub mod BitTests
+pub mod Bits
 pub mod Members
 pub mod Columns
 pub mod Scans

@@ -20,8 +20,8 @@ use Rattle.acl_eval.specs.declared.bridging.Part.{Part}
 use Rattle.acl_eval.specs.declared.bridging.Part.TheVariants.{Users, GroupAllows, GroupDenies, Others}
 use Rattle.acl_eval.specs.declared.bridging.BridgeFault.{BridgeFault}
 use Rattle.acl_eval.specs.declared.bridging.BridgeFault.TheVariants.{Limits, Memory}
-use Rattle.acl_eval.specs.Bridge.{image, who_of, flags_of, ace_of, each, is_user, is_group, is_other, allow_of, deny_of, decide_of, bridge_list}
-use Rattle.acl_eval.specs.BridgeBody.{part_of, Refuses, fault_of}
+use Rattle.acl_eval.specs.Bridge.{image, who_of, flags_of, ace_of, each, is_user_tag, is_group_tag, is_other_tag, allow_of, deny_of, decide_of, bridge_list}
+use Rattle.acl_eval.specs.internal.BridgeBody.{part_of, Refuses, fault_of}
 use Rattle.acl_eval.proofs.Children.{front_accepted}
 use Rattle.acl_perm.specs.Profile.{full}
 
@@ -90,10 +90,10 @@ each-append which f xs ys = ap (flat_map f) (filter-append (λ (e : Tag × ℕ).
 
 part-append : (E : Entries) (part : Part) (xs ys : List (Tag × ℕ)) → part_of E part (xs ++ ys)
     ≡ part_of E part xs ++ part_of E part ys
-part-append E Users xs ys = each-append is_user (decide_of E) xs ys
-part-append E GroupAllows xs ys = each-append is_group (allow_of E) xs ys
-part-append E GroupDenies xs ys = each-append is_group (deny_of E) xs ys
-part-append E Others xs ys = each-append is_other (allow_of E) xs ys
+part-append E Users xs ys = each-append is_user_tag (decide_of E) xs ys
+part-append E GroupAllows xs ys = each-append is_group_tag (allow_of E) xs ys
+part-append E GroupDenies xs ys = each-append is_group_tag (deny_of E) xs ys
+part-append E Others xs ys = each-append is_other_tag (allow_of E) xs ys
 
 part_more : (E : Entries) (part : Part) (es : List Entry) (i : ℕ) (e : Entry) → i < length es → e ≡ get_or es i e
     → part_of E part (pairs (take (i + 1) es)) ≡ part_of E part (pairs (take i es)) ++ part_of E part (pair_of e ∷ [])

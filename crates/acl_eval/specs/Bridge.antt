@@ -14,14 +14,15 @@ use Rattle.acl_posix.specs.Mask.{effective_of}
 use Rattle.acl_nfs4.specs.Ace.{Ace}
 use Rattle.acl_nfs4.specs.Spelling.{IsAccepted}
 use Rattle.acl_nfs4.specs.Who.{owner_name, group_name, everyone_name}
+use Rattle.acl_eval.specs.Permissions.{read, write, execute}
 use Rattle.acl_eval.specs.declared.bridging.BridgeFault.{BridgeFault}
 use Rattle.acl_eval.specs.declared.bridging.BridgeFault.TheVariants.{Limits, Memory}
 
 -- the rights that permissions stand for: read is READ_DATA (0x1), write is WRITE_DATA (0x2) and APPEND_DATA (0x4),
 -- execute is EXECUTE (0x20)
 unfoldable pub image : ℕ → ℕ
-image perm = (if has_bit perm 2 then 0x1 else 0) + (if has_bit perm 1 then 0x2 + 0x4 else 0)
-    + (if has_bit perm 0 then 0x20 else 0)
+image perm = (if has_bit perm read then 0x1 else 0) + (if has_bit perm write then 0x2 + 0x4 else 0)
+    + (if has_bit perm execute then 0x20 else 0)
 
 -- the who of the ACEs of an entry: the name of an id is its decimal digits; MASK has no ACE
 abbrev pub who_of : Tag → List ℕ
@@ -33,20 +34,24 @@ who_of mask = []
 who_of other = everyone_name
 
 -- USER_OBJ and USER
-abbrev pub is_user : Tag → Bool
-is_user tag = rank tag == 0 || rank tag == 1
+abbrev pub is_user_tag : Tag → Bool
+is_user_tag tag = rank tag == 0 || rank tag == 1
 
 -- GROUP_OBJ and GROUP
-abbrev pub is_group : Tag → Bool
-is_group tag = rank tag == 2 || rank tag == 3
+abbrev pub is_group_tag : Tag → Bool
+is_group_tag tag = rank tag == 2 || rank tag == 3
 
 -- OTHER
-abbrev pub is_other : Tag → Bool
-is_other tag = rank tag == 5
+abbrev pub is_other_tag : Tag → Bool
+is_other_tag tag = rank tag == 5
 
--- their flags: IDENTIFIER_GROUP on named groups, and no other
+-- the flag IDENTIFIER_GROUP alone
+abbrev pub identifier_group_alone : ℕ
+identifier_group_alone = 0x40
+
+-- the flags of the ACEs of an entry: IDENTIFIER_GROUP on named groups, and no other
 abbrev pub flags_of : Tag → ℕ
-flags_of tag = if is_group tag && is_named tag then 0x40 else 0
+flags_of tag = if is_group_tag tag && is_named tag then identifier_group_alone else 0
 
 -- the ACE of a tag with what these permissions stand for; there is none where there are no permissions
 unfoldable pub ace_of : Kind → Tag → ℕ → List Ace
@@ -57,11 +62,11 @@ ace_of kind tag perm = if perm == 0 then []
 abbrev pub allow_of : Entries → Tag × ℕ → List Ace
 allow_of entries entry = ace_of Allow entry.0 (effective_of entries entry)
 
--- what it denies: those of read, write and execute that it doesn't allow
+-- what an entry denies: those of read, write and execute that it doesn't allow
 abbrev pub deny_of : Entries → Tag × ℕ → List Ace
 deny_of entries entry = ace_of Deny entry.0 (7 - effective_of entries entry)
 
--- first the one, then the other
+-- what an entry allows, and then what it denies
 abbrev pub decide_of : Entries → Tag × ℕ → List Ace
 decide_of entries entry = allow_of entries entry ++ deny_of entries entry
 
@@ -74,10 +79,10 @@ each which aces entries = flat_map aces (filter (λ entry. which entry.0) entrie
 -- enough; and what OTHER allows
 unfoldable pub bridge_list : Entries → List Ace
 bridge_list entries =
-    each is_user (decide_of entries) (set.entries entries)
-    ++ each is_group (allow_of entries) (set.entries entries)
-    ++ each is_group (deny_of entries) (set.entries entries)
-    ++ each is_other (allow_of entries) (set.entries entries)
+    each is_user_tag (decide_of entries) (set.entries entries)
+    ++ each is_group_tag (allow_of entries) (set.entries entries)
+    ++ each is_group_tag (deny_of entries) (set.entries entries)
+    ++ each is_other_tag (allow_of entries) (set.entries entries)
 
 -- Limits where the list is not accepted, and nowhere else; memory is wanted only where it is
 abbrev pub IsBridgeFault : List Ace → BridgeFault → Type 0

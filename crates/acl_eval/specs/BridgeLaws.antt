@@ -23,7 +23,7 @@ pub record IsAsked (object : Object) (requester : Requester) : Type 0 where
   pub asker : IsId requester.user
   pub groups : All IsId requester.groups
 
--- the same with the names of the ids, which are their decimal digits
+-- who asks and whose object it is, told by the names of the ids, which are their decimal digits
 abbrev pub by_name : Object → Requester → Situation
 by_name object requester = record {
   owner_name = decimal object.user;

@@ -12,10 +12,10 @@ use Rattle.acl_eval.specs.Scan.{speaks}
 abbrev pub decides : Situation → ℕ → Ace → Bool
 decides s bit a = has_bit a.mask bit && speaks s a
 
--- the place of the first such ACE, if there is one
+-- the place of the first ACE that decides, if there is one
 abbrev pub deciding_place : List Ace → Situation → ℕ → Option ℕ
 deciding_place list s bit = position (decides s bit) list
 
--- its type
+-- the type of the first ACE that decides
 abbrev pub deciding_kind : List Ace → Situation → ℕ → Option Kind
 deciding_kind list s bit = option_map (λ a. a.kind) (find (decides s bit) list)

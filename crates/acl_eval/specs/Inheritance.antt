@@ -22,17 +22,31 @@ no_propagate_inherit = 2
 abbrev pub inherited : ℕ
 inherited = 7
 
--- the ACE is handed on no further: of the flags 0x10, 0x20 and IDENTIFIER_GROUP stay, which say nothing of inheritance
+-- the flags that say nothing of inheritance: SUCCESSFUL_ACCESS (0x10), FAILED_ACCESS (0x20) and IDENTIFIER_GROUP
+-- (0x40)
+abbrev pub kept_at_the_end : ℕ
+kept_at_the_end = 0x70
+
+-- the flags that say nothing of inheritance, and FILE_INHERIT (0x01), DIRECTORY_INHERIT (0x02) and NO_PROPAGATE_INHERIT
+-- (0x04): all but INHERIT_ONLY and INHERITED
+abbrev pub kept_on_the_way : ℕ
+kept_on_the_way = 0x77
+
+-- the flag INHERIT_ONLY alone
+abbrev pub inherit_only_alone : ℕ
+inherit_only_alone = 0x08
+
+-- the ACE is handed on no further
 abbrev pub ends : ℕ → ℕ
-ends flags = bit_and flags 0x70
+ends flags = bit_and flags kept_at_the_end
 
--- the ACE is handed on, and takes part: all flags stay but INHERIT_ONLY and INHERITED
+-- the ACE is handed on, and takes part
 abbrev pub goes_on : ℕ → ℕ
-goes_on flags = bit_and flags 0x77
+goes_on flags = bit_and flags kept_on_the_way
 
--- the ACE is handed on, and takes no part: INHERIT_ONLY is set
+-- the ACE is handed on, and takes no part
 abbrev pub waits : ℕ → ℕ
-waits flags = bit_or (goes_on flags) 0x08
+waits flags = bit_or (goes_on flags) inherit_only_alone
 
 -- the flags of an ACE of the parent in the child, or none where the child doesn't have the ACE
 abbrev pub child_flags : ChildKind → ℕ → Option ℕ

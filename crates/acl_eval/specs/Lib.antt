@@ -3,15 +3,13 @@ pub mod Column
 pub mod Grant
 pub mod Scan
 pub mod Deciding
-pub mod internal
 pub mod Laws
-pub mod Names
 pub mod Inheritance
 pub mod InheritanceLaws
+pub mod Permissions
 pub mod ListMode
 pub mod Unnamed
-pub mod Settled
 pub mod Bridge
-pub mod BridgeBody
 pub mod BridgeLaws
 pub mod BridgeNames
+pub mod internal

@@ -6,6 +6,7 @@ use Rattle.acl_perm.specs.Principal.{Principal, owner, group, is_everyone}
 use Rattle.acl_nfs4.specs.Ace.{Ace}
 use Rattle.acl_eval.specs.Column.{column, verdict}
 use Rattle.acl_eval.specs.Grant.{is_allow}
+use Rattle.acl_eval.specs.Permissions.{read_data, write_data, append_data, execute_right}
 
 -- ACEs of `OWNER@`, the first in the order of principals, and of `EVERYONE@` decide for the owner
 abbrev pub is_for_owner : Principal → Bool
@@ -23,11 +24,12 @@ is_for_others p = is_everyone p
 abbrev pub is_granted_by : (Principal → Bool) → List Ace → ℕ → Bool
 is_granted_by test list bit = is_allow (verdict test (column list bit))
 
--- the permissions of a set of rights: read by READ_DATA (bit 0), write by WRITE_DATA and APPEND_DATA (bits 1 and 2)
--- together, execute by EXECUTE (bit 5)
+-- the permissions of a set of rights: read (4) by READ_DATA, write (2) by WRITE_DATA and APPEND_DATA together, execute
+-- (1) by EXECUTE
 abbrev pub perm_of : (ℕ → Bool) → ℕ
-perm_of granted = (if granted 0 then 4 else 0) + (if granted 1 && granted 2 then 2 else 0)
-    + (if granted 5 then 1 else 0)
+perm_of granted = (if granted read_data then 4 else 0)
+    + (if granted write_data && granted append_data then 2 else 0)
+    + (if granted execute_right then 1 else 0)
 
 -- the mode of what is granted to the owner, the group and others
 abbrev pub mode_of_list : List Ace → ℕ

@@ -1,13 +1,14 @@
-//! The NFSv4 list that stands for a POSIX ACL.
+//! The NFSv4 list that stands for a POSIX ACL, which is made part by part once its weight is known.
 ghost use Rattle.std.specs.Prelude.{◌≡◌, ◌≤◌, ◌↔◌, ◌==◌, ◌-◌, IsTrue, IfErr, IfOk, OnOk, [], ◌∷◌, bit_and, if◌then◌else◌};
 ghost use Rattle.std.specs.FinMap as set;
 ghost use Rattle.acl_perm.specs.Profile.{full};
 ghost use Rattle.acl_posix.specs.Tag.{tag_of};
 ghost use Rattle.acl_posix.specs.Entries.{pair_of};
 ghost use Rattle.acl_nfs4.specs.Spelling.{IsAccepted};
-ghost use Rattle.acl_eval.specs.Bridge.{IsBridgeFault, ace_of, allow_of, bridge_list, decide_of, deny_of, flags_of, image, is_group, is_other, is_user, who_of};
-ghost use Rattle.acl_eval.specs.BridgeBody.{Adds, cost_of, fault_of, part_of};
+ghost use Rattle.acl_eval.specs.Bridge.{IsBridgeFault, ace_of, allow_of, bridge_list, decide_of, deny_of, flags_of, image, is_group_tag, is_other_tag, is_user_tag, who_of};
+ghost use Rattle.acl_eval.specs.internal.BridgeBody.{Adds, cost_of, fault_of, part_of};
 
+use crate::permissions::{EXECUTE, READ, WRITE, WRITE_RIGHTS};
 use acl_nfs4::{AceRef, Acl, Flags, Kind, MOST_WEIGHT, Mask, PushFault};
 use acl_perm::Perm;
 use acl_posix::{Entry, PosixAcl, Tag};
@@ -72,7 +73,7 @@ fn is_within(acl: &PosixAcl) -> bool
     true
 }
 
-// The number of mask bits that an entry costs.
+// The number of mask bits that an entry costs, over all its ACEs.
 fn cost_of(entry: Entry) -> u32
     ensures cost { result ≡ cost_of (tag_of entry.tag) entry.perm.bits }
     ensures small { result ≤ 32 }
@@ -84,7 +85,7 @@ fn cost_of(entry: Entry) -> u32
     }
 }
 
-// A part, over all entries.
+// Adds one part of the list.
 fn push_part(list: &mut Acl, acl: &PosixAcl, part: Part) -> Result<(), BridgeFault>
     ensures { Adds list.old list.new (part_of acl.now part (set.entries acl.now)) result }
 {
@@ -95,38 +96,38 @@ fn push_part(list: &mut Acl, acl: &PosixAcl, part: Part) -> Result<(), BridgeFau
     Ok(())
 }
 
-// What an entry adds to a part.
+// Adds what one entry has in a part.
 fn push_entry(list: &mut Acl, acl: &PosixAcl, entry: Entry, part: Part) -> Result<(), BridgeFault>
     ensures { Adds list.old list.new (part_of acl.now part (pair_of entry ∷ [])) result }
 {
     match part {
-        Part::Users if is_user(entry.tag) => push_decided(list, acl, entry),
-        Part::GroupAllows if is_group(entry.tag) => push_allowed(list, acl, entry),
-        Part::GroupDenies if is_group(entry.tag) => push_denied(list, acl, entry),
-        Part::Others if is_other(entry.tag) => push_allowed(list, acl, entry),
+        Part::Users if is_user_tag(entry.tag) => push_decided(list, acl, entry),
+        Part::GroupAllows if is_group_tag(entry.tag) => push_allowed(list, acl, entry),
+        Part::GroupDenies if is_group_tag(entry.tag) => push_denied(list, acl, entry),
+        Part::Others if is_other_tag(entry.tag) => push_allowed(list, acl, entry),
         _ => Ok(()),
     }
 }
 
-fn is_user(tag: Tag) -> bool
-    ensures { result ≡ is_user (tag_of tag) }
+fn is_user_tag(tag: Tag) -> bool
+    ensures { result ≡ is_user_tag (tag_of tag) }
 {
     matches!(tag, Tag::UserObj | Tag::User(_))
 }
 
-fn is_group(tag: Tag) -> bool
-    ensures { result ≡ is_group (tag_of tag) }
+fn is_group_tag(tag: Tag) -> bool
+    ensures { result ≡ is_group_tag (tag_of tag) }
 {
     matches!(tag, Tag::GroupObj | Tag::Group(_))
 }
 
-fn is_other(tag: Tag) -> bool
-    ensures { result ≡ is_other (tag_of tag) }
+fn is_other_tag(tag: Tag) -> bool
+    ensures { result ≡ is_other_tag (tag_of tag) }
 {
     matches!(tag, Tag::Other)
 }
 
-// What an entry allows, and then what it denies.
+// Adds what an entry allows, and then what it denies.
 fn push_decided(list: &mut Acl, acl: &PosixAcl, entry: Entry) -> Result<(), BridgeFault>
     ensures { Adds list.old list.new (decide_of acl.now (pair_of entry)) result }
 {
@@ -134,28 +135,28 @@ fn push_decided(list: &mut Acl, acl: &PosixAcl, entry: Entry) -> Result<(), Brid
     push_denied(list, acl, entry)
 }
 
-// What an entry allows.
+// Adds what an entry allows.
 fn push_allowed(list: &mut Acl, acl: &PosixAcl, entry: Entry) -> Result<(), BridgeFault>
     ensures { Adds list.old list.new (allow_of acl.now (pair_of entry)) result }
 {
     push_ace(list, Kind::Allow, entry.tag, acl.effective(entry))
 }
 
-// What an entry denies.
+// Adds what an entry denies.
 fn push_denied(list: &mut Acl, acl: &PosixAcl, entry: Entry) -> Result<(), BridgeFault>
     ensures { Adds list.old list.new (deny_of acl.now (pair_of entry)) result }
 {
     push_ace(list, Kind::Deny, entry.tag, rest_of(acl.effective(entry)))
 }
 
-// The permissions that are not there.
+// What is denied where these permissions are allowed.
 fn rest_of(perm: Perm) -> Perm
     ensures { result.bits ≡ 7 - perm.bits }
 {
     Perm::ALL.difference(perm)
 }
 
-// The ACE of a tag with these permissions, and none where there are none.
+// Adds the ACE of a tag with these permissions. Where there are none it adds no ACE, so none is without a bit.
 fn push_ace(list: &mut Acl, kind: Kind, tag: Tag, perm: Perm) -> Result<(), BridgeFault>
     ensures { Adds list.old list.new (ace_of kind (tag_of tag) perm.bits) result }
 {
@@ -202,7 +203,7 @@ fn flags_of(tag: Tag) -> Flags
     ensures { result.bits ≡ flags_of (tag_of tag) }
 {
     match tag {
-        Tag::Group(_) => Flags { bits: 0x40 },
+        Tag::Group(_) => Flags::IDENTIFIER_GROUP,
         Tag::UserObj | Tag::User(_) | Tag::GroupObj | Tag::Mask | Tag::Other => Flags::NONE,
     }
 }
@@ -211,16 +212,19 @@ fn flags_of(tag: Tag) -> Flags
 fn image(perm: Perm) -> Mask
     ensures { result.bits ≡ image perm.bits }
 {
-    Mask {
-        bits: rights(perm.bits, 4, 0x1)
-            + rights(perm.bits, 2, 0x2 + 0x4)
-            + rights(perm.bits, 1, 0x20),
-    }
+    rights_of(perm, READ, Mask::READ_DATA)
+        | rights_of(perm, WRITE, WRITE_RIGHTS)
+        | rights_of(perm, EXECUTE, Mask::EXECUTE)
 }
 
 // The rights of one permission, where it is there.
-fn rights(perm: u8, permission: u8, rights: u32) -> u32
-    ensures { result ≡ (if bit_and perm permission == 0 then 0 else rights) }
+fn rights_of(perm: Perm, permission: Perm, rights: Mask) -> Mask
+    ensures { result.bits
+        ≡ (if bit_and perm.bits permission.bits == permission.bits then rights.bits else 0) }
 {
-    if perm & permission == 0 { 0 } else { rights }
+    if perm.contains(permission) {
+        rights
+    } else {
+        Mask::NONE
+    }
 }

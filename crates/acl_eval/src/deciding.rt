@@ -1,7 +1,8 @@
-//! The ACE that decides one right.
+//! The ACE that decides one right, for whoever wants to know why a request was granted or denied.
 ghost use Rattle.std.specs.Prelude.{◌≡◌, option_map};
 ghost use Rattle.acl_eval.specs.Deciding.{decides, deciding_kind, deciding_place};
 ghost use Rattle.acl_eval.specs.Situation.{situation};
+ghost use Rattle.acl_eval.specs.internal.Asked.{asked};
 ghost use Rattle.acl_eval.specs.internal.DecidingBody.{decision_from};
 
 use crate::situation::{Object, Requester};
@@ -37,8 +38,7 @@ pub fn deciding_ace(
 }
 
 fn first_deciding(aces: Aces<'_>, standing: &Standing<'_>, right: Right) -> Option<Decision>
-    ensures { result
-        ≡ decision_from 0 (decides (situation standing.now.object standing.now.requester) right.bit) aces.entry }
+    ensures { result ≡ decision_from 0 (decides (asked standing.now) right.bit) aces.entry }
 {
     // No place passes the number of ACEs, which has a `usize`.
     let _number = aces.len();

@@ -1,8 +1,9 @@
-//! The evaluation of a list.
+//! Whether a list grants a request.
 ghost use Rattle.std.specs.Prelude.{◌≡◌, ◌↔◌, IsTrue};
 ghost use Rattle.acl_eval.specs.Situation.{situation};
 ghost use Rattle.acl_eval.specs.Grant.{Grant};
 ghost use Rattle.acl_eval.specs.Scan.{scan};
+ghost use Rattle.acl_eval.specs.internal.Asked.{asked};
 
 use crate::situation::{Object, Requester};
 use crate::standing::Standing;
@@ -24,7 +25,7 @@ pub fn grants(aces: Aces<'_>, object: &Object<'_>, requester: &Requester<'_>, ma
 // Whether what is left of a request is granted.
 #[tactic(auto, using(crate::proofs::Scans::none_left))]
 fn scan(aces: Aces<'_>, standing: &Standing<'_>, mut left: u32) -> bool
-    ensures { result ≡ scan aces.entry (situation standing.now.object standing.now.requester) left }
+    ensures { result ≡ scan aces.entry (asked standing.now) left }
 {
     if left == 0 {
         return true;

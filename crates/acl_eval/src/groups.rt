@@ -1,4 +1,4 @@
-//! The groups of a requester, and the look-up of one.
+//! The groups of a requester, and the look-up of one among many.
 ghost use Rattle.std.specs.Prelude.{◌≡◌, true};
 ghost use Rattle.std.specs.List.{list_any};
 ghost use Rattle.std.specs.Str.{bytes_eq};

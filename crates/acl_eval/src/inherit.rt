@@ -1,4 +1,4 @@
-//! What a new object inherits.
+//! What a new object inherits of the list of its directory.
 ghost use Rattle.std.specs.Prelude.{◌≡◌, IfOk, IsTrue, option_map};
 ghost use Rattle.acl_perm.specs.Bits.{has_bit, inherit_only};
 ghost use Rattle.acl_perm.specs.Profile.{Profile};
@@ -37,34 +37,34 @@ pub fn child(alloc: Global, parent: &Acl, kind: ChildKind) -> Result<Acl, AllocE
     Ok(list)
 }
 
-const FILE_INHERIT: u8 = 0x01;
+// What an ACE that is handed on no further keeps of its flags: those that say nothing of inheritance.
+const KEPT_AT_THE_END: Flags = Flags {
+    bits: Flags::SUCCESSFUL_ACCESS.bits | Flags::FAILED_ACCESS.bits | Flags::IDENTIFIER_GROUP.bits,
+};
 
-const DIRECTORY_INHERIT: u8 = 0x02;
-
-const NO_PROPAGATE_INHERIT: u8 = 0x04;
-
-const INHERIT_ONLY: u8 = 0x08;
-
-// What an ACE that ends in the child, or is handed on by it, keeps of its flags.
-const KEPT_AT_THE_END: u8 = 0x70;
-
-const KEPT_ON_THE_WAY: u8 = 0x77;
+// What an ACE that is handed on keeps of its flags: also those that say to what it is handed on.
+const KEPT_ON_THE_WAY: Flags = Flags {
+    bits: KEPT_AT_THE_END.bits
+        | Flags::FILE_INHERIT.bits
+        | Flags::DIRECTORY_INHERIT.bits
+        | Flags::NO_PROPAGATE_INHERIT.bits,
+};
 
 // The flags of an ACE in the child, where the child has it.
-#[tactic(auto, using(crate::proofs::BitTests::bit_tests))]
+#[tactic(auto, using(crate::proofs::Bits::single_bits))]
 fn inherited(kind: ChildKind, flags: Flags) -> Option<Flags>
     ensures { option_map (λ f. f.bits) result ≡ child_flags kind flags.bits }
 {
-    let bits = flags.bits;
-    let for_files = (bits & FILE_INHERIT) != 0;
-    let for_directories = (bits & DIRECTORY_INHERIT) != 0;
-    let ends = (bits & NO_PROPAGATE_INHERIT) != 0;
-    let bits = match kind {
-        ChildKind::File if for_files => bits & KEPT_AT_THE_END,
-        ChildKind::Directory if for_directories && ends => bits & KEPT_AT_THE_END,
-        ChildKind::Directory if for_directories => bits & KEPT_ON_THE_WAY,
-        ChildKind::Directory if for_files && !ends => (bits & KEPT_ON_THE_WAY) | INHERIT_ONLY,
-        _ => return None,
-    };
-    Some(Flags { bits })
+    let for_files = flags.contains(Flags::FILE_INHERIT);
+    let for_directories = flags.contains(Flags::DIRECTORY_INHERIT);
+    let ends = flags.contains(Flags::NO_PROPAGATE_INHERIT);
+    match kind {
+        ChildKind::File if for_files => Some(flags & KEPT_AT_THE_END),
+        ChildKind::Directory if for_directories && ends => Some(flags & KEPT_AT_THE_END),
+        ChildKind::Directory if for_directories => Some(flags & KEPT_ON_THE_WAY),
+        ChildKind::Directory if for_files && !ends => {
+            Some((flags & KEPT_ON_THE_WAY) | Flags::INHERIT_ONLY)
+        }
+        _ => None,
+    }
 }

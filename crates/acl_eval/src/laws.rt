@@ -1,17 +1,16 @@
 //! Laws of the evaluation, and of the list that stands for a POSIX ACL.
 ghost use Rattle.std.specs.Prelude.{◌≡◌, ◌↔◌, ℕ, List, IsTrue, None, Some, false, not, true};
 ghost use Rattle.acl_perm.specs.Bits.{has_bit, IsMask, inherit_only};
-ghost use Rattle.acl_perm.specs.Situation.{IsSituation, Situation};
+ghost use Rattle.acl_perm.specs.Situation.{Situation};
 ghost use Rattle.acl_perm.specs.Profile.{Profile};
 ghost use Rattle.acl_posix.specs.Check.{ids};
 ghost use Rattle.acl_nfs4.specs.Ace.{Ace};
 ghost use Rattle.acl_nfs4.specs.Spelling.{IsAccepted};
 ghost use Rattle.acl_eval.specs.BridgeLaws.{AnswersAlike, GrantsSingles, KeepsGrants};
 ghost use Rattle.acl_eval.specs.BridgeNames.{NamesDiffer, NamesStand, OnlyLimitsRefuse};
-ghost use Rattle.acl_eval.specs.Column.{SameVerdicts, column};
 ghost use Rattle.acl_eval.specs.Deciding.{deciding_kind};
 ghost use Rattle.acl_perm.specs.declared.kind.Kind.TheVariants.{Allow};
-ghost use Rattle.acl_eval.specs.Grant.{Grant, SameGrants, grants_bit};
+ghost use Rattle.acl_eval.specs.Grant.{Grant, SameBits, SameColumns, SameGrants};
 ghost use Rattle.acl_eval.specs.Inheritance.{child_flags, children, directory_inherit, ends, file_inherit, goes_on, no_propagate_inherit, waits};
 ghost use Rattle.acl_eval.specs.InheritanceLaws.{IsByFlag};
 ghost use Rattle.acl_eval.specs.Laws.{IsEquivalence};
@@ -33,11 +32,10 @@ pub fn same_grants_is_an_equivalence()
 /// Two lists grant the same within a set of rights exactly if each bit of it is granted alike in every situation, and
 /// exactly if its columns decide alike.
 pub fn same_grants_bit_by_bit()
-    ensures bits { (rights : ℕ) (list other : List Ace) → SameGrants rights list other
-        ↔ ((s : Situation) → IsSituation s → (bit : ℕ) → IsTrue (has_bit rights bit)
-        → grants_bit list s bit ≡ grants_bit other s bit) }
-    ensures columns { (rights : ℕ) (list other : List Ace) → SameGrants rights list other
-        ↔ ((bit : ℕ) → IsTrue (has_bit rights bit) → SameVerdicts (column list bit) (column other bit)) }
+    ensures bits { (rights : ℕ) (list other : List Ace)
+        → SameGrants rights list other ↔ SameBits rights list other }
+    ensures columns { (rights : ℕ) (list other : List Ace)
+        → SameGrants rights list other ↔ SameColumns rights list other }
 {}
 
 /// Going over the list ACE by ACE, as RFC 8881, section 6.2.1, words it, grants a request exactly if each of its bits
@@ -71,7 +69,8 @@ pub fn directories_inherit()
     ensures ended_before { (flags : ℕ) → has_bit flags no_propagate_inherit ≡ true
         → has_bit flags directory_inherit ≡ false → child_flags Directory flags ≡ None }
     ensures inherited { (flags : ℕ) → has_bit flags no_propagate_inherit ≡ false
-        → has_bit flags directory_inherit ≡ true → child_flags Directory flags ≡ Some (goes_on flags) }
+        → has_bit flags directory_inherit ≡ true
+        → child_flags Directory flags ≡ Some (goes_on flags) }
     ensures for_files { (flags : ℕ) → has_bit flags no_propagate_inherit ≡ false
         → has_bit flags directory_inherit ≡ false → has_bit flags file_inherit ≡ true
         → child_flags Directory flags ≡ Some (waits flags) }

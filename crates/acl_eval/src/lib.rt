@@ -1,23 +1,16 @@
 //! Who may do what under a list of ACEs, what a new object inherits of it, its mode, and the list of a POSIX ACL.
 #![tactic(auto)]
 
-#[cfg(test)]
-mod ample;
-#[cfg(test)]
-mod bridge_tests;
 mod bridging;
-#[cfg(test)]
-mod child_tests;
 mod deciding;
 #[cfg(test)]
 mod example;
 mod grant;
 mod groups;
-#[cfg(test)]
-mod harness;
 mod inherit;
 pub mod laws;
 mod mode;
+mod permissions;
 mod situation;
 #[cfg(test)]
 mod speed;

@@ -1,12 +1,14 @@
-//! The mode of a list.
+//! The mode of a list: what it grants the owner, the group and others.
 ghost use Rattle.std.specs.Prelude.{◌≡◌, ◌≤◌, ◌∷◌, ◌&&◌, if◌then◌else◌, ℕ, List, Bool};
 ghost use Rattle.acl_perm.specs.Bits.{all_rights, has_bit};
-ghost use Rattle.acl_perm.specs.Principal.{Principal as PrincipalOf, principal};
+ghost use Rattle.acl_perm.specs.Principal.{principal};
 ghost use Rattle.acl_nfs4.specs.Ace.{Ace, ace};
 ghost use Rattle.acl_nfs4.specs.Who.{principal_of};
-ghost use Rattle.acl_eval.specs.ListMode.{is_for_group, is_for_others, is_for_owner, mode_of_list, perm_of};
-ghost use Rattle.acl_eval.specs.Settled.{settled};
+ghost use Rattle.acl_eval.specs.ListMode.{mode_of_list, perm_of};
+ghost use Rattle.acl_eval.specs.Permissions.{append_data, execute_right, read_data, write_data};
+ghost use Rattle.acl_eval.specs.internal.Settled.{decides_for, settled_in};
 
+use crate::permissions::{EXECUTE, READ, WRITE, WRITE_RIGHTS};
 use acl_nfs4::{AceRef, Aces};
 use acl_perm::{Kind, Mask, Mode, Perm, Principal};
 
@@ -16,88 +18,73 @@ use acl_perm::{Kind, Mask, Mode, Perm, Principal};
 pub fn mode_of(aces: Aces<'_>) -> Mode
     ensures { result.bits ≡ mode_of_list aces.entry }
 {
-    let mut owner = Class::new();
-    let mut group = Class::new();
-    let mut others = Class::new();
+    let mut owner = Decided::new();
+    let mut group = Decided::new();
+    let mut others = Decided::new();
     for ace in aces {
         let whom = ace.principal();
-        owner = owner.after(&ace, is_for_owner(whom));
-        group = group.after(&ace, is_for_group(whom));
-        others = others.after(&ace, is_for_others(whom));
+        owner = owner.after(&ace, FileClass::Owner, whom);
+        group = group.after(&ace, FileClass::Group, whom);
+        others = others.after(&ace, FileClass::Others, whom);
     }
     Mode::from_parts(owner.perm(), group.perm(), others.perm())
 }
 
-fn is_for_owner(whom: Principal<'_>) -> bool
-    ensures { result ≡ is_for_owner (principal whom.entry) }
-{
-    match whom {
-        Principal::Owner | Principal::Everyone => true,
-        Principal::User(_) | Principal::Group | Principal::GroupNamed(_) => false,
-    }
-}
-
-fn is_for_group(whom: Principal<'_>) -> bool
-    ensures { result ≡ is_for_group (principal whom.entry) }
-{
-    match whom {
-        Principal::Group | Principal::Everyone => true,
-        Principal::Owner | Principal::User(_) | Principal::GroupNamed(_) => false,
-    }
-}
-
-fn is_for_others(whom: Principal<'_>) -> bool
-    ensures { result ≡ is_for_others (principal whom.entry) }
-{
-    match whom {
-        Principal::Everyone => true,
-        Principal::Owner | Principal::User(_) | Principal::Group | Principal::GroupNamed(_) =>
-            false,
-    }
-}
-
-// What is granted to a class of the mode, and the rights that no ACE has decided yet.
+// Whom one octal digit of a mode speaks of.
 #[derive(Clone, Copy)]
-struct Class {
+enum FileClass {
+    Owner,
+    Group,
+    Others,
+}
+
+impl FileClass {
+    // Whether the ACEs of a principal decide for the class. Those of `EVERYONE@` decide for each.
+    fn is_decided_by(self, whom: Principal<'_>) -> bool
+        ensures { result ≡ decides_for self (principal whom.entry) }
+    {
+        match whom {
+            Principal::Owner => matches!(self, FileClass::Owner),
+            Principal::Group => matches!(self, FileClass::Group),
+            Principal::Everyone => true,
+            Principal::User(_) | Principal::GroupNamed(_) => false,
+        }
+    }
+}
+
+// What the ACEs so far grant a class, and the rights that none of them has decided.
+#[derive(Clone, Copy)]
+struct Decided {
     granted: Mask,
     left: Mask,
 }
 
-const READ_DATA: u32 = 0x01;
-
-const WRITE_DATA: u32 = 0x02;
-
-const APPEND_DATA: u32 = 0x04;
-
-const EXECUTE: u32 = 0x20;
-
-impl Class {
-    fn new() -> Class
+impl Decided {
+    fn new() -> Decided
         ensures granted { result.granted.bits ≡ 0 }
         ensures left { result.left.bits ≡ all_rights }
     {
-        Class {
+        Decided {
             granted: Mask::NONE,
             left: Mask::ALL,
         }
     }
 
-    // The same after one more ACE, which may speak of the class.
+    // What is decided after one more ACE, which names this principal: it decides only what no ACE before it has.
     #[tactic(auto)]
-    fn after(self, item: &AceRef<'_>, speaks: bool) -> Class
-        ensures { (test : PrincipalOf → Bool) (list : List Ace) (bit : ℕ)
-            → speaks ≡ test (principal_of (ace item.now))
-            → settled test result.granted.bits result.left.bits list bit
-            ≡ settled test self.granted.bits self.left.bits (ace item.now ∷ list) bit }
+    fn after(self, item: &AceRef<'_>, class: FileClass, whom: Principal<'_>) -> Decided
+        requires { principal whom ≡ principal_of (ace item.now) }
+        ensures { (list : List Ace) (bit : ℕ)
+            → settled_in class result list bit ≡ settled_in class self (ace item.now ∷ list) bit }
     {
-        if !speaks || item.flags.is_inherit_only() {
+        if !class.is_decided_by(whom) || !item.takes_part() {
             return self;
         }
         let granted = match item.kind {
             Kind::Allow => self.granted.union(self.left.intersection(item.mask)),
             Kind::Deny => self.granted,
         };
-        Class {
+        Decided {
             granted,
             left: self.left.difference(item.mask),
         }
@@ -106,50 +93,36 @@ impl Class {
     fn perm(self) -> Perm
         ensures { result.bits ≡ perm_of (has_bit self.granted.bits) }
     {
-        let bits = self.granted.bits;
-        Perm {
-            bits: part(can_read(bits), 4) + part(can_write(bits), 2) + part(can_execute(bits), 1),
-        }
+        part(READ, can_read(self.granted))
+            | part(WRITE, can_write(self.granted))
+            | part(EXECUTE, can_execute(self.granted))
     }
 }
 
-#[tactic(auto, using(crate::proofs::BitTests::bit_tests))]
-fn can_read(bits: u32) -> bool
-    ensures { result ≡ has_bit bits 0 }
+#[tactic(auto, using(crate::proofs::Bits::single_bits))]
+fn can_read(granted: Mask) -> bool
+    ensures { result ≡ has_bit granted.bits read_data }
 {
-    (bits & READ_DATA) != 0
+    granted.contains(Mask::READ_DATA)
 }
 
-#[tactic(auto, using(crate::proofs::BitTests::bit_tests))]
-fn can_write_in_place(bits: u32) -> bool
-    ensures { result ≡ has_bit bits 1 }
+#[tactic(auto, using(crate::proofs::Bits::both_1_2))]
+fn can_write(granted: Mask) -> bool
+    ensures { result ≡ (has_bit granted.bits write_data && has_bit granted.bits append_data) }
 {
-    (bits & WRITE_DATA) != 0
+    granted.contains(WRITE_RIGHTS)
 }
 
-#[tactic(auto, using(crate::proofs::BitTests::bit_tests))]
-fn can_append(bits: u32) -> bool
-    ensures { result ≡ has_bit bits 2 }
+#[tactic(auto, using(crate::proofs::Bits::single_bits))]
+fn can_execute(granted: Mask) -> bool
+    ensures { result ≡ has_bit granted.bits execute_right }
 {
-    (bits & APPEND_DATA) != 0
+    granted.contains(Mask::EXECUTE)
 }
 
-fn can_write(bits: u32) -> bool
-    ensures { result ≡ (has_bit bits 1 && has_bit bits 2) }
+// The permission where it is granted, and else none.
+fn part(perm: Perm, is_granted: bool) -> Perm
+    ensures { result.bits ≡ (if is_granted then perm.bits else 0) }
 {
-    can_write_in_place(bits) && can_append(bits)
-}
-
-#[tactic(auto, using(crate::proofs::BitTests::bit_tests))]
-fn can_execute(bits: u32) -> bool
-    ensures { result ≡ has_bit bits 5 }
-{
-    (bits & EXECUTE) != 0
-}
-
-fn part(is_granted: bool, value: u8) -> u8
-    ensures value { result ≡ (if is_granted then value else 0) }
-    ensures small { result ≤ value }
-{
-    if is_granted { value } else { 0 }
+    if is_granted { perm } else { Perm::NONE }
 }

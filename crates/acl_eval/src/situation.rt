@@ -1,4 +1,4 @@
-//! Who asks, and of whose object.
+//! Who asks, and of whose object: no name of these is empty.
 ghost use Rattle.std.specs.Prelude.{◌≡◌, ◌<◌, ◌↔◌, IfSome, IsSome, All, length, map};
 ghost use Rattle.std.specs.List.{list_any};
 ghost use Rattle.std.specs.Str.{bytes_eq};
@@ -74,7 +74,7 @@ impl<'a> Requester<'a> {
     }
 
     /// Whether this is the user.
-    pub(crate) fn is_user(&self, name: &[u8]) -> bool
+    pub(crate) fn is_named(&self, name: &[u8]) -> bool
         ensures { result ≡ bytes_eq (user_of self.now) name.now }
     {
         self.user == name

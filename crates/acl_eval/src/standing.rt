@@ -1,10 +1,10 @@
-//! How a requester stands to an object, for one ACE after the other.
+//! How a requester stands to an object, so that what is the same for each ACE of a list is told once.
 ghost use Rattle.std.specs.Prelude.{◌≡◌, ◌≤◌, length};
 ghost use Rattle.acl_perm.specs.Principal.{group, owner, principal};
 ghost use Rattle.acl_perm.specs.Situation.{matches};
 ghost use Rattle.acl_nfs4.specs.Ace.{ace};
 ghost use Rattle.acl_eval.specs.Situation.{situation, user_of};
-ghost use Rattle.acl_eval.specs.Names.{last_of};
+ghost use Rattle.acl_eval.specs.internal.LastByte.{last_of};
 ghost use Rattle.acl_eval.specs.Scan.{speaks};
 
 use crate::situation::{Object, Requester};
@@ -35,14 +35,15 @@ fn last_byte(name: &[u8]) -> u8
 }
 
 impl<'a> Standing<'a> {
+    ghost use Rattle.acl_eval.specs.internal.Asked.{asked};
+
     pub(crate) fn new(object: Object<'a>, requester: Requester<'a>) -> Self
-        ensures { situation result.object result.requester
-            ≡ situation object.entry requester.entry }
+        ensures { asked result ≡ situation object.entry requester.entry }
     {
         Standing {
             object,
             requester,
-            is_owner: requester.is_user(object.owner()),
+            is_owner: requester.is_named(object.owner()),
             is_in_owning_group: requester.is_in(object.group()),
             last: last_byte(requester.user()),
         }
@@ -53,24 +54,24 @@ impl<'a> Standing<'a> {
     #[inline(always)]
     pub(crate) fn is_meant_by(&self, item: &AceRef<'_>) -> bool
         requires { 1 ≤ length item.now.who.now }
-        ensures { result ≡ speaks (situation self.now.object self.now.requester) (ace item.now) }
+        ensures { result ≡ speaks (asked self.now) (ace item.now) }
     {
         let last = item.who[item.who.len() - 1];
-        if last != b'@' && !(item.flags.is_inherit_only() | item.flags.is_group()) {
-            return last == self.last && self.requester.is_user(item.who);
+        if last != b'@' && item.takes_part() && !item.flags.is_group() {
+            return last == self.last && self.requester.is_named(item.who);
         }
-        !item.flags.is_inherit_only() && self.is_match(item.principal())
+        item.takes_part() && self.is_match(item.principal())
     }
 
     // Kept out of `is_meant_by`, which is then small enough to be inlined.
     #[inline(never)]
     fn is_match(&self, whom: Principal<'_>) -> bool
         ensures { result
-            ≡ matches (situation self.now.object self.now.requester) (principal whom.entry) }
+            ≡ matches (asked self.now) (principal whom.entry) }
     {
         match whom {
             Principal::Owner => self.is_owner,
-            Principal::User(name) => self.requester.is_user(name),
+            Principal::User(name) => self.requester.is_named(name),
             Principal::Group => self.is_in_owning_group,
             Principal::GroupNamed(name) => self.requester.is_in(name),
             Principal::Everyone => true,

@@ -1,19 +1,18 @@
 -- Reading the lines of a text, and what the grammar and the faults say of them: each tells the other.
-use Rattle.std.proofs.Common.{◌≡◌, ℕ, ◌+◌, ◌≤◌, true, false, cond, List, [], ◌∷◌, ◌++◌, length, Result, Ok, Err, refl, sym, ap, ◌∙◌, subst, arith, inl, inr, append_assoc, append-nil, length-append}
-use Rattle.std.specs.Prelude.{◌⊎◌, count_ones, IfErr, IfOk, MatchResult}
-use Rattle.std.specs.List.{AllByRecursion}
-use Rattle.std.proofs.lemmas.List.Sums.{sum_by-append}
+use Rattle.std.proofs.Common.{◌≡◌, ℕ, ◌+◌, true, false, cond, List, [], ◌∷◌, ◌++◌, length, Result, Ok, Err, refl, sym, ap, ◌∙◌, subst, arith, inl, inr, append_assoc, append-nil, length-append}
+use Rattle.std.specs.Prelude.{◌⊎◌, IfErr, IfOk, MatchResult}
 use Rattle.acl_perm.specs.Profile.{Profile}
 use Rattle.acl_nfs4.specs.Ace.{Ace}
 use Rattle.acl_nfs4.specs.AceText.{IsAceText, SpellEach, SpellsAce, TextLine, ace_lines, ace_lines_from, is_skipped}
 use Rattle.acl_nfs4.specs.AceTextFault.{IsAceTextFault, IsLineFault, IsTextRefusal}
 use Rattle.acl_nfs4.specs.internal.AceReading.{Fails, read_ace, read_lines}
 use Rattle.acl_perm.specs.internal.Steps.{◌>>=◌}
-use Rattle.acl_nfs4.specs.Spelling.{IsAccepted, IsAce, weight}
+use Rattle.acl_nfs4.specs.Spelling.{IsAccepted, weight}
 use Rattle.acl_nfs4.specs.declared.text.fault.AceTextFault.{AceTextFault}
 use Rattle.acl_nfs4.specs.declared.text.fault.AceTextFault.TheVariants as faults
 use Rattle.acl_nfs4.proofs.AceJudged.{LineSays, TakesAce, fault_line, line_says, spelled_line}
 use Rattle.acl_nfs4.proofs.Faults.{weight-push}
+use Rattle.acl_nfs4.proofs.Lists.{front_accepted}
 use Rattle.acl_nfs4.proofs.Push.{each_last, each_push}
 
 -- ---- lines one after the other
@@ -195,28 +194,11 @@ lines_say p list (line ∷ lines) ok =
 
 -- ---- the other way round
 
--- the front of ACEs
-each_front : (p : Profile) (list more : List Ace) → AllByRecursion (IsAce p) (list ++ more)
-    → AllByRecursion (IsAce p) list
-each_front p [] more h = tt
-each_front p (a ∷ list) more h = (h.0, each_front p list more h.1)
-
-weight_front : (list more : List Ace) → weight list ≤ weight (list ++ more)
-weight_front list more = omega (arith, sum_by-append (λ a. count_ones a.mask) list more)
-
--- the front of an accepted list
-accepted_front : (p : Profile) (list more : List Ace) → IsAccepted p (list ++ more) → IsAccepted p list
-accepted_front p list more h = record {
-  count = omega (arith, h.count, length-append list more);
-  weight = omega (arith, h.weight, weight_front list more);
-  each = each_front p list more h.each;
-}
-
 -- a list takes the next ACE of an accepted one
 takes_next : (p : Profile) (list more : List Ace) (line : TextLine) (a : Ace) → IsAccepted p (list ++ a ∷ more)
     → SpellsAce line.bytes a → TakesAce p list line a
 takes_next p list more line a h s =
-    let front : IsAccepted p (list ++ a ∷ []) = accepted_front p (list ++ a ∷ []) more
+    let front : IsAccepted p (list ++ a ∷ []) = front_accepted p (list ++ a ∷ []) more
     (subst (IsAccepted p) (sym (append_assoc list (a ∷ []) more)) h) in record {
       spelled = s;
       ace = each_last p list a front.each;

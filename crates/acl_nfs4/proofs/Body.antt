@@ -12,6 +12,7 @@ use Rattle.acl_perm.specs.declared.kind.Kind.{Kind}
 use Rattle.acl_perm.specs.declared.kind.Kind.TheVariants.{Deny, Allow}
 use Rattle.acl_nfs4.specs.declared.xdr.fault.Fault.{Fault}
 use Rattle.acl_nfs4.specs.Ace.{Ace}
+use Rattle.acl_nfs4.specs.Front.{IsListOf, StandsAtFront}
 use Rattle.acl_nfs4.specs.Spelling.{word, kind_number, pad_len, piece, spelling, IsAce, Xdr}
 use Rattle.acl_nfs4.specs.Fields.{number, count_of}
 use Rattle.acl_perm.specs.internal.Steps.{◌>>=◌}
@@ -220,7 +221,7 @@ value_ok (Err f) x e = absurd cc
 -- what is found stands at the front
 pub is_found : (profile : Profile) (bytes : List ℕ) (r : Result (List Ace × ℕ) Fault) → IsBytes bytes
     → Gives (λ x. (x.0, x.1)) r (value_at profile bytes)
-    → IfOk r (λ x. (x.1 ≤ length bytes) × Xdr profile x.0 (take x.1 bytes))
+    → IfOk r (StandsAtFront profile bytes)
 is_found profile bytes (Ok x) fits given =
     let v = value_ok (read profile bytes) x given in
     let f = read_takes profile bytes (x.0, v.0) fits v.1 in
@@ -236,7 +237,7 @@ apart (Err g) x f p q = cc
 pub is_only : (profile : Profile) (bytes : List ℕ) (r : Result (List Ace × ℕ) Fault) (list : List Ace)
     (text rest : List ℕ) → IsProfile profile → Gives (λ x. (x.0, x.1)) r (value_at profile bytes)
     → Xdr profile list text → bytes ≡ text ++ rest
-    → IsOkAnd r (λ x. (x.0 ≡ list) × (x.1 ≡ length text))
+    → IsOkAnd r (IsListOf list text)
 is_only profile bytes (Ok x) list text rest is given xdr e =
     let h : (list, length text) ≡ (x.0, x.1) =
     ok_is _ _ (sym (ap (value_at profile) e

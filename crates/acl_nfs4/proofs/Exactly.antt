@@ -10,8 +10,8 @@ use Rattle.acl_nfs4.specs.Fault.{IsFault}
 use Rattle.acl_nfs4.specs.Stream.{IsCut, Standing, Feeds, FeedsEach, FedExactly, Refuses, SameOrFails, further, together, no_memory}
 use Rattle.acl_nfs4.specs.Stream.Standing.{more, done, refused}
 use Rattle.acl_nfs4.specs.internal.Progress.{IsFeed, standing}
-use Rattle.acl_nfs4.specs.declared.feed.Stage.{Stage}
-use Rattle.acl_nfs4.specs.declared.feed.Stage.TheVariants.{Open, Done, Refused}
+use Rattle.acl_nfs4.specs.declared.feed.step.Stage.{Stage}
+use Rattle.acl_nfs4.specs.declared.feed.step.Stage.TheVariants.{Open, Done, Refused}
 use Rattle.acl_nfs4.specs.declared.feed.scan.Progress.{Progress}
 use Rattle.acl_nfs4.specs.declared.feed.fed.Fed.{Fed}
 use Rattle.acl_nfs4.specs.declared.feed.fed.Fed.TheVariants as fed

@@ -1,5 +1,5 @@
 -- Fields that are pulled from a source: where each stands in the text, and what it comes to.
-use Rattle.std.proofs.Common.{◌≡◌, ◌≢◌, ◌⊎◌, ℕ, ◌+◌, ◌-◌, ◌<◌, ◌≤◌, List, [], ◌∷◌, ◌++◌, length, take, drop, Option, Result, Ok, Err, refl, sym, ap, subst, ◌∙◌, append_assoc, append-nil, arith, inl, inr}
+use Rattle.std.proofs.Common.{◌≡◌, ◌≢◌, ℕ, ◌+◌, ◌-◌, ◌<◌, ◌≤◌, List, [], ◌∷◌, ◌++◌, length, take, drop, Option, Result, Ok, Err, refl, sym, ap, subst, ◌∙◌, append_assoc, append-nil, arith, inl, inr}
 use Rattle.std.proofs.lemmas.List.{length-append, length-take, take-append-le, take_all, drop_at, drop-take}
 use Rattle.std.proofs.lemmas.Nat.{be_bytes_4}
 use Rattle.std.proofs.Math.Seq.{take-append-add}
@@ -8,7 +8,6 @@ use Rattle.std.specs.Prelude.{count_ones, replicate}
 use Rattle.std.specs.List.{flat_map}
 use Rattle.std.specs.Io.KnownBytes.{Consumes, IsAtEnd}
 use Rattle.std.proofs.KnownBytes.{Consumes-nil, Consumes-trans}
-use Rattle.acl_perm.specs.Devices.{one_more}
 use Rattle.acl_perm.specs.Profile.{Profile}
 use Rattle.acl_nfs4.specs.Ace.{Ace}
 use Rattle.acl_nfs4.specs.internal.Body.{Spells, aces_of}
@@ -340,20 +339,6 @@ pub stops_given : (p : Profile) (text : List ℕ) (left : Option (List ℕ)) (be
 stops_given p text left before after f (inl t) = inl (t.0, t.1, t.2)
 stops_given p text left before after f (inr (inl r)) = inr (inl (r.0, r.1))
 stops_given p text left before after f (inr (inr x)) = inr (inr (inr (x.0, x.1)))
-
--- a failed read is told where one more pull failed
-pub stops_read : (p : Profile) (text : List ℕ) (left : Option (List ℕ)) (before after : ℕ) (f : Fault)
-    → Stops p text left before after f → f.reason ≡ Read → after ≡ one_more before
-stops_read p text left before after f (inl t) e = let same : Truncated ≡ Read = sym t.0 ∙ e in absurd cc
-stops_read p text left before after f (inr (inl r)) e = r.2
-stops_read p text left before after f (inr (inr x)) e = absurd (x.2 e)
-
--- else none failed
-pub stops_unread : (p : Profile) (text : List ℕ) (left : Option (List ℕ)) (before after : ℕ) (f : Fault)
-    → Stops p text left before after f → (f.reason ≡ Read) ⊎ (after ≡ before)
-stops_unread p text left before after f (inl t) = inr t.3
-stops_unread p text left before after f (inr (inl r)) = inl r.0
-stops_unread p text left before after f (inr (inr x)) = inr x.3
 
 -- ---- the ACEs so far
 

@@ -4,13 +4,13 @@ use Rattle.std.specs.Prelude.{count_ones, replicate}
 use Rattle.std.specs.List.{flat_map, AllByRecursion}
 use Rattle.std.proofs.lemmas.List.{length-append, length-replicate, take_at, drop_at}
 use Rattle.std.proofs.lemmas.List.Concat.{flat_map-cons}
-use Rattle.std.proofs.lemmas.List.Sums.{sum_by-cons}
+use Rattle.std.proofs.lemmas.List.Sums.{sum_by-append, sum_by-cons}
 use Rattle.acl_perm.specs.declared.kind.Kind.{Kind}
 use Rattle.acl_perm.specs.Profile.{Profile}
 use Rattle.acl_nfs4.specs.Ace.{Ace}
 use Rattle.acl_nfs4.specs.Limits.{most_weight}
 use Rattle.acl_nfs4.specs.Within.{IsProfile}
-use Rattle.acl_nfs4.specs.Spelling.{word, kind_number, pad_len, piece, spelling, weight, IsAce, Xdr}
+use Rattle.acl_nfs4.specs.Spelling.{word, kind_number, pad_len, piece, spelling, weight, IsAccepted, IsAce, Xdr}
 use Rattle.acl_nfs4.specs.Fields.{count_of, kind_of, flags_of, mask_of, who_len_of, who_of, padding_of}
 use Rattle.acl_nfs4.specs.internal.Reading.{Place, field, word_field, ace_at, aces_at, read}
 use Rattle.acl_nfs4.proofs.Fields.{IsBytes, bind_then, goes_to, ok_is, Takes, Takes-then, field_takes, field_again, word_takes, word_again, count_is, count_again, kind_is, kind_again, kind_lt, flags_are, flags_again, mask_is, mask_again, who_len_is, who_len_again, who_bounds, who_is, who_again, padding_is, padding_again}
@@ -204,6 +204,23 @@ read_takes profile bytes x fits e =
       after = rw both.parts (sym (drop_at (spelling x.0) x.1.rest x.1.at len));
       within = omega (arith, ap length both.parts, length-append (spelling x.0) x.1.rest, len);
     })
+
+-- ---- the front of a list
+
+-- what holds of each ACE of a list holds of each at its front
+each_front : (P : Ace → Type 0) (front back : List Ace) → AllByRecursion P (front ++ back) → AllByRecursion P front
+each_front P [] back each = tt
+each_front P (a ∷ front) back each = (each.0, each_front P front back each.1)
+
+-- the front of an accepted list is accepted
+pub front_accepted : (p : Profile) (front back : List Ace) → IsAccepted p (front ++ back) → IsAccepted p front
+front_accepted p front back ok = record {
+  count = omega (arith, ok.count, length-append front back);
+  weight = omega (arith, ok.weight, sum_by-append (λ a. count_ones a.mask) front back);
+  each = each_front (IsAce p) front back ok.each;
+}
+
+-- ---- reading again
 
 -- a list that was written is read again
 pub read_again : (profile : Profile) (list : List Ace) (text rest : List ℕ) → IsProfile profile → Xdr profile list text

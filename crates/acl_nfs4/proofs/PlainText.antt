@@ -29,7 +29,7 @@ all_ascii (b ∷ bytes) e =
     let t = and_true (leb 0x20 b) (ltb b 0x7f) h.0 in
     (let lt : b < 128 = grind (arith, t.1) in lt, all_ascii bytes h.1)
 
--- it is UTF-8
+-- plain ASCII is UTF-8
 pub plain_ascii_is_utf8 : (bytes : List ℕ) → list_all is_plain_ascii bytes ≡ true → is_utf8 bytes ≡ true
 plain_ascii_is_utf8 bytes e =
     is_utf8-from_IsUtf8 bytes (IsUtf8-from_ascii bytes
@@ -40,7 +40,7 @@ plain_byte b e =
     let t = and_true (leb 0x20 b) (ltb b 0x7f) e in
     grind (arith, t.0, t.1)
 
--- it has no control byte
+-- plain ASCII has no control byte
 pub plain_ascii_is_plain : (bytes : List ℕ) → list_all is_plain_ascii bytes ≡ true → list_all is_plain bytes ≡ true
 plain_ascii_is_plain [] e = refl
 plain_ascii_is_plain (b ∷ bytes) e =

@@ -137,7 +137,8 @@ stops table so_far field word after total c named e =
     (option_and_then (λ b. option_map (bit_or b) (bits_in table (parts_after after))) o)) named)
     ∙ sym (ap (λ (ws : List (List ℕ)). option_map (bit_or so_far) (bits_in table ws)) c.parts) ∙ e
 
-zero_or : (m : ℕ) → bit_or 0 m ≡ m
+-- to join the empty set with one is that one
+pub zero_or : (m : ℕ) → bit_or 0 m ≡ m
 zero_or m = or_comm 0 m ∙ or_zero m
 
 -- before the first word

@@ -21,7 +21,7 @@ use Rattle.acl_nfs4.specs.FlagNames.{flag_names}
 use Rattle.acl_nfs4.specs.Rights.{rights, SpellsMask, mask_named}
 use Rattle.acl_nfs4.specs.Within.{IsWithin, is_within}
 use Rattle.acl_nfs4.specs.declared.names.bit_names.BitName.{BitName as Row}
-use Rattle.acl_nfs4.proofs.SetFields.{IsTable, map_some, named_again, or_zero, spelled}
+use Rattle.acl_nfs4.proofs.SetFields.{IsTable, map_some, named_again, or_zero, spelled, zero_or}
 
 -- ---- rows of the code
 
@@ -212,9 +212,6 @@ misses set bit k e h =
     let h2 : eqb (bit_at set k * 2 ^ k) (2 ^ k) ≡ false =
     sym (ap (λ (n : ℕ). eqb n bit) same ∙ ap (λ (n : ℕ). eqb (bit_at set k * 2 ^ k) n) e) ∙ h in
     same ∙ zero_and (bit_at set k) (2 ^ k) (bit_at-lt set k) h2
-
-zero_or : (n : ℕ) → bit_or 0 n ≡ n
-zero_or n = same_set _ _ (λ k. has_bit-or 0 n k ∙ ap (λ (x : Bool). x || has_bit n k) (no_bit k))
 
 -- the names of the bits of a set name what it has of the table
 names_spell : (table rows : List BitName) (set : ℕ) → NameThemselves table rows → AreBits rows

@@ -36,7 +36,7 @@ pub record TextLine : Type 0 where
   pub number : ℕ
   pub bytes : List ℕ
 
--- those of the lines that are to spell an ACE, of which the first line has this number
+-- of some lines, the first of which has this number, those that are to spell an ACE
 abbrev pub ace_lines_from : ℕ → List (List ℕ) → List TextLine
 ace_lines_from number [] = []
 ace_lines_from number (line ∷ lines) = if is_skipped line then ace_lines_from (number + 1) lines

@@ -42,26 +42,26 @@ pub record IsCut (list : List Ace) (line : TextLine) (fields : LineFields) : Typ
   pub room : length list < most_aces
   pub has : HasFields line.bytes fields
 
--- beside that the first field is a type
+-- the line is right up to its type
 pub record IsTyped (list : List Ace) (line : TextLine) (fields : LineFields) : Type 0 where
   pub cut : IsCut list line fields
   pub kind : Kind
   pub is_kind : fields.kind ≡ kind_name kind
 
--- beside that the second field names flags of the profile
+-- the line is right up to its flags, which the profile has
 pub record IsFlagged (p : Profile) (list : List Ace) (line : TextLine) (fields : LineFields) : Type 0 where
   pub typed : IsTyped list line fields
   pub flags : ℕ
   pub named : SpellsFlags fields.flags flags
   pub within : IsWithin p.flags flags
 
--- beside that the third field names this mask, of rights of the profile
+-- the line is right up to its mask, which is this one, of rights of the profile
 pub record IsMasked (p : Profile) (list : List Ace) (line : TextLine) (fields : LineFields) (mask : ℕ) : Type 0 where
   pub flagged : IsFlagged p list line fields
   pub named : SpellsMask fields.mask mask
   pub within : IsWithin p.masks mask
 
--- beside that the list can take the mask
+-- the line is right up to its mask, and the list can take that
 pub record IsLight (p : Profile) (list : List Ace) (line : TextLine) (fields : LineFields) : Type 0 where
   pub mask : ℕ
   pub masked : IsMasked p list line fields mask

@@ -3,6 +3,7 @@ pub mod Limits
 pub mod Who
 pub mod Within
 pub mod Spelling
+pub mod Front
 pub mod Fields
 pub mod Fault
 pub mod BitNames

@@ -22,6 +22,6 @@ same_list = on spelling (pointwise nat_eq)
 pub same_list_laws : IsPartialEquivalence same_list
 same_list_laws = on_per spelling (partial_equiv_from_equiv nat_list_eq_equiv)
 
--- and by an equivalence
+-- lists are compared by an equivalence
 pub same_list_equiv : IsEquivalence same_list
 same_list_equiv = on_equiv spelling nat_list_eq_equiv

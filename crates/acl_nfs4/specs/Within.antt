@@ -8,7 +8,7 @@ use Rattle.acl_perm.specs.Profile.{Profile}
 abbrev pub IsWithin : ℕ → ℕ → Type 0
 IsWithin set n = bit_and n set ≡ n
 
--- the same as a test
+-- whether the bits of a number are bits of the set
 abbrev pub is_within : ℕ → ℕ → Bool
 is_within set n = bit_and n set == n
 

@@ -1,4 +1,4 @@
-//! An ACE that borrows its who.
+//! An ACE that borrows its who, whom it names, and whether it takes part.
 ghost use Rattle.std.specs.Prelude.{◌≡◌, not};
 ghost use Rattle.acl_perm.specs.Bits.{has_bit, inherit_only};
 ghost use Rattle.acl_perm.specs.Principal.{principal};

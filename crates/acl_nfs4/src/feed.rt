@@ -1,7 +1,8 @@
-//! A value that comes in pieces.
+//! A list that comes in pieces, however these are cut.
 
 pub(crate) mod fed;
 pub(crate) mod scan;
+pub(crate) mod step;
 pub(crate) mod stream;
 
 ghost use Rattle.std.specs.Prelude.{◌≡◌, ℕ, ◌+◌, ◌≤◌, ◌<◌, ◌^◌, ◌++◌, List, [], MatchResult, length, take, drop};
@@ -9,29 +10,19 @@ ghost use Rattle.acl_perm.specs.Profile.{Profile as Allowed, full, profile_of};
 ghost use Rattle.acl_nfs4.specs.Stream.{FedExactly, Feeds, Finishes, IsCut, IsSmall, more};
 ghost use Rattle.acl_nfs4.specs.Fault.{IsFault};
 ghost use Rattle.acl_nfs4.specs.declared.xdr.fault.Reason.TheVariants.{Truncated};
-ghost use Rattle.acl_nfs4.specs.declared.feed.Stage.TheVariants.{Refused};
-ghost use Rattle.acl_nfs4.specs.declared.feed.fed.Fed.TheVariants.{Refused as FedRefused};
-ghost use Rattle.acl_nfs4.specs.internal.Progress.{IsFeed, IsProgress, Judged, standing};
 
 use crate::feed::fed::Fed;
-use crate::feed::scan::{Progress, Reach, scan};
+use crate::feed::scan::Progress;
+use crate::feed::step::{Stage, advance};
 use crate::feed::stream::Text;
-use crate::limits::MOST_ACES;
 use crate::list::acl::Acl;
 use crate::xdr::fault::{Fault, Reason};
 use acl_perm::Profile;
 use std::alloc::Global;
 use std::marker::Model;
 
-// A piece is taken by so many bytes at a time, so that no more than these are kept in vain.
+// A long piece is taken by so many bytes at a time, so that no more than these are kept in vain behind a list's end.
 const CHUNK: usize = 4096;
-
-#[derive(Clone, Copy)]
-pub(crate) enum Stage {
-    Open(Fault),
-    Done,
-    Refused(Fault),
-}
 
 /// A value of which a part has come. It holds the whole ACEs that came so far and the fields so far of the one that is
 /// being read.
@@ -55,110 +46,6 @@ impl Model for Feed {
     ghost invariant = { λ s. IsFeed (profile_of s.profile) s.stage s.progress s.text };
 }
 
-// Where a text ends, from where it was judged to.
-fn judge(text: &Text, from: Progress, profile: Profile) -> Reach
-    requires { IsProgress (profile_of profile) text.now from }
-    ensures progress { IsProgress (profile_of profile) text.now result.progress }
-    ensures judged { Judged (profile_of profile) text.now result.progress result.fault }
-    ensures fits { length text.now < 2 ^ 64 }
-{
-    match text.count() {
-        None => {
-            let fault = Fault {
-                offset: 0,
-                reason: Reason::Truncated,
-            };
-            Reach {
-                progress: from,
-                fault: Some(fault),
-            }
-        }
-        Some(count) => {
-            if count > MOST_ACES {
-                let fault = Fault {
-                    offset: 0,
-                    reason: Reason::TooManyAces,
-                };
-                return Reach {
-                    progress: from,
-                    fault: Some(fault),
-                };
-            }
-            scan(text.body(), count, from, profile)
-        }
-    }
-}
-
-// What a piece makes of a feed, and the answer to it.
-#[derive(Clone, Copy)]
-struct Step {
-    stage: Stage,
-    progress: Progress,
-    fed: Fed,
-}
-
-impl Step {
-    // The text is refused, and so is what comes after it.
-    fn refused(fault: Fault, progress: Progress) -> Step
-        ensures { result ≡ record {
-          stage = Refused fault;
-          progress = progress;
-          fed = FedRefused fault;
-        } }
-    {
-        Step {
-            stage: Stage::Refused(fault),
-            progress,
-            fed: Fed::Refused(fault),
-        }
-    }
-}
-
-// One more piece of a text that is cut short.
-fn advance(text: &mut Text, piece: &[u8], from: Progress, profile: Profile) -> Step
-    requires progress { IsProgress (profile_of profile) text.old from }
-    requires cut { IsCut (profile_of profile) text.old }
-    ensures feed { IsFeed (profile_of profile) result.stage result.progress text.new }
-    ensures feeds { Feeds (more (profile_of profile) text.old) piece.now result.fed
-        (standing (profile_of profile) result.stage result.progress text.new) }
-{
-    let before = text.len();
-    match text.extend(piece) {
-        Err(_) => {
-            let fault = Fault {
-                offset: 0,
-                reason: Reason::Memory,
-            };
-            Step::refused(fault, from)
-        }
-        Ok(()) => {
-            let reach = judge(text, from, profile);
-            let progress = reach.progress;
-            match reach.fault {
-                None => {
-                    text.cut(progress.used);
-                    let fed = Fed::Done {
-                        taken: 4 + progress.used - before,
-                    };
-                    Step {
-                        stage: Stage::Done,
-                        progress,
-                        fed,
-                    }
-                }
-                Some(fault) => match fault.reason {
-                    Reason::Truncated => Step {
-                        stage: Stage::Open(fault),
-                        progress,
-                        fed: Fed::More,
-                    },
-                    _ => Step::refused(fault, progress),
-                },
-            }
-        }
-    }
-}
-
 impl Feed {
     /// Nothing has come yet. It takes no memory.
     pub fn new(alloc: Global) -> Feed
@@ -171,13 +58,9 @@ impl Feed {
     pub fn with_profile(alloc: Global, profile: Profile) -> Feed
         ensures { result ≡ more (profile_of profile) [] }
     {
-        let fault = Fault {
-            offset: 0,
-            reason: Reason::Truncated,
-        };
         Feed {
             profile,
-            stage: Stage::Open(fault),
+            stage: Stage::Open(Fault::at_front(Reason::Truncated)),
             progress: Progress {
                 seen: 0,
                 used: 0,
@@ -187,7 +70,7 @@ impl Feed {
         }
     }
 
-    // Takes a piece whole, and then drops what doesn't belong to the value.
+    // Takes a piece whole, and then drops what doesn't belong to the list.
     fn take(&mut self, piece: &[u8]) -> Fed
         ensures { Feeds self.old piece.now result self.new }
     {
@@ -219,6 +102,7 @@ impl Feed {
         }
     }
 
+    // Takes a piece part by part, and counts what the parts before the last one hold.
     fn take_all(&mut self, piece: &[u8]) -> Fed
         ensures { Feeds self.old piece.now result self.new }
     {

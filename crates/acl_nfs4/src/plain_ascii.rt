@@ -1,11 +1,11 @@
-//! Plain ASCII, which is told of many bytes at once.
+//! Plain ASCII, which is told of many bytes at once: most whos are, and need no other test.
 ghost use Rattle.std.specs.Prelude.{◌≡◌, ◌≤◌, ◌+◌, length, IsTrue, true};
 ghost use Rattle.std.specs.List.{list_all};
 ghost use Rattle.acl_nfs4.specs.internal.Reading.{is_plain_ascii, ArePlain};
 
 use std::simd::prelude::*;
 
-// Whether the N bytes from there on are plain ASCII, which are 0x5f bytes from the blank on.
+// Whether the N bytes from `at` on are plain ASCII, which are 0x5f bytes from the blank on.
 #[inline(always)]
 fn are_plain<const N: usize>(bytes: &[u8], at: usize) -> bool
     requires lanes { N ≤ 64 }
@@ -16,7 +16,7 @@ fn are_plain<const N: usize>(bytes: &[u8], at: usize) -> bool
     above.simd_ge(Simd::<u8, N>::splat(0x5f)).to_bitmask() == 0
 }
 
-// The same of all bytes, where they are N to 2 N: the first N and the last N.
+// Whether N to 2 N bytes are plain ASCII: the first N and the last N of them, which may overlap.
 #[inline(always)]
 fn ends_are_plain<const N: usize>(bytes: &[u8]) -> bool
     requires lanes { N ≤ 64 }
@@ -27,7 +27,7 @@ fn ends_are_plain<const N: usize>(bytes: &[u8]) -> bool
     are_plain::<N>(bytes, 0) & are_plain::<N>(bytes, bytes.len() - N)
 }
 
-// The same of 16 bytes and more, where the last 16 may have been judged in part.
+// Whether 16 bytes or more are plain ASCII. The last 16 are judged whole, also where some of them were before.
 fn is_long_plain(bytes: &[u8]) -> bool
     requires { 16 ≤ length bytes.now }
     ensures { IsTrue result → ArePlain bytes.now 0 (length bytes.now) }

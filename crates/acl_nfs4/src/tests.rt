@@ -1,9 +1,14 @@
-//! Rows from the standards, and failures in mid-stream.
+//! Rows from the standards, and failures in mid-stream, by subject.
 
+mod agreement;
+mod devices;
+mod feeding;
 mod harness;
 mod list;
 mod names;
 mod parse;
-mod stream;
+mod push;
+mod readers;
+mod rows;
 mod tables;
 mod text;

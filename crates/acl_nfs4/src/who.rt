@@ -1,4 +1,4 @@
-//! What may stand as a who.
+//! What may stand as a who: the same wherever an ACE comes from.
 ghost use Rattle.std.specs.Prelude.{◌≡◌, ◌≤◌, length, false};
 ghost use Rattle.std.specs.Str.{is_utf8};
 ghost use Rattle.std.specs.List.{list_all};

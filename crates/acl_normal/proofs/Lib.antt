@@ -1,9 +1,3 @@
-pub mod Unique
-pub mod PlainForm
-pub mod Inheritance
-pub mod Merging
-pub mod Emission
-pub mod Reduction
-pub mod Searching
+pub mod unique
 pub mod Tables
 pub mod Vectors

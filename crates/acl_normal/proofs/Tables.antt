@@ -19,14 +19,14 @@ use Rattle.acl_normal.specs.Normal.{counts}
 use Rattle.acl_normal.specs.Tables.{AddsRow, AreRows, HasKey, IsRow, with_bit}
 use Rattle.acl_normal.specs.declared.bit_table.Row.{Row}
 use Rattle.acl_normal.specs.declared.emit.emission.Emitted.{Emitted}
-use Rattle.acl_normal.proofs.Unique.Columns.{column_has}
-use Rattle.acl_normal.proofs.Reduction.LaterBits.{kind_in, kind_first}
-use Rattle.acl_normal.proofs.Unique.ListColumns.{column-append}
-use Rattle.acl_normal.proofs.Unique.Names.{overlaps_itself}
-use Rattle.acl_normal.proofs.Unique.SameOrder.{once_has}
-use Rattle.acl_normal.proofs.Unique.Unique.{no_inherit_only}
-use Rattle.acl_normal.proofs.Inheritance.Writing.{split_at}
-use Rattle.acl_normal.proofs.Merging.Rows.{row_below}
+use Rattle.acl_normal.proofs.unique.Columns.{column_has}
+use Rattle.acl_normal.proofs.reduce.LaterBits.{kind_in, kind_first}
+use Rattle.acl_normal.proofs.unique.ListColumns.{column-append}
+use Rattle.acl_normal.proofs.unique.Names.{overlaps_itself}
+use Rattle.acl_normal.proofs.unique.SameOrder.{once_has}
+use Rattle.acl_normal.proofs.unique.Unique.{no_inherit_only}
+use Rattle.acl_normal.proofs.five_forms.Writing.{split_at}
+use Rattle.acl_normal.proofs.rows.Rows.{row_below}
 
 -- an ACE without the bit has no row
 pub no_row : (b : ℕ) (xs : List Ace) (a : Ace) (rows : List Row) → has_bit a.mask b ≡ false → AddsRow b xs a rows rows

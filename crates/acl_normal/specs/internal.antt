@@ -42,6 +42,10 @@ pub mod Needed
 pub mod SetSearch
 -- where two lists first speak of each principal, and what they say there
 pub mod FirstPlaces
+-- two lists that are compared, and what is asked of them
+pub mod TwoLists
+-- what the fields of what is compared are to the two lists
+pub mod Compared
 -- tables that tell at once whether a row inverts another
 pub mod PlaceTables
 -- the principals that lists mention, by row and by number

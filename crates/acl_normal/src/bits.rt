@@ -1,36 +1,60 @@
-//! Rights of a number that stands for a set of rights.
-ghost use Rattle.std.specs.Prelude.{◌≡◌, ◌^◌, ◌≤◌, bit_or, IfNone, IfSome};
-ghost use Rattle.acl_eval.specs.Scan.{without};
+//! Rights of masks, and of ACEs.
+ghost use Rattle.std.specs.Prelude.{◌≡◌, ◌&&◌, ℕ, ◌^◌, ◌≤◌, bit_or, IfNone, IfSome, true};
+ghost use Rattle.acl_perm.specs.Bits.{all_rights, has_bit};
+ghost use Rattle.acl_perm.specs.Principal.{everyone};
+ghost use Rattle.acl_nfs4.specs.Ace.{ace};
+ghost use Rattle.acl_nfs4.specs.Who.{principal_of};
+ghost use Rattle.acl_normal.specs.Keys.{principal_eq};
+ghost use Rattle.acl_normal.specs.Normal.{counts};
 ghost use Rattle.acl_normal.specs.internal.NextRight.{IsNextRight, LacksFrom};
 
-use acl_perm::Right;
+use acl_nfs4::AceRef;
+use acl_perm::{Mask, Right};
+
+/// The rights with which the ACE takes part.
+pub(crate) fn active(item: AceRef<'_>) -> Mask
+    ensures { (b : ℕ) → has_bit result.bits b ≡ counts b (ace item.entry) }
+{
+    if item.takes_part() {
+        item.mask
+    } else {
+        Mask::NONE
+    }
+}
+
+/// The rights of a mask, where its ACE names everyone.
+pub(crate) fn of_everyone(item: AceRef<'_>, mask: Mask) -> Mask
+    ensures { (b : ℕ) → has_bit result.bits b
+        ≡ (has_bit mask.bits b && principal_eq (principal_of (ace item.entry)) everyone) }
+{
+    if item.principal().is_everyone() {
+        mask
+    } else {
+        Mask::NONE
+    }
+}
 
 /// The first right of the mask at or above a bit.
-pub(crate) fn next_right(mask: u32, from: usize) -> Option<Right>
+pub(crate) fn next_right(mask: Mask, from: usize) -> Option<Right>
     requires { from ≤ 21 }
-    ensures some { IfSome result (λ right. IsNextRight mask from right.bit) }
-    ensures none { IfNone result (LacksFrom mask from 21) }
+    ensures some { IfSome result (λ right. IsNextRight mask.bits from right.bit) }
+    ensures none { IfNone result (LacksFrom mask.bits from 21) }
 {
-    Right::new(from + (mask >> from).trailing_zeros() as usize)
+    Right::new(from + (mask.bits >> from).trailing_zeros() as usize)
 }
 
-/// The mask of one right.
-pub(crate) fn alone(right: Right) -> u32
-    ensures { result ≡ 2 ^ right.bit }
+/// The mask of one right. Of a bit that is in no mask it is empty.
+pub(crate) fn alone(right: Right) -> Mask
+    ensures { has_bit all_rights right.bit ≡ true → result.bits ≡ 2 ^ right.bit }
 {
-    1 << right.bit
+    Mask {
+        bits: Mask::ALL.bits & (1 << right.bit),
+    }
 }
 
-/// The mask with the right.
-pub(crate) fn with(mask: u32, right: Right) -> u32
-    ensures { result ≡ bit_or mask (2 ^ right.bit) }
+/// The number of a set of bits with one more.
+pub(crate) fn with(bits: u32, right: Right) -> u32
+    ensures { result ≡ bit_or bits (2 ^ right.bit) }
 {
-    mask | (1 << right.bit)
-}
-
-/// The bits of the first mask that the second lacks.
-pub(crate) fn without(mask: u32, bits: u32) -> u32
-    ensures { result ≡ without mask bits }
-{
-    mask ^ (mask & bits)
+    bits | (1 << right.bit)
 }

@@ -2,21 +2,21 @@
 ghost use Rattle.std.specs.Prelude.{◌≡◌, ◌↔◌, IsNone, IsOk, IfOk, IfSome};
 ghost use Rattle.acl_perm.specs.Bits.{all_rights};
 ghost use Rattle.acl_eval.specs.Grant.{SameGrants};
-ghost use Rattle.acl_normal.specs.Difference.{situation_of};
+ghost use Rattle.acl_normal.specs.Difference.{IsComparison, situation_of};
 ghost use Rattle.acl_normal.specs.SmallSets.{IsFirstDifference, TellsApart};
 
+pub(crate) mod compared;
 pub(crate) mod evaluation;
 mod inversions;
 pub(crate) mod mentioned;
-pub(crate) mod outcome;
-mod rows;
+mod outcome;
 mod search;
 mod situation;
 pub(crate) mod small_set;
+mod standing;
 
+use crate::comparison::compared::Compared;
 use crate::comparison::mentioned::mentioned;
-use crate::comparison::outcome::answer;
-use crate::comparison::search::find_set;
 use crate::reduce::collected::collect;
 use acl_nfs4::Acl;
 use acl_perm::Mask;
@@ -60,9 +60,21 @@ pub fn compare(alloc: Global, first: &Acl, second: &Acl) -> Result<Option<Differ
     if *first == *second {
         return Ok(None);
     }
+    first_difference(alloc, first, second)
+}
+
+// The first difference of two lists. They are borrowed for one time, since they are held as one.
+fn first_difference<'a>(
+    alloc: Global,
+    first: &'a Acl,
+    second: &'a Acl,
+) -> Result<Option<Difference>, AllocError>
+    ensures { IfOk result (IsComparison first.now second.now) }
+{
     let list = collect(alloc, first)?;
     let other = collect(alloc, second)?;
-    let (whole, whoms) = mentioned(alloc, &list, &other)?;
-    let found = find_set(alloc, &list, &other, &whole, &whoms)?;
-    answer(alloc, &list, &other, &whole, found)
+    let mentions = mentioned(alloc, &list, &other)?;
+    let compared = Compared::of(&list, &other, &mentions);
+    let found = compared.first_set(alloc)?;
+    compared.difference(alloc, found)
 }

@@ -131,7 +131,7 @@ fn put_list<K: Sink>(sink: &mut K, done: u64, list: &Acl) -> Result<u64, WriteFa
 /// The five normal forms of a list, by this library's table of inheritance. Two lists have the same five exactly if
 /// they grant the same now, and their children do for ever. It takes time that is nearly linear in the bytes of the
 /// list.
-#[tactic(auto, using(crate::proofs::Inheritance::Paths::further))]
+#[tactic(auto, using(crate::proofs::five_forms::Paths::further))]
 pub fn normalize_inherit(alloc: Global, list: &Acl) -> Result<FiveForms, AllocError>
     ensures object { IfOk result (λ forms. IsNormalFormOf (at list.now here) forms.object) }
     ensures file { IfOk result (λ forms. IsNormalFormOf (at list.now (below 0 File)) forms.file) }

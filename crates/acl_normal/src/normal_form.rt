@@ -129,16 +129,12 @@ pub(crate) fn ace_of<'a>(item: Emitted<'a>) -> AceRef<'a>
     }
 }
 
-const IDENTIFIER_GROUP: u8 = 0x40;
-
 /// The flags that say whom an ACE names, and no others.
 pub(crate) fn flags_of(p: Principal<'_>) -> Flags
     ensures { result.bits ≡ flags_for (principal p.entry) }
 {
     match p {
-        Principal::GroupNamed(_) => Flags {
-            bits: IDENTIFIER_GROUP,
-        },
+        Principal::GroupNamed(_) => Flags::IDENTIFIER_GROUP,
         Principal::Owner | Principal::User(_) | Principal::Group | Principal::Everyone =>
             Flags::NONE,
     }

@@ -5,7 +5,7 @@ ghost use Rattle.acl_nfs4.specs.Spelling.{IsAccepted};
 ghost use Rattle.acl_normal.specs.internal.Reduced.{IsReducedOf};
 ghost use Rattle.acl_normal.specs.internal.Remaining.{IsNumbered};
 ghost use Rattle.acl_normal.specs.internal.Rows.{AreRowNumbers};
-ghost use Rattle.acl_normal.specs.internal.Shown.{aces_in, with_masks};
+ghost use Rattle.acl_normal.specs.internal.Shown.{aces_in, bits_in, with_masks};
 
 pub(crate) mod collected;
 mod first;
@@ -17,6 +17,7 @@ use crate::reduce::first::first_masks;
 use crate::reduce::needless::drop_needless;
 use crate::rows::numbers::{RowNumbers, row_numbers};
 use acl_nfs4::{AceRef, Acl};
+use acl_perm::Mask;
 use std::alloc::{AllocError, Global};
 
 // The masks that are left of a list's ACEs, by place: without the bits that play no part. `numbers` has the rows of
@@ -25,12 +26,12 @@ fn reduced_masks(
     alloc: Global,
     aces: &[AceRef<'_>],
     numbers: &RowNumbers,
-) -> Result<Vec<u32>, AllocError>
+) -> Result<Vec<Mask>, AllocError>
     requires accepted { IsAccepted full (aces_in aces.now) }
     requires rows { AreRowNumbers (aces_in aces.now) numbers.now.rows.items }
     ensures places { IfOk result (λ masks. vec_len masks ≡ length aces.now) }
     ensures reduced { IfOk result (λ masks. IsReducedOf (aces_in aces.now)
-        (with_masks aces.now masks.items)) }
+        (with_masks aces.now (bits_in masks.items))) }
 {
     let mut masks = first_masks(alloc, aces, &numbers.rows)?;
     drop_needless(aces, &mut masks);
@@ -41,7 +42,7 @@ fn reduced_masks(
 #[derive(Drop)]
 pub(crate) struct Reduced<'a> {
     pub(crate) aces: Vec<AceRef<'a>>,
-    pub(crate) masks: Vec<u32>,
+    pub(crate) masks: Vec<Mask>,
     pub(crate) numbers: RowNumbers,
 }
 
@@ -49,10 +50,10 @@ pub(crate) struct Reduced<'a> {
 pub(crate) fn reduced_list<'a>(alloc: Global, list: &'a Acl) -> Result<Reduced<'a>, AllocError>
     ensures few { IfOk result (λ r. vec_len r.aces < 2 ^ 32) }
     ensures places { IfOk result (λ r. vec_len r.masks ≡ vec_len r.aces) }
-    ensures rows { IfOk result (λ r. IsNumbered (with_masks r.aces.items r.masks.items)
+    ensures rows { IfOk result (λ r. IsNumbered (with_masks r.aces.items (bits_in r.masks.items))
         r.numbers.rows.items r.numbers.order.items) }
     ensures left { IfOk result (λ r.
-        IsReducedOf list.now (with_masks r.aces.items r.masks.items)) }
+        IsReducedOf list.now (with_masks r.aces.items (bits_in r.masks.items))) }
 {
     let aces = collect(alloc, list)?;
     let numbers = row_numbers(alloc, &aces)?;

@@ -1,5 +1,5 @@
 -- Names behind references.
-use Rattle.std.proofs.Common.{◌≡◌, ◌<◌, true, false, cond, List, length, Option, Some, None, map, refl, sym, ◌∙◌}
+use Rattle.std.proofs.Common.{◌≡◌, ◌<◌, true, false, cond, List, length, Option, Some, None, refl, sym, ◌∙◌}
 use Rattle.std.specs.Prelude.{◌&&◌, ◌↔◌, All, IfSome, IsSome, option_map}
 use Rattle.std.specs.Borrow.{Bor}
 use Rattle.std.proofs.lemmas.Bool.{ltb-true, lt-ltb}
@@ -9,6 +9,7 @@ use Rattle.clap.specs.Words.{Text}
 use Rattle.acl_perm.proofs.Bools.{and_true}
 use Rattle.acl_eval.specs.Situation.{groups_of, user_of}
 use Rattle.acl_eval.specs.declared.situation.Requester.{Requester}
+use Rattle.aclck.specs.Line.{texts}
 use Rattle.aclck.specs.Values.{are_names, is_name}
 use Rattle.aclck.specs.CheckNfs.{RequesterNames, requester_named, requester_names}
 
@@ -16,14 +17,12 @@ use Rattle.aclck.specs.CheckNfs.{RequesterNames, requester_named, requester_name
 abbrev HasNames : List (Bor Text) → Type 0
 HasNames names = All (λ g. 0 < length g.now) names
 
--- the texts behind the references
-abbrev texts : List (Bor Text) → List Text
-texts names = map (λ g. g.now) names
-
+-- texts that have a byte each are names
 are_names_from : (names : List (Bor Text)) → HasNames names → are_names (texts names) ≡ true
 are_names_from names h = list_all-map is_name (λ g. g.now) names
     ∙ list_all-from_AllPass (λ g. is_name g.now) names (λ k d lt. lt-ltb _ _ (h k d lt))
 
+-- names have a byte each
 names_from : (names : List (Bor Text)) → are_names (texts names) ≡ true → HasNames names
 names_from names h = λ k d lt. ltb-true _ _ (AllPass-from_list_all (λ g. is_name g.now) names
     (sym (list_all-map is_name (λ g. g.now) names) ∙ h) k d lt)
@@ -32,10 +31,12 @@ names_from names h = λ k d lt. ltb-true _ _ (AllPass-from_list_all (λ g. is_na
 abbrev both_of : Text → List Text → RequesterNames
 both_of u groups = record { user = u; groups = groups }
 
+-- a user and groups that have a byte each name a requester
 is_named : (u : Text) (names : List (Bor Text)) → (0 < length u) × HasNames names
     → requester_named (Some u) (texts names) ≡ Some (both_of u (texts names))
 is_named u names h = rw (lt-ltb 0 (length u) h.0, are_names_from names h.1) refl
 
+-- a user and groups of which one has no byte name no requester
 not_named : (u : Text) (names : List (Bor Text)) → ((0 < length u) × HasNames names → ⊥)
     → requester_named (Some u) (texts names) ≡ None
 not_named u names none =

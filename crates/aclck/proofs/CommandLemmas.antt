@@ -4,7 +4,8 @@ use Rattle.std.proofs.lemmas.Bool.{true≢false}
 use Rattle.std.specs.Prelude.{◌⊎◌, ◌<◌, IsSome}
 use Rattle.acl_perm.specs.Devices.{failures_after, one_more}
 use Rattle.aclck.specs.Answer.{Answer, Begins, FailsBy, Refuses, cause_of, is_input, is_refusal, is_sink, is_write}
-use Rattle.aclck.specs.Command.{IsBegun, IsRefused, Performs, is_write_fault, status_of}
+use Rattle.aclck.specs.Command.{IsBegun, IsRefused}
+use Rattle.aclck.specs.internal.Performing.{Performs, is_write_fault, status_of}
 use Rattle.aclck.specs.Task.{Answers, Task}
 use Rattle.aclck.specs.declared.answer.Cause.{Cause}
 use Rattle.aclck.specs.declared.answer.Cause.TheVariants as cause
@@ -21,7 +22,7 @@ refuses_by Means known held holds f cause.Source is h = absurd cc
 refuses_by Means known held holds f (cause.Sink w) is h = absurd cc
 refuses_by Means known held holds f cause.Memory is h = absurd cc
 
--- and one of the sink leaves a beginning of a text
+-- a fault of the sink leaves a beginning of a text
 begins_by : (Means : List ℕ → Answer → Type 0) (known held holds : Option (List ℕ)) (f : RunFault) (c : Cause)
     → is_sink c ≡ true → FailsBy Means known held holds f c → (n : ℕ) × Begins Means known held holds n
 begins_by Means known held holds f cause.Input is h = absurd cc
@@ -29,6 +30,7 @@ begins_by Means known held holds f cause.Source is h = absurd cc
 begins_by Means known held holds f (cause.Sink w) is h = (w.written, h)
 begins_by Means known held holds f cause.Memory is h = absurd cc
 
+-- a run that ends with a fault of the input has a task that refuses some input
 refused_run : (task : Option Task) (known held holds : Option (List ℕ)) (f : RunFault) → is_refusal f ≡ true
     → Performs task known held holds (Err (command.Run f)) → IsRefused task known
 refused_run task known held holds f is (inl memory) = absurd (true≢false (sym is ∙ ap is_refusal memory))
@@ -53,7 +55,7 @@ pub done_named : (task : Option Task) (known held holds : Option (List ℕ)) (o 
 done_named None known held holds o performs = absurd performs
 done_named (Some t) known held holds o performs = refl
 
--- and so has one that ends below 3
+-- a command that ends below 3 has a task
 pub below_named : (task : Option Task) (known held holds : Option (List ℕ)) (f : CommandFault) (status : ℕ)
     → Performs task known held holds (Err f) → status ≡ status_of f → status < 3 → IsSome task
 below_named task known held holds command.Usage status performs is below = absurd (omega (arith, is, below))

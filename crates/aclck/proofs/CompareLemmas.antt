@@ -2,6 +2,7 @@
 use Rattle.std.proofs.Common.{◌≡◌, ℕ, List, ◌++◌, Option, None, Some, refl, ap, ◌∙◌, append_assoc}
 use Rattle.std.specs.Prelude.{◌↔◌, IfSome, IsNone, [], ◌∷◌, Bool, codes, not, unwrap_or}
 use Rattle.std.specs.List.{flat_map}
+use Rattle.acl_perm.specs.Lines.{line_feed}
 use Rattle.acl_perm.specs.Bits.{all_rights}
 use Rattle.acl_perm.specs.Situation.{Situation}
 use Rattle.acl_nfs4.specs.Ace.{Ace}
@@ -16,7 +17,7 @@ use Rattle.aclck.specs.internal.Compared.{compared_outcome, compared_text}
 use Rattle.aclck.specs.declared.answer.Outcome.{Outcome}
 
 -- seven parts behind a first one
-pub parts_joined : (t0 t1 t2 t3 t4 t5 t6 t7 a b c d e f g : List ℕ) → t1 ≡ t0 ++ a → t2 ≡ t1 ++ b → t3 ≡ t2 ++ c
+parts_joined : (t0 t1 t2 t3 t4 t5 t6 t7 a b c d e f g : List ℕ) → t1 ≡ t0 ++ a → t2 ≡ t1 ++ b → t3 ≡ t2 ++ c
     → t4 ≡ t3 ++ d → t5 ≡ t4 ++ e → t6 ≡ t5 ++ f → t7 ≡ t6 ++ g
     → t7 ≡ t0 ++ (a ++ (b ++ (c ++ (d ++ (e ++ (f ++ g))))))
 parts_joined t0 t1 t2 t3 t4 t5 t6 t7 a b c d e f g h1 h2 h3 h4 h5 h6 h7 =
@@ -25,7 +26,7 @@ parts_joined t0 t1 t2 t3 t4 t5 t6 t7 a b c d e f g h1 h2 h3 h4 h5 h6 h7 =
 
 -- the text of a difference, line by line
 pub text_is : (s : Situation) (mask : ℕ) (first : Bool) (t0 t1 t2 t3 t4 t5 t6 t7 : List ℕ)
-    → t0 ≡ codes "differ" ++ 10 ∷ [] → t1 ≡ t0 ++ line (codes "owner") s.owner_name
+    → t0 ≡ codes "differ" ++ line_feed ∷ [] → t1 ≡ t0 ++ line (codes "owner") s.owner_name
     → t2 ≡ t1 ++ line (codes "group") s.owning_group → t3 ≡ t2 ++ line (codes "user") s.user_name
     → t4 ≡ t3 ++ flat_map (line (codes "member")) s.groups
     → t5 ≡ t4 ++ line (codes "mask") (unwrap_or (first_name rights mask) [])

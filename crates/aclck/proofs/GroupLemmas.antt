@@ -26,7 +26,7 @@ same_match object one other users groups (group_named name) =
     list_any-IsPermutation (bytes_eq name) (groups_of one) (groups_of other) groups
 same_match object one other users groups everyone = refl
 
--- and so does what a list grants
+-- what a list grants goes by which groups there are, and not by their order
 pub same_grant : (list : List Ace) (object : Object) (one other : Requester) (mask : ℕ) → user_of other ≡ user_of one
     → IsPermutation (groups_of one) (groups_of other)
     → Grant list (situation object one) mask ↔ Grant list (situation object other) mask

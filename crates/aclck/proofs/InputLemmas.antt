@@ -39,7 +39,7 @@ pub record HasRead (text left : List ℕ) (known now_known : Option (List ℕ)) 
   pub parts : given ≡ text ++ left
   pub none_failed : now_failed ≡ failed
 
--- at first there are none, and nothing is left of a pull
+-- before the first pull no bytes were read, and nothing is left of a pull
 pub nothing : (left : List ℕ) (known : Option (List ℕ)) (failed : ℕ) → left ≡ []
     → HasRead [] left known known failed failed
 nothing left known failed none =
@@ -49,7 +49,7 @@ nothing left known failed none =
 regroup : (given text after others : List ℕ) → given ≡ text ++ after → given ++ others ≡ text ++ (after ++ others)
 regroup given text after others e = ap (λ v. v ++ others) e ∙ append_assoc text after others
 
--- and a value adds its own
+-- a value that is read adds its own bytes to those that were read
 pub one_more : (p : Profile) (text mid_left left : List ℕ) (old mid new : Option (List ℕ)) (failed mid_failed
     new_failed : ℕ) (list : List Ace) (len : ℕ) → HasRead text mid_left old mid failed mid_failed
     → (v : ReadsValue p mid_left left mid new list len) → new_failed ≡ mid_failed
@@ -78,7 +78,7 @@ pub record Continues (k : Kind) (p : Profile) (before : List ℕ) : Type 0 where
       → length rest ≤ end + piece_len → EndsNear k (before ++ rest)
   pub goes_on : (rest : List ℕ) → IsCut p rest → k.MayGoOn (before ++ rest)
 
--- these bytes are all that the input is to be
+-- some bytes are all that the input is to be
 pub record Completes (k : Kind) (text : List ℕ) : Type 0 where
   pub refused : (rest : List ℕ) → 0 < length rest
       → k.HasFault (text ++ rest) (fault.Nfs (record { offset = length text; reason = TrailingBytes }))
@@ -113,13 +113,13 @@ second_ends p list text first rest end far parts x is_end is =
     let ends : EndsBehind p end first rest = record { behind = far; is_end = is_end; is = is } in
     inl (record { list = list; first = first; rest = rest; parts = parts; spelled = x; holds = ends })
 
--- or may go on there
+-- a second value may go on behind a first one
 second_open : (p : Profile) (list : List Ace) (first rest : List ℕ) → Xdr p list first → IsOpen p rest
     → AreOpen p (first ++ rest)
 second_open p list first rest x is_open =
     inr (record { list = list; first = first; rest = rest; parts = refl; spelled = x; holds = is_open })
 
--- and so does the first of two: where it ends, the input goes on to an end behind it
+-- the first of two values ends near what was read: where it ends, the input goes on to an end behind it
 first_ends : (p : Profile) (rest : List ℕ) (end : ℕ) → BytesEnd p rest end ⊎ RefusalEnds p rest end
     → length rest ≤ end + piece_len → EndsNear (two_lists p) rest
 first_ends p rest end (inr r) near = record { end = end; is_end = inr r; near = near }
@@ -169,7 +169,7 @@ one_whole p list text x = record {
   goes_on = inr (list, x);
 }
 
--- and two lists are all that two are to be
+-- two lists are all that an input of two is to be
 pub two_whole : (p : Profile) (list other : List Ace) (first second : List ℕ) → Xdr p list first → Xdr p other second
     → Completes (two_lists p) (first ++ second)
 two_whole p list other first second x y = record {
@@ -196,7 +196,7 @@ fault_below p left old mid unread.Read h = tt
 fault_below p left old mid unread.Memory h = tt
 
 -- what holds of the bytes that were taken, with those that are left, holds of an input
-pub input_found : (Holds : List ℕ → Type 0) (given : List ℕ) (old new : Option (List ℕ)) → Consumes old new given
+input_found : (Holds : List ℕ → Type 0) (given : List ℕ) (old new : Option (List ℕ)) → Consumes old new given
     → ((left : List ℕ) → (IsAtEnd new → left ≡ []) → Holds (given ++ left)) → HasInput Holds old
 input_found Holds given None new c h = record { input = given ++ []; is_input = tt; holds = h [] (λ _. refl) }
 input_found Holds given (Some known) None c h = absurd c
@@ -204,7 +204,7 @@ input_found Holds given (Some known) (Some left) c h =
     record { input = known; is_input = refl; holds = subst Holds (sym c) (h left (λ e. e)) }
 
 -- a beginning that is refused, or all of an input that is cut short
-pub still_has : (p : Profile) (given left : List ℕ) (f : Fault) (end : ℕ)
+still_has : (p : Profile) (given left : List ℕ) (f : Fault) (end : ℕ)
     (h : IsFirstFault p given f.offset end f.reason) → Breaks p h.stage h.rest h.more f.reason
     → (f.reason ≡ Truncated → left ≡ [])
     → IsFault p (given ++ left) f.offset f.reason
@@ -221,13 +221,13 @@ later_read (unread.Refused f) len = refl
 later_read unread.Read len = refl
 later_read unread.Memory len = refl
 
--- and so is one that is told as it is
+-- a fault that is told is the source's exactly if a pull failed
 told_read : (e : ListFault) → is_read (told e) ≡ is_failed_pull e
 told_read (unread.Refused f) = refl
 told_read unread.Read = refl
 told_read unread.Memory = refl
 
--- one that counts from the first byte is the same
+-- a fault that counts from the first byte stays as it is
 later_none : (e : ListFault) → later e 0 ≡ e
 later_none (unread.Refused f) =
     let same : f.offset + 0 ≡ f.offset = omega arith in
@@ -266,7 +266,7 @@ value_near k p before after given old mid new e next parts c h =
       near = omega (arith, near.near, ap length all);
     }
 
--- and where a read failed, the input may go on
+-- where a read failed in a value, the input may go on
 value_open : (k : Kind) (p : Profile) (before after given : List ℕ) (old mid new : Option (List ℕ)) (e : ListFault)
     → Continues k p before → given ≡ before ++ after → Consumes old mid given → ReadsNone p after mid new e
     → is_failed_pull e ≡ true → TakesPart k.MayGoOn old new
@@ -296,7 +296,7 @@ value_unread k p Is before after old mid new failed mid_failed new_failed e next
       ∙ ap (failures_after failed) (sym (later_read e (length before)));
 }
 
--- and so it is of the first, as a fault that goes up tells it
+-- why the first value was not read is why the input was not, as a fault that goes up tells it
 pub first_unread : {X : Type 0} (k : Kind) (p : Profile) (Is : X → List ℕ → Type 0) (left : List ℕ)
     (old new : Option (List ℕ)) (failed new_failed : ℕ) (e : ListFault) (r : Result X RunFault) → left ≡ []
     → IsErrAnd r (λ run. run ≡ told e) → Continues k p [] → ReadsNone p left old new e
@@ -327,7 +327,7 @@ all_read : (text after given : List ℕ) → given ≡ text ++ after → after �
 all_read text after given parts none =
     sym (append-nil given ∙ parts ∙ ap (λ (y : List ℕ). text ++ y) none ∙ append-nil text)
 
--- where a byte stands behind them, it is the input's fault
+-- a byte behind all values is a fault of the input
 end_refused : (k : Kind) (text after given : List ℕ) (old mid new : Option (List ℕ)) (len : ℕ) (e : ListFault)
     → Completes k text → given ≡ text ++ after → Consumes old mid given → len ≡ length text
     → EndsNot len after mid new e
@@ -342,7 +342,7 @@ end_refused k text after given old mid new len (unread.Refused f) all parts c is
 end_refused k text after given old mid new len unread.Read all parts c is h = tt
 end_refused k text after given old mid new len unread.Memory all parts c is h = tt
 
--- and where a read failed, the input may go on
+-- where a read failed behind all values, the input may go on
 end_open : (k : Kind) (text after given : List ℕ) (old mid new : Option (List ℕ)) (len : ℕ) (e : ListFault)
     → Completes k text → given ≡ text ++ after → Consumes old mid given → EndsNot len after mid new e
     → is_failed_pull e ≡ true → TakesPart k.MayGoOn old new

@@ -8,7 +8,8 @@ use Rattle.clap.specs.declared.error.Error.{Error}
 use Rattle.clap.specs.declared.error.kind.ErrorKind.TheVariants.{OutOfMemory}
 use Rattle.clap.specs.declared.parser.matches.ArgMatches.{ArgMatches}
 use Rattle.acl_perm.proofs.Bools.{and_true}
-use Rattle.aclck.specs.Line.{Term, app_from, is_none_of, is_taken, plain_app, rows_at, rule_from, term}
+use Rattle.aclck.specs.Line.{Term, app_from, is_none_of, is_taken, plain_app, rows_at, rule_from}
+use Rattle.aclck.specs.internal.Held.{term}
 use Rattle.aclck.specs.declared.line.Argument.{Argument}
 
 -- the rows of a parse are those of the definition
@@ -23,6 +24,7 @@ pub taken_from : (app : App) (words : List Text) → is_simple_and_free app ≡ 
 unfolding is_taken
 taken_from app words free kinds = ap is_none_of (kinds free)
 
+-- an error of another kind than want of memory has a kind among those that the words give
 some_kind : (kinds : Kinds) (e : Error) → HasKind kinds e → (kind_of e ≡ OutOfMemory → ⊥) → is_none_of kinds ≡ false
 some_kind [] e (inl memory) other = absurd (other memory)
 some_kind [] e (inr among) other = absurd among
@@ -40,6 +42,7 @@ pub no_terms : (name : Text) → plain_app name ≡ app_from name []
 unfolding app_from
 no_terms name = refl
 
+-- the command of a table with one more rule is that of the table with one more argument
 one_more_term : (name : Text) (terms : List Term) (t : Term)
     → with_rule (app_from name terms) (rule_from t) ≡ app_from name (terms ++ t ∷ [])
 unfolding app_from

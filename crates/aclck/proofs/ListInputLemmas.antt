@@ -18,7 +18,7 @@ use Rattle.acl_nfs4.specs.Stream.{Finishes, IsCut, Refuses, Standing}
 use Rattle.acl_nfs4.specs.Stream.Standing.{done, more}
 use Rattle.acl_nfs4.specs.declared.xdr.fault.Fault.{Fault}
 use Rattle.acl_nfs4.specs.declared.xdr.fault.Reason.{Reason}
-use Rattle.acl_nfs4.specs.declared.xdr.fault.Reason.TheVariants.{Memory, Truncated}
+use Rattle.acl_nfs4.specs.declared.xdr.fault.Reason.TheVariants.{Truncated}
 use Rattle.acl_nfs4.proofs.Completion.{begins, who_bounds as stage_bounds}
 use Rattle.acl_nfs4.proofs.Body.{is_found}
 use Rattle.acl_nfs4.proofs.Exactly.{one_reason}
@@ -28,7 +28,7 @@ use Rattle.acl_nfs4.proofs.Lengths.{spelling_short}
 use Rattle.acl_nfs4.proofs.OneFault.{never_truncated, value_or_fault}
 use Rattle.acl_nfs4.proofs.Pieces.{breaks_whole}
 use Rattle.aclck.specs.ListInput.{ListEnds, RefusalEnds, ValueEnds, piece_len}
-use Rattle.aclck.specs.internal.Reading.{EndsNot, ReadsLittle, ReadsNone, ReadsPart, ReadsValue, is_failed_pull}
+use Rattle.aclck.specs.internal.Reading.{EndsNot, IsTold, ReadsLittle, ReadsNone, ReadsPart, ReadsValue, is_failed_pull}
 use Rattle.aclck.specs.declared.input.xdr.ListFault.{ListFault}
 use Rattle.aclck.specs.declared.input.xdr.ListFault.TheVariants as unread
 use Rattle.aclck.specs.declared.input.xdr.Value.{Value}
@@ -49,7 +49,7 @@ size_small p (at_len n list k f m) t b = omega arith
 size_small p (at_who n list k f m l) t b = (stage_bounds p (at_who n list k f m l) t b).1
 size_small p (at_padding n list k f m w) t b = omega arith
 
--- and a text that is cut short less than 2 ^ 32
+-- a text that is cut short has less than 2 ^ 32 bytes
 pub cut_short : (p : Profile) (text : List ℕ) → IsCut p text → length text < 2 ^ 32
 cut_short p text c =
     let f = c.1.1 in
@@ -66,6 +66,7 @@ cut_short p text c =
 
 -- ---- where a text ends
 
+-- what was found is given with its parts as they are
 gives_itself : (r : Result (List Ace × ℕ) Fault) → Gives (λ x. (x.0, x.1)) r r
 gives_itself (Ok x) = refl
 gives_itself (Err f) = refl
@@ -74,6 +75,7 @@ gives_itself (Err f) = refl
 abbrev pub Ends : Profile → List ℕ → Type 0
 Ends p text = (end : ℕ) × ListEnds p text end
 
+-- where what was found of a text is its value or its fault, it tells the end
 ends_as : (p : Profile) (text : List ℕ) (r : Result (List Ace × ℕ) Fault) → IsBytes text
     → Gives (λ x. (x.0, x.1)) r (value_at p text) → Ends p text
 ends_as p text (Ok x) b g = (x.1, inl (record { list = x.0; spelled = (is_found p text (Ok x) b g).1 }))
@@ -192,7 +194,7 @@ next_parts left given text pulled pull new_pulled parts same =
     ∙ ap (λ (x : List ℕ). x ++ new_pulled) (parts ∙ ap (λ (x : List ℕ). text ++ x) (sym same))
 
 -- all of a text that is cut short is taken
-pub cut_end : (p : Profile) (text : List ℕ) (o end : ℕ) (f : IsFirstFault p text o end Truncated)
+cut_end : (p : Profile) (text : List ℕ) (o end : ℕ) (f : IsFirstFault p text o end Truncated)
     → Breaks p f.stage f.rest f.more Truncated → end ≡ length text
 cut_end p text o end f (inl h) = omega (arith, f.ends, f.here, h.1, ap length f.parts, length-append f.front f.rest)
 cut_end p text o end f (inr h) = absurd (never_truncated p f.stage _ h.2)
@@ -240,10 +242,6 @@ end_reads p left given text pulled pull new_pulled old mid new feed (Err e) part
       near = omega (arith, cut_end p (text ++ pull) f.offset cut.1.0 all all.breaks, ap length whole);
       all = λ t. end;
     })
-
--- what is told of a fault
-abbrev pub IsTold : ListFault → Fault → Type 0
-IsTold e f = (e ≡ unread.Memory) ⊎ ((e ≡ unread.Refused f) × (f.reason ≢ Memory))
 
 -- a text goes on behind a beginning that is cut short, to the end of a value
 value_behind_cut : (p : Profile) (text pull : List ℕ) (list : List Ace) (end : ℕ) → IsProfile p → IsCut p text
@@ -357,7 +355,7 @@ past_end len left mid new unread.Read h = record {
 }
 past_end len left mid new unread.Memory h = absurd h
 
--- and where a read failed, nothing
+-- where a read failed behind a value, nothing was left of the last pull and nothing more came
 pub end_kept : (len : ℕ) (left : List ℕ) (mid new : Option (List ℕ)) (e : ListFault) → EndsNot len left mid new e
     → is_failed_pull e ≡ true → (left ≡ []) × Consumes mid new []
 end_kept len left mid new (unread.Refused f) h r = absurd cc

@@ -13,8 +13,8 @@ use Rattle.acl_eval.specs.Grant.{SameGrants}
 use Rattle.acl_eval.proofs.Same.{equivalence}
 use Rattle.acl_normal.specs.Normal.{IsNormal}
 use Rattle.acl_normal.specs.NormalForm.{IsNormalFormOf, Normalises}
-use Rattle.acl_normal.proofs.Unique.Spelled.{IsForm, form_of, forms_tell}
-use Rattle.acl_normal.proofs.Unique.Unique.{unique}
+use Rattle.acl_normal.proofs.unique.Spelled.{IsForm, form_of, forms_tell}
+use Rattle.acl_normal.proofs.unique.Unique.{unique}
 use Rattle.aclck.specs.Answer.{done}
 use Rattle.aclck.specs.Laws.{TellsListsApart}
 use Rattle.aclck.specs.Normalize.{NormalizeAnswer}
@@ -48,7 +48,7 @@ form_grants p list form x a is read written h = subst (SameGrants p.masks list)
     (one_of p h.form form a is h.spelled written) (IsForm.grants (form_is p list x a is read h))
 
 -- a normal list is its own normal form
-pub own_form : (list : List Ace) → IsNormal list → IsAccepted full list → IsNormalFormOf list list
+own_form : (list : List Ace) → IsNormal list → IsAccepted full list → IsNormalFormOf list list
 own_form list normal accepted = record {
   normal = normal;
   grants = (equivalence all_rights).reflexive list;
@@ -60,7 +60,7 @@ own_form list normal accepted = record {
 }
 
 -- the spelling of the normal form of a list that is read is written
-pub normalises : (p : Profile) (source form : List Ace) (x : List ℕ) → Xdr p source x → IsNormalFormOf source form
+normalises : (p : Profile) (source form : List Ace) (x : List ℕ) → Xdr p source x → IsNormalFormOf source form
     → IsAccepted p form → Normalises p x (spelling form)
 normalises p source form x read is_form accepted = record {
   source = source;
@@ -70,7 +70,7 @@ normalises p source form x read is_form accepted = record {
   spelled = record { accepted = accepted; spelled = refl };
 }
 
--- and of itself
+-- an accepted normal form is what is written of its own bytes
 pub own_bytes : (p : Profile) (form : List Ace) → IsNormal form → IsAccepted full form → IsAccepted p form
     → Normalises p (spelling form) (spelling form)
 own_bytes p form normal accepted taken =

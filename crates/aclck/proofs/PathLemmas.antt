@@ -13,11 +13,11 @@ use Rattle.acl_normal.specs.FiveForms.{AreFormsOf, five_spellings}
 use Rattle.acl_normal.specs.NormalForm.{IsNormalFormOf, Normalises}
 use Rattle.acl_normal.specs.Paths.{SameAtEveryPath}
 use Rattle.acl_normal.specs.declared.five_forms.FiveForms.{FiveForms}
-use Rattle.acl_normal.proofs.Inheritance.FiveFormLemmas.{all_accepted, joined_tell}
+use Rattle.acl_normal.proofs.five_forms.FiveFormLemmas.{all_accepted, joined_tell}
 use Rattle.aclck.specs.Answer.{done}
 use Rattle.aclck.specs.Headline.{GrantAtPaths}
-use Rattle.aclck.specs.Laws.{TellsListsApart}
-use Rattle.aclck.specs.Normalize.{IsFiveForms, NormalisesAtPaths, NormalizeInheritAnswer}
+use Rattle.aclck.specs.Laws.{IsFiveForms, TellsListsApart}
+use Rattle.aclck.specs.Normalize.{NormalisesAtPaths, NormalizeInheritAnswer}
 use Rattle.aclck.specs.declared.answer.Outcome.TheVariants as outcome
 use Rattle.aclck.proofs.NormalFormLemmas.{one_of, own_bytes, told_by}
 
@@ -52,12 +52,12 @@ grants_at_paths p list x a is read h =
       directory_in_directory = part_of_rights p _ _ is five.directory_in_directory.grants;
     }
 
--- an accepted normal form is its own
+-- an accepted normal form is its own normal form
 form_own : (p : Profile) (source form : List Ace) → IsNormalFormOf source form → IsAccepted p form
     → Normalises p (spelling form) (spelling form)
 form_own p source form h = own_bytes p form h.normal h.accepted
 
--- and so is each of the five
+-- each of the five forms is its own normal form
 pub forms_own : (p : Profile) (x a : List ℕ) → IsProfile p → NormalisesAtPaths p x a → IsFiveForms p a
 forms_own p x a is h =
     let five = h.are_forms in

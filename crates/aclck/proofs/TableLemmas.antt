@@ -7,7 +7,8 @@ use Rattle.clap.specs.Words.{Rule, Text, is_simple_and_free}
 use Rattle.clap.specs.Simple.{filled, filled_from, index_after, with_index}
 use Rattle.clap.specs.Walk.{is_early_multiple}
 use Rattle.acl_perm.proofs.Bools.{not_true}
-use Rattle.aclck.specs.Line.{Term, any_words, app_from, default, flag, is_rest, is_sound, optional, required, rule_from}
+use Rattle.aclck.specs.Line.{Term, any_words, app_from, default, flag, optional, required, rule_from}
+use Rattle.aclck.specs.internal.Held.{is_rest, is_sound}
 
 -- all rules are simple, as they are and where they stand, and there they are free
 abbrev ArePlain : List Rule → List Rule → Type 0
@@ -15,6 +16,7 @@ ArePlain rules standing = (list_all (λ a. a.is_simple) rules ≡ true)
     × (list_all (λ a. a.is_simple) standing ≡ true)
     × (list_all (λ a. a.is_free) standing ≡ true)
 
+-- the rules of every table are simple and free where they stand
 all_plain : (terms : List Term) (i : ℕ) → ArePlain (map rule_from terms) (filled_from i (map rule_from terms))
 all_plain [] i = (refl, refl, refl)
 all_plain (required name ∷ ts) i = all_plain ts _
@@ -23,6 +25,7 @@ all_plain (default name value ∷ ts) i = all_plain ts _
 all_plain (flag name ∷ ts) i = all_plain ts _
 all_plain (any_words ∷ ts) i = all_plain ts _
 
+-- where no argument takes words, no rule takes more than one of them before others
 none_early : (terms : List Term) (i n : ℕ) → list_any is_rest terms ≡ false
     → list_any (is_early_multiple n) (filled_from i (map rule_from terms)) ≡ false
 none_early [] i n none = refl
@@ -36,6 +39,7 @@ none_early (any_words ∷ ts) i n none = absurd cc
 abbrev placed : List Rule → ℕ
 placed rules = count_by (λ a. is_some a.index) rules
 
+-- where no argument takes words, no rule has a place among them
 none_placed : (terms : List Term) (i : ℕ) → list_any is_rest terms ≡ false
     → placed (filled_from i (map rule_from terms)) ≡ 0
 none_placed [] i none = refl
@@ -45,6 +49,7 @@ none_placed (default name value ∷ ts) i none = none_placed ts _ none
 none_placed (flag name ∷ ts) i none = none_placed ts _ none
 none_placed (any_words ∷ ts) i none = absurd cc
 
+-- where at most one argument takes words, its rule has no other behind it
 one_early : (terms : List Term) (n : ℕ) → is_sound terms ≡ true
     → n ≡ placed (filled_from 1 (map rule_from terms))
     → list_any (is_early_multiple n) (filled_from 1 (map rule_from terms)) ≡ false
@@ -62,6 +67,7 @@ one_early (any_words ∷ ts) n sound e =
     subst (λ (k : ℕ). list_any (is_early_multiple k) (filled_from 1 (map rule_from (any_words ∷ ts))) ≡ false)
     (sym one) (none_early ts (index_after 1 (filled (rule_from any_words))) 1 none)
 
+-- the facts on a table are what `clap` asks of a command, as it puts them together
 shape : (a b c d : Bool) → a ≡ true → b ≡ true → c ≡ false → d ≡ true
     → (((a && true) && ((b && not c) && true)) && (d && true)) ≡ true
 shape a b c d ea eb ec ed = rw (ea, eb, ec, ed) refl

@@ -82,7 +82,7 @@ told Means {Holds} {o} {text} {left} {reads_failed} {source} {source_after} {hol
       writes = tells.writes;
     }
 
--- the same of a text that is made of a file
+-- a text was told that is made of the file which the input spells
 pub wrote : {S K : Type 0} {names : Table} (made : PosixFile → List ℕ) (file : PosixFile) {text : List ℕ}
     {left : S → Option (List ℕ)} {reads_failed : S → ℕ} {source source_after : S} {holds : K → Option (List ℕ)}
     {writes_failed : K → ℕ} {sink sink_after : K} (r : Result Outcome RunFault)

@@ -5,6 +5,7 @@ use Rattle.std.specs.List.{slice_split}
 use Rattle.clap.proofs.OnLiterals.{clap_on_literals}
 use Rattle.clap.specs.Words.{Row, Text, first_of}
 use Rattle.acl_perm.specs.Profile.{Profile, full, narrow}
+use Rattle.acl_nfs4.specs.AceText.{space}
 use Rattle.acl_nfs4.specs.BitNames.{set_named}
 use Rattle.acl_posix.specs.Names.{no_names}
 use Rattle.acl_eval.specs.declared.inherit.ChildKind.TheVariants as kind
@@ -18,17 +19,17 @@ use Rattle.aclck.specs.Create.{create_in}
 use Rattle.aclck.specs.NameWords.{named_id, names_value}
 use Rattle.aclck.specs.NameWords as words
 use Rattle.aclck.specs.Normalize.{normalize_in}
-use Rattle.aclck.specs.ProfileArgument.{profile_in}
+use Rattle.aclck.specs.ProfileArgument.{profile_in, profile_value}
 use Rattle.aclck.specs.ShowPosix.{form_value, show_posix_in}
 use Rattle.aclck.specs.Task.{definition_of, task_at, task_named, task_of}
-use Rattle.aclck.specs.Values.{id_value, ids_value, mask_value, mode_value, profile_value, want_value}
+use Rattle.aclck.specs.Values.{id_value, ids_value, mask_value, mode_value, want_value}
 use Rattle.acl_posix.specs.declared.form.Form.TheVariants as form
 use Rattle.aclck.specs.declared.task.Name.{Name}
 use Rattle.aclck.specs.declared.task.Name.TheVariants as name
 
 -- the words of a line, with one space between two
 abbrev words_on : Text → List Text
-words_on line = slice_split (λ b. b == 32) line
+words_on line = slice_split (λ b. b == space) line
 
 -- the line asks for the command at these values
 abbrev Asks : Text → (n : Name) → (definition_of n).Values → Type 0
@@ -90,7 +91,8 @@ check_nfs_lines :
     × AsksNothing (codes "check-nfs --owner=o --group=g --user=u --mask=none -h")
     -- an option that is given twice
     × AsksNothing (codes "check-nfs --owner=o --owner=o --group=g --user=u --mask=none")
-unfolding clap_on_literals is_taken rows_at app_from task_named check_nfs_in mask_value set_named profile_value
+unfolding clap_on_literals is_taken rows_at app_from task_named check_nfs_in mask_value set_named profile_in
+    profile_value
 check_nfs_lines = (refl, refl, refl, refl, refl, refl, refl, refl, refl, refl, refl, refl, refl, refl, refl, refl, refl)
 
 no_command :
@@ -112,7 +114,7 @@ child_lines :
     × AsksNothing (codes "child --profile full")
     -- a word that names no kind
     × AsksNothing (codes "child --kind directory")
-unfolding clap_on_literals is_taken rows_at app_from task_named child_in kind_value profile_value
+unfolding clap_on_literals is_taken rows_at app_from task_named child_in kind_value profile_in profile_value
 child_lines = (refl, refl, refl, refl)
 
 mode_lines :
@@ -286,7 +288,7 @@ normalize_lines :
     name.Normalize (record { inherit = true; profile = narrow })
     -- the flag takes no value
     × AsksNothing (codes "normalize --inherit=yes")
-unfolding clap_on_literals is_taken rows_at app_from task_named normalize_in profile_value
+unfolding clap_on_literals is_taken rows_at app_from task_named normalize_in profile_in profile_value
 normalize_lines = (refl, refl, refl, refl)
 
 -- ---- `table` and `compare`
@@ -303,7 +305,7 @@ table_lines :
     × AsksNothing (codes "table --bit=READ_DATA|EXECUTE")
     -- the right has to be there
     × AsksNothing (codes "table")
-unfolding clap_on_literals is_taken rows_at app_from task_named table_in right_named set_named profile_value
+unfolding clap_on_literals is_taken rows_at app_from task_named table_in right_named set_named profile_in profile_value
 table_lines = (refl, refl, refl, refl, refl)
 
 compare_lines :

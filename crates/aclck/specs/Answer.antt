@@ -1,6 +1,7 @@
 -- What a command makes of an input, and what a run of it answers (this library's own).
 use Rattle.std.specs.Prelude.{◌≡◌, ◌<◌, ◌∷◌, ◌++◌, [], List, ℕ, Bool, true, false, Option, codes, length, take, IfSome, Result, Ok, Err}
 use Rattle.std.specs.Io.KnownBytes.{Appends}
+use Rattle.acl_perm.specs.Lines.{line_feed}
 use Rattle.acl_perm.specs.Profile.{Profile}
 use Rattle.acl_perm.specs.declared.whole.ReadFault.{ReadFault}
 use Rattle.acl_perm.specs.declared.whole.ReadFault.TheVariants as read
@@ -23,8 +24,8 @@ pub data Answer : Type 0 where
 
 -- the line that tells a decision
 abbrev pub decision_line : Outcome → List ℕ
-decision_line outcome.Yes = codes "granted" ++ 10 ∷ []
-decision_line outcome.No = codes "denied" ++ 10 ∷ []
+decision_line outcome.Yes = codes "granted" ++ line_feed ∷ []
+decision_line outcome.No = codes "denied" ++ line_feed ∷ []
 
 -- the fault is one that a list or lists have, in this sense of having one
 pub record IsListFault (Has : ℕ → Reason → Type 0) (f : RunFault) : Type 0 where
@@ -55,15 +56,15 @@ by_cause input source sink memory cause.Source = source
 by_cause input source sink memory (cause.Sink w) = sink
 by_cause input source sink memory cause.Memory = memory
 
--- it is the input's
+-- the cause is the input
 abbrev pub is_input : Cause → Bool
 is_input = by_cause true false false false
 
--- it is the source's
+-- the cause is the source
 abbrev pub is_source : Cause → Bool
 is_source = by_cause false true false false
 
--- it is the sink's
+-- the cause is the sink
 abbrev pub is_sink : Cause → Bool
 is_sink = by_cause false false true false
 
@@ -120,7 +121,7 @@ pub record Refuses (Means : List ℕ → Answer → Type 0) (known : Option (Lis
   pub is_input : IfSome known (λ bytes. input ≡ bytes)
   pub means : Means input (refused f)
 
--- what a fault says of the input and of what was written, by whose it is
+-- what a fault of this cause says of the input and of what was written
 abbrev pub FailsBy : (List ℕ → Answer → Type 0) → Option (List ℕ) → Option (List ℕ) → Option (List ℕ)
     → RunFault → Cause → Type 0
 FailsBy Means known held holds e cause.Input = Refuses Means known e
@@ -128,7 +129,7 @@ FailsBy Means known held holds e cause.Source = Unit {0}
 FailsBy Means known held holds e (cause.Sink w) = Begins Means known held holds w.written
 FailsBy Means known held holds e cause.Memory = Unit {0}
 
--- the same of a fault as it is told
+-- what a fault says of the input and of what was written
 abbrev pub Fails :
     (List ℕ → Answer → Type 0) → Option (List ℕ) → Option (List ℕ) → Option (List ℕ) → RunFault → Type 0
 Fails Means known held holds e = FailsBy Means known held holds e (cause_of e)

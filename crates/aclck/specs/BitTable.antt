@@ -15,7 +15,7 @@ use Rattle.acl_normal.specs.Left.{IsLowest}
 use Rattle.acl_normal.specs.Tables.{IsTable}
 use Rattle.acl_normal.specs.declared.bit_table.Row.{Row}
 use Rattle.aclck.specs.Line.{Term, default, required}
-use Rattle.aclck.specs.Values.{profile_value}
+use Rattle.aclck.specs.ProfileArgument.{profile_in}
 use Rattle.aclck.specs.Answer.{Answer, IsXdrFault, done, refused}
 use Rattle.aclck.specs.declared.answer.Outcome.TheVariants as outcome
 use Rattle.aclck.specs.declared.task.table.BitTable.{BitTable}
@@ -37,7 +37,7 @@ unfoldable pub right_named : Text → Option ℕ
 right_named text =
     if bytes_eq text no_rights || list_any (λ b. b == bar) text then None else mask_named text
 
--- the same, where the set of rights has it
+-- the right that a field of one name stands for, where the set of rights has it
 abbrev pub bit_value : ℕ → Text → Option ℕ
 bit_value rights text =
     option_and_then (λ bit. if bit_and rights bit == bit then Some bit else None) (right_named text)
@@ -50,7 +50,7 @@ table_values bit profile = option_and_then (λ allowed. option_map (λ right. re
 -- the values that the rows of a parse spell
 unfoldable pub table_in : List Given → Option TableValues
 table_in rows = table_values (first_of (codes "bit") rows)
-    (option_and_then profile_value (first_of (codes "profile") rows))
+    (profile_in rows)
 
 -- the values that the program holds
 abbrev pub table_held : BitTable → TableValues
@@ -75,8 +75,8 @@ rows_text rows = flat_map row_line rows
 
 -- ---- the answer
 
--- these are the rows of the list at a right: one for each ACE of the list's normal form that has it, in order; there is
--- none for no right
+-- the rows of a list at a right: one for each ACE of the list's normal form that has it, in order; of no right there is
+-- none
 abbrev pub AreTableOf : ℕ → List Ace → List Row → Type 0
 AreTableOf right list rows = ((bit : ℕ) → IsLowest bit right → IsTable bit list rows) × (right ≡ 0 → rows ≡ [])
 
@@ -88,7 +88,7 @@ pub record Tabulates (v : TableValues) (input text : List ℕ) : Type 0 where
   pub are : AreTableOf v.bit list rows
   pub is : text ≡ rows_text rows
 
--- that text, which is never No, or a fault that the input has
+-- the text of the rows, which is never No, or a fault that the input has
 abbrev pub TableAnswer : TableValues → List ℕ → Answer → Type 0
 TableAnswer v input (done o text) = (o ≡ outcome.Yes) × Tabulates v input text
 TableAnswer v input (refused f) = IsXdrFault v.profile input f

@@ -12,7 +12,7 @@ use Rattle.aclck.specs.Definition.{Definition, of_names}
 abbrev pub masked_text : PosixFile → List ℕ
 masked_text file = canonical_text (with_mask file.access) file.default
 
--- that text, or a fault that the input has
+-- the text with the mask calculated, or a fault that the input has
 abbrev pub CalcMaskAnswer : Table → List ℕ → Answer → Type 0
 CalcMaskAnswer names = WritesAnswer names masked_text
 

@@ -13,7 +13,8 @@ use Rattle.acl_eval.specs.Situation.{groups_of, owner_of, owning_group_of, user_
 use Rattle.acl_eval.specs.declared.situation.Object.{Object}
 use Rattle.acl_eval.specs.declared.situation.Requester.{Requester}
 use Rattle.aclck.specs.Line.{Term, any_words, default, required}
-use Rattle.aclck.specs.Values.{are_names, is_name, mask_within, profile_value}
+use Rattle.aclck.specs.ProfileArgument.{profile_in}
+use Rattle.aclck.specs.Values.{are_names, is_name, mask_within}
 use Rattle.aclck.specs.Answer.{Answer, IsXdrFault, decision_line, done, refused}
 use Rattle.aclck.specs.declared.answer.Outcome.{Outcome}
 use Rattle.aclck.specs.declared.answer.Outcome.TheVariants as outcome
@@ -71,7 +72,7 @@ check_nfs_in rows groups = check_nfs_values
     (object_named (first_of (codes "owner") rows) (first_of (codes "group") rows))
     (requester_named (first_of (codes "user") rows) groups)
     (first_of (codes "mask") rows)
-    (option_and_then profile_value (first_of (codes "profile") rows))
+    (profile_in rows)
 
 -- the names that an object has
 abbrev pub object_names : Object → ObjectNames

@@ -10,7 +10,7 @@ use Rattle.acl_eval.specs.Inheritance.{children}
 use Rattle.acl_eval.specs.declared.inherit.ChildKind.{ChildKind}
 use Rattle.acl_eval.specs.declared.inherit.ChildKind.TheVariants as kind
 use Rattle.aclck.specs.Line.{Term, default, required}
-use Rattle.aclck.specs.Values.{profile_value}
+use Rattle.aclck.specs.ProfileArgument.{profile_in}
 use Rattle.aclck.specs.Answer.{Answer}
 use Rattle.aclck.specs.XdrAnswer.{MakesAnswer}
 use Rattle.aclck.specs.declared.task.child.Child.{Child}
@@ -40,7 +40,7 @@ child_values created profile =
 -- the values that the rows of a parse spell
 unfoldable pub child_in : List Row → Option ChildValues
 child_in rows = child_values (option_and_then kind_value (first_of (codes "kind") rows))
-    (option_and_then profile_value (first_of (codes "profile") rows))
+    (profile_in rows)
 
 -- the values that the program holds
 abbrev pub child_held : Child → ChildValues
@@ -52,7 +52,7 @@ child_held v = record { created = v.kind; profile = profile_of v.profile }
 abbrev pub child_text : ChildKind → List Ace → List ℕ
 child_text created list = spelling (children created list)
 
--- that text, or a fault that the input has
+-- the spelling of the new object's list, or a fault that the input has
 abbrev pub ChildAnswer : ChildValues → List ℕ → Answer → Type 0
 ChildAnswer v = MakesAnswer v.profile (child_text v.created)
 

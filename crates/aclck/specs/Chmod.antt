@@ -45,7 +45,7 @@ chmod_held v = record { mode = v.mode.bits; names = v.names }
 abbrev pub chmod_text : ℕ → PosixFile → List ℕ
 chmod_text mode file = canonical_text (chmoded file.access mode) file.default
 
--- that text, or a fault that the input has
+-- the text with the mode set, or a fault that the input has
 abbrev pub ChmodAnswer : ChmodValues → List ℕ → Answer → Type 0
 ChmodAnswer v = WritesAnswer v.names (chmod_text v.mode)
 

@@ -1,9 +1,11 @@
 -- `compare`: its words, and what it makes of an input (this library's own, over RFC 8881, section 6.2.1).
 use Rattle.std.specs.Prelude.{◌≡◌, ◌+◌, ◌∷◌, ◌++◌, [], List, ℕ, Bool, true, false, not, codes, length, unwrap_or}
 use Rattle.std.specs.List.{flat_map}
+use Rattle.acl_perm.specs.Lines.{line_feed}
 use Rattle.acl_perm.specs.Bits.{all_rights}
 use Rattle.acl_perm.specs.Profile.{Profile}
 use Rattle.acl_perm.specs.Situation.{Situation}
+use Rattle.acl_nfs4.specs.AceText.{space}
 use Rattle.acl_nfs4.specs.Ace.{Ace}
 use Rattle.acl_nfs4.specs.BitNames.{first_name}
 use Rattle.acl_nfs4.specs.Fault.{IsFault, IsWholeFault}
@@ -45,13 +47,13 @@ IsRefusedTwo p input = IsListFault (IsFaultOfTwo p input)
 
 -- a line of a word and what it is followed by
 abbrev pub line : List ℕ → List ℕ → List ℕ
-line word value = word ++ 32 ∷ (value ++ 10 ∷ [])
+line word value = word ++ space ∷ (value ++ line_feed ∷ [])
 
--- that lists grant the same
+-- the line that two lists grant the same
 abbrev pub same_text : List ℕ
-same_text = codes "same" ++ 10 ∷ []
+same_text = codes "same" ++ line_feed ∷ []
 
--- what a list answers
+-- the word for what a list answers
 abbrev pub decision : Bool → List ℕ
 decision true = codes "granted"
 decision false = codes "denied"
@@ -59,7 +61,7 @@ decision false = codes "denied"
 -- who requests of whose object, and what both lists answer where they are asked for one right
 abbrev pub difference_text : Situation → ℕ → Bool → List ℕ
 difference_text s mask first_grants =
-    (codes "differ" ++ 10 ∷ [])
+    (codes "differ" ++ line_feed ∷ [])
     ++ (line (codes "owner") s.owner_name
     ++ (line (codes "group") s.owning_group
     ++ (line (codes "user") s.user_name

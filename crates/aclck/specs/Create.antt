@@ -50,7 +50,7 @@ abbrev pub created_text : ℕ → ℕ → Bool → PosixFile → List ℕ
 created_text mode umask is_directory file =
     canonical_text (created_access file.default mode umask) (created_default file.default is_directory)
 
--- that text, or a fault that the input has
+-- the text of the new object, or a fault that the input has
 abbrev pub CreateAnswer : CreateValues → List ℕ → Answer → Type 0
 CreateAnswer v = WritesAnswer v.names (created_text v.mode v.umask v.is_directory)
 

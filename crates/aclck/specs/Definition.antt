@@ -1,14 +1,13 @@
 -- What a command is: its words, what it makes of an input, and what that input is to be (this library's own).
-use Rattle.std.specs.Prelude.{◌≡◌, List, ℕ, true, Option, map}
+use Rattle.std.specs.Prelude.{List, ℕ, Option}
 use Rattle.clap.specs.Words.{Row, Text}
 use Rattle.acl_perm.specs.Profile.{Profile}
 use Rattle.acl_posix.specs.Names.{Table}
 use Rattle.aclck.specs.Answer.{Answer}
-use Rattle.aclck.specs.Line.{Term, is_sound, term}
+use Rattle.aclck.specs.Line.{Term}
 use Rattle.aclck.specs.NameWords.{names_in, names_terms}
 use Rattle.aclck.specs.ProfileArgument.{profile_in, profile_terms}
 use Rattle.aclck.specs.Run.{Shape, of_list, of_text}
-use Rattle.aclck.specs.declared.line.Definition.{Definition as HeldDefinition}
 
 -- a command
 pub record Definition : Type 1 where
@@ -24,12 +23,6 @@ pub record Definition : Type 1 where
   pub Answers : Values → List ℕ → Answer → Type 0
   -- what an input is to be
   pub shape : Values → Shape
-
--- the program holds the word and the arguments of the command, of which at most one takes words
-pub record Defines (d : Definition) (held : HeldDefinition) : Type 0 where
-  pub word : held.word.now ≡ d.word
-  pub terms : map term held.arguments.now ≡ d.terms
-  pub sound : is_sound d.terms ≡ true
 
 -- a command that reads a text
 abbrev pub on_text : {V : Type 0} → Text → List Term → (List Row → Option V) → (V → List ℕ → Answer → Type 0)

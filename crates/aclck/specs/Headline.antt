@@ -12,8 +12,8 @@ use Rattle.acl_normal.specs.Paths.{SameAtEveryPath, at, below, here}
 use Rattle.acl_normal.specs.declared.five_forms.FiveForms.{FiveForms}
 use Rattle.acl_posix.specs.TextLaws.{ReadsBack, TellsApart}
 use Rattle.acl_posix.specs.Texts.{canonical_text}
-use Rattle.aclck.specs.Laws.{TellsListsApart}
-use Rattle.aclck.specs.Normalize.{IsFiveForms, NormalisesAtPaths}
+use Rattle.aclck.specs.Laws.{IsFiveForms, TellsListsApart}
+use Rattle.aclck.specs.Normalize.{NormalisesAtPaths}
 
 -- the headline, part by part
 pub record Headline : Type 0 where

@@ -1,18 +1,22 @@
 -- Laws of the commands, over their definitions alone (this library's own).
 use Rattle.std.specs.Prelude.{◌≡◌, ◌↔◌, List, ℕ}
+use Rattle.std.specs.List.{AllByRecursion}
 use Rattle.acl_perm.specs.Profile.{Profile}
 use Rattle.acl_nfs4.specs.Ace.{Ace}
 use Rattle.acl_nfs4.specs.AceText.{IsAceText, ace_text}
-use Rattle.acl_nfs4.specs.Spelling.{Xdr}
+use Rattle.acl_nfs4.specs.Spelling.{Xdr, spelling}
 use Rattle.acl_nfs4.specs.Within.{IsProfile}
 use Rattle.acl_eval.specs.Grant.{SameGrants}
+use Rattle.acl_normal.specs.FiveForms.{five_lists, five_spellings}
+use Rattle.acl_normal.specs.NormalForm.{Normalises}
 use Rattle.acl_normal.specs.Paths.{SameAtEveryPath}
+use Rattle.acl_normal.specs.declared.five_forms.FiveForms.{FiveForms}
 use Rattle.acl_posix.specs.Grammar.{Reads}
 use Rattle.acl_posix.specs.Names.{Table, IsTable}
 use Rattle.acl_posix.specs.declared.file.PosixFile.{PosixFile}
 use Rattle.aclck.specs.Answer.{done}
 use Rattle.aclck.specs.Encode.{EncodeAnswer}
-use Rattle.aclck.specs.Normalize.{IsFiveForms, NormalizeAnswer, NormalizeInheritAnswer}
+use Rattle.aclck.specs.Normalize.{NormalizeAnswer, NormalizeInheritAnswer}
 use Rattle.aclck.specs.ShowNfs.{ShowNfsAnswer}
 use Rattle.aclck.specs.ShowPosix.{ShowPosixAnswer}
 use Rattle.aclck.specs.declared.answer.Outcome.TheVariants as outcome
@@ -54,7 +58,7 @@ TellsListsApart Gets Same = (p : Profile) (list other : List Ace) (x y a b : Lis
 abbrev pub NormalizeTellsApart : Type 0
 NormalizeTellsApart = TellsListsApart (λ p x a. NormalizeAnswer p x (done outcome.Yes a)) SameGrants
 
--- what `normalize` makes of bytes is what it makes of that, and nothing else is
+-- what `normalize` makes of bytes it makes of that too, and nothing else
 abbrev pub NormalizeTwice : Type 0
 NormalizeTwice = (p : Profile) (x a b : List ℕ) → IsProfile p → NormalizeAnswer p x (done outcome.Yes a)
     → NormalizeAnswer p a (done outcome.Yes b) ↔ (b ≡ a)
@@ -63,7 +67,14 @@ NormalizeTwice = (p : Profile) (x a b : List ℕ) → IsProfile p → NormalizeA
 abbrev pub NormalizeInheritTellsApart : Type 0
 NormalizeInheritTellsApart = TellsListsApart (λ p x a. NormalizeInheritAnswer p x (done outcome.Yes a)) SameAtEveryPath
 
--- what it makes of bytes is five lists, one behind the other, of each of which `normalize` makes the same bytes
+-- the text is five lists, one behind the other, each of which is its own normal form
+pub record IsFiveForms (p : Profile) (text : List ℕ) : Type 0 where
+  pub forms : FiveForms
+  pub parts : text ≡ five_spellings forms
+  pub own : AllByRecursion (λ form. Normalises p (spelling form) (spelling form)) (five_lists forms)
+
+-- what `normalize --inherit` makes of bytes is five lists, one behind the other, of each of which `normalize` makes the
+-- same bytes
 abbrev pub NormalizeInheritGivesForms : Type 0
 NormalizeInheritGivesForms = (p : Profile) (x a : List ℕ) → IsProfile p
     → NormalizeInheritAnswer p x (done outcome.Yes a) → IsFiveForms p a

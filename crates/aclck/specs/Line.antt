@@ -1,15 +1,24 @@
 -- A command's own command line, by `clap`'s functions for simple commands (this library's own).
-use Rattle.std.specs.Prelude.{◌≡◌, ◌∷◌, [], List, Option, Some, None, Bool, Result, Ok, Err, codes, false, if◌then◌else◌, map, not, true, unwrap_or}
+use Rattle.std.specs.Prelude.{◌≡◌, ◌∷◌, [], List, Option, Some, None, Bool, Result, Ok, Err, codes, false, map, option_map, true, unwrap_or}
 use Rattle.std.specs.Option.{option_map_or}
-use Rattle.std.specs.List.{list_any}
+use Rattle.std.specs.Borrow.{Bor}
 use Rattle.std.specs.Str.{bytes_eq}
-use Rattle.clap.specs.Words.{App, Kinds, Row, Rule, Text, all_of, fault_of, first_of, matches_of, new_app, new_rule}
+use Rattle.clap.specs.Words.{App, Kinds, Row, Rule, Text, all_of, fault_of, first_of, found_of, matches_of, new_app, new_rule, rows_of}
 use Rattle.clap.specs.Simple.{on_top}
 use Rattle.clap.specs.declared.builder.ArgAction.TheVariants.{Append, SetTrue}
+use Rattle.clap.specs.declared.parser.matches.ArgMatches.{ArgMatches}
 use Rattle.aclck.specs.declared.line.LineFault.{LineFault}
 use Rattle.aclck.specs.declared.line.LineFault.TheVariants as line
-use Rattle.aclck.specs.declared.line.Argument.{Argument}
-use Rattle.aclck.specs.declared.line.Argument.TheVariants as argument
+
+-- ---- texts
+
+-- the texts behind slices
+abbrev pub texts : List (Bor Text) → List Text
+texts slices = map (λ slice. slice.now) slices
+
+-- the text behind a slice, if there is one
+abbrev pub text_if_any : Option (Bor Text) → Option Text
+text_if_any slice = option_map (λ s. s.now) slice
 
 -- ---- arguments
 
@@ -21,14 +30,6 @@ pub data Term : Type 0 where
   flag : Text → Term
   any_words : Term
 
--- what the program holds
-abbrev pub term : Argument → Term
-term (argument.Required name) = required name.now
-term (argument.Optional name) = optional name.now
-term (argument.Default name value) = default name.now value.now
-term (argument.Flag name) = flag name.now
-term argument.Words = any_words
-
 -- `clap`'s rule for it: `--NAME VALUE` which has to be there, which may be absent, which is VALUE where it is absent;
 -- `--NAME`; any number of words
 abbrev pub rule_from : Term → Rule
@@ -37,19 +38,6 @@ rule_from (optional name) = record (new_rule name) { long = Some name }
 rule_from (default name value) = record (new_rule name) { long = Some name; defaults = value ∷ [] }
 rule_from (flag name) = record (new_rule name) { long = Some name; action = Some SetTrue }
 rule_from any_words = record (new_rule (codes "words")) { action = Some Append }
-
--- it takes words
-abbrev pub is_rest : Term → Bool
-is_rest (required name) = false
-is_rest (optional name) = false
-is_rest (default name value) = false
-is_rest (flag name) = false
-is_rest any_words = true
-
--- at most one argument takes words
-abbrev pub is_sound : List Term → Bool
-is_sound [] = true
-is_sound (t ∷ ts) = if is_rest t then not (list_any is_rest ts) else is_sound ts
 
 -- ---- commands
 
@@ -75,6 +63,10 @@ unfoldable pub rows_at : App → List Text → List Row
 rows_at app words = matches_of app words
 
 -- ---- values
+
+-- the rows of a parse
+abbrev pub rows_in : ArgMatches → List Row
+rows_in matches = rows_of (found_of matches)
 
 -- the answer of a call that reads values: those that are expected, or usage where there are none
 abbrev pub Reads : {X V : Type 0} → (X → V) → Option V → Result X LineFault → Type 0

@@ -1,5 +1,6 @@
 -- `mode`: what it makes of an input (this library's own, over RFC 8881, section 6.3.2).
 use Rattle.std.specs.Prelude.{◌+◌, ◌∷◌, [], List, ℕ, codes}
+use Rattle.acl_perm.specs.Lines.{line_feed}
 use Rattle.acl_perm.specs.Mode.{group_part, others_part, owner_part}
 use Rattle.acl_perm.specs.Profile.{Profile}
 use Rattle.acl_eval.specs.ListMode.{mode_of_list}
@@ -17,7 +18,7 @@ octal_digit perm = 48 + perm
 -- the three octal digits of a mode, and a line feed
 abbrev pub mode_line : ℕ → List ℕ
 mode_line mode = octal_digit (owner_part mode) ∷ octal_digit (group_part mode) ∷ octal_digit (others_part mode)
-    ∷ 10 ∷ []
+    ∷ line_feed ∷ []
 
 -- the line of the mode of the list, or a fault that the input has
 abbrev pub ModeAnswer : Profile → List ℕ → Answer → Type 0

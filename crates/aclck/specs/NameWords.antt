@@ -1,20 +1,15 @@
 -- The table of names that words spell: `u:NAME=ID` and `g:NAME=ID` (this library's own).
-use Rattle.std.specs.Prelude.{ℕ, ◌==◌, ◌≡◌, Option, Some, None, Result, Ok, Err, List, [], ◌∷◌, codes, length, nat_lt, if◌then◌else◌}
-use Rattle.std.specs.Borrow.{Bor}
+use Rattle.std.specs.Prelude.{ℕ, ◌==◌, Option, Some, None, List, [], ◌∷◌, codes, length, nat_lt, if◌then◌else◌}
 use Rattle.std.specs.List.{after_first, before_first, position_or_len}
 use Rattle.std.specs.Option.{is_none, option_and_then, option_map}
 use Rattle.std.specs.Str.{bytes_eq}
 use Rattle.clap.specs.Words.{Row, Text}
+use Rattle.acl_posix.specs.Grammar.{colon}
 use Rattle.acl_posix.specs.Names.{Table, name_fault, no_names, with_group, with_user}
-use Rattle.acl_posix.specs.declared.names.NameFault.{NameFault}
-use Rattle.acl_posix.specs.declared.names.NameFault.TheVariants as names
 use Rattle.aclck.specs.Line.{Term, any_words, words_of}
 use Rattle.aclck.specs.Values.{id_value}
-use Rattle.aclck.specs.declared.line.LineFault.{LineFault}
-use Rattle.aclck.specs.declared.line.LineFault.TheVariants as line
-use Rattle.aclck.specs.declared.words.names.Half.{Half as HeldHalf}
-use Rattle.aclck.specs.declared.words.names.Half.TheVariants as held
-use Rattle.aclck.specs.declared.words.names.NamedId.{NamedId as HeldNamedId}
+
+-- ---- cuts of a word
 
 -- a text cut at a byte: what stands before it, and what stands behind it
 pub record Cut : Type 0 where
@@ -39,6 +34,8 @@ abbrev pub last_cut : ℕ → Text → Option Cut
 last_cut byte [] = None
 last_cut byte (b ∷ rest) = cut_behind byte b rest (last_cut byte rest)
 
+-- ---- the table of names
+
 -- the two halves of a table
 pub data Half : Type 0 where
   users : Half
@@ -55,11 +52,15 @@ pub record NamedId : Type 0 where
   pub name : Text
   pub id : ℕ
 
+-- the sign before an id
+abbrev pub equals_sign : ℕ
+equals_sign = 61
+
 -- a word, cut at its last equals sign, and what is before that at its first colon
 unfoldable pub named_id : Text → Option NamedId
 named_id word = option_and_then (λ whole. option_and_then (λ front. option_and_then (λ half.
     option_map (λ id. record { half = half; name = front.behind; id = id })
-    (id_value whole.behind)) (half_named front.before)) (first_cut 58 whole.before)) (last_cut 61 word)
+    (id_value whole.behind)) (half_named front.before)) (first_cut colon whole.before)) (last_cut equals_sign word)
 
 -- the table with one more name in one half, where it may be added
 abbrev pub with_half : Half → Table → Text → ℕ → Option Table
@@ -82,33 +83,7 @@ with_words table (word ∷ words) =
 unfoldable pub names_value : List Text → Option Table
 names_value words = with_words no_names words
 
--- ---- what the program holds
-
--- the cut that two slices are
-abbrev pub cut_of : Bor Text × Bor Text → Cut
-cut_of sides = record { before = sides.0.now; behind = sides.1.now }
-
--- the half that is held
-abbrev pub half_of : HeldHalf → Half
-half_of held.Users = users
-half_of held.Groups = groups
-
--- the name that is held
-abbrev pub named_of : HeldNamedId → NamedId
-named_of n = record { half = half_of n.half; name = n.name.now; id = n.id.value }
-
--- the faults of names as faults of words
-abbrev pub line_fault_of : NameFault → LineFault
-line_fault_of names.EmptyName = line.Usage
-line_fault_of names.DigitsOnly = line.Usage
-line_fault_of names.Taken = line.Usage
-line_fault_of names.Memory = line.Memory
-
--- the answer of a call that adds a name to a table, and the table after it
-abbrev pub Adds : Table → Option NamedId → Table → Result (Unit {0}) LineFault → Type 0
-Adds table named after (Ok done) = Some after ≡ option_and_then (with_name table) named
-Adds table named after (Err line.Usage) = None ≡ option_and_then (with_name table) named
-Adds table named after (Err line.Memory) = Unit {0}
+-- ---- the words of a line
 
 -- `[NAMES..]`
 abbrev pub names_terms : List Term

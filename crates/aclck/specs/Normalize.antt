@@ -1,16 +1,15 @@
 -- `normalize`: its words, and what it makes of an input (this library's own, over RFC 8881, section 6.2.1).
 use Rattle.std.specs.Prelude.{◌≡◌, ◌∷◌, [], Bool, false, true, List, ℕ, Option, codes}
-use Rattle.std.specs.List.{AllByRecursion}
-use Rattle.std.specs.Option.{option_and_then, option_map}
-use Rattle.clap.specs.Words.{Row, first_of}
+use Rattle.std.specs.Option.{option_map}
+use Rattle.clap.specs.Words.{Row}
 use Rattle.acl_perm.specs.Profile.{Profile, profile_of}
 use Rattle.acl_nfs4.specs.Ace.{Ace}
-use Rattle.acl_nfs4.specs.Spelling.{Xdr, spelling}
-use Rattle.acl_normal.specs.FiveForms.{AreAccepted, AreFormsOf, five_lists, five_spellings}
+use Rattle.acl_nfs4.specs.Spelling.{Xdr}
+use Rattle.acl_normal.specs.FiveForms.{AreAccepted, AreFormsOf, five_spellings}
 use Rattle.acl_normal.specs.NormalForm.{Normalises}
 use Rattle.acl_normal.specs.declared.five_forms.FiveForms.{FiveForms}
 use Rattle.aclck.specs.Line.{Term, default, flag, is_given}
-use Rattle.aclck.specs.Values.{profile_value}
+use Rattle.aclck.specs.ProfileArgument.{profile_in}
 use Rattle.aclck.specs.Answer.{Answer, IsXdrFault, done, refused}
 use Rattle.aclck.specs.declared.answer.Outcome.TheVariants as outcome
 use Rattle.aclck.specs.declared.task.normalize.Normalize.{Normalize}
@@ -30,7 +29,7 @@ pub record NormalizeValues : Type 0 where
 -- the values that the rows of a parse spell
 unfoldable pub normalize_in : List Row → Option NormalizeValues
 normalize_in rows = option_map (λ p. record { inherit = is_given (codes "inherit") rows; profile = p })
-    (option_and_then profile_value (first_of (codes "profile") rows))
+    (profile_in rows)
 
 -- the values that the program holds
 abbrev pub normalize_held : Normalize → NormalizeValues
@@ -68,11 +67,3 @@ NormalizedAnswer v = by v.inherit v.profile
 -- the command
 abbrev pub normalize : Definition
 normalize = on_list (codes "normalize") normalize_terms normalize_in NormalizedAnswer (λ v. v.profile)
-
--- ---- what the laws say of the five
-
--- the text is five lists, one behind the other, each of which is its own normal form
-pub record IsFiveForms (p : Profile) (text : List ℕ) : Type 0 where
-  pub forms : FiveForms
-  pub parts : text ≡ five_spellings forms
-  pub own : AllByRecursion (λ form. Normalises p (spelling form) (spelling form)) (five_lists forms)

@@ -1,14 +1,19 @@
--- The words of the commands that take a profile and no other word (this library's own).
-use Rattle.std.specs.Prelude.{◌∷◌, [], List, Option, codes}
+-- `--profile`, and the words of the commands that take it and no other (this library's own).
+use Rattle.std.specs.Prelude.{◌∷◌, [], List, Option, Some, None, codes, if◌then◌else◌}
 use Rattle.std.specs.Option.{option_and_then}
-use Rattle.clap.specs.Words.{Row, first_of}
-use Rattle.acl_perm.specs.Profile.{Profile}
+use Rattle.std.specs.Str.{bytes_eq}
+use Rattle.clap.specs.Words.{Row, Text, first_of}
+use Rattle.acl_perm.specs.Profile.{Profile, full, narrow}
 use Rattle.aclck.specs.Line.{Term, default}
-use Rattle.aclck.specs.Values.{profile_value}
 
 -- `[--profile full|narrow]`
 abbrev pub profile_terms : List Term
 profile_terms = default (codes "profile") (codes "full") ∷ []
+
+-- the profile that a value of `--profile` names
+unfoldable pub profile_value : Text → Option Profile
+profile_value text = if bytes_eq text (codes "full") then Some full
+    else (if bytes_eq text (codes "narrow") then Some narrow else None)
 
 -- the profile that the rows of a parse spell
 unfoldable pub profile_in : List Row → Option Profile

@@ -3,6 +3,7 @@ use Rattle.std.specs.Prelude.{◌∷◌, ◌++◌, [], List, ℕ, Option, Some, 
 use Rattle.std.specs.Option.{option_and_then, option_map}
 use Rattle.std.specs.Str.{bytes_eq}
 use Rattle.clap.specs.Words.{Row, Text, first_of}
+use Rattle.acl_perm.specs.Lines.{line_feed}
 use Rattle.acl_posix.specs.Names.{Table}
 use Rattle.acl_posix.specs.Texts.{canonical_text, short_text, shown_text}
 use Rattle.acl_posix.specs.declared.file.PosixFile.{PosixFile}
@@ -52,7 +53,7 @@ show_posix_held v = record { form = v.form; names = v.names }
 abbrev pub form_text : Form → PosixFile → List ℕ
 form_text form.Canonical file = canonical_text file.access file.default
 form_text form.Shown file = shown_text file.access file.default
-form_text form.Short file = short_text file.access file.default ++ 10 ∷ []
+form_text form.Short file = short_text file.access file.default ++ line_feed ∷ []
 
 -- the text in the form, or a fault that the input has
 abbrev pub ShowPosixAnswer : ShowPosixValues → List ℕ → Answer → Type 0

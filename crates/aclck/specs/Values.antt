@@ -6,8 +6,8 @@ use Rattle.std.specs.Option.{option_and_then, option_map}
 use Rattle.std.specs.Str.{bytes_eq}
 use Rattle.std.specs.Str.Parse.{digits_value}
 use Rattle.clap.specs.Words.{Text}
-use Rattle.acl_perm.specs.Profile.{Profile, full, narrow}
 use Rattle.acl_nfs4.specs.Rights.{mask_named, no_rights}
+use Rattle.acl_posix.specs.Grammar.{comma}
 use Rattle.acl_posix.specs.Fields.{count_of}
 use Rattle.acl_posix.specs.Id.{greatest_id}
 
@@ -24,15 +24,10 @@ unfoldable pub mask_value : Text → Option ℕ
 mask_value text = if bytes_eq text (codes "none") then Some 0
     else (if bytes_eq text no_rights then None else mask_named text)
 
--- the same, where the set of rights has all of them
+-- the rights that a value of `--mask` names, where the set of rights has all of them
 abbrev pub mask_within : ℕ → Text → Option ℕ
 mask_within rights text =
     option_and_then (λ mask. if bit_and rights mask == mask then Some mask else None) (mask_value text)
-
--- the profile that a value of `--profile` names
-unfoldable pub profile_value : Text → Option Profile
-profile_value text = if bytes_eq text (codes "full") then Some full
-    else (if bytes_eq text (codes "narrow") then Some narrow else None)
 
 -- ---- values of the POSIX commands
 
@@ -53,23 +48,39 @@ each_value value (text ∷ texts) =
 
 -- one id or more, with a comma between two; an empty item is no id
 unfoldable pub ids_value : Text → Option (List ℕ)
-ids_value text = each_value id_value (slice_split (λ b. b == 44) text)
+ids_value text = each_value id_value (slice_split (λ b. b == comma) text)
+
+-- the greatest mode, 0o777
+abbrev pub greatest_mode : ℕ
+greatest_mode = 511
 
 -- a mode: one to four octal digits, of at most 0o777
 unfoldable pub mode_value : Text → Option ℕ
-mode_value text = if are_digits 8 text && nat_le (length text) 4 && nat_le (digits_value 8 text) 511
+mode_value text = if are_digits 8 text && nat_le (length text) 4 && nat_le (digits_value 8 text) greatest_mode
     then Some (digits_value 8 text) else None
+
+-- the letter of the permission to read
+abbrev pub letter_r : ℕ
+letter_r = 114
+
+-- the letter of the permission to write
+abbrev pub letter_w : ℕ
+letter_w = 119
+
+-- the letter of the permission to execute
+abbrev pub letter_x : ℕ
+letter_x = 120
 
 -- r, w or x
 abbrev pub is_letter : ℕ → Bool
-is_letter b = (b == 114) || (b == 119) || (b == 120)
+is_letter b = (b == letter_r) || (b == letter_w) || (b == letter_x)
 
 -- the permissions that letters spell: r, w and x in any order, at least one of them and each at most once
 abbrev pub letters_value : Text → Option ℕ
 letters_value text =
-    if not (length text == 0) && list_all is_letter text && nat_le (count_of 114 text) 1
-    && nat_le (count_of 119 text) 1 && nat_le (count_of 120 text) 1
-    then Some (4 * count_of 114 text + 2 * count_of 119 text + count_of 120 text) else None
+    if not (length text == 0) && list_all is_letter text && nat_le (count_of letter_r text) 1
+    && nat_le (count_of letter_w text) 1 && nat_le (count_of letter_x text) 1
+    then Some (4 * count_of letter_r text + 2 * count_of letter_w text + count_of letter_x text) else None
 
 -- the request: letters, or `none`
 unfoldable pub want_value : Text → Option ℕ

@@ -3,7 +3,13 @@
 -- Files: why the file of a text was not read
 -- Telling: how much of a text was written
 -- Compared: the text and the outcome of what `acl_normal` answers
+-- Held: a command's word and arguments in the program
+-- Adding: names that are cut out of words and added to a table
+-- Performing: the answer of a command line before the status tells it
 pub mod Reading
 pub mod Files
 pub mod Telling
 pub mod Compared
+pub mod Held
+pub mod Adding
+pub mod Performing

@@ -1,18 +1,18 @@
 //! The program over a source and sinks.
-ghost use Rattle.std.specs.Prelude.{◌≡◌, ◌⊎◌, ◌<◌, ◌≤◌, IsSome, None, Err, false, map};
+ghost use Rattle.std.specs.Prelude.{◌≡◌, ◌⊎◌, ◌<◌, ◌≤◌, IfOk, IsSome, None, Err, false};
 ghost use Rattle.std.specs.Io.KnownBytes.{IsAtEnd};
 ghost use Rattle.acl_perm.specs.Devices.{one_more};
-ghost use Rattle.clap.specs.Words.{found_of, rows_of};
-ghost use Rattle.aclck.specs.Line.{words_of};
+ghost use Rattle.aclck.specs.Line.{rows_in, texts, words_of};
 ghost use Rattle.aclck.specs.Task.{is_command, task_in, task_of};
-ghost use Rattle.aclck.specs.Command.{IsBegun, IsDone, IsEnded, IsRefused, IsStopped, IsTaken, RunsTask, outcome_at, status_of};
+ghost use Rattle.aclck.specs.Command.{IsBegun, IsDone, IsEnded, IsRefused, IsStopped, IsTaken, outcome_at};
+ghost use Rattle.aclck.specs.internal.Performing.{RunsTask, status_of};
 
 use crate::answer::{Outcome, RunFault};
-use crate::line::{LineFault, words_in};
+use crate::line::LineFault;
 use crate::task::{Name, Task};
 use acl_perm::{Sink, Source, put_all};
 use clap::ArgMatches;
-use std::alloc::Global;
+use std::alloc::{AllocError, Global};
 use std::io::Write;
 
 /// Why a command line came to nothing.
@@ -25,7 +25,7 @@ pub enum CommandFault {
 
 impl From<LineFault> for CommandFault {
     ghost use Rattle.std.specs.Prelude.{◌≡◌};
-    ghost use Rattle.aclck.specs.Command.{command_fault_of};
+    ghost use Rattle.aclck.specs.internal.Performing.{command_fault_of};
 
     ghost from_gives = { λ fault command. command ≡ command_fault_of fault };
 
@@ -45,6 +45,18 @@ impl From<RunFault> for CommandFault {
 
     fn from(fault: RunFault) -> CommandFault {
         CommandFault::Run(fault)
+    }
+}
+
+impl From<AllocError> for CommandFault {
+    ghost use Rattle.std.specs.Prelude.{◌≡◌};
+    ghost use Rattle.aclck.specs.declared.answer.RunFault.TheVariants.{Memory};
+    ghost use Rattle.aclck.specs.declared.command.CommandFault.TheVariants.{Run};
+
+    ghost from_gives = { λ _ command. command ≡ Run Memory };
+
+    fn from(_: AllocError) -> CommandFault {
+        CommandFault::Run(RunFault::Memory)
     }
 }
 
@@ -70,35 +82,35 @@ pub fn command<S: Source, K: Sink, E: Sink>(
     err: &mut E,
 ) -> u8
     // Below 3 the words ask for a task.
-    ensures named { result < 3 → IsSome (task_of (map (λ w. w.now) words.entry.now)) }
+    ensures named { result < 3 → IsSome (task_of (texts words.entry.now)) }
     // At 0 and 1 it ran to its end, and what was written is the text of its answer.
-    ensures done { result < 2 → IsDone (task_of (map (λ w. w.now) words.entry.now))
+    ensures done { result < 2 → IsDone (task_of (texts words.entry.now))
         (S.remaining source.old) (K.contents out.old) (K.contents out.new) (outcome_at result) }
     ensures whole { result < 2 → IsAtEnd (S.remaining source.new) }
     // At 2 the input has a fault.
-    ensures refused { result ≡ 2 → IsRefused (task_of (map (λ w. w.now) words.entry.now))
+    ensures refused { result ≡ 2 → IsRefused (task_of (texts words.entry.now))
         (S.remaining source.old) }
     // At 3 the words ask for nothing, and no input was read.
-    ensures usage { result ≡ 3 → task_of (map (λ w. w.now) words.entry.now) ≡ None }
+    ensures usage { result ≡ 3 → task_of (texts words.entry.now) ≡ None }
     ensures unread { result ≡ 3 → source.new ≡ source.old }
     // Where the first word names no command, or is none, nothing takes memory.
-    ensures unnamed { is_command (map (λ w. w.now) words.entry.now) ≡ false → result ≡ 3 }
+    ensures unnamed { is_command (texts words.entry.now) ≡ false → result ≡ 3 }
 
     // Little of the input is taken, if any; what was taken when a read failed does not refuse a list; and a text that
     // is refused was read whole.
-    ensures bound { (source.new ≡ source.old) ⊎ IsTaken (task_of (map (λ w. w.now) words.entry.now))
+    ensures bound { (source.new ≡ source.old) ⊎ IsTaken (task_of (texts words.entry.now))
         (S.remaining source.old) (S.remaining source.new) }
     ensures stopped { (S.failure_count source.new ≡ S.failure_count source.old)
-        ⊎ IsStopped (task_of (map (λ w. w.now) words.entry.now)) (S.remaining source.old) (S.remaining source.new) }
+        ⊎ IsStopped (task_of (texts words.entry.now)) (S.remaining source.old) (S.remaining source.new) }
     ensures ended { result ≡ 2 → IsEnded
-        (task_of (map (λ w. w.now) words.entry.now)) (S.remaining source.new) }
+        (task_of (texts words.entry.now)) (S.remaining source.new) }
 
     // At 2 and 3 nothing was written.
     ensures unwritten { 2 ≤ result → result ≤ 3 → out.new ≡ out.old }
     // At 4 nothing was written, or a proper beginning of the text of the task's answer, and then one write failed.
     ensures begun { result ≡ 4 → (out.new ≡ out.old)
         ⊎ ((K.failure_count out.new ≡ one_more (K.failure_count out.old))
-        × IsBegun (task_of (map (λ w. w.now) words.entry.now)) (S.remaining source.old)
+        × IsBegun (task_of (texts words.entry.now)) (S.remaining source.old)
         (K.contents out.old) (K.contents out.new)) }
     // Below 4 no read and no write failed, and at 4 at most one of both together.
     ensures none_failed { result < 4 → (S.failure_count source.new ≡ S.failure_count source.old)
@@ -136,10 +148,10 @@ fn perform<'a, S: Source, K: Sink>(
     source: &mut S,
     out: &mut K,
 ) -> Result<Outcome, CommandFault>
-    ensures runs { RunsTask (task_of (map (λ w. w.now) words.entry.now))
+    ensures runs { RunsTask (task_of (texts words.entry.now))
         S.remaining S.failure_count source.old source.new
         K.contents K.failure_count out.old out.new result }
-    ensures unnamed { is_command (map (λ w. w.now) words.entry.now) ≡ false
+    ensures unnamed { is_command (texts words.entry.now) ≡ false
         → result ≡ Err CommandFault.Usage }
 {
     let Some(word) = words.first() else {
@@ -161,25 +173,46 @@ fn perform_named<S: Source, K: Sink>(
     out: &mut K,
 ) -> Result<Outcome, CommandFault>
     ensures { RunsTask
-        (task_in name (rows_of (found_of matches.now)) (words_of (rows_of (found_of matches.now))))
+        (task_in name (rows_in matches.now) (words_of (rows_in matches.now)))
         S.remaining S.failure_count source.old source.new
         K.contents K.failure_count out.old out.new result }
 {
-    let Ok(texts) = words_in(alloc, matches) else {
-        return Err(CommandFault::Run(RunFault::Memory));
-    };
+    let texts = words_in(alloc, matches)?;
     let task = Task::read(alloc, name, matches, texts.as_slice())?;
     Ok(task.run(alloc, source, out)?)
 }
 
+// The words that are no option's.
+fn words_in<'a>(alloc: Global, matches: &ArgMatches<'a>) -> Result<Vec<&'a [u8]>, AllocError>
+    ensures { IfOk result (λ v. texts v.items ≡ words_of (rows_in matches.now)) }
+{
+    match matches.get_strs("words") {
+        Some(words) => bytes_of(alloc, words),
+        None => Ok(Vec::new(alloc)),
+    }
+}
+
+fn bytes_of<'a>(alloc: Global, words: &[&'a str]) -> Result<Vec<&'a [u8]>, AllocError>
+    ensures { IfOk result (λ v. texts v.items ≡ texts words.now) }
+{
+    let mut all = Vec::new(alloc);
+    for word in words {
+        all.push(word.as_bytes())?;
+    }
+    Ok(all)
+}
+
+// The longest line on a fault is shorter.
+const LINE_ROOM: usize = 80;
+
 // One line on the fault, made without memory. A fault of `err` changes nothing.
 fn report<E: Sink>(err: &mut E, fault: CommandFault) {
-    let mut buffer = [0u8; 80];
+    let mut buffer = [0u8; LINE_ROOM];
     let mut room = buffer.as_mut_slice();
     let _ = match fault {
         CommandFault::Usage => writeln!(room, "aclck: usage"),
         CommandFault::Run(fault) => writeln!(room, "aclck: {fault}"),
     };
     let left = room.len();
-    let _ = put_all(err, &buffer[..80usize.saturating_sub(left)]);
+    let _ = put_all(err, &buffer[..LINE_ROOM.saturating_sub(left)]);
 }

@@ -1,9 +1,10 @@
 //! The words of a command, by `clap`'s rule for a simple command.
-ghost use Rattle.std.specs.Prelude.{◌≡◌, ◌≢◌, IfErr, IfOk, OnOk, codes, false, map, option_map, true};
+ghost use Rattle.std.specs.Prelude.{◌≡◌, ◌≢◌, IfErr, IfOk, OnOk, codes, false, map, true};
 ghost use Rattle.std.specs.Option.{option_map_or};
 ghost use Rattle.std.specs.Str.{bytes_eq};
-ghost use Rattle.clap.specs.Words.{app_of, first_of, found_of, is_simple_and_free, kind_of, rows_of, rule_of, with_rule};
-ghost use Rattle.aclck.specs.Line.{app_from, is_given, is_taken, plain_app, rows_at, rule_from, term, words_of};
+ghost use Rattle.clap.specs.Words.{app_of, first_of, is_simple_and_free, kind_of, rule_of, with_rule};
+ghost use Rattle.aclck.specs.Line.{app_from, is_given, is_taken, plain_app, rows_at, rows_in, rule_from, text_if_any, texts};
+ghost use Rattle.aclck.specs.internal.Held.{term};
 
 use clap::error::ErrorKind;
 use clap::{Arg, ArgAction, ArgMatches, Command};
@@ -22,23 +23,6 @@ pub enum Argument {
     Flag(&'static str),
     /// Any number of words.
     Words,
-}
-
-/// A command: the word that names it, and its arguments.
-#[derive(Clone, Copy, Debug)]
-pub struct Definition {
-    pub word: &'static str,
-    pub arguments: &'static [Argument],
-}
-
-impl Definition {
-    /// The command of a word and its arguments.
-    pub(crate) fn new(word: &'static str, arguments: &'static [Argument]) -> Definition
-        ensures named { result.word.now ≡ word.now }
-        ensures takes { result.arguments.now ≡ arguments.now }
-    {
-        Definition { word, arguments }
-    }
 }
 
 /// Why words ask for nothing.
@@ -70,39 +54,6 @@ impl<T: Drop> From<AllocFailed<T>> for LineFault {
     }
 }
 
-// An argument as `clap` has it.
-fn arg_of<'a>(alloc: Global, argument: Argument) -> Arg<'a>
-    ensures rule { rule_of result ≡ rule_from (term argument) }
-    ensures local { result.global ≡ false }
-{
-    match argument {
-        Argument::Required(name) => Arg::new(alloc, name).long(name).required(true),
-        Argument::Optional(name) => Arg::new(alloc, name).long(name),
-        Argument::Default(name, value) => Arg::new(alloc, name).long(name).default_value(value),
-        Argument::Flag(name) => Arg::new(alloc, name).long(name).action(ArgAction::SetTrue),
-        Argument::Words => Arg::new(alloc, "words").action(ArgAction::Append),
-    }
-}
-
-// The command with one more argument.
-fn with_argument<'a>(
-    alloc: Global,
-    command: Command<'a>,
-    argument: Argument,
-) -> Result<Command<'a>, AllocError>
-    ensures { IfOk result (λ c.
-        app_of c ≡ with_rule (app_of command.entry) (rule_from (term argument))) }
-{
-    command.arg(arg_of(alloc, argument))
-}
-
-// A command with no arguments, for which words that ask for help are unknown arguments.
-fn plain_command<'a>(alloc: Global, name: &'a str) -> Command<'a>
-    ensures { app_of result ≡ plain_app name.entry.now }
-{
-    Command::new(alloc, name).disable_help_flag(true)
-}
-
 /// The command of a name with the arguments of a table.
 pub(crate) fn command_from<'a>(
     alloc: Global,
@@ -118,18 +69,50 @@ pub(crate) fn command_from<'a>(
     Ok(command)
 }
 
+// A command with no arguments, for which words that ask for help are unknown arguments.
+fn plain_command<'a>(alloc: Global, name: &'a str) -> Command<'a>
+    ensures { app_of result ≡ plain_app name.entry.now }
+{
+    Command::new(alloc, name).disable_help_flag(true)
+}
+
+// The command with one more argument.
+fn with_argument<'a>(
+    alloc: Global,
+    command: Command<'a>,
+    argument: Argument,
+) -> Result<Command<'a>, AllocError>
+    ensures { IfOk result (λ c.
+        app_of c ≡ with_rule (app_of command.entry) (rule_from (term argument))) }
+{
+    command.arg(arg_of(alloc, argument))
+}
+
+// An argument as `clap` has it.
+fn arg_of<'a>(alloc: Global, argument: Argument) -> Arg<'a>
+    ensures rule { rule_of result ≡ rule_from (term argument) }
+    ensures local { result.global ≡ false }
+{
+    match argument {
+        Argument::Required(name) => Arg::new(alloc, name).long(name).required(true),
+        Argument::Optional(name) => Arg::new(alloc, name).long(name),
+        Argument::Default(name, value) => Arg::new(alloc, name).long(name).default_value(value),
+        Argument::Flag(name) => Arg::new(alloc, name).long(name).action(ArgAction::SetTrue),
+        Argument::Words => Arg::new(alloc, "words").action(ArgAction::Append),
+    }
+}
+
 /// What a simple command takes from the words, of which the first stands in the place of the program's name.
 pub(crate) fn parse<'a>(
     command: Command<'a>,
     words: &'a [&'a str],
 ) -> Result<ArgMatches<'a>, LineFault>
     requires { is_simple_and_free (app_of command) ≡ true }
-    ensures ok { IfOk result (λ m. rows_of (found_of m)
-        ≡ rows_at (app_of command.entry) (map (λ w. w.now) words.entry.now)) }
-    ensures taken { OnOk result
-        (is_taken (app_of command.entry) (map (λ w. w.now) words.entry.now) ≡ true) }
+    ensures ok { IfOk result (λ m. rows_in m
+        ≡ rows_at (app_of command.entry) (texts words.entry.now)) }
+    ensures taken { OnOk result (is_taken (app_of command.entry) (texts words.entry.now) ≡ true) }
     ensures usage { IfErr result (λ e. e ≡ LineFault.Usage
-        → is_taken (app_of command.entry) (map (λ w. w.now) words.entry.now) ≡ false) }
+        → is_taken (app_of command.entry) (texts words.entry.now) ≡ false) }
 {
     match command.try_get_matches_from(words) {
         Ok(matches) => Ok(matches),
@@ -149,48 +132,24 @@ fn line_fault(error: &clap::Error) -> LineFault
 
 /// The first value of an option.
 pub(crate) fn text_of<'a>(matches: &ArgMatches<'a>, id: &str) -> Option<&'a str>
-    ensures { option_map (λ s. s.now) result ≡ first_of id.now (rows_of (found_of matches.now)) }
+    ensures { text_if_any result ≡ first_of id.now (rows_in matches.now) }
 {
     matches.get_str(id)
 }
 
 /// Whether a flag was given.
 pub(crate) fn is_set(matches: &ArgMatches<'_>, id: &str) -> bool
-    ensures { result ≡ is_given id.now (rows_of (found_of matches.now)) }
+    ensures { result ≡ is_given id.now (rows_in matches.now) }
 {
     is_true(text_of(matches, id))
 }
 
 fn is_true(text: Option<&str>) -> bool
     ensures { result ≡ option_map_or (λ t. bytes_eq t (codes "true"))
-        (option_map (λ s. s.now) text.entry) false }
+        (text_if_any text.entry) false }
 {
     match text {
         Some(text) => text == "true",
         None => false,
     }
-}
-
-/// The words that are no option's.
-pub(crate) fn words_in<'a>(
-    alloc: Global,
-    matches: &ArgMatches<'a>,
-) -> Result<Vec<&'a [u8]>, AllocError>
-    ensures { IfOk result (λ v.
-        map (λ g. g.now) v.items ≡ words_of (rows_of (found_of matches.now))) }
-{
-    match matches.get_strs("words") {
-        Some(texts) => bytes_of(alloc, texts),
-        None => Ok(Vec::new(alloc)),
-    }
-}
-
-fn bytes_of<'a>(alloc: Global, texts: &[&'a str]) -> Result<Vec<&'a [u8]>, AllocError>
-    ensures { IfOk result (λ v. map (λ g. g.now) v.items ≡ map (λ t. t.now) texts.now) }
-{
-    let mut all = Vec::new(alloc);
-    for text in texts {
-        all.push(text.as_bytes())?;
-    }
-    Ok(all)
 }

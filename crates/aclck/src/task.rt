@@ -1,10 +1,11 @@
 //! The commands: a row a command in each table, and a file a command.
-ghost use Rattle.std.specs.Prelude.{◌≡◌, IfErr, IfOk, OnOk, false, find, map, true};
+ghost use Rattle.std.specs.Prelude.{◌≡◌, IfErr, IfOk, OnOk, false, find, true};
 ghost use Rattle.std.specs.Str.{bytes_eq};
-ghost use Rattle.clap.specs.Words.{app_of, found_of, rows_of};
-ghost use Rattle.aclck.specs.Definition.{Defines};
+ghost use Rattle.clap.specs.Words.{app_of};
+ghost use Rattle.aclck.specs.internal.Held.{Defines};
 ghost use Rattle.aclck.specs.Run.{Runs};
-ghost use Rattle.aclck.specs.Line.{Reads, is_sound, is_taken, rows_at};
+ghost use Rattle.aclck.specs.Line.{Reads, is_taken, rows_at, rows_in, texts};
+ghost use Rattle.aclck.specs.internal.Held.{is_sound};
 ghost use Rattle.aclck.specs.Task.{Answers, app_named, command_named, definition_of, shape_of, task_held, task_in, word_of};
 
 pub mod bridge;
@@ -23,9 +24,9 @@ pub mod show_posix;
 pub mod table;
 
 use crate::answer::{Outcome, RunFault};
-use crate::line::{Definition, LineFault, command_from, parse};
+use crate::line::{Argument, LineFault, command_from, parse};
 use crate::words::names::{self, names_in};
-use crate::words::profile;
+use crate::words::profile::{self, profile_in};
 use acl_perm::{Profile, Sink, Source};
 use acl_posix::Names;
 use bridge::run_bridge;
@@ -89,7 +90,44 @@ impl Name {
         find_name(&NAMES, word)
     }
 
-    // The command that it names.
+    /// What the command takes from the words, of which the first is its own.
+    pub(crate) fn matches<'a>(
+        self,
+        alloc: Global,
+        words: &'a [&'a str],
+    ) -> Result<ArgMatches<'a>, LineFault>
+        ensures ok { IfOk result (λ m. rows_in m
+            ≡ rows_at (app_named self) (texts words.entry.now)) }
+        ensures taken { OnOk result (is_taken (app_named self) (texts words.entry.now) ≡ true) }
+        ensures usage { IfErr result (λ e. e ≡ LineFault.Usage
+            → is_taken (app_named self) (texts words.entry.now) ≡ false) }
+    {
+        let command = self.command(alloc)?;
+        parse(command, words)
+    }
+
+    // `clap`'s command of its word and its arguments.
+    fn command<'a>(self, alloc: Global) -> Result<Command<'a>, AllocError>
+        ensures app { IfOk result (λ c. app_of c ≡ app_named self) }
+        ensures sound { is_sound (definition_of self).terms ≡ true }
+    {
+        command_from(alloc, self.word(), self.definition().arguments)
+    }
+
+    fn is_named(self, word: &str) -> bool
+        ensures { result ≡ bytes_eq (word_of self) word.now }
+    {
+        self.word() == word
+    }
+
+    // The word that names it.
+    fn word<'a>(self) -> &'a str
+        ensures { result.now ≡ word_of self }
+    {
+        self.definition().word
+    }
+
+    // Its word and its arguments.
     fn definition(self) -> Definition
         ensures { Defines (definition_of self) result }
     {
@@ -110,44 +148,6 @@ impl Name {
             Name::Compare => Definition::new(compare::WORD, &profile::ARGUMENTS),
         }
     }
-
-    // The word that names it.
-    fn word<'a>(self) -> &'a str
-        ensures { result.now ≡ word_of self }
-    {
-        self.definition().word
-    }
-
-    fn is_named(self, word: &str) -> bool
-        ensures { result ≡ bytes_eq (word_of self) word.now }
-    {
-        self.word() == word
-    }
-
-    /// What the command takes from the words, of which the first is its own.
-    pub(crate) fn matches<'a>(
-        self,
-        alloc: Global,
-        words: &'a [&'a str],
-    ) -> Result<ArgMatches<'a>, LineFault>
-        ensures ok { IfOk result (λ m. rows_of (found_of m)
-            ≡ rows_at (app_named self) (map (λ w. w.now) words.entry.now)) }
-        ensures taken { OnOk result
-            (is_taken (app_named self) (map (λ w. w.now) words.entry.now) ≡ true) }
-        ensures usage { IfErr result (λ e. e ≡ LineFault.Usage
-            → is_taken (app_named self) (map (λ w. w.now) words.entry.now) ≡ false) }
-    {
-        let command = self.command(alloc)?;
-        parse(command, words)
-    }
-
-    // Its definition.
-    fn command<'a>(self, alloc: Global) -> Result<Command<'a>, AllocError>
-        ensures app { IfOk result (λ c. app_of c ≡ app_named self) }
-        ensures sound { is_sound (definition_of self).terms ≡ true }
-    {
-        command_from(alloc, self.word(), self.definition().arguments)
-    }
 }
 
 // The first of some commands that the word names.
@@ -160,6 +160,22 @@ fn find_name(names: &[Name], word: &str) -> Option<Name>
         }
     }
     None
+}
+
+/// The word that names a command, and its arguments.
+#[derive(Clone, Copy, Debug)]
+pub struct Definition {
+    pub word: &'static str,
+    pub arguments: &'static [Argument],
+}
+
+impl Definition {
+    fn new(word: &'static str, arguments: &'static [Argument]) -> Definition
+        ensures named { result.word.now ≡ word.now }
+        ensures takes { result.arguments.now ≡ arguments.now }
+    {
+        Definition { word, arguments }
+    }
 }
 
 /// A command with its values.
@@ -189,8 +205,8 @@ impl<'a> Task<'a> {
         matches: &ArgMatches<'w>,
         words: &'a [&'a [u8]],
     ) -> Result<Task<'a>, LineFault>
-        ensures { Reads task_held (task_in name (rows_of (found_of matches.now))
-            (map (λ w. w.now) words.entry.now)) result }
+        ensures { Reads task_held (task_in name (rows_in matches.now)
+            (texts words.entry.now)) result }
     {
         match name {
             Name::ShowPosix => Ok(Task::ShowPosix(show_posix::read(alloc, matches)?)),
@@ -198,15 +214,15 @@ impl<'a> Task<'a> {
             Name::CalcMask => Ok(Task::CalcMask(names_in(alloc, matches)?)),
             Name::Chmod => Ok(Task::Chmod(chmod::read(alloc, matches)?)),
             Name::Create => Ok(Task::Create(create::read(alloc, matches)?)),
-            Name::ShowNfs => Ok(Task::ShowNfs(profile::read(matches)?)),
-            Name::Encode => Ok(Task::Encode(profile::read(matches)?)),
+            Name::ShowNfs => Ok(Task::ShowNfs(profile_in(matches)?)),
+            Name::Encode => Ok(Task::Encode(profile_in(matches)?)),
             Name::CheckNfs => Ok(Task::CheckNfs(check_nfs::read(matches, words)?)),
             Name::Child => Ok(Task::Child(child::read(matches)?)),
-            Name::Mode => Ok(Task::Mode(profile::read(matches)?)),
+            Name::Mode => Ok(Task::Mode(profile_in(matches)?)),
             Name::Bridge => Ok(Task::Bridge(names_in(alloc, matches)?)),
             Name::Table => Ok(Task::Table(table::read(matches)?)),
             Name::Normalize => Ok(Task::Normalize(normalize::read(matches)?)),
-            Name::Compare => Ok(Task::Compare(profile::read(matches)?)),
+            Name::Compare => Ok(Task::Compare(profile_in(matches)?)),
         }
     }
 
@@ -224,14 +240,14 @@ impl<'a> Task<'a> {
     {
         match self {
             Task::ShowPosix(v) => run_show_posix(alloc, source, sink, v.form, &v.names),
+            Task::CheckPosix(v) => run_check_posix(
+                alloc, source, sink, v.owner, v.group, v.user, &v.groups, v.want, &v.names,
+            ),
             Task::CalcMask(names) => run_calc_mask(alloc, source, sink, names),
             Task::Chmod(v) => run_chmod(alloc, source, sink, v.mode, &v.names),
             Task::Create(v) => { run_create(alloc, source, sink, v.mode, v.umask, v.dir, &v.names) }
             Task::ShowNfs(profile) => run_show_nfs(alloc, source, sink, *profile),
             Task::Encode(profile) => run_encode(alloc, source, sink, *profile),
-            Task::CheckPosix(v) => run_check_posix(
-                alloc, source, sink, v.owner, v.group, v.user, &v.groups, v.want, &v.names,
-            ),
             Task::CheckNfs(v) => {
                 run_check_nfs(
                     alloc,

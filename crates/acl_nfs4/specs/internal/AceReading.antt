@@ -31,7 +31,7 @@ cut_space [] = None
 cut_space (b ∷ bytes) =
     if b == 0x20 then Some ([], bytes) else option_map (λ parts. (b ∷ parts.0, parts.1)) (cut_space bytes)
 
--- the same parts in code
+-- the first field and what stands behind it, as code holds them
 abbrev pub view_first : FirstField → List ℕ × List ℕ
 view_first parts = (parts.field.now, parts.rest.now)
 

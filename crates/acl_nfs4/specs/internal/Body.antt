@@ -29,7 +29,7 @@ pub record IsBody (count : ℕ) (bytes : List ℕ) : Type 0 where
   pub spells : Spells (aces_of count bytes) bytes
   pub whole : length (aces_of count bytes) ≡ count
 
--- the same, within the limit
+-- the bytes are the pieces of so many ACEs, of no more than a list may have
 pub record IsList (count : ℕ) (bytes : List ℕ) : Type 0 where
   pub body : IsBody count bytes
   pub small : count ≤ most_aces

@@ -15,8 +15,8 @@ use Rattle.acl_nfs4.specs.Stream.{Standing, more, done, refused}
 use Rattle.acl_nfs4.specs.declared.xdr.fault.Fault.{Fault}
 use Rattle.acl_nfs4.specs.declared.xdr.fault.Reason.TheVariants.{Truncated}
 use Rattle.acl_nfs4.specs.declared.feed.scan.Progress.{Progress}
-use Rattle.acl_nfs4.specs.declared.feed.Stage.{Stage}
-use Rattle.acl_nfs4.specs.declared.feed.Stage.TheVariants.{Open, Done, Refused}
+use Rattle.acl_nfs4.specs.declared.feed.step.Stage.{Stage}
+use Rattle.acl_nfs4.specs.declared.feed.step.Stage.TheVariants.{Open, Done, Refused}
 
 -- each is a byte
 abbrev pub IsBytes : List ℕ → Type 0
@@ -47,7 +47,7 @@ abbrev pub Ends : Profile → ℕ → List ℕ → Progress → Option Fault →
 Ends p count body at None = at.seen ≡ count
 Ends p count body at (Some f) = (at.seen < count) × (ace_at p at.weight (behind_scanned body at) ≡ Err f)
 
--- the same of a whole text
+-- how far a text is judged: the first bytes of its body, and no more ACEs than its count says
 pub record IsProgress (p : Profile) (text : List ℕ) (at : Progress) : Type 0 where
   pub scanned : IsScanned p (drop 4 text) at
   pub seen : at.seen ≤ number (take 4 text)

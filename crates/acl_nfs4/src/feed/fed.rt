@@ -1,4 +1,4 @@
-//! What a piece of a stream came to.
+//! The answer to one piece of a stream.
 
 use crate::xdr::fault::Fault;
 

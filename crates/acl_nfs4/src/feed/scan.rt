@@ -1,5 +1,5 @@
-//! Judging a body that comes bit by bit.
-ghost use Rattle.std.specs.Prelude.{◌≡◌, ◌+◌, ◌<◌, ◌≤◌, ◌^◌, length};
+//! Judging a body on from where it was judged to, so that a whole ACE is judged once.
+ghost use Rattle.std.specs.Prelude.{◌≡◌, ◌+◌, ◌<◌, ◌≤◌, ◌^◌, Some, length};
 ghost use Rattle.acl_perm.specs.Profile.{profile_of};
 ghost use Rattle.acl_nfs4.specs.internal.Progress.{Ends, IsScanned};
 
@@ -21,6 +21,18 @@ pub(crate) struct Progress {
 pub(crate) struct Reach {
     pub progress: Progress,
     pub fault: Option<Fault>,
+}
+
+impl Reach {
+    /// So far and no further.
+    pub(crate) fn at_fault(progress: Progress, fault: Fault) -> Reach
+        ensures { result ≡ record { progress = progress; fault = Some fault } }
+    {
+        Reach {
+            progress,
+            fault: Some(fault),
+        }
+    }
 }
 
 /// Judges the ACEs from there on, up to the first that isn't whole or is refused.
@@ -46,12 +58,7 @@ pub(crate) fn scan(body: &[u8], count: u32, from: Progress, profile: Profile) ->
                     weight: progress.weight + ace.mask.bits().count_ones(),
                 };
             }
-            Err(fault) => {
-                return Reach {
-                    progress,
-                    fault: Some(fault),
-                };
-            }
+            Err(fault) => return Reach::at_fault(progress, fault),
         }
     }
     Reach {

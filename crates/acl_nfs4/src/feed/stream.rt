@@ -1,4 +1,4 @@
-//! The bytes of a stream so far.
+//! The bytes of a stream so far: what is known of a list that is still coming.
 ghost use Rattle.std.specs.Prelude.{◌≡◌, ◌+◌, ◌≤◌, ◌<◌, ◌^◌, ◌↔◌, [], IsSome, IfSome, length, take, drop};
 ghost use Rattle.acl_nfs4.specs.internal.Appending.{Extended};
 ghost use Rattle.acl_nfs4.specs.Fields.{number};

@@ -1,4 +1,4 @@
-//! The ACEs of a list, one after the other.
+//! The ACEs of a list, one after the other, from bytes that were judged before.
 ghost use Rattle.std.specs.Prelude.{◌≡◌, ◌+◌, ◌≤◌, ℕ, List, ◌++◌, length, take, drop};
 ghost use Rattle.acl_perm.specs.Profile.{full};
 ghost use Rattle.acl_nfs4.specs.Ace.{Ace, ace};
@@ -26,10 +26,18 @@ fn kind_named(number: u32) -> Kind
     if number == 0 { Kind::Allow } else { Kind::Deny }
 }
 
-fn first_ace(bytes: &[u8]) -> (AceRef<'_>, &[u8])
+// An ACE, and the bytes behind it.
+#[derive(Drop)]
+struct FirstAce<'a> {
+    ace: AceRef<'a>,
+    rest: &'a [u8],
+}
+
+// The ACE at the front of bytes that were judged before: nothing is judged again.
+fn first_ace(bytes: &[u8]) -> FirstAce<'_>
     requires { BeginsWithAce bytes.now }
     ensures { (a : Ace) (more : List ℕ) → IsAce full a → bytes.now ≡ piece a ++ more
-        → (ace result.0 ≡ a) × (result.1.now ≡ more) }
+        → (ace result.ace ≡ a) × (result.rest.now ≡ more) }
 {
     let kind = kind_named(word_in(bytes, 0));
     let flags = Flags {
@@ -48,7 +56,7 @@ fn first_ace(bytes: &[u8]) -> (AceRef<'_>, &[u8])
         mask,
         who,
     };
-    (ace, rest)
+    FirstAce { ace, rest }
 }
 
 /// The ACEs of a list in order.
@@ -88,10 +96,10 @@ impl<'a> Iterator for Aces<'a> {
         if self.left == 0 {
             return None;
         }
-        let (ace, after) = first_ace(self.rest);
+        let first = first_ace(self.rest);
         self.left -= 1;
-        self.rest = after;
-        Some(ace)
+        self.rest = first.rest;
+        Some(first.ace)
     }
 }
 

@@ -1,4 +1,4 @@
-//! The owned list.
+//! The owned list, which is always accepted: an ACE is judged where it is added.
 ghost use Rattle.std.specs.Prelude.{◌≡◌, ◌+◌, ◌<◌, ◌≤◌, ◌↔◌, count_ones, IsTrue, IfErr, IfOk, OnOk, OnErr, None};
 ghost use Rattle.std.specs.Prelude.{[], ◌∷◌, ◌++◌, length, replicate};
 ghost use Rattle.acl_nfs4.specs.Ace.{ace};
@@ -206,13 +206,13 @@ fn kind_word(kind: Kind) -> u32
     }
 }
 
-// The piece of an ACE at the end, or nothing.
+// Adds the piece of an ACE at the end, or nothing.
 fn append_piece(body: &mut Vec<u8>, item: &AceRef<'_>) -> Result<(), AllocError>
     requires { length item.now.who.now ≤ longest_who }
     ensures { Extended body.old.items body.new.items (piece (ace item.now)) result }
 {
     let len = item.who.len();
-    // Behind this, nothing wants memory.
+    // With this room nothing below wants memory, so no ACE is left half written.
     body.reserve(16 + len + 3)?;
     body.extend_from_slice(&head(item))?;
     body.extend_from_slice(item.who)?;

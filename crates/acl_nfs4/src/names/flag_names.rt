@@ -1,4 +1,4 @@
-//! The names of the flags in the text form.
+//! The names of the flags, as texts spell a set of flags by them.
 
 use crate::names::bit_names::BitName;
 

@@ -1,4 +1,4 @@
-//! The names of the access rights.
+//! The names of the access rights, as texts spell a mask by them.
 ghost use Rattle.std.specs.Prelude.{◌≡◌, ℕ, IfSome, IsSomeAnd, option_map};
 ghost use Rattle.acl_nfs4.specs.BitNames.{first_name};
 ghost use Rattle.acl_nfs4.specs.Rights.{SpellsMask, mask_named, rights};

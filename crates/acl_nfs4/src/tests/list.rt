@@ -1,21 +1,16 @@
-//! Rows of owned lists: what is pushed, written and compared.
+//! Owned lists: copies of others, of views, and the profiles that they fit.
 
-use super::harness::{is_told, kept};
-use crate::PushFault::{Memory, SpecialWho, TooHeavy, TooManyAces, WhoControl, WhoLength, WhoUtf8};
+use super::harness::kept;
+use super::rows::{Row, append_ace, append_word, built, copied, item, repeated, shows, spelled};
 use crate::*;
 use std::alloc::{AllocError, Global};
 use std::process::Abort;
 use std::test::*;
 
-// An ACE as its type, flags, mask and who.
-type Row = (Kind, u32, u32, &'static [u8]);
-
-const EVERYONE: Row = (Kind::Allow, 0, 1, b"EVERYONE@");
-
 // Lists of the worked examples.
 static LISTS: [&[Row]; 14] = [
     &[],
-    &[EVERYONE],
+    &[(Kind::Allow, 0, 1, b"EVERYONE@")],
     &[(Kind::Deny, 0, 1, b"bob"), (Kind::Allow, 0, 1, b"alice")],
     &[(Kind::Allow, 0, 1, b"alice"), (Kind::Deny, 0, 1, b"bob")],
     &[
@@ -36,75 +31,6 @@ static LISTS: [&[Row]; 14] = [
     &[(Kind::Allow, 0x05, 1, b"alice")],
     &[(Kind::Allow, 0x0e, 1, b"alice")],
 ];
-
-fn item((kind, flags, mask, who): Row) -> Option<AceRef<'static>> {
-    Some(AceRef {
-        kind,
-        flags: Flags::new(flags)?,
-        mask: Mask::new(mask)?,
-        who,
-    })
-}
-
-fn built(alloc: Global, rows: &[Row]) -> Result<Acl, PushFault> {
-    let mut list = Acl::new(alloc);
-    for row in rows {
-        if let Some(ace) = item(*row) {
-            list.push(ace)?;
-        }
-    }
-    Ok(list)
-}
-
-fn append_word(bytes: &mut Vec<u8>, number: u32) -> Result<(), AllocError> {
-    bytes.extend_from_slice(&number.to_be_bytes())
-}
-
-fn word_of(len: usize) -> u32 {
-    u32::try_from(len).unwrap_or(u32::MAX)
-}
-
-fn append_ace(bytes: &mut Vec<u8>, (kind, flags, mask, who): Row) -> Result<(), AllocError> {
-    append_word(bytes, if kind == Kind::Allow { 0 } else { 1 })?;
-    append_word(bytes, flags)?;
-    append_word(bytes, mask)?;
-    append_word(bytes, word_of(who.len()))?;
-    bytes.extend_from_slice(who)?;
-    for _ in 0..(4 - who.len() % 4) % 4 {
-        bytes.push(0)?;
-    }
-    Ok(())
-}
-
-fn spelled(alloc: Global, rows: &[Row]) -> Result<Vec<u8>, AllocError> {
-    let mut bytes = Vec::new(alloc);
-    append_word(&mut bytes, word_of(rows.len()))?;
-    for row in rows {
-        append_ace(&mut bytes, *row)?;
-    }
-    Ok(bytes)
-}
-
-fn is_row(ace: &AceRef<'_>, (kind, flags, mask, who): Row) -> bool {
-    ace.kind == kind
-        && ace.flags.bits() as u32 == flags
-        && ace.mask.bits() == mask
-        && ace.who == who
-}
-
-fn shows(aces: Aces<'_>, rows: &[Row]) -> bool {
-    let mut at = 0usize;
-    for ace in aces {
-        let Some(row) = rows.get(at) else {
-            return false;
-        };
-        if !is_row(&ace, *row) {
-            return false;
-        }
-        at = at.wrapping_add(1);
-    }
-    at == rows.len()
-}
 
 // Whether each way through a list shows these rows, and tells how many there are.
 fn is_gone_through(list: &Acl, rows: &[Row]) -> bool {
@@ -158,48 +84,6 @@ pub fn a_list_from_a_view_is_what_the_view_shows(
     Ok(())
 }
 
-// What is answered where an ACE with this mask and who is pushed, and what the list then shows.
-fn pushed(
-    rt: &impl Abort,
-    alloc: Global,
-    mask: u32,
-    who: &'static [u8],
-    answer: Result<(), PushFault>,
-) -> Result<(), PushFault> {
-    let row = (Kind::Allow, 0, mask, who);
-    let mut list = built(alloc, &[EVERYONE])?;
-    if let Some(ace) = item(row) {
-        let pushed = list.push(ace);
-        if pushed == Err(Memory) {
-            return pushed;
-        }
-        assert!(rt; pushed == answer);
-        let both = [EVERYONE, row];
-        let (after, _) = both.split_at(if answer.is_ok() { 2 } else { 1 });
-        assert!(rt; shows(list.aces(), after));
-    }
-    Ok(())
-}
-
-/// A push is judged by its who.
-pub fn a_push_is_judged_by_its_who(rt: &impl Abort, alloc: Global) -> Result<(), PushFault> {
-    let rows: [(&'static [u8], Result<(), PushFault>); 9] = [
-        (b"", Err(WhoLength)),
-        (&[b'a'; 1024], Ok(())),
-        (&[0xff; 1025], Err(WhoLength)),
-        (b"\xff\x09", Err(WhoUtf8)),
-        (b"\x09@", Err(WhoControl)),
-        (b"\xc3\xa9\x7f", Err(WhoControl)),
-        (b"owner@", Err(SpecialWho)),
-        (b"OWNER@x", Ok(())),
-        (b"OWNER@", Ok(())),
-    ];
-    for (who, answer) in rows {
-        pushed(rt, alloc, 1, who, answer)?;
-    }
-    Ok(())
-}
-
 #[test]
 fn a_name_that_begins_like_the_owner_is_a_user(rt: HostRuntime) {
     let Some(ace) = item((Kind::Allow, 0, 1, b"OWNER@x")) else {
@@ -246,38 +130,6 @@ pub fn a_list_fits_the_profile_of_its_bits(
     Ok(())
 }
 
-// A list with so many of the same ACE.
-fn repeated(alloc: Global, count: u32, row: Row) -> Result<Acl, PushFault> {
-    let mut list = Acl::new(alloc);
-    if let Some(ace) = item(row) {
-        for _ in 0..count {
-            list.push(ace)?;
-        }
-    }
-    Ok(list)
-}
-
-// What a list answers to an ACE of this mask whose who is empty.
-fn pushed_nameless(list: &mut Acl, mask: u32) -> Option<Result<(), PushFault>> {
-    let ace = item((Kind::Allow, 0, mask, b""))?;
-    Some(list.push(ace))
-}
-
-fn copied(rt: &impl Abort, alloc: Global, list: &Acl) -> Result<(), AllocError> {
-    let copy = list.copy(alloc)?;
-    assert!(rt; copy == *list);
-    Ok(())
-}
-
-fn heavy_list(rt: &impl Abort, alloc: Global) -> Result<(), PushFault> {
-    let mut heavy = repeated(alloc, 4_096, (Kind::Allow, 0, 0x001f_07ff, b"a"))?;
-    assert!(rt; heavy.weight() == 65_536);
-    assert!(rt; pushed_nameless(&mut heavy, 1) == Some(Err(TooHeavy)));
-    assert!(rt; pushed_nameless(&mut heavy, 0) == Some(Err(WhoLength)));
-    assert!(rt; heavy.len() == 4_096);
-    Ok(())
-}
-
 fn full_spelled(alloc: Global, row: Row) -> Result<Vec<u8>, AllocError> {
     let mut bytes = Vec::new(alloc);
     append_word(&mut bytes, 65_536)?;
@@ -291,29 +143,8 @@ fn full_from_view(alloc: Global, bytes: &[u8]) -> Result<Acl, Fail> {
     Ok(Acl::from_view(alloc, &AclView::parse_whole(bytes)?)?)
 }
 
-static LINES: [(PushFault, &str); 7] = [
-    (TooManyAces, "TooManyAces"),
-    (TooHeavy, "TooHeavy"),
-    (WhoLength, "WhoLength"),
-    (WhoUtf8, "WhoUtf8"),
-    (WhoControl, "WhoControl"),
-    (SpecialWho, "SpecialWho"),
-    (Memory, "Memory"),
-];
-
 mod ample {
     use super::*;
-
-    // What is judged before the who: the number of ACEs, and then the weight.
-    #[test]
-    fn a_full_list_takes_no_more(rt: HostRuntime) -> Result<(), PushFault> {
-        let mut list = repeated(rt.alloc(), 65_536, (Kind::Allow, 0, 0, b"a"))?;
-        assert!(rt; pushed_nameless(&mut list, 1) == Some(Err(TooManyAces)));
-        assert!(rt; list.len() == 65_536);
-        assert!(rt; list.weight() == 0);
-        assert!(rt; copied(&rt, rt.alloc(), &list).is_ok());
-        heavy_list(&rt, rt.alloc())
-    }
 
     #[test]
     fn a_full_list_is_made_from_its_view(rt: HostRuntime) -> Result<(), Fail> {
@@ -332,12 +163,5 @@ mod ample {
         assert!(rt; list.len() == 1_100);
         assert!(rt; copied(&rt, rt.alloc(), &list).is_ok());
         Ok(())
-    }
-
-    #[test]
-    fn each_refusal_has_its_line(rt: HostRuntime) {
-        for (fault, line) in LINES {
-            assert!(rt; is_told(rt.alloc(), &fault, line) == Ok(true), "{line}");
-        }
     }
 }

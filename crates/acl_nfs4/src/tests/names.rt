@@ -1,4 +1,4 @@
-//! Rows of the names and numbers of the standard.
+//! The names and the numbers of the standard.
 
 use crate::*;
 use std::alloc::Global;

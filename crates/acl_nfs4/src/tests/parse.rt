@@ -1,4 +1,4 @@
-//! Rows of bytes that are a list or have a fault.
+//! Bytes that spell a list, and bytes that have a fault.
 
 use super::harness::{is_told, kept};
 use crate::*;

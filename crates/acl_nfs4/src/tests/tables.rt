@@ -1,7 +1,7 @@
 //! Tables that want memory for what they hold: one that is refused it answers so where it meets it. Each is held with
 //! ample memory too.
 
-use super::{list, parse, text};
+use super::{list, parse, push, text};
 use crate::PushFault;
 use std::alloc::Global;
 use std::process::Abort;
@@ -9,7 +9,7 @@ use std::process::Abort;
 fn tables(rt: &impl Abort, alloc: Global) -> Result<(), PushFault> {
     list::a_copy_is_the_same_list(rt, alloc)?;
     list::a_list_from_a_view_is_what_the_view_shows(rt, alloc)?;
-    list::a_push_is_judged_by_its_who(rt, alloc)?;
+    push::a_push_is_judged_by_its_who(rt, alloc)?;
     list::a_list_fits_the_profile_of_its_bits(rt, alloc)?;
     parse::the_weight_of_a_list_is_limited(rt, alloc)?;
     text::texts_spell_their_lists(rt, alloc)?;

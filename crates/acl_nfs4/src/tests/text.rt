@@ -1,4 +1,4 @@
-//! Rows of texts that are a list or have a fault.
+//! Texts that spell a list, and texts that have a fault.
 
 use super::harness::is_told;
 use crate::*;

@@ -1,4 +1,4 @@
-//! Why a text is no list.
+//! Why a text is no list, by line and column.
 
 use thiserror::Error;
 

@@ -1,4 +1,4 @@
-//! The ACE that a line of a text spells.
+//! The ACE that a line of a text spells, or what is wrong with the line.
 ghost use Rattle.std.specs.Prelude.{◌≡◌, ◌==◌, ◌+◌, ◌<◌, ◌≤◌, count_ones, option_map, position, IfOk, IfSome};
 ghost use Rattle.acl_perm.specs.Profile.{profile_of};
 ghost use Rattle.acl_nfs4.specs.Ace.{ace};

@@ -1,4 +1,4 @@
-//! The text of a list, to a sink.
+//! The text of a list, to a sink: each line is made in a room of its own, without memory.
 ghost use Rattle.std.specs.Prelude.{◌≡◌, ◌+◌, ◌*◌, ◌^◌, ◌<◌, ◌≤◌, ◌++◌, ◌↔◌, OnErr, OnOk, List, length, true};
 ghost use Rattle.std.specs.List.{join_with_byte, list_all};
 ghost use Rattle.arrayvec.specs.ArrayVec.{array_vec_len};

@@ -1,4 +1,4 @@
-//! What is left of bytes that are read.
+//! What is left of bytes that are read, which tells the offset.
 ghost use Rattle.std.specs.Prelude.{◌≤◌, length};
 
 /// The bytes that are left, and how many there were.

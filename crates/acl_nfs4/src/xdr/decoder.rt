@@ -1,4 +1,4 @@
-//! A value from a source.
+//! A list from a source, of which no byte behind the list is taken.
 ghost use Rattle.std.specs.Prelude.{◌≡◌, ◌⊎◌, ◌++◌, ℕ, List, Some, IfErr, OnOk};
 ghost use Rattle.std.specs.Io.KnownBytes.{Consumes, IsAtEnd};
 ghost use Rattle.acl_perm.specs.Devices.{one_more};
@@ -97,12 +97,7 @@ fn read_value<S: Source>(alloc: Global, source: &mut S, profile: Profile) -> Res
         let ace = pull_ace(source, &mut room, next)?;
         match body.extend_from_slice(&room[..ace.len]) {
             Ok(()) => weight += ace.bits,
-            Err(_) => {
-                return Err(Fault {
-                    offset: 0,
-                    reason: Reason::Memory,
-                });
-            }
+            Err(_) => return Err(Fault::at_front(Reason::Memory)),
         }
     }
     Ok(Acl {

@@ -1,4 +1,4 @@
-//! The owned list as bytes.
+//! The bytes of an owned list, to a sink.
 ghost use Rattle.std.specs.Prelude.{◌≡◌, ◌<◌, ◌^◌, ℕ, List, OnOk, length};
 ghost use Rattle.std.specs.Io.KnownBytes.{Appends};
 ghost use Rattle.acl_perm.specs.Pieces.{Writes};

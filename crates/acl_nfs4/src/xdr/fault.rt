@@ -1,4 +1,5 @@
-//! Why bytes are no list.
+//! Why bytes are no list, and where.
+ghost use Rattle.std.specs.Prelude.{◌≡◌};
 
 use thiserror::Error;
 
@@ -46,4 +47,13 @@ pub struct Fault {
     pub offset: u64,
     /// What is wrong with it.
     pub reason: Reason,
+}
+
+impl Fault {
+    /// What is told of the list as a whole, at its first byte.
+    pub(crate) fn at_front(reason: Reason) -> Fault
+        ensures { result ≡ record { offset = 0; reason = reason } }
+    {
+        Fault { offset: 0, reason }
+    }
 }

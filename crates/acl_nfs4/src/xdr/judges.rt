@@ -1,4 +1,4 @@
-//! What each field of the layout may hold.
+//! What each field of the layout may hold: the same in memory, in a stream and from a source.
 ghost use Rattle.std.specs.Prelude.{◌≡◌, ◌==◌, ◌+◌, ◌≤◌, IfOk, count_ones, false, length};
 ghost use Rattle.std.specs.List.{list_all};
 ghost use Rattle.acl_perm.specs.Profile.{profile_of};

@@ -1,4 +1,4 @@
-//! The fields of an ACE from a source, one after the other.
+//! The fields of an ACE from a source: each is judged before the next is asked for.
 ghost use Rattle.std.specs.Prelude.{◌≡◌, ◌+◌, ◌-◌, ◌<◌, ◌≤◌, ◌^◌, ℕ, List, length};
 ghost use Rattle.std.specs.Io.KnownBytes.{Consumes};
 ghost use Rattle.acl_nfs4.specs.Limits.{most_weight};
@@ -90,7 +90,7 @@ struct Words {
     bits: u32,
 }
 
-// The four words of an ACE.
+// The four words of an ACE, of which each is judged before the next is asked for.
 #[inline(always)]
 fn pull_words<S: Source>(source: &mut S, room: &mut [u8], next: NextAce) -> Result<Words, Fault>
     requires room { length room.old ≡ 1040 }

@@ -1,4 +1,4 @@
-//! The fields of a list in memory, one after the other.
+//! The fields of a list in memory, one after the other, and the offset of the one that is refused.
 ghost use Rattle.std.specs.Prelude.{◌≡◌, ℕ, ◌+◌, ◌-◌, ◌<◌, ◌≤◌, ◌^◌, length, Ok, IfOk, count_ones, false};
 ghost use Rattle.acl_perm.specs.Profile.{profile_of};
 ghost use Rattle.acl_nfs4.specs.Fields.{count_of, kind_of, flags_of, mask_of, who_len_of, who_of, padding_of};
@@ -16,7 +16,7 @@ use crate::xdr::judges;
 use acl_perm::{Flags, Kind, Mask, Profile};
 use byteorder::{BigEndian, ByteOrder};
 
-// How many bytes were read: worked out where it is wanted, since only a fault wants it.
+// How many bytes were read. No cursor keeps it, since only a fault wants it.
 #[inline(always)]
 fn offset_of(cursor: &Cursor<'_>) -> u64
     ensures { result ≡ (place cursor.now).at }
@@ -141,8 +141,8 @@ fn fields<'a>(cursor: &mut Cursor<'a>, weight: u32, profile: Profile) -> Result<
     })
 }
 
-// An ACE. Both ways are the same: behind the test that its four words are there, the compiler leaves out the test of
-// each.
+// The next ACE. Both ways are the same: behind the test that its four words are there, the compiler leaves out the test
+// of each.
 #[inline(always)]
 pub(crate) fn next_ace<'a>(
     cursor: &mut Cursor<'a>,

@@ -1,7 +1,8 @@
-//! A list that lies in the bytes that spell it.
-ghost use Rattle.std.specs.Prelude.{◌≡◌, ◌≤◌, ◌++◌, ℕ, List, length, take, IfOk, IfErr, IsOkAnd, Ok, Err};
+//! A list that lies in the bytes that spell it, so that to read it takes no memory.
+ghost use Rattle.std.specs.Prelude.{◌≡◌, ◌++◌, ℕ, List, IfOk, IfErr, IsOkAnd, Ok, Err};
 ghost use Rattle.acl_nfs4.specs.Ace.{Ace};
 ghost use Rattle.acl_nfs4.specs.Spelling.{IsAccepted, Xdr};
+ghost use Rattle.acl_nfs4.specs.Front.{IsListOf, StandsAtFront};
 ghost use Rattle.acl_perm.specs.Profile.{full, profile_of};
 ghost use Rattle.acl_nfs4.specs.Fault.{IsFault, IsWholeFault};
 ghost use Rattle.acl_nfs4.specs.declared.xdr.fault.Reason.{Reason};
@@ -39,12 +40,10 @@ impl<'a> AclView<'a> {
     /// (RFC 8881, section 6.2.1, in the layout of RFC 4506).
     pub fn parse(bytes: &'a [u8]) -> Result<(AclView<'a>, usize), Fault>
         // What is found stands at the front.
-        ensures found { IfOk result (λ x.
-            (x.1 ≤ length bytes.now) × Xdr full x.0 (take x.1 bytes.now)) }
+        ensures found { IfOk result (StandsAtFront full bytes.now) }
         // What stands at the front is found.
         ensures only { (list : List Ace) (text rest : List ℕ) → Xdr full list text
-            → bytes.now ≡ text ++ rest
-            → IsOkAnd result (λ x. (x.0 ≡ list) × (x.1 ≡ length text)) }
+            → bytes.now ≡ text ++ rest → IsOkAnd result (IsListOf list text) }
         // A fault is that of the bytes.
         ensures fault { IfErr result (λ f. IsFault full bytes.now f.offset f.reason) }
         // Bytes with a fault are refused by it.
@@ -59,11 +58,10 @@ impl<'a> AclView<'a> {
     #[inline(always)]
     pub fn parse_with(bytes: &'a [u8], profile: Profile) -> Result<(AclView<'a>, usize), Fault>
         // What is found stands at the front.
-        ensures found { IfOk result (λ x.
-            (x.1 ≤ length bytes.now) × Xdr (profile_of profile) x.0 (take x.1 bytes.now)) }
+        ensures found { IfOk result (StandsAtFront (profile_of profile) bytes.now) }
         // What stands at the front is found.
         ensures only { (list : List Ace) (text rest : List ℕ) → Xdr (profile_of profile) list text
-            → bytes.now ≡ text ++ rest → IsOkAnd result (λ x. (x.0 ≡ list) × (x.1 ≡ length text)) }
+            → bytes.now ≡ text ++ rest → IsOkAnd result (IsListOf list text) }
         // A fault is that of the bytes.
         ensures fault { IfErr result (λ f. IsFault
             (profile_of profile) bytes.now f.offset f.reason) }

@@ -6,14 +6,14 @@ use Rattle.acl_eval.specs.Column.{takes_part}
 use Rattle.acl_eval.specs.Grant.{is_allow}
 use Rattle.acl_nfs4.specs.Ace.{Ace}
 use Rattle.acl_nfs4.specs.Who.{principal_of}
-use Rattle.acl_normal.specs.internal.Passes.{list_of}
-use Rattle.acl_normal.specs.internal.SetSearch.{AreRightsOf, GrantAlikeTo, differ, is_granted_to, principals}
+use Rattle.acl_normal.specs.internal.Classes.{is_users}
+use Rattle.acl_normal.specs.internal.SetSearch.{GrantAlikeTo, differ, is_granted_to}
 use Rattle.acl_normal.specs.SmallSituations.{is_among}
-use Rattle.acl_normal.specs.declared.comparison.rows.Compared.{Compared}
-use Rattle.acl_normal.specs.declared.comparison.rows.First.{First}
-use Rattle.acl_normal.specs.declared.comparison.rows.Row.{Row}
-use Rattle.acl_normal.specs.declared.comparison.rows.Whom.{Whom}
-use Rattle.acl_normal.specs.declared.comparison.rows.Whom.TheVariants.{Everyone, Nobody, One}
+use Rattle.acl_normal.specs.declared.class.Class.TheVariants.{Users}
+use Rattle.acl_normal.specs.declared.comparison.standing.First.{First}
+use Rattle.acl_normal.specs.declared.comparison.standing.Standing.{Standing}
+use Rattle.acl_normal.specs.declared.comparison.standing.Whom.{Whom}
+use Rattle.acl_normal.specs.declared.comparison.standing.Whom.TheVariants.{Everyone, Nobody, One}
 use Rattle.acl_perm.specs.Bits.{all_rights, has_bit}
 use Rattle.acl_perm.specs.Overlap.{may_overlap}
 use Rattle.acl_perm.specs.Principal.{Principal, everyone, is_user}
@@ -30,21 +30,21 @@ first_place set bit (a ∷ list) =
 -- the first ACE of a principal, or of everyone
 pub record IsFirst (list : List Ace) (bit : ℕ) (p : Principal) (f : First) : Type 0 where
   pub place : f.place ≡ first_place (p ∷ []) bit list
-  pub allows : f.allows ≡ is_granted_to list (p ∷ []) bit
+  pub allows : is_allow f.kind ≡ is_granted_to list (p ∷ []) bit
 
 -- what both lists say first of a principal
-pub record IsRow (list other : List Ace) (bit : ℕ) (p : Principal) (r : Row) : Type 0 where
+pub record IsStanding (list other : List Ace) (bit : ℕ) (p : Principal) (r : Standing) : Type 0 where
   pub here : IsFirst list bit p r.here
   pub there : IsFirst other bit p r.there
-  pub user : r.user ≡ is_user p
+  pub class : is_users r.class ≡ is_user p
 
 -- of two that may overlap and are of different types, the one comes first in one list, and not in the other
-abbrev pub inverts : Row → Row → Bool
-inverts r s = (not (r.user && s.user) && differ r.here.allows s.here.allows)
+abbrev pub inverts : Standing → Standing → Bool
+inverts r s = (not (is_users r.class && is_users s.class) && differ (is_allow r.here.kind) (is_allow s.here.kind))
     && differ (nat_lt s.here.place r.here.place) (nat_lt s.there.place r.there.place)
 
--- the row inverts one of the others
-abbrev pub inverts_any : Row → List Row → Bool
+-- a principal inverts one of the others
+abbrev pub inverts_any : Standing → List Standing → Bool
 inverts_any r = list_any (inverts r)
 
 -- on one bit, the lists grant alike wherever this principal and another that may overlap match
@@ -84,12 +84,12 @@ AreWhoms whole list ws = AllZip (IsWhom whole) list ws
 
 -- what stands for a first ACE behind a list of them
 abbrev pub no_first : First
-no_first = record { place = 0; allows = false }
+no_first = record { place = 0; kind = Deny }
 
 -- what the ACEs from a place on say first
 pub record IsFirstFrom (list : List Ace) (bit i : ℕ) (p : Principal) (f : First) : Type 0 where
   pub place : f.place ≡ first_place (p ∷ []) bit (drop i list) + i
-  pub allows : f.allows ≡ is_granted_to (drop i list) (p ∷ []) bit
+  pub allows : is_allow f.kind ≡ is_granted_to (drop i list) (p ∷ []) bit
 
 -- of each principal
 pub record AreFirstFrom (whole : List Principal) (list : List Ace) (bit i : ℕ) (firsts : List First) : Type 0 where
@@ -97,9 +97,10 @@ pub record AreFirstFrom (whole : List Principal) (list : List Ace) (bit i : ℕ)
   pub each : (k : ℕ) → k < length whole
       → IsFirstFrom list bit i (slice_index_or whole k everyone) (slice_index_or firsts k no_first)
 
--- each row tells of its principal
-pub record AreRows (whole : List Principal) (list other : List Ace) (bit : ℕ) (rows : List Row) : Type 0 where
-  pub each : AllZip (IsRow list other bit) whole rows
+-- where each principal stands
+pub record AreStandings (whole : List Principal) (list other : List Ace) (bit : ℕ) (standings : List Standing) :
+    Type 0 where
+  pub each : AllZip (IsStanding list other bit) whole standings
 
 -- what stands for an ACE behind a list
 abbrev pub no_ace : Ace
@@ -119,16 +120,34 @@ stops_at list ws bit k = stops bit (slice_index_or list k no_ace) (slice_index_o
 abbrev pub put : List First → Ace → Whom → ℕ → ℕ → List First
 put firsts a Nobody place bit = firsts
 put firsts a (One i) place bit =
-    if has_bit a.mask bit then slice_set firsts i (record { place = place; allows = is_allow a.kind }) else firsts
+    if has_bit a.mask bit then slice_set firsts i (record { place = place; kind = a.kind }) else firsts
 put firsts a Everyone place bit = firsts
 
--- what stands for a row behind a list of them
-abbrev pub no_row : Row
-no_row = record { here = no_first; there = no_first; user = false }
+-- what stands for a standing behind a list of them
+abbrev pub no_standing : Standing
+no_standing = record { here = no_first; there = no_first; class = Users }
 
 -- both lists say the same of the principal alone
-abbrev pub SameAlone : Row → Type 0
-SameAlone r = r.here.allows ≡ r.there.allows
+abbrev pub SameAlone : Standing → Type 0
+SameAlone r = is_allow r.here.kind ≡ is_allow r.there.kind
+
+-- the first below a limit of which the lists say different things, or the limit
+pub record IsFirstUnlike (standings : List Standing) (limit first : ℕ) : Type 0 where
+  pub within : first ≤ limit
+  pub before : (k : ℕ) → k < first → SameAlone (slice_index_or standings k no_standing)
+  pub at : first < limit → SameAlone (slice_index_or standings first no_standing) → ⊥
+
+-- the first below a limit that inverts another, or the limit
+pub record IsFirstInverting (standings : List Standing) (limit first : ℕ) : Type 0 where
+  pub within : first ≤ limit
+  pub before : (k : ℕ) → k < first → inverts_any (slice_index_or standings k no_standing) standings ≡ false
+  pub at : first < limit → inverts_any (slice_index_or standings first no_standing) standings ≡ true
+
+-- the first of the others below a limit that one inverts, or the limit
+pub record IsFirstInverted (one : Standing) (others : List Standing) (limit first : ℕ) : Type 0 where
+  pub within : first ≤ limit
+  pub before : (k : ℕ) → k < first → inverts one (slice_index_or others k no_standing) ≡ false
+  pub at : first < limit → inverts one (slice_index_or others first no_standing) ≡ true
 
 -- what is asked of each right
 abbrev pub OnAll : (ℕ → ℕ → Type 0) → ℕ → Type 0
@@ -155,40 +174,3 @@ abbrev pub AlikeWith : List Ace → List Ace → Principal → List Principal �
 AlikeWith list other p rest bit k = may_overlap p (slice_index_or rest k everyone) ≡ true
     → is_granted_to list (p ∷ slice_index_or rest k everyone ∷ []) bit
     ≡ is_granted_to other (p ∷ slice_index_or rest k everyone ∷ []) bit
-
--- of two lists, whom each ACE names is known, and no ACE has a right past those of both
-pub record IsCompared (c : Compared) : Type 0 where
-  pub here : AreWhoms (principals c.whole.now) (list_of c.list.now) c.list_whoms.now
-  pub there : AreWhoms (principals c.whole.now) (list_of c.other.now) c.other_whoms.now
-  pub here_rights : AreRightsOf (list_of c.list.now) c.rights.bits
-  pub there_rights : AreRightsOf (list_of c.other.now) c.rights.bits
-
--- ---- what is asked of two lists that are compared, right by right
-
--- each row tells of its principal
-abbrev pub AreRowsOf : Compared → ℕ → List Row → Type 0
-AreRowsOf c bit rows = AreRows (principals c.whole.now) (list_of c.list.now) (list_of c.other.now) bit rows
-
--- the lists grant alike to each principal alone
-abbrev pub IsAlikeAlone : Compared → Type 0
-IsAlikeAlone c = (k : ℕ) → k < length (principals c.whole.now)
-    → OnAll (AlikeAlone (list_of c.list.now) (list_of c.other.now) (principals c.whole.now)) k
-
--- the number of the first principal to whom alone they don't, or of principals
-abbrev pub IsFirstSingle : Compared → ℕ → Type 0
-IsFirstSingle c least =
-    IsLeast (OnAll (AlikeAlone (list_of c.list.now) (list_of c.other.now) (principals c.whole.now)))
-    (length (principals c.whole.now)) least
-
--- of the first that is one of a pair to whom they don't
-abbrev pub IsFirstMember : Compared → ℕ → Type 0
-IsFirstMember c least =
-    IsLeast (OnAll (AlikeWithAll (list_of c.list.now) (list_of c.other.now) (principals c.whole.now)))
-    (length (principals c.whole.now)) least
-
--- behind one principal, of the first with whom it is such a pair, or of those behind it
-abbrev pub IsFirstPartner : Compared → ℕ → ℕ → Type 0
-IsFirstPartner c at least =
-    IsLeast (OnAll (AlikeWith (list_of c.list.now) (list_of c.other.now)
-    (slice_index_or (principals c.whole.now) at everyone) (drop (at + 1) (principals c.whole.now))))
-    (length (drop (at + 1) (principals c.whole.now))) least

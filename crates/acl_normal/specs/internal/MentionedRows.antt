@@ -1,19 +1,20 @@
 -- The principals that lists mention, by row and by number (this library's own): words that only code needs.
 use Rattle.std.specs.Prelude.{◌≡◌, ℕ, ◌<◌, true, if◌then◌else◌, List, [], ◌∷◌, ◌++◌, Option, Some, None, length, option_map, slice_index_or, slice_set, take}
-use Rattle.std.specs.Global.{Vec}
 use Rattle.acl_perm.specs.Principal.{Principal, everyone, principal}
 use Rattle.acl_perm.specs.declared.principal.Principal.{Principal as PrincipalRef}
 use Rattle.acl_eval.specs.Column.{takes_part}
 use Rattle.acl_nfs4.specs.Ace.{Ace}
 use Rattle.acl_nfs4.specs.Who.{principal_of}
 use Rattle.acl_normal.specs.Keys.{principal_eq}
-use Rattle.acl_normal.specs.SmallSets.{is_mentioning, mentioned, mentioned_with}
+use Rattle.acl_normal.specs.SmallSets.{is_mentioning, mentioned_with}
 use Rattle.acl_normal.specs.SmallSituations.{is_among}
-use Rattle.acl_normal.specs.declared.comparison.rows.Whom.{Whom}
-use Rattle.acl_normal.specs.declared.comparison.rows.Whom.TheVariants.{Everyone, Nobody, One}
+use Rattle.acl_normal.specs.declared.comparison.mentioned.Mentions.{Mentions}
+use Rattle.acl_normal.specs.declared.comparison.standing.Whom.{Whom}
+use Rattle.acl_normal.specs.declared.comparison.standing.Whom.TheVariants.{Everyone, Nobody, One}
 use Rattle.acl_normal.specs.internal.FirstPlaces.{AreWhoms, no_ace}
 use Rattle.acl_normal.specs.internal.Rows.{is_named, row_of}
 use Rattle.acl_normal.specs.internal.SetSearch.{IsRising, principals}
+use Rattle.acl_normal.specs.internal.TwoLists.{TwoLists, all_mentioned}
 
 -- whom the ACE mentions, if it mentions anyone
 abbrev pub mentioned_by : Ace → Option Principal
@@ -78,7 +79,8 @@ pub record AreMentionedRows (xs : List Ace) (rows : List ℕ) (whole : List Prin
   pub number : (i : ℕ) → i < length xs → is_mentioning (slice_index_or xs i no_ace) ≡ true
       → HasNumber whole (principal_of (slice_index_or xs i no_ace)) (slice_index_or numbers (slice_index_or rows i 0) 0)
 
--- the principals that two lists mention, in order, and whom of these each ACE names, of both lists
-pub record AreMentioned (list other : List Ace) (found : Vec PrincipalRef × Vec Whom) : Type 0 where
-  pub whole : principals found.0.items ≡ mentioned list other
-  pub whoms : AreWhoms (principals found.0.items) (list ++ other) found.1.items
+-- the principals that two lists mention, in order, and whom of these each ACE names: of the first list, and then of the
+-- second
+pub record AreMentioned (both : TwoLists) (found : Mentions) : Type 0 where
+  pub in_order : principals found.principals.items ≡ all_mentioned both
+  pub whoms : AreWhoms (principals found.principals.items) (both.first ++ both.second) found.whoms.items

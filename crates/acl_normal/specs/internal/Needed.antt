@@ -22,8 +22,8 @@ some_of k users ((q, j) ∷ c) = (kind_eq j k && same_class (is_user q) users) |
 
 -- the bits of a class: of users, or of others
 abbrev pub class_mask : ByClass → Bool → ℕ
-class_mask m true = m.users
-class_mask m false = m.others
+class_mask m true = m.users.bits
+class_mask m false = m.others.bits
 
 -- the bits that later keys of a kind and a class have
 abbrev pub later_mask : Later → Kind → Bool → ℕ

@@ -1,71 +1,79 @@
--- Tables that tell at once whether a row inverts another (this library's own): words that only code needs.
+-- Tables that tell at once whether a principal inverts another (this library's own): words that only code needs.
 use Rattle.std.specs.Prelude.{◌≡◌, ℕ, ◌<◌, ◌≤◌, ◌+◌, Bool, true, false, not, ◌&&◌, ◌||◌, ◌==◌, if◌then◌else◌, nat_lt, List, [], ◌∷◌, max, length, slice_index_or}
-use Rattle.acl_normal.specs.internal.FirstPlaces.{inverts_any, no_row}
+use Rattle.acl_normal.specs.internal.FirstPlaces.{inverts_any, no_standing}
 use Rattle.acl_normal.specs.internal.SetSearch.{differ}
-use Rattle.acl_normal.specs.declared.comparison.inversions.Sort.{Sort}
-use Rattle.acl_normal.specs.declared.comparison.rows.Row.{Row}
+use Rattle.acl_normal.specs.internal.Classes.{is_users}
+use Rattle.acl_perm.specs.Kind.{is_allow}
+use Rattle.acl_normal.specs.declared.comparison.inversions.Camp.{Camp}
+use Rattle.acl_normal.specs.declared.comparison.inversions.Side.{Side}
+use Rattle.acl_normal.specs.declared.comparison.inversions.Side.TheVariants.{Here, There}
+use Rattle.acl_normal.specs.declared.comparison.standing.Standing.{Standing}
 
--- the row is of the other type, and may overlap with rows of the sort
-abbrev pub is_counted : Sort → Row → Bool
-is_counted sort r = not (sort.user && r.user) && differ sort.allows r.here.allows
+-- a principal is of the other type, and may overlap with those of the camp
+abbrev pub is_counted : Camp → Standing → Bool
+is_counted camp r = not (is_users camp.class && is_users r.class) && differ (is_allow camp.kind) (is_allow r.here.kind)
 
--- the place in the one list
-abbrev pub place_of : Bool → Row → ℕ
-place_of swapped r = if swapped then r.there.place else r.here.place
+-- the place in the list of a side
+abbrev pub place_of : Side → Standing → ℕ
+place_of Here r = r.here.place
+place_of There r = r.there.place
 
 -- the place in the other list
-abbrev pub other_place : Bool → Row → ℕ
-other_place swapped r = if swapped then r.here.place else r.there.place
+abbrev pub other_place : Side → Standing → ℕ
+other_place Here r = r.there.place
+other_place There r = r.here.place
 
--- one more than the greatest place, in the other list, of the rows that count and stand before a place in the one
-abbrev pub most_before : Sort → Bool → ℕ → List Row → ℕ
-most_before sort swapped k [] = 0
-most_before sort swapped k (r ∷ rows) =
-    max (if is_counted sort r && nat_lt (place_of swapped r) k then other_place swapped r + 1 else 0)
-    (most_before sort swapped k rows)
+-- one more than the greatest place, in the other list, of those that count and stand before a place in the one
+abbrev pub most_before : Camp → Side → ℕ → List Standing → ℕ
+most_before camp side k [] = 0
+most_before camp side k (r ∷ standings) =
+    max (if is_counted camp r && nat_lt (place_of side r) k then other_place side r + 1 else 0)
+    (most_before camp side k standings)
 
 -- of those that stand just before it
-abbrev pub most_at : Sort → Bool → ℕ → List Row → ℕ
-most_at sort swapped k [] = 0
-most_at sort swapped k (r ∷ rows) =
-    max (if is_counted sort r && (place_of swapped r + 1 == k) then other_place swapped r + 1 else 0)
-    (most_at sort swapped k rows)
+abbrev pub most_at : Camp → Side → ℕ → List Standing → ℕ
+most_at camp side k [] = 0
+most_at camp side k (r ∷ standings) =
+    max (if is_counted camp r && (place_of side r + 1 == k) then other_place side r + 1 else 0)
+    (most_at camp side k standings)
 
 -- places within lists of this length
-pub record HasPlaces (size : ℕ) (r : Row) : Type 0 where
+pub record HasPlaces (size : ℕ) (r : Standing) : Type 0 where
   pub here : r.here.place ≤ size
   pub there : r.there.place ≤ size
 
 -- at each place the greatest of those before it
-pub record IsTable (sort : Sort) (swapped : Bool) (size : ℕ) (rows : List Row) (table : List ℕ) : Type 0 where
+pub record IsTable (camp : Camp) (side : Side) (size : ℕ) (standings : List Standing) (table : List ℕ) : Type 0 where
   pub count : length table ≡ size + 2
-  pub each : (k : ℕ) → k < size + 2 → slice_index_or table k 0 ≡ most_before sort swapped k rows
+  pub each : (k : ℕ) → k < size + 2 → slice_index_or table k 0 ≡ most_before camp side k standings
 
 -- at each place the greatest of those just before it
-pub record IsScattered (sort : Sort) (swapped : Bool) (size : ℕ) (rows : List Row) (table : List ℕ) : Type 0 where
+pub record IsScattered (camp : Camp) (side : Side) (size : ℕ) (standings : List Standing) (table : List ℕ) :
+    Type 0 where
   pub count : length table ≡ size + 2
-  pub each : (k : ℕ) → k < size + 2 → slice_index_or table k 0 ≡ most_at sort swapped k rows
+  pub each : (k : ℕ) → k < size + 2 → slice_index_or table k 0 ≡ most_at camp side k standings
 
--- what stands behind the row's place is raised, if the row is counted
-pub record Raises (sort : Sort) (swapped : Bool) (r : Row) (old new : List ℕ) : Type 0 where
+-- what stands behind a principal's place is raised, if it is counted
+pub record Raises (camp : Camp) (side : Side) (r : Standing) (old new : List ℕ) : Type 0 where
   pub count : length new ≡ length old
   pub each : (k : ℕ) → k < length old → slice_index_or new k 0
       ≡ max (slice_index_or old k 0)
-      (if is_counted sort r && (place_of swapped r + 1 == k) then other_place swapped r + 1 else 0)
+      (if is_counted camp r && (place_of side r + 1 == k) then other_place side r + 1 else 0)
 
--- the row is of the sort
-abbrev pub is_of_sort : Sort → Row → Bool
-is_of_sort sort r = not (differ sort.allows r.here.allows) && not (differ sort.user r.user)
+-- a principal is of the camp
+abbrev pub is_of_camp : Camp → Standing → Bool
+is_of_camp camp r = not (differ (is_allow camp.kind) (is_allow r.here.kind))
+    && not (differ (is_users camp.class) (is_users r.class))
 
--- the row is of a sort, and by the tables of it inverts another
-abbrev pub is_told : Sort → Row → List ℕ → List ℕ → Bool
-is_told sort r forward back = is_of_sort sort r
+-- a principal is of a camp, and by the tables of it inverts another
+abbrev pub is_told : Camp → Standing → List ℕ → List ℕ → Bool
+is_told camp r forward back = is_of_camp camp r
     && (nat_lt r.there.place (slice_index_or forward r.here.place 0)
     || nat_lt r.here.place (slice_index_or back r.there.place 0))
 
--- the first row of a sort, below a limit, that inverts another
-pub record IsFirstOf (sort : Sort) (rows : List Row) (limit first : ℕ) : Type 0 where
+-- the first of a camp, below a limit, that inverts another
+pub record IsFirstOf (camp : Camp) (standings : List Standing) (limit first : ℕ) : Type 0 where
   pub within : first ≤ limit
-  pub before : (k : ℕ) → k < first → is_of_sort sort (slice_index_or rows k no_row) ≡ true
-      → inverts_any (slice_index_or rows k no_row) rows ≡ false
-  pub at : first < limit → inverts_any (slice_index_or rows first no_row) rows ≡ true
+  pub before : (k : ℕ) → k < first → is_of_camp camp (slice_index_or standings k no_standing) ≡ true
+      → inverts_any (slice_index_or standings k no_standing) standings ≡ false
+  pub at : first < limit → inverts_any (slice_index_or standings first no_standing) standings ≡ true

@@ -1,15 +1,17 @@
 -- The keys that have a free bit (this library's own).
 use Rattle.std.specs.Prelude.{◌≡◌, ◌≢◌, ℕ, ◌*◌, ◌<◌, ◌≤◌, zero, suc, Bool, true, false, cond, ◌||◌, ◌&&◌, ◌==◌, ◌⊎◌, ◌^◌, List, length, slice_index_or, bit_or}
+use Rattle.std.specs.Ordering.{is_le}
 use Rattle.acl_perm.specs.Principal.{Principal, owner, user, group, group_named, everyone, is_user}
 use Rattle.acl_perm.specs.declared.kind.Kind.{Kind}
 use Rattle.acl_perm.specs.Bits.{has_bit}
 use Rattle.acl_nfs4.specs.Ace.{Ace}
 use Rattle.acl_nfs4.specs.Who.{owner_name, group_name, everyone_name}
 use Rattle.acl_eval.specs.Column.{column}
-use Rattle.acl_normal.specs.Keys.{principal_eq, Key, kind_eq}
+use Rattle.acl_normal.specs.Keys.{principal_eq, Key, compare_keys, kind_eq}
 use Rattle.acl_perm.specs.Kind.{other_kind}
 use Rattle.acl_normal.specs.Normal.{is_free, flags_for}
-use Rattle.acl_normal.specs.internal.Rows.{is_named, key_number}
+use Rattle.acl_normal.specs.Places.{nothing_left}
+use Rattle.acl_normal.specs.internal.Rows.{IsRow, is_named, key_number}
 
 -- the marked bits of each key of a column
 abbrev pub Marked : Type 0
@@ -65,6 +67,19 @@ pub record Frees (k : Key) (bits : ℕ) (xs : List Ace) (old new : Marked) : Typ
 -- what is marked is what is free
 abbrev pub HoldsFree : Marked → List Ace → Type 0
 HoldsFree es xs = (k : Key) (b : ℕ) → has_bit (es k) b ≡ is_free (column xs b) k
+
+-- the least of the marked keys was taken, with its bits
+pub record Popped (old : Marked) (k : Key) (bits : ℕ) (new : Marked) : Type 0 where
+  pub is : old k ≡ bits
+  pub some : bits ≢ 0
+  pub after : (l : Key) → new l ≡ cond (key_eq l k) 0 (old l)
+  pub least : (l : Key) → old l ≢ 0 → is_le (compare_keys k l) ≡ true
+
+-- and it is a key of that row
+pub record Takes (xs : List Ace) (old new : List ℕ) (row : ℕ) (k : Key) (bits : ℕ) : Type 0 where
+  pub at_row : IsRow row k.0 xs
+  pub popped : Popped (marks (nothing_left xs) old) k bits (marks (nothing_left xs) new)
+  pub fits : FitsKeys (nothing_left xs) new
 
 -- the who of a principal
 abbrev pub who_for : Principal → List ℕ

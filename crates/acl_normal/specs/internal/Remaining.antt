@@ -10,7 +10,7 @@ use Rattle.acl_perm.specs.declared.kind.Kind.{Kind}
 use Rattle.acl_nfs4.specs.Ace.{Ace}
 use Rattle.acl_eval.specs.Column.{column}
 use Rattle.acl_normal.specs.Left.{IsTidy}
-use Rattle.acl_normal.specs.internal.Shown.{with_masks}
+use Rattle.acl_normal.specs.internal.Shown.{bits_in, with_masks}
 use Rattle.acl_normal.specs.Places.{mask_here, slot_of, waits}
 use Rattle.acl_normal.specs.internal.Rows.{AreRowNumbers, IsByPrincipal}
 use Rattle.acl_normal.specs.declared.emit.remaining.Queue.{Queue}
@@ -24,7 +24,8 @@ masks_left (m ∷ masks) (r ∷ rows) left = bit_and m (slice_index_or left r 0)
 
 -- the keys with the masks that are left of them
 abbrev pub remaining_of : Inside → List Ace
-remaining_of a = with_masks a.aces.items (masks_left a.masks.items a.rows.items a.left.items)
+remaining_of a =
+    with_masks a.aces.items (masks_left (bits_in a.masks.items) a.rows.items (bits_in a.left.items))
 
 -- the places, in order, are those of ACEs of the type and the class; all that wait with the bit are among them, and of
 -- these each waits whose mask still has the bit

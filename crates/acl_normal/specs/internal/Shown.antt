@@ -1,11 +1,16 @@
 -- What lists of the code's ACEs show (RFC 8881, section 6.2.1).
 use Rattle.std.specs.Prelude.{ℕ, List, [], ◌∷◌, map}
+use Rattle.acl_perm.specs.declared.mask.Mask.{Mask}
 use Rattle.acl_nfs4.specs.Ace.{Ace, ace}
 use Rattle.acl_nfs4.specs.declared.ace.AceRef.{AceRef}
 
 -- the ACEs that are shown
 abbrev pub aces_in : List AceRef → List Ace
 aces_in = map ace
+
+-- the masks as numbers
+abbrev pub bits_in : List Mask → List ℕ
+bits_in = map (λ m. m.bits)
 
 -- the ACEs with the masks that are left of them
 abbrev pub with_masks : List AceRef → List ℕ → List Ace

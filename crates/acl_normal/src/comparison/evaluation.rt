@@ -16,14 +16,14 @@ use acl_perm::{Kind, Mask};
 fn own_rights(item: &AceRef<'_>, set: SmallSet<'_>) -> Mask
     ensures { HasBitsOf (ace item.now) (set_of set.entry) result.bits }
 {
-    if !item.flags.is_inherit_only() && set.matches(item.principal()) {
+    if item.takes_part() && set.matches(item.principal()) {
         item.mask
     } else {
         Mask::NONE
     }
 }
 
-/// The rights that the list grants there.
+/// The rights that a list grants where just the principals of a set match, and everyone.
 pub(crate) fn granted(list: &[AceRef<'_>], set: SmallSet<'_>) -> Mask
     ensures { AreGranted (list_of list.now) (set_of set.entry) result.bits }
 {
@@ -48,7 +48,7 @@ pub(crate) fn unlike(here: Mask, there: Mask) -> Mask
     here.difference(there).union(there.difference(here))
 }
 
-/// Whether the lists grant alike there.
+/// Whether two lists grant alike where just the principals of a set match, and everyone.
 pub(crate) fn grant_alike(list: &[AceRef<'_>], other: &[AceRef<'_>], set: SmallSet<'_>) -> bool
     ensures alike { OnTrue result
         (GrantAlikeTo (list_of list.now) (list_of other.now) (set_of set.entry)) }
@@ -66,7 +66,7 @@ fn lowest_bit(bits: u32) -> u32
     1 << bits.trailing_zeros()
 }
 
-/// The lowest right of some.
+/// The lowest of some rights.
 pub(crate) fn lowest(rights: Mask) -> Mask
     requires { rights.bits ≢ 0 }
     ensures value { result.bits ≡ 2 ^ trailing_zeros w32 rights.bits }

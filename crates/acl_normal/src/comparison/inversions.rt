@@ -1,142 +1,156 @@
-//! Which rows invert others, told by tables in place of going over all pairs.
-ghost use Rattle.std.specs.Prelude.{◌≡◌, ◌+◌, ◌<◌, ◌≤◌, ◌^◌, ℕ, IfOk, false, length, slice_index_or, true, vec_len};
+//! Which principals two lists name in opposite orders, told by tables in place of going over all pairs.
+ghost use Rattle.std.specs.Prelude.{◌≡◌, ◌&&◌, ◌+◌, ◌<◌, ◌≤◌, ◌^◌, IfOk, length, not, vec_len};
 ghost use Rattle.std.specs.List.{AllByRecursion};
-ghost use Rattle.acl_normal.specs.internal.FirstPlaces.{SameAlone, inverts, inverts_any, no_row};
+ghost use Rattle.acl_normal.specs.internal.Classes.{is_users};
+ghost use Rattle.acl_normal.specs.internal.FirstPlaces.{IsFirstInverted, IsFirstInverting, IsFirstUnlike, inverts};
 ghost use Rattle.acl_normal.specs.internal.PlaceTables.{HasPlaces, IsFirstOf, IsScattered, IsTable, Raises, is_counted, is_told, other_place, place_of};
 
-use super::rows::Row;
+use super::standing::Standing;
+use crate::class::Class;
+use acl_perm::Kind;
 use std::alloc::{AllocError, Global};
 
-/// The first of the rows, below a limit, in which the lists say different things.
-pub(crate) fn first_unlike(rows: &[Row], limit: usize) -> usize
-    requires { limit ≤ length rows.now }
-    ensures within { result ≤ limit }
-    ensures before { (k : ℕ) → k < result → SameAlone (slice_index_or rows.now k no_row) }
-    ensures at { result < limit → SameAlone (slice_index_or rows.now result no_row) → ⊥ }
+/// The first of the standings, below a limit, in which the lists say different things.
+pub(crate) fn first_unlike(standings: &[Standing], limit: usize) -> usize
+    requires { limit ≤ length standings.now }
+    ensures { IsFirstUnlike standings.now limit result }
 {
     for k in 0..limit {
-        if rows[k].here.allows != rows[k].there.allows {
+        if standings[k].here.allows() != standings[k].there.allows() {
             return k;
         }
     }
     limit
 }
 
+// Whether different principals of two classes may overlap: all but two users do.
+fn may_overlap(class: Class, other: Class) -> bool
+    ensures { result ≡ not (is_users class && is_users other) }
+{
+    !(class.is_users() && other.is_users())
+}
+
 // Whether of two principals of different types that may overlap one comes first in one list, and not in the other.
-fn is_inverted(row: Row, other: Row) -> bool
-    ensures { result ≡ inverts row other }
+fn is_inverted(standing: Standing, other: Standing) -> bool
+    ensures { result ≡ inverts standing other }
 {
-    !(row.user && other.user)
-        && row.here.allows != other.here.allows
-        && (other.here.place < row.here.place) != (other.there.place < row.there.place)
+    may_overlap(standing.class, other.class)
+        && standing.here.allows() != other.here.allows()
+        && (other.here.place < standing.here.place) != (other.there.place < standing.there.place)
 }
 
-/// A sort of rows: of a type, and of users or of others.
+/// A camp of principals: those of a class whose first ACE is of a type.
 #[derive(Clone, Copy)]
-pub(crate) struct Sort {
-    pub allows: bool,
-    pub user: bool,
+pub(crate) struct Camp {
+    pub kind: Kind,
+    pub class: Class,
 }
 
-impl Sort {
-    const ALLOWED_USERS: Sort = Sort {
-        allows: true,
-        user: true,
+impl Camp {
+    const ALLOWED_USERS: Camp = Camp {
+        kind: Kind::Allow,
+        class: Class::Users,
     };
 
-    const ALLOWED_OTHERS: Sort = Sort {
-        allows: true,
-        user: false,
+    const ALLOWED_OTHERS: Camp = Camp {
+        kind: Kind::Allow,
+        class: Class::Others,
     };
 
-    const DENIED_USERS: Sort = Sort {
-        allows: false,
-        user: true,
+    const DENIED_USERS: Camp = Camp {
+        kind: Kind::Deny,
+        class: Class::Users,
     };
 
-    const DENIED_OTHERS: Sort = Sort {
-        allows: false,
-        user: false,
+    const DENIED_OTHERS: Camp = Camp {
+        kind: Kind::Deny,
+        class: Class::Others,
     };
 }
 
-// Whether a row is of the other type than a sort, and may overlap with its rows.
-fn is_counted(sort: Sort, row: Row) -> bool
-    ensures { result ≡ is_counted sort row }
+// Whether a principal is of the other type than a camp, and may overlap with those of it.
+fn is_counted(camp: Camp, standing: Standing) -> bool
+    ensures { result ≡ is_counted camp standing }
 {
-    !(sort.user && row.user) && sort.allows != row.here.allows
+    may_overlap(camp.class, standing.class) && camp.kind.is_allow() != standing.here.allows()
 }
 
-// The place of a row's principal in one list.
-fn place_of(row: Row, swapped: bool) -> usize
-    ensures { result ≡ place_of swapped row }
+/// One of the two lists.
+#[derive(Clone, Copy)]
+pub(crate) enum Side {
+    Here,
+    There,
+}
+
+// Where a principal stands first in the list of a side.
+fn place_of(standing: Standing, side: Side) -> usize
+    ensures { result ≡ place_of side standing }
 {
-    if swapped {
-        row.there.place
-    } else {
-        row.here.place
+    match side {
+        Side::Here => standing.here.place,
+        Side::There => standing.there.place,
     }
 }
 
-// Its place in the other list.
-fn other_place(row: Row, swapped: bool) -> usize
-    ensures { result ≡ other_place swapped row }
+// Where a principal stands first in the list of the other side.
+fn other_place(standing: Standing, side: Side) -> usize
+    ensures { result ≡ other_place side standing }
 {
-    if swapped {
-        row.here.place
-    } else {
-        row.there.place
+    match side {
+        Side::Here => standing.there.place,
+        Side::There => standing.here.place,
     }
 }
 
-// Raises what stands behind a row's place in the one list to its place in the other, if the row is counted.
-#[tactic(auto, using(crate::proofs::Searching::TableFacts::raising))]
-fn raise(table: &mut Vec<usize>, row: Row, sort: Sort, swapped: bool)
-    requires within { place_of swapped row + 1 < vec_len table.old }
-    requires small { other_place swapped row < 2 ^ 63 }
-    ensures { Raises sort swapped row table.old.items table.new.items }
+// Raises what stands behind a principal's place in the one list to its place in the other, if it is counted.
+#[tactic(auto, using(crate::proofs::comparison::TableFacts::raising))]
+fn raise(table: &mut Vec<usize>, standing: Standing, camp: Camp, side: Side)
+    requires within { place_of side standing + 1 < vec_len table.old }
+    requires small { other_place side standing < 2 ^ 63 }
+    ensures { Raises camp side standing table.old.items table.new.items }
 {
-    if is_counted(sort, row) {
-        let at = place_of(row, swapped) + 1;
-        let most = table[at].max(other_place(row, swapped) + 1);
+    if is_counted(camp, standing) {
+        let at = place_of(standing, side) + 1;
+        let most = table[at].max(other_place(standing, side) + 1);
         table[at] = most;
     }
 }
 
-// For each place in one list one more than the greatest place, in the other, of the rows just before it that count.
-#[tactic(auto, using(crate::proofs::Searching::TableFacts::scatter_start))]
+// For each place in one list one more than the greatest place, in the other, of those who stand just before it and
+// count.
+#[tactic(auto, using(crate::proofs::comparison::TableFacts::scatter_start))]
 fn scattered(
     alloc: Global,
-    rows: &[Row],
+    standings: &[Standing],
     size: usize,
-    sort: Sort,
-    swapped: bool,
+    camp: Camp,
+    side: Side,
 ) -> Result<Vec<usize>, AllocError>
-    requires places { AllByRecursion (HasPlaces size) rows.now }
+    requires places { AllByRecursion (HasPlaces size) standings.now }
     requires size { size < 2 ^ 63 }
-    ensures { IfOk result (λ v. IsScattered sort swapped size rows.now v.items) }
+    ensures { IfOk result (λ v. IsScattered camp side size standings.now v.items) }
 {
     let mut table = vec![in alloc; 0usize; size + 2]?;
-    for row in rows {
-        raise(&mut table, *row, sort, swapped);
+    for standing in standings {
+        raise(&mut table, *standing, camp, side);
     }
     Ok(table)
 }
 
-// The same of all rows before it that count.
-#[tactic(auto, using(crate::proofs::Searching::TableFacts::summed_done))]
+// For each place in one list one more than the greatest place, in the other, of all who stand before it and count.
+#[tactic(auto, using(crate::proofs::comparison::TableFacts::summed_done))]
 fn table(
     alloc: Global,
-    rows: &[Row],
+    standings: &[Standing],
     size: usize,
-    sort: Sort,
-    swapped: bool,
+    camp: Camp,
+    side: Side,
 ) -> Result<Vec<usize>, AllocError>
-    requires places { AllByRecursion (HasPlaces size) rows.now }
+    requires places { AllByRecursion (HasPlaces size) standings.now }
     requires size { size < 2 ^ 63 }
-    ensures { IfOk result (λ v. IsTable sort swapped size rows.now v.items) }
+    ensures { IfOk result (λ v. IsTable camp side size standings.now v.items) }
 {
-    let mut table = scattered(alloc, rows, size, sort, swapped)?;
+    let mut table = scattered(alloc, standings, size, camp, side)?;
     for k in 1..size + 2 {
         let most = table[k].max(table[k - 1]);
         table[k] = most;
@@ -144,72 +158,67 @@ fn table(
     Ok(table)
 }
 
-// Whether a row is of a sort and, by the tables of that sort, inverts another.
-fn is_told(row: Row, sort: Sort, forward: &[usize], back: &[usize]) -> bool
-    requires here { row.here.place < length forward.now }
-    requires there { row.there.place < length back.now }
-    ensures { result ≡ is_told sort row forward.now back.now }
+// Whether a principal is of a camp and, by the tables of that camp, inverts another.
+fn is_told(standing: Standing, camp: Camp, forward: &[usize], back: &[usize]) -> bool
+    requires here { standing.here.place < length forward.now }
+    requires there { standing.there.place < length back.now }
+    ensures { result ≡ is_told camp standing forward.now back.now }
 {
-    row.here.allows == sort.allows
-        && row.user == sort.user
-        && (row.there.place < forward[row.here.place] || row.here.place < back[row.there.place])
+    standing.here.allows() == camp.kind.is_allow()
+        && standing.class.is_users() == camp.class.is_users()
+        && (standing.there.place < forward[standing.here.place]
+            || standing.here.place < back[standing.there.place])
 }
 
-// The first of the rows of a sort, below a limit, that inverts another.
+// The first of a camp, below a limit, that inverts another.
 fn first_of(
     alloc: Global,
-    rows: &[Row],
+    standings: &[Standing],
     size: usize,
     limit: usize,
-    sort: Sort,
+    camp: Camp,
 ) -> Result<usize, AllocError>
-    requires limit { limit ≤ length rows.now }
-    requires places { AllByRecursion (HasPlaces size) rows.now }
+    requires limit { limit ≤ length standings.now }
+    requires places { AllByRecursion (HasPlaces size) standings.now }
     requires size { size < 2 ^ 63 }
-    ensures { IfOk result (λ v. IsFirstOf sort rows.now limit v) }
+    ensures { IfOk result (λ v. IsFirstOf camp standings.now limit v) }
 {
-    let forward = table(alloc, rows, size, sort, false)?;
-    let back = table(alloc, rows, size, sort, true)?;
+    let forward = table(alloc, standings, size, camp, Side::Here)?;
+    let back = table(alloc, standings, size, camp, Side::There)?;
     for k in 0..limit {
-        if is_told(rows[k], sort, &forward, &back) {
+        if is_told(standings[k], camp, &forward, &back) {
             return Ok(k);
         }
     }
     Ok(limit)
 }
 
-/// The first of the rows, below a limit, that inverts another. Each table is of the rows that count for a sort.
+/// The first principal, below a limit, that inverts another. The tables of a camp count the principals that those of
+/// the camp can invert, so that there is one search for each camp.
 pub(crate) fn first_inverting(
     alloc: Global,
-    rows: &[Row],
+    standings: &[Standing],
     size: usize,
     limit: usize,
 ) -> Result<usize, AllocError>
-    requires limit { limit ≤ length rows.now }
-    requires places { AllByRecursion (HasPlaces size) rows.now }
+    requires limit { limit ≤ length standings.now }
+    requires places { AllByRecursion (HasPlaces size) standings.now }
     requires size { size < 2 ^ 63 }
-    ensures within { IfOk result (λ v. v ≤ limit) }
-    ensures before { IfOk result (λ v. (k : ℕ) → k < v
-        → inverts_any (slice_index_or rows.now k no_row) rows.now ≡ false) }
-    ensures at { IfOk result (λ v. v < limit
-        → inverts_any (slice_index_or rows.now v no_row) rows.now ≡ true) }
+    ensures { IfOk result (IsFirstInverting standings.now limit) }
 {
-    let allowed_users = first_of(alloc, rows, size, limit, Sort::ALLOWED_USERS)?;
-    let allowed = first_of(alloc, rows, size, allowed_users, Sort::ALLOWED_OTHERS)?;
-    let users = first_of(alloc, rows, size, allowed, Sort::DENIED_USERS)?;
-    first_of(alloc, rows, size, users, Sort::DENIED_OTHERS)
+    let allowed_users = first_of(alloc, standings, size, limit, Camp::ALLOWED_USERS)?;
+    let allowed = first_of(alloc, standings, size, allowed_users, Camp::ALLOWED_OTHERS)?;
+    let users = first_of(alloc, standings, size, allowed, Camp::DENIED_USERS)?;
+    first_of(alloc, standings, size, users, Camp::DENIED_OTHERS)
 }
 
-/// The first of the other rows, below a limit, that the row inverts.
-pub(crate) fn first_inverted(row: Row, others: &[Row], limit: usize) -> usize
+/// The first of the others, below a limit, that the principal inverts.
+pub(crate) fn first_inverted(standing: Standing, others: &[Standing], limit: usize) -> usize
     requires { limit ≤ length others.now }
-    ensures within { result ≤ limit }
-    ensures before { (k : ℕ) → k < result
-        → inverts row (slice_index_or others.now k no_row) ≡ false }
-    ensures at { result < limit → inverts row (slice_index_or others.now result no_row) ≡ true }
+    ensures { IsFirstInverted standing others.now limit result }
 {
     for k in 0..limit {
-        if is_inverted(row, others[k]) {
+        if is_inverted(standing, others[k]) {
             return k;
         }
     }

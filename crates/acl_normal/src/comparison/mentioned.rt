@@ -9,9 +9,9 @@ ghost use Rattle.acl_normal.specs.internal.MentionedRows.{AreByRow, AreMentioned
 ghost use Rattle.acl_normal.specs.internal.Passes.{list_of};
 ghost use Rattle.acl_normal.specs.internal.Rows.{AreRowNumbers};
 ghost use Rattle.acl_normal.specs.internal.SetSearch.{principals};
+ghost use Rattle.acl_normal.specs.internal.TwoLists.{two_lists};
 
-use super::rows::Whom;
-use super::small_set::is_same;
+use super::standing::Whom;
 use crate::rows::numbers::row_numbers;
 use acl_nfs4::AceRef;
 use acl_perm::Principal;
@@ -25,14 +25,15 @@ struct Numbers<'a> {
 }
 
 // Whom an ACE mentions: its principal, if it takes part and that isn't everyone.
+#[tactic(auto, using(crate::proofs::unique::Names::everyone_test))]
 fn mentioned_by<'a>(item: &AceRef<'a>) -> Option<Principal<'a>>
     ensures { option_map principal result ≡ mentioned_by (ace item.now) }
 {
     let p = item.principal();
-    if item.flags.is_inherit_only() || is_same(p, Principal::Everyone) {
-        None
-    } else {
+    if item.takes_part() && !p.is_everyone() {
         Some(p)
+    } else {
+        None
     }
 }
 
@@ -47,7 +48,7 @@ fn note<'a>(table: &mut Vec<Option<Principal<'a>>>, row: usize, found: Option<Pr
 }
 
 // By row, the principals that the ACEs mention.
-#[tactic(auto, using(crate::proofs::Searching::MentionedRows::table_steps))]
+#[tactic(auto, using(crate::proofs::comparison::MentionedRows::table_steps))]
 fn by_row<'a>(
     alloc: Global,
     aces: &[AceRef<'a>],
@@ -88,12 +89,13 @@ fn numbers_of<'a>(alloc: Global, table: &[Option<Principal<'a>>]) -> Result<Numb
 }
 
 // Whom an ACE names, where that number is its principal's.
+#[tactic(auto, using(crate::proofs::unique::Names::everyone_test))]
 fn whom(item: &AceRef<'_>, number: usize) -> Whom
     ensures { result ≡ whom_of (ace item.now) number }
 {
-    if item.flags.is_inherit_only() {
+    if !item.takes_part() {
         Whom::Nobody
-    } else if is_same(item.principal(), Principal::Everyone) {
+    } else if item.principal().is_everyone() {
         Whom::Everyone
     } else {
         Whom::One(number)
@@ -101,7 +103,7 @@ fn whom(item: &AceRef<'_>, number: usize) -> Whom
 }
 
 // Whom each ACE names.
-#[tactic(auto, using(crate::proofs::Searching::MentionedRows::whoms_more))]
+#[tactic(auto, using(crate::proofs::comparison::MentionedRows::whoms_more))]
 fn whoms(
     alloc: Global,
     aces: &[AceRef<'_>],
@@ -136,20 +138,30 @@ fn joined<'a>(
 }
 
 /// The principals that two lists mention, in order, and whom of these each ACE names: of the first list, and then of
-/// the second. One sort puts all ACEs in the order of whom they name.
+/// the second.
+#[derive(Drop)]
+pub(crate) struct Mentions<'a> {
+    pub(crate) principals: Vec<Principal<'a>>,
+    pub(crate) whoms: Vec<Whom>,
+}
+
+/// Whom two lists mention. One sort puts all ACEs in the order of whom they name, so that no principal is looked up.
 pub(crate) fn mentioned<'a>(
     alloc: Global,
     list: &[AceRef<'a>],
     other: &[AceRef<'a>],
-) -> Result<(Vec<Principal<'a>>, Vec<Whom>), AllocError>
-    ensures { IfOk result (AreMentioned (list_of list.now) (list_of other.now)) }
+) -> Result<Mentions<'a>, AllocError>
+    ensures { IfOk result (AreMentioned (two_lists (list_of list.now) (list_of other.now))) }
 {
     let aces = joined(alloc, list, other)?;
     let sorted = row_numbers(alloc, &aces)?;
     let table = by_row(alloc, &aces, &sorted.rows)?;
     let numbers = numbers_of(alloc, &table)?;
     let whoms = whoms(alloc, &aces, &sorted.rows, &numbers)?;
-    Ok((numbers.whole, whoms))
+    Ok(Mentions {
+        principals: numbers.whole,
+        whoms,
+    })
 }
 
 // The length of a name, and 0 where there is none.
@@ -164,7 +176,7 @@ fn name_length(p: Principal<'_>) -> usize
 }
 
 /// The length of the longest name, and 0 where none is a name.
-#[tactic(auto, using(crate::proofs::Searching::MentionedNames::longest_steps))]
+#[tactic(auto, using(crate::proofs::comparison::MentionedNames::longest_steps))]
 pub(crate) fn longest_of(whole: &[Principal<'_>]) -> usize
     ensures value { result ≡ longest (principals whole.now) }
     ensures small { result < 2 ^ 63 }

@@ -1,73 +1,58 @@
 //! The difference of two lists at a small set.
-ghost use Rattle.std.specs.Prelude.{◌≡◌, ◌↔◌, IsNone, IfOk, IfSome};
-ghost use Rattle.acl_perm.specs.Bits.{all_rights};
-ghost use Rattle.acl_eval.specs.Grant.{SameGrants};
-ghost use Rattle.acl_normal.specs.Difference.{situation_of};
-ghost use Rattle.acl_normal.specs.Normal.{HasNames};
-ghost use Rattle.acl_normal.specs.SmallSets.{IsFirstDifference, TellsApart, mentioned, small_sets};
-ghost use Rattle.acl_normal.specs.SmallSituations.{small_situation};
+ghost use Rattle.std.specs.Prelude.{◌≡◌, IfOk};
+ghost use Rattle.acl_normal.specs.Difference.{IsComparison};
+ghost use Rattle.acl_normal.specs.SmallSets.{strange_length};
 ghost use Rattle.acl_normal.specs.internal.CodeSets.{set_of, set_or_none};
-ghost use Rattle.acl_normal.specs.internal.Passes.{list_of};
-ghost use Rattle.acl_normal.specs.internal.SetSearch.{Finds, GrantAlikeTo, IsLowestDifference, principals};
+ghost use Rattle.acl_normal.specs.internal.TwoLists.{AreAlikeTo, AreNamed, DifferLowestOn, FindSet, ShowsSituation};
 
 use super::Difference;
+use super::compared::Compared;
 use super::evaluation::{granted, lowest, unlike};
 use super::mentioned::longest_of;
 use super::situation::{groups_in, owner_in, owning_group_in, user_in};
 use super::small_set::SmallSet;
-use acl_nfs4::AceRef;
-use acl_perm::Principal;
 use std::alloc::{AllocError, Global};
 
-// The small situation of a set at which the lists grant otherwise, and the lowest right on which they do.
-fn difference_at(
-    alloc: Global,
-    list: &[AceRef<'_>],
-    other: &[AceRef<'_>],
-    n: usize,
-    set: SmallSet<'_>,
-) -> Result<Difference, AllocError>
-    requires { GrantAlikeTo (list_of list.now) (list_of other.now) (set_of set) → ⊥ }
-    ensures situation { IfOk result (λ d. situation_of d ≡ small_situation n (set_of set.entry)) }
-    ensures bit { IfOk result (λ d. IsLowestDifference (list_of list.now) (list_of other.now)
-        (set_of set.entry) d.bit.bits d.first_grants) }
-{
-    let here = granted(list, set);
-    let bit = lowest(unlike(here, granted(other, set)));
-    Ok(Difference {
-        owner: owner_in(alloc, set, n)?,
-        group: owning_group_in(alloc, set, n)?,
-        user: user_in(alloc, set, n)?,
-        groups: groups_in(alloc, set, n)?,
-        bit,
-        first_grants: here.contains(bit),
-    })
-}
+impl Compared<'_, '_> {
+    // The length of the names of strangers: more than that of any name that the lists mention.
+    fn strange_length(&self) -> usize
+        ensures { result ≡ strange_length self.now.first self.now.second }
+    {
+        longest_of(self.mentioned) + 1
+    }
 
-/// The answer of a comparison, by the first small set at which the lists grant otherwise.
-pub(crate) fn answer(
-    alloc: Global,
-    list: &[AceRef<'_>],
-    other: &[AceRef<'_>],
-    whole: &[Principal<'_>],
-    found: Option<SmallSet<'_>>,
-) -> Result<Option<Difference>, AllocError>
-    requires names { HasNames (list_of list.now) × HasNames (list_of other.now) }
-    requires whole { principals whole.now ≡ mentioned (list_of list.now) (list_of other.now) }
-    requires found { Finds (list_of list.now) (list_of other.now)
-        (small_sets (principals whole.now)) (set_or_none found) }
-    ensures same { IfOk result (λ r. IsNone r
-        ↔ SameGrants all_rights (list_of list.now) (list_of other.now)) }
-    ensures first { IfOk result (λ r. IfSome r (λ d. IsFirstDifference
-        (list_of list.now) (list_of other.now) (situation_of d) d.bit.bits d.first_grants)) }
-    ensures requester { IfOk result (λ r. IfSome r (λ d. TellsApart
-        (list_of list.now) (list_of other.now) (situation_of d) d.bit.bits d.first_grants)) }
-{
-    match found {
-        None => Ok(None),
-        Some(set) => {
-            let n = longest_of(whole) + 1;
-            Ok(Some(difference_at(alloc, list, other, n, set)?))
+    // The small situation of a set at which the lists grant otherwise, and the lowest right on which they do.
+    fn difference_at(&self, alloc: Global, set: SmallSet<'_>) -> Result<Difference, AllocError>
+        requires { AreAlikeTo self.now (set_of set) → ⊥ }
+        ensures situation { IfOk result (ShowsSituation self.now (set_of set.entry)) }
+        ensures bit { IfOk result (DifferLowestOn self.now (set_of set.entry)) }
+    {
+        let n = self.strange_length();
+        let here = granted(self.first, set);
+        let bit = lowest(unlike(here, granted(self.second, set)));
+        Ok(Difference {
+            owner: owner_in(alloc, set, n)?,
+            group: owning_group_in(alloc, set, n)?,
+            user: user_in(alloc, set, n)?,
+            groups: groups_in(alloc, set, n)?,
+            bit,
+            first_grants: here.contains(bit),
+        })
+    }
+
+    /// What a comparison tells, by the first small set at which the lists grant otherwise.
+    pub(crate) fn difference(
+        &self,
+        alloc: Global,
+        found: Option<SmallSet<'_>>,
+    ) -> Result<Option<Difference>, AllocError>
+        requires named { AreNamed self.now }
+        requires found { FindSet self.now (set_or_none found) }
+        ensures { IfOk result (IsComparison self.now.first self.now.second) }
+    {
+        match found {
+            None => Ok(None),
+            Some(set) => Ok(Some(self.difference_at(alloc, set)?)),
         }
     }
 }

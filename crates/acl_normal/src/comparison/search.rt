@@ -1,113 +1,87 @@
-//! The search for the first small set at which two lists grant otherwise, without going over all pairs.
-ghost use Rattle.std.specs.Prelude.{◌++◌, ◌<◌, IfOk, length};
-ghost use Rattle.acl_normal.specs.internal.FirstPlaces.{AreWhoms, IsAlikeAlone, IsCompared, IsFirstMember, IsFirstPartner, IsFirstSingle};
-ghost use Rattle.acl_normal.specs.SmallSets.{small_sets};
+//! The search for the first small set at which two lists grant otherwise. To go over all pairs of principals would take
+//! time in the square of them, so one of the pair is found first, and then the other.
+ghost use Rattle.std.specs.Prelude.{◌<◌, IfOk, length};
 ghost use Rattle.acl_normal.specs.internal.CodeSets.{set_or_none};
-ghost use Rattle.acl_normal.specs.internal.Passes.{list_of};
-ghost use Rattle.acl_normal.specs.internal.SetSearch.{Finds, IsRising, principals};
+ghost use Rattle.acl_normal.specs.internal.TwoLists.{AreAlikeAlone, FindSet, IsFirstMember, IsFirstPartner, IsFirstSingle, all_mentioned};
 
-use super::evaluation::{grant_alike, rights_of};
+use super::compared::Compared;
 use super::inversions::{first_inverted, first_inverting, first_unlike};
-use super::rows::{Compared, Whom};
 use super::small_set::SmallSet;
-use acl_nfs4::AceRef;
-use acl_perm::{Principal, Right};
+use acl_perm::Right;
 use std::alloc::{AllocError, Global};
 
-impl Compared<'_, '_> {
+impl<'a> Compared<'a, '_> {
     // The first principal at which alone the lists differ, or the number of principals.
-    #[tactic(auto, using(crate::proofs::Searching::RowFacts::least_start))]
+    #[tactic(auto, using(crate::proofs::comparison::RowFacts::least_start))]
     fn least_single(&self, alloc: Global) -> Result<usize, AllocError>
-        requires { IsCompared self.now }
-        ensures { IfOk result (λ v. IsFirstSingle self.now v) }
+        ensures { IfOk result (IsFirstSingle self.now) }
     {
-        let mut least = self.whole.len();
+        let mut least = self.count();
         for bit in 0..Right::COUNT {
             let right = Right { bit };
-            if self.rights.has(right) {
-                let rows = self.rows(alloc, right)?;
-                least = first_unlike(&rows, least);
+            if self.has_right(right) {
+                let standings = self.standings(alloc, right)?;
+                least = first_unlike(&standings, least);
             }
         }
         Ok(least)
     }
 
     // The first principal that is one of a pair at which the lists differ, or the number of principals.
-    #[tactic(auto, using(crate::proofs::Searching::RowFacts::least_start))]
+    #[tactic(auto, using(crate::proofs::comparison::RowFacts::least_start))]
     fn least_member(&self, alloc: Global) -> Result<usize, AllocError>
-        requires compared { IsCompared self.now }
-        requires alone { IsAlikeAlone self.now }
-        ensures { IfOk result (λ v. IsFirstMember self.now v) }
+        requires { AreAlikeAlone self.now }
+        ensures { IfOk result (IsFirstMember self.now) }
     {
-        let size = self.list.len().max(self.other.len());
-        let mut least = self.whole.len();
+        let size = self.longer();
+        let mut least = self.count();
         for bit in 0..Right::COUNT {
             let right = Right { bit };
-            if self.rights.has(right) {
-                let rows = self.rows(alloc, right)?;
-                least = first_inverting(alloc, &rows, size, least)?;
+            if self.has_right(right) {
+                let standings = self.standings(alloc, right)?;
+                least = first_inverting(alloc, &standings, size, least)?;
             }
         }
         Ok(least)
     }
 
     // The first of the later principals that is a pair with this one at which the lists differ, or their number.
-    #[tactic(auto, using(crate::proofs::Searching::RowFacts::least_start))]
+    #[tactic(auto, using(crate::proofs::comparison::RowFacts::least_start))]
     fn least_partner(&self, alloc: Global, at: usize) -> Result<usize, AllocError>
-        requires at { at < length self.now.whole.now }
-        requires compared { IsCompared self.now }
-        requires alone { IsAlikeAlone self.now }
-        ensures { IfOk result (λ v. IsFirstPartner self.now at v) }
+        requires at { at < length (all_mentioned self.now) }
+        requires alone { AreAlikeAlone self.now }
+        ensures { IfOk result (IsFirstPartner self.now at) }
     {
-        let mut least = self.whole.len() - at - 1;
+        let mut least = self.count() - at - 1;
         for bit in 0..Right::COUNT {
             let right = Right { bit };
-            if self.rights.has(right) {
-                let rows = self.rows(alloc, right)?;
-                let (_, others) = rows.as_slice().split_at(at + 1);
-                least = first_inverted(rows[at], others, least);
+            if self.has_right(right) {
+                let standings = self.standings(alloc, right)?;
+                let (_, others) = standings.as_slice().split_at(at + 1);
+                least = first_inverted(standings[at], others, least);
             }
         }
         Ok(least)
     }
-}
 
-/// The first small set at which the lists differ. The first pair has as its lesser member the least principal of any
-/// pair at which they differ, whether the other comes before or behind it, and the least later one as the other.
-#[tactic(auto, using(crate::proofs::Searching::MentionedRows::compared_parts))]
-pub(crate) fn find_set<'a, 'b>(
-    alloc: Global,
-    list: &'b [AceRef<'a>],
-    other: &'b [AceRef<'a>],
-    whole: &'b [Principal<'a>],
-    whoms: &'b [Whom],
-) -> Result<Option<SmallSet<'a>>, AllocError>
-    requires rising { IsRising (principals whole.now) }
-    requires whoms { AreWhoms (principals whole.now)
-        (list_of list.now ++ list_of other.now) whoms.now }
-    ensures { IfOk result (λ r. Finds (list_of list.now) (list_of other.now)
-        (small_sets (principals whole.now)) (set_or_none r)) }
-{
-    if !grant_alike(list, other, SmallSet::Empty) {
-        return Ok(Some(SmallSet::Empty));
+    /// The first small set at which the lists differ. The first pair has as its lesser member the least principal of
+    /// any pair at which they differ, whether the other comes before or behind it, and the least later one as the
+    /// other.
+    pub(crate) fn first_set(&self, alloc: Global) -> Result<Option<SmallSet<'a>>, AllocError>
+        ensures { IfOk result (λ r. FindSet self.now (set_or_none r)) }
+    {
+        if !self.grant_alike(SmallSet::Empty) {
+            return Ok(Some(SmallSet::Empty));
+        }
+        let single = self.least_single(alloc)?;
+        if single < self.count() {
+            return Ok(Some(SmallSet::One(self.principal(single))));
+        }
+        let member = self.least_member(alloc)?;
+        if member == self.count() {
+            return Ok(None);
+        }
+        let partner = self.least_partner(alloc, member)?;
+        Ok(Some(SmallSet::Two(self.principal(member), self.principal(member + 1 + partner))))
     }
-    let (list_whoms, other_whoms) = whoms.split_at(list.len());
-    let compared = Compared {
-        whole,
-        list,
-        other,
-        list_whoms,
-        other_whoms,
-        rights: rights_of(list).union(rights_of(other)),
-    };
-    let single = compared.least_single(alloc)?;
-    if single < whole.len() {
-        return Ok(Some(SmallSet::One(whole[single])));
-    }
-    let member = compared.least_member(alloc)?;
-    if member == whole.len() {
-        return Ok(None);
-    }
-    let partner = compared.least_partner(alloc, member)?;
-    Ok(Some(SmallSet::Two(whole[member], whole[member + 1 + partner])))
 }

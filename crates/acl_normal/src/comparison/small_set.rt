@@ -16,7 +16,7 @@ pub(crate) enum SmallSet<'a> {
 }
 
 // Whether both are one principal.
-#[tactic(auto, using(crate::proofs::Searching::SameTests::same_test))]
+#[tactic(auto, using(crate::proofs::comparison::SameTests::same_test))]
 pub(crate) fn is_same(p: Principal<'_>, q: Principal<'_>) -> bool
     ensures { result ≡ principal_eq (principal p.entry) (principal q.entry) }
 {
@@ -36,10 +36,11 @@ impl<'a> SmallSet<'a> {
     }
 
     /// Whether the principal is of the set, or everyone.
+    #[tactic(auto, using(crate::proofs::unique::Names::everyone_test))]
     pub(crate) fn matches(self, p: Principal<'_>) -> bool
         ensures { result ≡ is_among (principal p.entry) (everyone ∷ set_of self.entry) }
     {
-        is_same(p, Principal::Everyone) || self.has(p)
+        p.is_everyone() || self.has(p)
     }
 
     /// The user name of the set, if it has one.

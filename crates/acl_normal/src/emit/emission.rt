@@ -1,5 +1,5 @@
 //! The order of a normal form: at each place the least key that has a free bit, with all its free bits.
-ghost use Rattle.std.specs.Prelude.{◌≡◌, ◌*◌, ◌<◌, List, length, replicate, IfOk, OnOk};
+ghost use Rattle.std.specs.Prelude.{◌≡◌, ◌*◌, ◌<◌, ℕ, List, length, replicate, slice_index_or, IfNone, IfOk, IfSome, OnOk};
 ghost use Rattle.acl_perm.specs.Bits.{all_rights};
 ghost use Rattle.acl_nfs4.specs.Ace.{Ace};
 ghost use Rattle.acl_eval.specs.Grant.{SameGrants};
@@ -11,7 +11,7 @@ ghost use Rattle.acl_normal.specs.Keys.{plain_key};
 ghost use Rattle.acl_normal.specs.Left.{left};
 ghost use Rattle.acl_normal.specs.Normal.{IsIrreducibleList, IsNormal};
 ghost use Rattle.acl_normal.specs.Places.{key_here, kind_here, nothing_left};
-ghost use Rattle.acl_normal.specs.internal.Ready.{Adds, Enters, FitsKeys, Frees, HoldsFree, marks};
+ghost use Rattle.acl_normal.specs.internal.Ready.{Adds, Enters, FitsKeys, Frees, HoldsFree, Takes, marks};
 ghost use Rattle.acl_normal.specs.internal.Counts.{count_left};
 
 use crate::bits::next_right;
@@ -108,7 +108,7 @@ fn free_after<'a>(
 {
     let opposite = at.kind.other();
     let mut from = 0;
-    while let Some(right) = next_right(mask.bits, from) {
+    while let Some(right) = next_right(mask, from) {
         enter(rows, opposite, Class::Others, right, ready)?;
         if !at.principal.is_user() {
             enter(rows, opposite, Class::Users, right, ready)?;
@@ -135,6 +135,22 @@ fn fill(rows: &Remaining<'_>, ready: &mut Ready) -> Result<(), AllocError>
     Ok(())
 }
 
+/// Takes the least key that has a free bit, with all its free bits, which are marked no more.
+fn pop<'a>(rows: &Remaining<'a>, ready: &mut Ready) -> Option<Emitted<'a>>
+    requires keys { FitsKeys (nothing_left rows.now) ready.old }
+    requires free { HoldsFree (marks (nothing_left rows.now) ready.old) rows.now }
+    ensures some { IfSome result (λ e. Takes rows.now ready.old ready.new e.row (plain_key e.key) e.mask.bits) }
+    ensures none { IfNone result ((n : ℕ) → slice_index_or ready.old n 0 ≡ 0) }
+{
+    let _ = &rows.masks;
+    let next = ready.pop()?;
+    let key = rows.key_of(next.number);
+    // Only rights are ever free, so that the bits are a mask.
+    let mask = Mask { bits: next.bits };
+    let row = next.number / 2;
+    Some(Emitted { key, mask, row })
+}
+
 /// Emits what is left: at each step the least key that has a free bit, with all its free bits.
 pub(crate) fn drain<'a>(
     alloc: Global,
@@ -148,13 +164,10 @@ pub(crate) fn drain<'a>(
     fill(rows, &mut ready)?;
     let mut out = Vec::new(alloc);
     // The label names the loop for its proof.
-    'emitted: while let Some(next) = ready.pop() {
-        let key = rows.key_of(next.number);
-        let mask = Mask { bits: next.bits };
-        let row = next.number / 2;
-        out.push(Emitted { key, mask, row })?;
-        rows.emit(row, key, next.bits);
-        free_after(rows, key, mask, &mut ready)?;
+    'emitted: while let Some(next) = pop(rows, &mut ready) {
+        out.push(next)?;
+        rows.emit(next.row, next.key, next.mask);
+        free_after(rows, next.key, next.mask, &mut ready)?;
     }
     Ok(out)
 }

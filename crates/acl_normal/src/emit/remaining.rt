@@ -12,9 +12,9 @@ ghost use Rattle.acl_normal.specs.Normal.{IsQuiet, is_free};
 ghost use Rattle.acl_normal.specs.Places.{first_at, is_blocked, kind_here, mask_here, principal_here, slot_of, take_out, waits, waits_before};
 ghost use Rattle.acl_normal.specs.internal.Remaining.{AreQueues, IsQueue, IsNumbered};
 ghost use Rattle.acl_normal.specs.internal.Rows.{IsNumberOf, IsRow, first_place, is_named};
-ghost use Rattle.acl_normal.specs.internal.Shown.{with_masks};
+ghost use Rattle.acl_normal.specs.internal.Shown.{bits_in, with_masks};
 
-use crate::bits::{next_right, without};
+use crate::bits::next_right;
 use crate::class::Class;
 use crate::reduce::Reduced;
 use crate::rows::numbers::{RowNumbers, find_row};
@@ -39,13 +39,13 @@ pub(crate) struct Queue {
 pub(crate) struct Remaining<'a> {
     pub(crate) aces: Vec<AceRef<'a>>,
     /// By place, the rights that play a part.
-    pub(crate) masks: Vec<u32>,
+    pub(crate) masks: Vec<Mask>,
     /// By place, the row of the principal that the ACE names.
     pub(crate) rows: Vec<usize>,
     /// The places in the order of the principals that their ACEs name.
     pub(crate) order: Vec<usize>,
     /// By row, the rights that were not emitted yet.
-    pub(crate) left: Vec<u32>,
+    pub(crate) left: Vec<Mask>,
     pub(crate) queues: Vec<Queue>,
 }
 
@@ -62,10 +62,10 @@ impl<'a> Model for Remaining<'a> {
 }
 
 /// The queues of all rights, of ACEs with these masks.
-fn queues(alloc: Global, aces: &[AceRef<'_>], masks: &[u32]) -> Result<Vec<Queue>, AllocError>
+fn queues(alloc: Global, aces: &[AceRef<'_>], masks: &[Mask]) -> Result<Vec<Queue>, AllocError>
     requires places { length masks.now ≡ length aces.now }
-    requires quiet { IsQuiet (with_masks aces.now masks.now) }
-    ensures { IfOk result (λ queues. AreQueues (with_masks aces.now masks.now) queues.items) }
+    requires quiet { IsQuiet (with_masks aces.now (bits_in masks.now)) }
+    ensures { IfOk result (λ queues. AreQueues (with_masks aces.now (bits_in masks.now)) queues.items) }
 {
     let mut queues = Vec::new(alloc);
     for places in waiting_places(alloc, aces, masks)? {
@@ -79,10 +79,10 @@ impl<'a> Remaining<'a> {
     pub(crate) fn of(alloc: Global, reduced: Reduced<'a>) -> Result<Remaining<'a>, AllocError>
         requires few { vec_len reduced.aces < 2 ^ 32 }
         requires places { vec_len reduced.masks ≡ vec_len reduced.aces }
-        requires reduced { IsNumbered (with_masks reduced.aces.items reduced.masks.items)
+        requires reduced { IsNumbered (with_masks reduced.aces.items (bits_in reduced.masks.items))
             reduced.numbers.rows.items reduced.numbers.order.items }
         ensures { IfOk result (λ r. r
-            ≡ with_masks reduced.entry.aces.items reduced.entry.masks.items) }
+            ≡ with_masks reduced.entry.aces.items (bits_in reduced.entry.masks.items)) }
     {
         let Reduced {
             aces,
@@ -90,7 +90,7 @@ impl<'a> Remaining<'a> {
             numbers,
         } = reduced;
         let queues = queues(alloc, &aces, &masks)?;
-        let left = vec![in alloc; u32::MAX; aces.len()]?;
+        let left = vec![in alloc; Mask::ALL; aces.len()]?;
         let RowNumbers { rows, order } = numbers;
         Ok(Remaining {
             aces,
@@ -193,8 +193,8 @@ impl<'a> Remaining<'a> {
         requires { place < length self.now }
         ensures { result ≡ has_bit (mask_here self.now place) right.bit }
     {
-        let mask = self.masks[place] & self.left[self.rows[place]];
-        mask >> right.bit & 1 == 1
+        let mask = self.masks[place].intersection(self.left[self.rows[place]]);
+        mask.has(right)
     }
 
     /// The first place that waits in a type and a class with a right, or the greatest number where none does.
@@ -246,7 +246,7 @@ impl<'a> Remaining<'a> {
         ensures { IsTrue result ↔ HasFree self.now (principal p.entry) bits.bits }
     {
         let mut from = 0;
-        while let Some(right) = next_right(bits.bits, from) {
+        while let Some(right) = next_right(bits, from) {
             if self.is_free_at(p, right) {
                 return true;
             }
@@ -272,24 +272,24 @@ impl<'a> Remaining<'a> {
     }
 
     /// Takes rights of the principal of a row out, which stood in ACEs of that type.
-    pub(crate) fn emit(&mut self, row: usize, key: Key<'_>, bits: u32)
+    pub(crate) fn emit(&mut self, row: usize, key: Key<'_>, mask: Mask)
         requires { IsRow row (principal key.principal) self.old }
-        ensures { self.new ≡ take_out (principal key.entry.principal) bits self.old }
+        ensures { self.new ≡ take_out (principal key.entry.principal) mask.bits self.old }
     {
-        self.take_out(row, key.principal, bits);
+        self.take_out(row, key.principal, mask);
         let class = Class::of(key.principal);
         let mut from = 0;
-        while let Some(right) = next_right(bits, from) {
+        while let Some(right) = next_right(mask, from) {
             self.move_on(key.kind, class, right);
             from = right.bit + 1;
         }
     }
 
     /// Takes rights of the principal of a row out of what is left of it.
-    fn take_out(&mut self, row: usize, p: Principal<'_>, bits: u32)
+    fn take_out(&mut self, row: usize, p: Principal<'_>, mask: Mask)
         requires { IsRow row (principal p) self.old }
-        ensures { self.new ≡ take_out (principal p.entry) bits self.old }
+        ensures { self.new ≡ take_out (principal p.entry) mask.bits self.old }
     {
-        self.left[row] = without(self.left[row], bits);
+        self.left[row] = self.left[row].difference(mask);
     }
 }

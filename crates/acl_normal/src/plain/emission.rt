@@ -3,7 +3,6 @@
 ghost use Rattle.std.specs.Prelude.{◌≡◌, ◌≤◌, ◌&&◌, not, ℕ, List, option_map, ◌∷◌, ◌++◌, [], true, false, IfOk, IfNone, IfSome, length};
 ghost use Rattle.std.specs.List.{AllByRecursion};
 ghost use Rattle.acl_perm.specs.Bits.{has_bit};
-ghost use Rattle.acl_perm.specs.Order.{key_of};
 ghost use Rattle.std.specs.Ordering.{is_le};
 ghost use Rattle.acl_perm.specs.Profile.{full};
 ghost use Rattle.acl_nfs4.specs.Ace.{Ace, ace};
@@ -13,15 +12,16 @@ ghost use Rattle.acl_nfs4.specs.Who.{principal_of};
 ghost use Rattle.acl_eval.specs.Column.{column};
 ghost use Rattle.acl_normal.specs.internal.Counts.{count_left};
 ghost use Rattle.acl_normal.specs.internal.Emissions.{HasOnceColumns, IsEmission};
-ghost use Rattle.acl_normal.specs.Keys.{compare_keys, key_record, ace_key, kind_eq, principal_eq};
+ghost use Rattle.acl_normal.specs.Keys.{compare_keys, ace_key, kind_eq, principal_eq};
 ghost use Rattle.acl_normal.specs.Normal.{is_free};
 ghost use Rattle.acl_normal.specs.internal.Passes.{Best, is_blocked, IsCandidate, IsNowhereFree, IsWithinAs, KeepsProfiles, lesser, list_of};
 ghost use Rattle.acl_normal.specs.internal.Plain.{without_principal};
 
-use super::reduction::{active, is_same};
+use super::reduction::is_same;
+use crate::bits::active;
 use crate::normal_form::flags_of;
 use acl_nfs4::{AceRef, Acl, Mask};
-use acl_perm::{Key, overlaps};
+use acl_perm::overlaps;
 use std::alloc::{AllocError, Global};
 
 /// The list of the ACEs in the order of the normal form.
@@ -52,13 +52,13 @@ fn has_key(other: &AceRef<'_>, item: &AceRef<'_>) -> bool
 }
 
 // The bits at which the other ACE has the key of the ACE, but for those that are blocked.
-#[tactic(auto, using(crate::proofs::PlainForm::Passes::free_alone))]
+#[tactic(auto, using(crate::proofs::plain::Passes::free_alone))]
 fn own_free(other: &AceRef<'_>, item: &AceRef<'_>, blocked: Mask) -> Mask
     ensures { (bit : ℕ) → has_bit result.bits bit
         ≡ (is_free (column (ace other.now ∷ []) bit) (ace_key (ace item.now)) && not (has_bit blocked.bits bit)) }
 {
     if has_key(other, item) {
-        active(other).difference(blocked)
+        active(*other).difference(blocked)
     } else {
         Mask::NONE
     }
@@ -70,7 +70,7 @@ fn own_conflict(other: &AceRef<'_>, item: &AceRef<'_>) -> Mask
         ≡ is_blocked (column (ace other.now ∷ []) bit) (ace_key (ace item.now)) }
 {
     if other.kind != item.kind && overlaps(other.principal(), item.principal()) {
-        active(other)
+        active(*other)
     } else {
         Mask::NONE
     }
@@ -109,21 +109,11 @@ fn candidate<'a>(left: &[AceRef<'a>], item: &AceRef<'a>) -> Option<AceRef<'a>>
     })
 }
 
-// The principal and the type of the ACE.
-fn key<'a>(item: &AceRef<'a>) -> Key<'a>
-    ensures { key_of result ≡ key_record (ace_key (ace item.now)) }
-{
-    Key {
-        principal: item.principal(),
-        kind: item.kind,
-    }
-}
-
 // Whether the key of the first ACE is not greater.
 fn is_first(first: &AceRef<'_>, second: &AceRef<'_>) -> bool
     ensures { result ≡ is_le (compare_keys (ace_key (ace first.now)) (ace_key (ace second.now))) }
 {
-    key(first) <= key(second)
+    first.key() <= second.key()
 }
 
 // The lesser of two candidates, the first where both have one key.

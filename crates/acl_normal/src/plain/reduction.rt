@@ -8,10 +8,10 @@ ghost use Rattle.acl_nfs4.specs.Ace.{ace};
 ghost use Rattle.acl_nfs4.specs.Who.{principal_of};
 ghost use Rattle.acl_eval.specs.Column.{column};
 ghost use Rattle.acl_normal.specs.Keys.{kind_eq, principal_eq};
-ghost use Rattle.acl_normal.specs.Normal.{counts};
 ghost use Rattle.acl_normal.specs.internal.Passes.{KeepsProfiles, default_in, is_shadowed, list_of};
 ghost use Rattle.acl_normal.specs.internal.Plain.{default, has_opposite, is_needed, needed_keys, unshadowed};
 
+use crate::bits::active;
 use acl_nfs4::{AceRef, Kind, Mask, Principal};
 use acl_perm::overlaps;
 use std::alloc::{AllocError, Global};
@@ -23,17 +23,6 @@ pub(super) fn is_same(first: Principal<'_>, second: Principal<'_>) -> bool
     first == second
 }
 
-// The bits with which the ACE takes part.
-pub(super) fn active(item: &AceRef<'_>) -> Mask
-    ensures { (bit : ℕ) → has_bit result.bits bit ≡ counts bit (ace item.now) }
-{
-    if item.flags.is_inherit_only() {
-        Mask::NONE
-    } else {
-        item.mask
-    }
-}
-
 // The bits with which the ACE shadows later ones of the principal.
 fn own_shadow(item: &AceRef<'_>, of: Principal<'_>) -> Mask
     ensures { (bit : ℕ) → has_bit result.bits bit
@@ -41,7 +30,7 @@ fn own_shadow(item: &AceRef<'_>, of: Principal<'_>) -> Mask
 {
     let whom = item.principal();
     if is_same(whom, of) || is_same(whom, Principal::Everyone) {
-        active(item)
+        active(*item)
     } else {
         Mask::NONE
     }
@@ -109,7 +98,7 @@ fn own_opposite(item: &AceRef<'_>, later: &AceRef<'_>) -> Mask
         ≡ has_opposite item.now.kind (principal_of (ace item.now)) (column (ace later.now ∷ []) bit) }
 {
     if later.kind != item.kind && overlaps(item.principal(), later.principal()) {
-        active(later)
+        active(*later)
     } else {
         Mask::NONE
     }

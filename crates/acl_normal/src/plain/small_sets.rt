@@ -10,9 +10,9 @@ ghost use Rattle.acl_normal.specs.internal.Passes.{list_of};
 ghost use Rattle.acl_normal.specs.internal.SetSearch.{Finds, GrantAlikeTo, principals};
 
 use crate::comparison::Difference;
+use crate::comparison::compared::Compared;
 use crate::comparison::evaluation::grant_alike;
 use crate::comparison::mentioned::mentioned;
-use crate::comparison::outcome::answer;
 use crate::comparison::small_set::SmallSet;
 use crate::reduce::collected::collect;
 use acl_nfs4::{AceRef, Acl};
@@ -20,7 +20,7 @@ use acl_perm::{Principal, overlaps};
 use std::alloc::{AllocError, Global};
 
 // The first of the principals at which alone the lists differ.
-#[tactic(auto, using(crate::proofs::Searching::SetSearchLemmas::single_ends))]
+#[tactic(auto, using(crate::proofs::comparison::SetSearchLemmas::single_ends))]
 fn first_single<'a>(
     list: &[AceRef<'_>],
     other: &[AceRef<'_>],
@@ -55,7 +55,7 @@ fn pair_differs(
 }
 
 // The first of the rest with which the principal is a pair at which the lists differ.
-#[tactic(auto, using(crate::proofs::Searching::SetSearchLemmas::partner_ends))]
+#[tactic(auto, using(crate::proofs::comparison::SetSearchLemmas::partner_ends))]
 fn first_partner<'a>(
     list: &[AceRef<'_>],
     other: &[AceRef<'_>],
@@ -74,7 +74,7 @@ fn first_partner<'a>(
 }
 
 // The first pair at which the lists differ.
-#[tactic(auto, using(crate::proofs::Searching::SetSearchLemmas::pair_ends))]
+#[tactic(auto, using(crate::proofs::comparison::SetSearchLemmas::pair_ends))]
 fn first_pair<'a>(
     list: &[AceRef<'_>],
     other: &[AceRef<'_>],
@@ -93,7 +93,7 @@ fn first_pair<'a>(
 }
 
 // The first small set at which the lists differ.
-#[tactic(auto, using(crate::proofs::Searching::SetSearchLemmas::empty_differs))]
+#[tactic(auto, using(crate::proofs::comparison::SetSearchLemmas::empty_differs))]
 fn first_set<'a>(
     list: &[AceRef<'_>],
     other: &[AceRef<'_>],
@@ -116,9 +116,20 @@ pub fn compare(alloc: Global, first: &Acl, second: &Acl) -> Result<Option<Differ
     // The same answer: None exactly if both lists grant the same, else the first difference.
     ensures { IfOk result (λ told. IsComparison first.now second.now told) }
 {
+    first_difference(alloc, first, second)
+}
+
+// The first difference of two lists. They are borrowed for one time, since they are held as one.
+fn first_difference<'a>(
+    alloc: Global,
+    first: &'a Acl,
+    second: &'a Acl,
+) -> Result<Option<Difference>, AllocError>
+    ensures { IfOk result (IsComparison first.now second.now) }
+{
     let list = collect(alloc, first)?;
     let other = collect(alloc, second)?;
-    let (whole, _) = mentioned(alloc, &list, &other)?;
-    let found = first_set(&list, &other, &whole);
-    answer(alloc, &list, &other, &whole, found)
+    let mentions = mentioned(alloc, &list, &other)?;
+    let found = first_set(&list, &other, &mentions.principals);
+    Compared::of(&list, &other, &mentions).difference(alloc, found)
 }

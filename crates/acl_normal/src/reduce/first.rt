@@ -1,30 +1,17 @@
 //! The first ACEs of a list: those bits that no ACE of the same principal or of `EVERYONE@` precedes.
 ghost use Rattle.std.specs.Prelude.{◌≡◌, ℕ, [], length, IfOk, vec_len};
-ghost use Rattle.acl_perm.specs.Bits.{has_bit};
 ghost use Rattle.acl_perm.specs.Profile.{full};
-ghost use Rattle.acl_nfs4.specs.Ace.{ace};
 ghost use Rattle.acl_nfs4.specs.Spelling.{IsAccepted};
 ghost use Rattle.acl_eval.specs.Column.{column};
-ghost use Rattle.acl_normal.specs.Normal.{counts};
 ghost use Rattle.acl_normal.specs.internal.Plain.{unshadowed};
 ghost use Rattle.acl_normal.specs.internal.Reduced.{IsThinned};
 ghost use Rattle.acl_normal.specs.internal.Rows.{AreRowNumbers};
-ghost use Rattle.acl_normal.specs.internal.Shown.{aces_in, with_masks};
+ghost use Rattle.acl_normal.specs.internal.Shown.{aces_in, bits_in, with_masks};
 
-use crate::bits::without;
+use crate::bits::{active, of_everyone};
 use acl_nfs4::AceRef;
+use acl_perm::Mask;
 use std::alloc::{AllocError, Global};
-
-/// The bits with which the ACE takes part.
-fn active_bits(item: AceRef<'_>) -> u32
-    ensures { (b : ℕ) → has_bit result b ≡ counts b (ace item.entry) }
-{
-    if item.flags.is_inherit_only() {
-        0
-    } else {
-        item.mask.bits()
-    }
-}
 
 /// The masks of the first ACEs, by place: the bits that none of the same principal or of everyone has before.
 /// `rows` are the rows of the principals, by place.
@@ -32,27 +19,25 @@ pub(crate) fn first_masks(
     alloc: Global,
     aces: &[AceRef<'_>],
     rows: &[usize],
-) -> Result<Vec<u32>, AllocError>
+) -> Result<Vec<Mask>, AllocError>
     requires accepted { IsAccepted full (aces_in aces.now) }
     requires rows { AreRowNumbers (aces_in aces.now) rows.now }
     ensures places { IfOk result (λ masks. vec_len masks ≡ length aces.now) }
     ensures thinned { IfOk result (λ masks. IsThinned (aces_in aces.now)
-        (with_masks aces.now masks.items)) }
+        (with_masks aces.now (bits_in masks.items))) }
     ensures columns { IfOk result (λ masks. (b : ℕ)
-        → column (with_masks aces.now masks.items) b ≡ unshadowed [] (column (aces_in aces.now) b)) }
+        → column (with_masks aces.now (bits_in masks.items)) b ≡ unshadowed [] (column (aces_in aces.now) b)) }
 {
-    let mut seen = vec![in alloc; 0u32; aces.len()]?;
-    let mut everyone = 0u32;
+    let mut seen = vec![in alloc; Mask::NONE; aces.len()]?;
+    let mut everyone = Mask::NONE;
     let mut masks = Vec::with_capacity(alloc, aces.len())?;
     for place in 0..aces.len() {
         let ace = aces[place];
         let here = &mut seen[rows[place]];
-        let fresh = without(active_bits(ace), *here | everyone);
-        *here |= fresh;
+        let fresh = active(ace).difference(here.union(everyone));
+        *here = here.union(fresh);
         masks.push(fresh)?;
-        if ace.principal().is_everyone() {
-            everyone |= fresh;
-        }
+        everyone = everyone.union(of_everyone(ace, fresh));
     }
     Ok(masks)
 }

@@ -2,61 +2,63 @@
 ghost use Rattle.std.specs.Prelude.{◌≡◌, ℕ, ◌<◌, Bool, true, false, not, ◌||◌, ◌&&◌, length};
 ghost use Rattle.acl_perm.specs.Bits.{has_bit};
 ghost use Rattle.acl_perm.specs.declared.kind.Kind.{Kind as Sort};
-ghost use Rattle.acl_nfs4.specs.Ace.{ace};
 ghost use Rattle.acl_eval.specs.Column.{column};
 ghost use Rattle.acl_normal.specs.Left.{IsTidy};
-ghost use Rattle.acl_normal.specs.Keys.{ace_key, kind_eq, plain_key};
+ghost use Rattle.acl_normal.specs.Keys.{kind_eq, plain_key, principal_eq};
 ghost use Rattle.acl_normal.specs.internal.Classes.{is_users};
 ghost use Rattle.acl_normal.specs.internal.Needed.{class_mask, default_at, is_kept, later_mask, opposes};
 ghost use Rattle.acl_normal.specs.Places.{same_class};
-ghost use Rattle.acl_perm.specs.Principal.{is_user};
+ghost use Rattle.acl_perm.specs.Principal.{everyone, is_user};
+ghost use Rattle.acl_perm.specs.declared.kind.Kind.TheVariants.{Allow};
+ghost use Rattle.acl_nfs4.specs.Ace.{ace};
+ghost use Rattle.acl_nfs4.specs.Who.{principal_of};
 ghost use Rattle.acl_normal.specs.internal.Plain.{default, needed_keys};
 ghost use Rattle.acl_normal.specs.internal.Reduced.{IsThinned};
-ghost use Rattle.acl_normal.specs.internal.Shown.{with_masks};
+ghost use Rattle.acl_normal.specs.internal.Shown.{bits_in, with_masks};
 
-use crate::bits::without;
+use crate::bits::of_everyone;
 use crate::class::Class;
 use acl_nfs4::AceRef;
-use acl_perm::{Key, Kind};
+use acl_perm::{Key, Kind, Mask};
 
 /// Bits of users, and of all others.
 #[derive(Clone, Copy, Drop)]
 pub(crate) struct ByClass {
-    pub(crate) users: u32,
-    pub(crate) others: u32,
+    pub(crate) users: Mask,
+    pub(crate) others: Mask,
 }
 
 impl ByClass {
     const NONE: ByClass = ByClass {
-        users: 0,
-        others: 0,
+        users: Mask::NONE,
+        others: Mask::NONE,
     };
 
     /// With more bits of one class.
-    fn with(self, class: Class, mask: u32) -> ByClass
+    fn with(self, class: Class, mask: Mask) -> ByClass
         ensures { (users : Bool) (b : ℕ) → has_bit (class_mask result users) b
-            ≡ (has_bit (class_mask self users) b || (same_class (is_users class) users && has_bit mask b)) }
+            ≡ (has_bit (class_mask self users) b || (same_class (is_users class) users && has_bit mask.bits b)) }
     {
         match class {
             Class::Users => ByClass {
-                users: self.users | mask,
+                users: self.users.union(mask),
                 ..self
             },
             Class::Others => ByClass {
-                others: self.others | mask,
+                others: self.others.union(mask),
                 ..self
             },
         }
     }
 
     /// The bits of those that may overlap with a principal of a class: with a user, others alone.
-    fn beside(self, class: Class) -> u32
-        ensures { (b : ℕ) → has_bit result b
+    fn beside(self, class: Class) -> Mask
+        ensures { (b : ℕ) → has_bit result.bits b
             ≡ (has_bit (class_mask self false) b || (not (is_users class) && has_bit (class_mask self true) b)) }
     {
         match class {
             Class::Users => self.others,
-            Class::Others => self.others | self.users,
+            Class::Others => self.others.union(self.users),
         }
     }
 }
@@ -68,9 +70,19 @@ pub(crate) struct Later {
     pub(crate) allow: ByClass,
 }
 
+/// The bits that ACEs behind the last have: none.
+fn no_later() -> Later
+    ensures { (k : Sort) (users : Bool) (b : ℕ) → has_bit (later_mask result k users) b ≡ false }
+{
+    Later {
+        deny: ByClass::NONE,
+        allow: ByClass::NONE,
+    }
+}
+
 /// The bits that later ACEs have that may conflict with a key.
-fn opposite(later: Later, at: Key<'_>) -> u32
-    ensures { (b : ℕ) → has_bit result b ≡ opposes later (plain_key at.entry) b }
+fn opposite(later: Later, at: Key<'_>) -> Mask
+    ensures { (b : ℕ) → has_bit result.bits b ≡ opposes later (plain_key at.entry) b }
 {
     let class = Class::of(at.principal);
     match at.kind {
@@ -80,11 +92,11 @@ fn opposite(later: Later, at: Key<'_>) -> u32
 }
 
 /// With the bits of one more ACE.
-fn noted(later: Later, at: Key<'_>, mask: u32) -> Later
+fn noted(later: Later, at: Key<'_>, mask: Mask) -> Later
     ensures { (k : Sort) (users : Bool) (b : ℕ) → has_bit (later_mask result k users) b
         ≡ (has_bit (later_mask later k users) b
         || ((kind_eq (plain_key at.entry).1 k && same_class (is_user (plain_key at.entry).0) users)
-        && has_bit mask b)) }
+        && has_bit mask.bits b)) }
 {
     let class = Class::of(at.principal);
     match at.kind {
@@ -100,72 +112,69 @@ fn noted(later: Later, at: Key<'_>, mask: u32) -> Later
 }
 
 /// The bits of a mask that its ACE doesn't need.
-#[tactic(auto, using(crate::proofs::Unique::Names::everyone_test))]
-fn needless(at: Key<'_>, mask: u32, allowed: u32, opposite: u32) -> u32
-    ensures { (b : ℕ) → has_bit result b
-        ≡ (has_bit mask b && not (is_kept (default_at allowed b) (plain_key at.entry) (has_bit opposite b))) }
+#[tactic(auto, using(crate::proofs::unique::Names::everyone_test))]
+fn needless(at: Key<'_>, mask: Mask, allowed: Mask, opposite: Mask) -> Mask
+    ensures { (b : ℕ) → has_bit result.bits b ≡ (has_bit mask.bits b
+        && not (is_kept (default_at allowed.bits b) (plain_key at.entry) (has_bit opposite.bits b))) }
 {
     if at.principal.is_everyone() {
         match at.kind {
-            Kind::Allow => 0,
+            Kind::Allow => Mask::NONE,
             Kind::Deny => mask,
         }
     } else {
         match at.kind {
-            Kind::Allow => without(mask & allowed, opposite),
-            Kind::Deny => without(mask, allowed | opposite),
+            Kind::Allow => mask.intersection(allowed).difference(opposite),
+            Kind::Deny => mask.difference(allowed.union(opposite)),
         }
+    }
+}
+
+/// The bits of the mask, where its ACE allows everyone.
+fn allowed_by(item: AceRef<'_>, mask: Mask) -> Mask
+    ensures { (b : ℕ) → has_bit result.bits b ≡ (has_bit mask.bits b
+        && (principal_eq (principal_of (ace item.entry)) everyone && kind_eq item.entry.kind Allow)) }
+{
+    match item.kind {
+        Kind::Allow => of_everyone(item, mask),
+        Kind::Deny => Mask::NONE,
     }
 }
 
 /// The bits that everyone is allowed by the ACEs, with these masks.
-fn allowed_to_everyone(aces: &[AceRef<'_>], masks: &[u32]) -> u32
+fn allowed_to_everyone(aces: &[AceRef<'_>], masks: &[Mask]) -> Mask
     requires places { length masks.now ≡ length aces.now }
-    requires tidy { IsTidy (with_masks aces.now masks.now) }
-    ensures { (b : ℕ) → default_at result b ≡ default (column (with_masks aces.now masks.now) b) }
+    requires tidy { IsTidy (with_masks aces.now (bits_in masks.now)) }
+    ensures { (b : ℕ) → default_at result.bits b
+        ≡ default (column (with_masks aces.now (bits_in masks.now)) b) }
 {
-    let mut bits = 0u32;
+    let mut allowed = Mask::NONE;
     for place in 0..aces.len() {
-        let ace = aces[place];
-        if ace.principal().is_everyone() && ace.kind.is_allow() {
-            bits |= masks[place];
-        }
+        allowed = allowed.union(allowed_by(aces[place], masks[place]));
     }
-    bits
-}
-
-/// Whom the ACE names, and its type.
-fn key(item: AceRef<'_>) -> Key<'_>
-    ensures { plain_key result ≡ ace_key (ace item.entry) }
-{
-    Key {
-        principal: item.principal(),
-        kind: item.kind,
-    }
+    allowed
 }
 
 /// Drops the bits that no situation needs from the masks of first ACEs: one pass, from the last ACE to the first.
-pub(crate) fn drop_needless(aces: &[AceRef<'_>], masks: &mut [u32])
+pub(crate) fn drop_needless(aces: &[AceRef<'_>], masks: &mut [Mask])
     requires places { length masks.old ≡ length aces.now }
-    requires tidy { IsTidy (with_masks aces.now masks.old) }
+    requires tidy { IsTidy (with_masks aces.now (bits_in masks.old)) }
     ensures places { length masks.new ≡ length aces.now }
-    ensures thinned { IsThinned (with_masks aces.now masks.old) (with_masks aces.now masks.new) }
-    ensures columns { (b : ℕ) → b < 21 → column (with_masks aces.now masks.new) b
-        ≡ needed_keys (default (column (with_masks aces.now masks.old) b))
-        (column (with_masks aces.now masks.old) b) }
+    ensures thinned { IsThinned (with_masks aces.now (bits_in masks.old))
+        (with_masks aces.now (bits_in masks.new)) }
+    ensures columns { (b : ℕ) → b < 21 → column (with_masks aces.now (bits_in masks.new)) b
+        ≡ needed_keys (default (column (with_masks aces.now (bits_in masks.old)) b))
+        (column (with_masks aces.now (bits_in masks.old)) b) }
 {
     let allowed = allowed_to_everyone(aces, masks);
-    let mut later = Later {
-        deny: ByClass::NONE,
-        allow: ByClass::NONE,
-    };
+    let mut later = no_later();
     for done in 0..aces.len() {
         let place = aces.len() - 1 - done;
         let ace = aces[place];
-        let at = key(ace);
+        let at = ace.key();
         let mask = masks[place];
         let dropped = needless(at, mask, allowed, opposite(later, at));
-        masks[place] = without(mask, dropped);
+        masks[place] = mask.difference(dropped);
         later = noted(later, at, mask);
     }
 }

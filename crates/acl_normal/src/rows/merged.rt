@@ -52,7 +52,7 @@ pub(crate) fn lowest(bits: Mask) -> Option<Right>
         ≡ Some bit }
     ensures none { bits.bits ≡ 0 → result ≡ None }
 {
-    next_right(bits.bits, 0)
+    next_right(bits, 0)
 }
 
 impl<'a> MergedRows<'a> {
@@ -121,7 +121,7 @@ impl<'a> MergedRows<'a> {
         ensures { self.new ≡ take_out (principal p.entry) mask.bits self.old }
     {
         let mut from = 0;
-        while let Some(right) = next_right(mask.bits, from) {
+        while let Some(right) = next_right(mask, from) {
             self.emit_bit(row, p, right);
             from = right.bit + 1;
         }

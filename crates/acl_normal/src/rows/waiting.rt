@@ -7,13 +7,13 @@ ghost use Rattle.acl_perm.specs.declared.kind.Kind.{Kind as Sort};
 ghost use Rattle.acl_normal.specs.Normal.{IsQuiet};
 ghost use Rattle.acl_normal.specs.Places.{slot_of, waits};
 ghost use Rattle.acl_normal.specs.internal.Classes.{is_users};
-ghost use Rattle.acl_normal.specs.internal.Shown.{with_masks};
+ghost use Rattle.acl_normal.specs.internal.Shown.{bits_in, with_masks};
 ghost use Rattle.acl_normal.specs.internal.Waiting.{HoldWaiting, Notes};
 
 use crate::bits::next_right;
 use crate::class::Class;
 use acl_nfs4::AceRef;
-use acl_perm::{Kind, Right};
+use acl_perm::{Kind, Mask, Right};
 use std::alloc::{AllocError, Global};
 use std::collections::BTreeSet;
 
@@ -49,10 +49,10 @@ fn note(
     place: usize,
     kind: Kind,
     class: Class,
-    mask: u32,
+    mask: Mask,
 ) -> Result<(), AllocError>
     requires { vec_len lists.old ≡ 84 }
-    ensures { OnOk result (Notes place kind (is_users class) mask
+    ensures { OnOk result (Notes place kind (is_users class) mask.bits
         lists.old.items lists.new.items) }
 {
     let mut from = 0;
@@ -68,11 +68,11 @@ fn note(
 pub(crate) fn waiting_places(
     alloc: Global,
     aces: &[AceRef<'_>],
-    masks: &[u32],
+    masks: &[Mask],
 ) -> Result<Vec<Vec<usize>>, AllocError>
     requires places { length masks.now ≡ length aces.now }
-    requires quiet { IsQuiet (with_masks aces.now masks.now) }
-    ensures { IfOk result (λ lists. HoldWaiting (with_masks aces.now masks.now) lists.items) }
+    requires quiet { IsQuiet (with_masks aces.now (bits_in masks.now)) }
+    ensures { IfOk result (λ lists. HoldWaiting (with_masks aces.now (bits_in masks.now)) lists.items) }
 {
     let mut lists = no_places(alloc)?;
     for place in 0..aces.len() {
@@ -100,14 +100,14 @@ fn set_of(alloc: Global, places: Vec<usize>) -> Result<BTreeSet<usize>, AllocErr
 pub(crate) fn waiting_sets(
     alloc: Global,
     aces: &[AceRef<'_>],
-    masks: &[u32],
+    masks: &[Mask],
 ) -> Result<Vec<BTreeSet<usize>>, AllocError>
     requires places { length masks.now ≡ length aces.now }
-    requires quiet { IsQuiet (with_masks aces.now masks.now) }
+    requires quiet { IsQuiet (with_masks aces.now (bits_in masks.now)) }
     ensures slots { IfOk result (λ sets. vec_len sets ≡ 84) }
     ensures waiting { IfOk result (λ sets. (k : Sort) (users : Bool) (b i : ℕ) → b < 21
         → list_any (is_at (nat_cmp i)) (slice_index_or sets.items (slot_of k users b) (record { keys = [] })).keys
-        ≡ waits k users b (with_masks aces.now masks.now) i) }
+        ≡ waits k users b (with_masks aces.now (bits_in masks.now)) i) }
 {
     let mut sets = Vec::new(alloc);
     for places in waiting_places(alloc, aces, masks)? {

@@ -1,6 +1,6 @@
 -- How one list, and two, are read from an input that comes in pieces (this library's own, over RFC 4506 and RFC 8881,
 -- section 6.2.1).
-use Rattle.std.specs.Prelude.{◌≡◌, ◌⊎◌, ◌+◌, ◌≤◌, ◌<◌, ◌++◌, [], List, ℕ, Bool, false, true, Option, IfErr, IfOk, IfSome, OnOk, Result, Ok, Err, length}
+use Rattle.std.specs.Prelude.{◌≡◌, ◌≢◌, ◌⊎◌, ◌+◌, ◌≤◌, ◌<◌, ◌++◌, [], List, ℕ, Bool, false, true, Option, IfErr, IfOk, IfSome, OnOk, Result, Ok, Err, length}
 use Rattle.std.specs.Io.KnownBytes.{Consumes, IsAtEnd, Keeps}
 use Rattle.acl_perm.specs.Devices.{failures_after}
 use Rattle.acl_perm.specs.Profile.{Profile}
@@ -10,7 +10,7 @@ use Rattle.acl_nfs4.specs.Spelling.{Xdr}
 use Rattle.acl_nfs4.specs.internal.Progress.{IsBytes}
 use Rattle.acl_nfs4.specs.Stream.{IsCut}
 use Rattle.acl_nfs4.specs.declared.xdr.fault.Fault.{Fault}
-use Rattle.acl_nfs4.specs.declared.xdr.fault.Reason.TheVariants.{TrailingBytes, Truncated}
+use Rattle.acl_nfs4.specs.declared.xdr.fault.Reason.TheVariants.{Memory, TrailingBytes, Truncated}
 use Rattle.aclck.specs.Answer.{IsXdrFault, cause_of, has_read_failed, is_read}
 use Rattle.aclck.specs.Compare.{IsRefusedTwo}
 use Rattle.aclck.specs.ListInput.{AreOpen, IsOpen, ListEnds, RefusalEnds, TakesPart, TakesTo, TwoEnd, ValueEnds, piece_len}
@@ -28,6 +28,10 @@ abbrev pub told : ListFault → RunFault
 told (unread.Refused f) = fault.Nfs f
 told unread.Read = fault.Read
 told unread.Memory = fault.Memory
+
+-- a fault of a list as its reader tells it: want of memory, or a refusal for another reason
+abbrev pub IsTold : ListFault → Fault → Type 0
+IsTold e f = (e ≡ unread.Memory) ⊎ ((e ≡ unread.Refused f) × (f.reason ≢ Memory))
 
 -- a pull failed
 abbrev pub is_failed_pull : ListFault → Bool

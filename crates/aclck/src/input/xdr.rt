@@ -1,11 +1,10 @@
 //! Lists that an input spells, read as it comes.
-ghost use Rattle.std.specs.Prelude.{◌≡◌, ◌≢◌, ◌⊎◌, ◌<◌, ◌≤◌, ◌^◌, [], IfErr, IfOk, Ok, OnErr, OnOk, drop, false, length, true};
+ghost use Rattle.std.specs.Prelude.{◌≡◌, ◌⊎◌, ◌<◌, ◌≤◌, ◌^◌, [], IfErr, IfOk, Ok, OnErr, OnOk, drop, false, length, true};
 ghost use Rattle.std.specs.Io.KnownBytes.{Consumes, IsAtEnd, Keeps};
 ghost use Rattle.acl_perm.specs.Devices.{failures_after};
 ghost use Rattle.acl_perm.specs.Profile.{profile_of};
 ghost use Rattle.acl_nfs4.specs.Spelling.{Xdr};
 ghost use Rattle.acl_nfs4.specs.Stream.{Finishes};
-ghost use Rattle.acl_nfs4.specs.declared.xdr.fault.Reason.TheVariants.{Memory};
 ghost use Rattle.aclck.specs.Compare.{AreTwo};
 ghost use Rattle.aclck.specs.ListInput.{piece_len};
 ghost use Rattle.aclck.specs.internal.Reading.{EndsNot, ReadsInput, ReadsNone, ReadsValue, StandsBelow, has_pull_failed, later, one_list, two_lists};
@@ -41,179 +40,17 @@ impl From<ListFault> for RunFault {
     }
 }
 
-// How many bytes a pull asks for at most.
-const PIECE: usize = 4096;
+impl From<Fault> for ListFault {
+    ghost use Rattle.aclck.specs.internal.Reading.{IsTold};
 
-/// What the last pull of an input gave and no value has taken.
-#[derive(Drop)]
-pub(crate) struct Pulled {
-    room: [u8; PIECE],
-    start: usize,
-    end: usize,
-}
+    ghost from_gives = { λ fault list. IsTold list fault };
 
-impl Model for Pulled {
-    ghost use Rattle.std.specs.Prelude.{◌≤◌, ◌-◌, List, ℕ, drop, take};
-    ghost use Rattle.aclck.specs.ListInput.{piece_len};
-
-    ghost Value = { List ℕ };
-
-    ghost view = { λ s. take (s.end - s.start) (drop s.start s.room) };
-
-    ghost invariant = { λ s. (s.start ≤ s.end) × (s.end ≤ piece_len) };
-}
-
-// The same, and a clause that says that they are bytes.
-fn seen(bytes: &[u8]) -> &[u8]
-    ensures is { result.now ≡ bytes.now }
-    ensures bytes { IsBytes result.now }
-{
-    bytes
-}
-
-impl Pulled {
-    /// Nothing was pulled yet.
-    pub(crate) fn new() -> Pulled
-        ensures { result ≡ [] }
-    {
-        Pulled {
-            room: [0; PIECE],
-            start: 0,
-            end: 0,
+    fn from(fault: Fault) -> ListFault {
+        if fault.reason == Reason::Memory {
+            ListFault::Memory
+        } else {
+            ListFault::Refused(fault)
         }
-    }
-
-    /// What is left.
-    fn left(&self) -> &[u8]
-        ensures is { result.now ≡ self.now }
-        ensures short { length self.now ≤ piece_len }
-        ensures bytes { IsBytes result.now }
-    {
-        seen(&self.room[self.start..self.end])
-    }
-
-    // So many bytes belong to a value.
-    fn take(&mut self, count: usize)
-        requires { count ≤ length self.old }
-        ensures { self.new ≡ drop count self.old }
-    {
-        self.start += count;
-    }
-
-    // What is left is done with: what one more pull gives stands in its place. Whether that is any byte.
-    fn pull<S: Source>(&mut self, source: &mut S) -> Result<bool, ListFault>
-        ensures given { OnOk result
-            (Consumes (S.remaining source.old) (S.remaining source.new) self.new) }
-        ensures some { IfOk result (λ came. came ≡ true → 0 < length self.new) }
-        ensures end { IfOk result (λ came.
-            came ≡ false → (self.new ≡ []) × IsAtEnd (S.remaining source.new)) }
-        ensures failed { IfErr result (λ e. e ≡ ListFault.Read) }
-        ensures kept { OnErr result (Keeps (S.remaining source.old) (S.remaining source.new)) }
-        ensures short { length self.new ≤ piece_len }
-        ensures reads { S.failure_count source.new
-            ≡ failures_after (S.failure_count source.old) (has_pull_failed result) }
-    {
-        match source.pull(&mut self.room) {
-            Ok(count) => {
-                self.start = 0;
-                self.end = count;
-                Ok(count > 0)
-            }
-            Err(_) => Err(ListFault::Read),
-        }
-    }
-}
-
-/// A list, and how many bytes of the input spell it.
-#[derive(Drop)]
-pub(crate) struct Value {
-    pub(crate) list: Acl,
-    pub(crate) len: u64,
-}
-
-// A fault of a list, which may be want of memory.
-fn list_fault(fault: Fault) -> ListFault
-    ensures { (result ≡ ListFault.Memory)
-        ⊎ ((result ≡ ListFault.Refused fault) × (fault.reason ≢ Memory)) }
-{
-    if fault.reason == Reason::Memory {
-        ListFault::Memory
-    } else {
-        ListFault::Refused(fault)
-    }
-}
-
-/// Reads one list of the profile, from what is left of the last pull on. What the input has behind it is left. A fault
-/// counts from the list's first byte. After a refusal nothing more is read.
-pub(crate) fn read_value<S: Source>(
-    alloc: Global,
-    source: &mut S,
-    pulled: &mut Pulled,
-    profile: Profile,
-) -> Result<Value, ListFault>
-    ensures value { IfOk result (λ value. ReadsValue (profile_of profile) pulled.old pulled.new
-        (S.remaining source.old) (S.remaining source.new) value.list value.len) }
-    ensures small { IfOk result (λ value. value.len < 2 ^ 32) }
-    ensures none { IfErr result (λ e. ReadsNone (profile_of profile) pulled.old
-        (S.remaining source.old) (S.remaining source.new) e) }
-    ensures reads { S.failure_count source.new
-        ≡ failures_after (S.failure_count source.old) (has_pull_failed result) }
-{
-    let mut feed = Feed::with_profile(alloc, profile);
-    let mut fed = 0u64;
-    loop {
-        match feed.feed(pulled.left()) {
-            Fed::More => {}
-            Fed::Done { taken } => {
-                pulled.take(taken);
-                return finish(feed, fed + taken as u64);
-            }
-            Fed::Refused(fault) => return Err(list_fault(fault)),
-        }
-        fed += pulled.left().len() as u64;
-        if !pulled.pull(source)? {
-            return finish(feed, fed);
-        }
-    }
-}
-
-// What a feed comes to that gets no more.
-fn finish(feed: Feed, len: u64) -> Result<Value, ListFault>
-    ensures list { IfOk result (λ value. (value.len ≡ len) × Finishes feed (Ok value.list)) }
-    ensures fault { IfErr result (λ e. (e ≡ ListFault.Memory)
-        ⊎ ((fault : Fault) × (e ≡ ListFault.Refused fault) × Finishes feed (Err fault))) }
-{
-    match feed.finish() {
-        Ok(list) => Ok(Value { list, len }),
-        Err(fault) => Err(list_fault(fault)),
-    }
-}
-
-/// Whether the input ends behind a value of so many bytes, of which the last pull may have given more.
-pub(crate) fn read_end<S: Source>(
-    source: &mut S,
-    pulled: &mut Pulled,
-    len: u64,
-) -> Result<(), ListFault>
-    ensures end { OnOk result
-        ((pulled.old ≡ []) × Consumes (S.remaining source.old) (S.remaining source.new) []
-        × IsAtEnd (S.remaining source.new)) }
-    ensures not { IfErr result (λ e.
-        EndsNot len pulled.old (S.remaining source.old) (S.remaining source.new) e) }
-    ensures reads { S.failure_count source.new
-        ≡ failures_after (S.failure_count source.old) (has_pull_failed result) }
-{
-    let fault = ListFault::Refused(Fault {
-        offset: len,
-        reason: Reason::TrailingBytes,
-    });
-    if !pulled.left().is_empty() {
-        return Err(fault);
-    }
-    if pulled.pull(source)? {
-        Err(fault)
-    } else {
-        Ok(())
     }
 }
 
@@ -281,4 +118,168 @@ fn behind(fault: ListFault, len: u64) -> ListFault
         ListFault::Read => ListFault::Read,
         ListFault::Memory => ListFault::Memory,
     }
+}
+
+/// A list, and how many bytes of the input spell it.
+#[derive(Drop)]
+pub(crate) struct Value {
+    pub(crate) list: Acl,
+    pub(crate) len: u64,
+}
+
+/// Reads one list of the profile, from what is left of the last pull on. What the input has behind it is left. A fault
+/// counts from the list's first byte. After a refusal nothing more is read.
+pub(crate) fn read_value<S: Source>(
+    alloc: Global,
+    source: &mut S,
+    pulled: &mut Pulled,
+    profile: Profile,
+) -> Result<Value, ListFault>
+    ensures value { IfOk result (λ value. ReadsValue (profile_of profile) pulled.old pulled.new
+        (S.remaining source.old) (S.remaining source.new) value.list value.len) }
+    ensures small { IfOk result (λ value. value.len < 2 ^ 32) }
+    ensures none { IfErr result (λ e. ReadsNone (profile_of profile) pulled.old
+        (S.remaining source.old) (S.remaining source.new) e) }
+    ensures reads { S.failure_count source.new
+        ≡ failures_after (S.failure_count source.old) (has_pull_failed result) }
+{
+    let mut feed = Feed::with_profile(alloc, profile);
+    let mut fed = 0u64;
+    loop {
+        match feed.feed(pulled.left()) {
+            Fed::More => {}
+            Fed::Done { taken } => {
+                pulled.take(taken);
+                return finish(feed, fed + taken as u64);
+            }
+            Fed::Refused(fault) => return Err(ListFault::from(fault)),
+        }
+        fed += pulled.left().len() as u64;
+        if !pulled.pull(source)? {
+            return finish(feed, fed);
+        }
+    }
+}
+
+// What a feed comes to that gets no more.
+fn finish(feed: Feed, len: u64) -> Result<Value, ListFault>
+    ensures list { IfOk result (λ value. (value.len ≡ len) × Finishes feed (Ok value.list)) }
+    ensures fault { IfErr result (λ e. (e ≡ ListFault.Memory)
+        ⊎ ((fault : Fault) × (e ≡ ListFault.Refused fault) × Finishes feed (Err fault))) }
+{
+    Ok(Value {
+        list: feed.finish()?,
+        len,
+    })
+}
+
+/// Whether the input ends behind a value of so many bytes, of which the last pull may have given more.
+pub(crate) fn read_end<S: Source>(
+    source: &mut S,
+    pulled: &mut Pulled,
+    len: u64,
+) -> Result<(), ListFault>
+    ensures end { OnOk result
+        ((pulled.old ≡ []) × Consumes (S.remaining source.old) (S.remaining source.new) []
+        × IsAtEnd (S.remaining source.new)) }
+    ensures not { IfErr result (λ e.
+        EndsNot len pulled.old (S.remaining source.old) (S.remaining source.new) e) }
+    ensures reads { S.failure_count source.new
+        ≡ failures_after (S.failure_count source.old) (has_pull_failed result) }
+{
+    let fault = ListFault::Refused(Fault {
+        offset: len,
+        reason: Reason::TrailingBytes,
+    });
+    if !pulled.left().is_empty() {
+        return Err(fault);
+    }
+    if pulled.pull(source)? {
+        Err(fault)
+    } else {
+        Ok(())
+    }
+}
+
+// How many bytes a pull asks for at most.
+const PIECE: usize = 4096;
+
+/// What the last pull of an input gave and no value has taken.
+#[derive(Drop)]
+pub(crate) struct Pulled {
+    room: [u8; PIECE],
+    start: usize,
+    end: usize,
+}
+
+impl Model for Pulled {
+    ghost use Rattle.std.specs.Prelude.{◌≤◌, ◌-◌, List, ℕ, drop, take};
+    ghost use Rattle.aclck.specs.ListInput.{piece_len};
+
+    ghost Value = { List ℕ };
+
+    ghost view = { λ s. take (s.end - s.start) (drop s.start s.room) };
+
+    ghost invariant = { λ s. (s.start ≤ s.end) × (s.end ≤ piece_len) };
+}
+
+impl Pulled {
+    /// Nothing was pulled yet.
+    pub(crate) fn new() -> Pulled
+        ensures { result ≡ [] }
+    {
+        Pulled {
+            room: [0; PIECE],
+            start: 0,
+            end: 0,
+        }
+    }
+
+    /// What is left.
+    fn left(&self) -> &[u8]
+        ensures is { result.now ≡ self.now }
+        ensures short { length self.now ≤ piece_len }
+        ensures bytes { IsBytes result.now }
+    {
+        seen(&self.room[self.start..self.end])
+    }
+
+    // Takes so many bytes away, which belong to a value.
+    fn take(&mut self, count: usize)
+        requires { count ≤ length self.old }
+        ensures { self.new ≡ drop count self.old }
+    {
+        self.start += count;
+    }
+
+    // What is left is done with: what one more pull gives stands in its place. Whether that is any byte.
+    fn pull<S: Source>(&mut self, source: &mut S) -> Result<bool, ListFault>
+        ensures given { OnOk result
+            (Consumes (S.remaining source.old) (S.remaining source.new) self.new) }
+        ensures some { IfOk result (λ came. came ≡ true → 0 < length self.new) }
+        ensures end { IfOk result (λ came.
+            came ≡ false → (self.new ≡ []) × IsAtEnd (S.remaining source.new)) }
+        ensures failed { IfErr result (λ e. e ≡ ListFault.Read) }
+        ensures kept { OnErr result (Keeps (S.remaining source.old) (S.remaining source.new)) }
+        ensures short { length self.new ≤ piece_len }
+        ensures reads { S.failure_count source.new
+            ≡ failures_after (S.failure_count source.old) (has_pull_failed result) }
+    {
+        match source.pull(&mut self.room) {
+            Ok(count) => {
+                self.start = 0;
+                self.end = count;
+                Ok(count > 0)
+            }
+            Err(_) => Err(ListFault::Read),
+        }
+    }
+}
+
+// The bytes that it is given, with a clause that says that they are bytes, which their type alone does not.
+fn seen(bytes: &[u8]) -> &[u8]
+    ensures is { result.now ≡ bytes.now }
+    ensures bytes { IsBytes result.now }
+{
+    bytes
 }

@@ -1,11 +1,10 @@
 //! `check-nfs`: whether a list grants a request.
-ghost use Rattle.std.specs.Prelude.{◌≡◌, ◌↔◌, IfOk, map, option_and_then, option_map};
+ghost use Rattle.std.specs.Prelude.{◌≡◌, ◌↔◌, IfOk, option_and_then, option_map};
 ghost use Rattle.std.specs.List.Sorted.{IsPermutation};
-ghost use Rattle.clap.specs.Words.{found_of, rows_of};
 ghost use Rattle.acl_perm.specs.Profile.{profile_of};
 ghost use Rattle.aclck.specs.Run.{Runs, of_list};
-ghost use Rattle.aclck.specs.Line.{Reads};
-ghost use Rattle.aclck.specs.Values.{mask_within};
+ghost use Rattle.aclck.specs.Line.{Reads, rows_in, text_if_any, texts};
+ghost use Rattle.aclck.specs.Values.{mask_value, mask_within};
 ghost use Rattle.acl_eval.specs.Grant.{Grant};
 ghost use Rattle.acl_eval.specs.Situation.{groups_of, situation, user_of};
 ghost use Rattle.aclck.specs.CheckNfs.{CheckNfsAnswer, check_nfs_held, check_nfs_in, object_named, object_names, requester_named, requester_names, values_of};
@@ -13,17 +12,12 @@ ghost use Rattle.aclck.specs.CheckNfs.{CheckNfsAnswer, check_nfs_held, check_nfs
 use crate::answer::{Outcome, RunFault, decision_line};
 use crate::input::xdr::read_list;
 use crate::line::{Argument, LineFault, text_of};
-use crate::words::values::{mask_within, profile_in};
+use crate::words::profile::profile_in;
 use acl_eval::{Object, Requester, grants};
-use acl_nfs4::Acl;
+use acl_nfs4::{Acl, read_mask};
 use acl_perm::{Mask, Profile, Sink, Source, put_all};
 use clap::ArgMatches;
 use std::alloc::{AllocError, Global};
-
-// To put groups in order takes longer than to look up no more of them than these, or for no more ACEs.
-const FEW_GROUPS: usize = 128;
-
-const FEW_ACES: usize = 128;
 
 /// The word that names the command.
 pub(crate) const WORD: &str = "check-nfs";
@@ -53,8 +47,8 @@ pub(crate) fn read<'a, 'w: 'a>(
     matches: &ArgMatches<'w>,
     groups: &'a [&'a [u8]],
 ) -> Result<CheckNfs<'a>, LineFault>
-    ensures { Reads check_nfs_held (check_nfs_in (rows_of (found_of matches.now))
-        (map (λ g. g.now) groups.entry.now)) result }
+    ensures { Reads check_nfs_held (check_nfs_in (rows_in matches.now)
+        (texts groups.entry.now)) result }
 {
     let Some(object) = object_of(text_of(matches, "owner"), text_of(matches, "group")) else {
         return Err(LineFault::Usage);
@@ -62,10 +56,8 @@ pub(crate) fn read<'a, 'w: 'a>(
     let Some(requester) = requester_of(text_of(matches, "user"), groups) else {
         return Err(LineFault::Usage);
     };
-    let profile = profile_in(text_of(matches, "profile"))?;
-    let Some(mask) = mask_in(text_of(matches, "mask"), profile.masks) else {
-        return Err(LineFault::Usage);
-    };
+    let profile = profile_in(matches)?;
+    let mask = mask_in(text_of(matches, "mask"), profile.masks).ok_or(LineFault::Usage)?;
     Ok(CheckNfs {
         object,
         requester,
@@ -76,30 +68,56 @@ pub(crate) fn read<'a, 'w: 'a>(
 
 fn object_of<'a>(owner: Option<&'a str>, group: Option<&'a str>) -> Option<Object<'a>>
     ensures { option_map object_names result
-        ≡ object_named (option_map (λ s. s.now) owner.entry) (option_map (λ s. s.now) group.entry) }
+        ≡ object_named (text_if_any owner.entry) (text_if_any group.entry) }
 {
     Object::new(owner?.as_bytes(), group?.as_bytes())
 }
 
 fn requester_of<'a>(user: Option<&'a str>, groups: &'a [&'a [u8]]) -> Option<Requester<'a>>
     ensures { option_map requester_names result
-        ≡ requester_named (option_map (λ s. s.now) user.entry) (map (λ g. g.now) groups.entry.now) }
+        ≡ requester_named (text_if_any user.entry) (texts groups.entry.now) }
 {
     requester_of_bytes(user?.as_bytes(), groups)
 }
 
 fn requester_of_bytes<'a>(user: &'a [u8], groups: &'a [&'a [u8]]) -> Option<Requester<'a>>
     ensures { option_map requester_names result
-        ≡ requester_named (Some user.entry.now) (map (λ g. g.now) groups.entry.now) }
+        ≡ requester_named (Some user.entry.now) (texts groups.entry.now) }
 {
     Requester::new(user, groups)
 }
 
 fn mask_in(word: Option<&str>, rights: Mask) -> Option<Mask>
     ensures { option_map (λ mask. mask.bits) result
-        ≡ option_and_then (mask_within rights.bits) (option_map (λ s. s.now) word.entry) }
+        ≡ option_and_then (mask_within rights.bits) (text_if_any word.entry) }
 {
     mask_within(word?, rights)
+}
+
+// The value of `--mask`, where all its rights are among these.
+fn mask_within(word: &str, rights: Mask) -> Option<Mask>
+    ensures { option_map (λ mask. mask.bits) result ≡ mask_within rights.bits word.now }
+{
+    let mask = mask_value(word)?;
+    if rights.contains(mask) {
+        Some(mask)
+    } else {
+        None
+    }
+}
+
+// The value of `--mask`: `none`, or names of rights with `|` between them. None where the word is neither.
+#[tactic(auto, unfolding(crate::specs::Values::mask_value))]
+fn mask_value(word: &str) -> Option<Mask>
+    ensures { option_map (λ mask. mask.bits) result ≡ mask_value word.now }
+{
+    if word == "none" {
+        Some(Mask::NONE)
+    } else if word == "-" {
+        None
+    } else {
+        read_mask(word.as_bytes())
+    }
 }
 
 /// Writes whether the list that the whole input spells grants the requester the mask on the object: `granted`, or
@@ -124,6 +142,11 @@ pub fn run_check_nfs<S: Source, K: Sink>(
     put_all(sink, decision_line(outcome))?;
     Ok(outcome)
 }
+
+// To put groups in order takes longer than to look up no more of them than these, or for no more ACEs.
+const FEW_GROUPS: usize = 128;
+
+const FEW_ACES: usize = 128;
 
 // Whether the list grants the request. The groups are put in order first where that takes less than looking each group
 // of the list up among all of them.
@@ -157,7 +180,7 @@ fn in_order<'a>(alloc: Global, names: &[&'a [u8]]) -> Result<Vec<&'a [u8]>, Allo
 
 // The requester, whose groups are given in another order.
 fn of_groups<'a>(requester: &Requester<'a>, groups: &'a [&'a [u8]]) -> Requester<'a>
-    requires { IsPermutation (groups_of requester.now) (map (λ g. g.now) groups.now) }
+    requires { IsPermutation (groups_of requester.now) (texts groups.now) }
     ensures user { user_of result ≡ user_of requester.now }
     ensures groups { IsPermutation (groups_of requester.now) (groups_of result) }
 {

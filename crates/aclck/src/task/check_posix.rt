@@ -1,21 +1,22 @@
 //! `check-posix`: whether the access part of a text grants a request.
-ghost use Rattle.std.specs.Prelude.{◌≡◌, option_and_then, option_map};
-ghost use Rattle.clap.specs.Words.{found_of, rows_of};
+ghost use Rattle.std.specs.Prelude.{◌≡◌, ◌==◌, IfOk, count_by, option_and_then, option_map};
+ghost use Rattle.std.specs.List.{list_all, slice_split};
 ghost use Rattle.acl_posix.specs.Check.{ids};
+ghost use Rattle.acl_posix.specs.Grammar.{comma};
 ghost use Rattle.aclck.specs.Run.{Runs, of_text};
-ghost use Rattle.aclck.specs.Line.{Reads};
-ghost use Rattle.aclck.specs.Values.{id_value, want_value};
+ghost use Rattle.aclck.specs.Line.{Reads, rows_in, text_if_any, texts};
+ghost use Rattle.aclck.specs.Values.{each_value, id_value, ids_value, is_letter, letters_value, want_value};
 ghost use Rattle.aclck.specs.CheckPosix.{CheckPosixAnswer, check_posix_held, check_posix_in, groups_value, values_of};
 
 use crate::answer::{Outcome, RunFault, decision_line, tell};
 use crate::input::posix::read_file;
 use crate::line::{Argument, LineFault, text_of};
 use crate::words::names::names_in;
-use crate::words::values::{id_value, ids_value, want_value};
+use crate::words::values::id_value;
 use acl_perm::{Perm, Sink, Source};
 use acl_posix::{Id, Names};
 use clap::ArgMatches;
-use std::alloc::Global;
+use std::alloc::{AllocError, Global};
 
 /// The word that names the command.
 pub(crate) const WORD: &str = "check-posix";
@@ -44,7 +45,7 @@ pub struct CheckPosix {
 /// The values that the words spell.
 #[tactic(auto, unfolding(crate::specs::CheckPosix::check_posix_in))]
 pub(crate) fn read(alloc: Global, matches: &ArgMatches<'_>) -> Result<CheckPosix, LineFault>
-    ensures { Reads check_posix_held (check_posix_in (rows_of (found_of matches.now))) result }
+    ensures { Reads check_posix_held (check_posix_in (rows_in matches.now)) result }
 {
     Ok(CheckPosix {
         owner: id_in(text_of(matches, "owner"))?,
@@ -59,19 +60,82 @@ pub(crate) fn read(alloc: Global, matches: &ArgMatches<'_>) -> Result<CheckPosix
 }
 
 fn id_in(word: Option<&str>) -> Result<Id, LineFault>
-    ensures { Reads (λ id. id.value)
-        (option_and_then id_value (option_map (λ s. s.now) word.entry)) result }
+    ensures { Reads (λ id. id.value) (option_and_then id_value (text_if_any word.entry)) result }
 {
     word.and_then(id_value).ok_or(LineFault::Usage)
 }
 
 fn groups_in(alloc: Global, word: Option<&str>) -> Result<Vec<Id>, LineFault>
-    ensures { Reads (λ v. ids v.items) (groups_value (option_map (λ s. s.now) word.entry)) result }
+    ensures { Reads (λ v. ids v.items) (groups_value (text_if_any word.entry)) result }
 {
     match word {
         Some(word) => ids_value(alloc, word),
         None => Ok(Vec::new(alloc)),
     }
+}
+
+// The value of `--groups`: IDs with commas between them.
+#[tactic(auto, unfolding(crate::specs::Values::ids_value))]
+fn ids_value(alloc: Global, word: &str) -> Result<Vec<Id>, LineFault>
+    ensures { Reads (λ v. ids v.items) (ids_value word.now) result }
+{
+    let items = items_of(alloc, word)?;
+    each_id(alloc, items.as_slice())
+}
+
+// What stands between the commas.
+fn items_of<'a>(alloc: Global, word: &'a str) -> Result<Vec<&'a str>, AllocError>
+    ensures { IfOk result (λ v. texts v.items ≡ slice_split (λ b. b == comma) word.entry.now) }
+{
+    word.split(',').collect(alloc)
+}
+
+fn each_id(alloc: Global, items: &[&str]) -> Result<Vec<Id>, LineFault>
+    ensures { Reads (λ v. ids v.items) (each_value id_value (texts items.now)) result }
+{
+    let mut all = Vec::new(alloc);
+    for item in items {
+        let id = id_value(item).ok_or(LineFault::Usage)?;
+        all.push(id)?;
+    }
+    Ok(all)
+}
+
+// The value of `--want`: r, w and x in any order, or `none`.
+#[tactic(auto, unfolding(crate::specs::Values::want_value))]
+fn want_value(word: &str) -> Option<Perm>
+    ensures { option_map (λ perm. perm.bits) result ≡ want_value word.now }
+{
+    if word == "none" {
+        Some(Perm::NONE)
+    } else {
+        letters(word.as_bytes())
+    }
+}
+
+// The set of letters, each at most once.
+fn letters(bytes: &[u8]) -> Option<Perm>
+    ensures { option_map (λ perm. perm.bits) result ≡ letters_value bytes.now }
+{
+    let read = count(bytes, b'r');
+    let write = count(bytes, b'w');
+    let execute = count(bytes, b'x');
+    if bytes.is_empty() || !are_letters(bytes) || read > 1 || write > 1 || execute > 1 {
+        return None;
+    }
+    Perm::new((4 * read + 2 * write + execute) as u8)
+}
+
+fn are_letters(bytes: &[u8]) -> bool
+    ensures { result ≡ list_all is_letter bytes.now }
+{
+    bytes.iter().all(|b| *b == b'r' || *b == b'w' || *b == b'x')
+}
+
+fn count(bytes: &[u8], letter: u8) -> usize
+    ensures { result ≡ count_by (λ b. b == letter) bytes.now }
+{
+    bytes.iter().filter(|b| **b == letter).count()
 }
 
 /// Writes whether the access ACL of the file whose text the input is grants the user, who is in these groups, the

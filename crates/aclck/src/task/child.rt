@@ -1,15 +1,14 @@
 //! `child`: the list that a new object takes from its directory.
 ghost use Rattle.std.specs.Prelude.{◌≡◌};
-ghost use Rattle.clap.specs.Words.{found_of, rows_of};
 ghost use Rattle.acl_perm.specs.Profile.{profile_of};
 ghost use Rattle.aclck.specs.Run.{Runs, of_list};
-ghost use Rattle.aclck.specs.Line.{Reads};
+ghost use Rattle.aclck.specs.Line.{Reads, rows_in};
 ghost use Rattle.aclck.specs.Child.{ChildAnswer, child_held, child_in, kind_value};
 
 use crate::answer::{Outcome, RunFault};
 use crate::input::xdr::read_list;
 use crate::line::{Argument, LineFault, text_of};
-use crate::words::values::profile_in;
+use crate::words::profile::profile_in;
 use acl_eval::{ChildKind, child};
 use acl_perm::{Profile, Sink, Source};
 use clap::ArgMatches;
@@ -34,14 +33,14 @@ pub struct Child {
 /// The values that the words spell.
 #[tactic(auto, unfolding(crate::specs::Child::child_in))]
 pub(crate) fn read(matches: &ArgMatches<'_>) -> Result<Child, LineFault>
-    ensures { Reads child_held (child_in (rows_of (found_of matches.now))) result }
+    ensures { Reads child_held (child_in (rows_in matches.now)) result }
 {
     let kind = text_of(matches, "kind")
         .and_then(kind_value)
         .ok_or(LineFault::Usage)?;
     Ok(Child {
         kind,
-        profile: profile_in(text_of(matches, "profile"))?,
+        profile: profile_in(matches)?,
     })
 }
 

@@ -1,7 +1,6 @@
 //! `create`: the canonical text of a new object.
-ghost use Rattle.clap.specs.Words.{found_of, rows_of};
 ghost use Rattle.aclck.specs.Run.{Runs, of_text};
-ghost use Rattle.aclck.specs.Line.{Reads};
+ghost use Rattle.aclck.specs.Line.{Reads, rows_in};
 ghost use Rattle.aclck.specs.Create.{CreateAnswer, create_held, create_in};
 
 use crate::answer::{Outcome, RunFault};
@@ -37,7 +36,7 @@ pub struct Create {
 /// The values that the words spell.
 #[tactic(auto, unfolding(crate::specs::Create::create_in))]
 pub(crate) fn read(alloc: Global, matches: &ArgMatches<'_>) -> Result<Create, LineFault>
-    ensures { Reads create_held (create_in (rows_of (found_of matches.now))) result }
+    ensures { Reads create_held (create_in (rows_in matches.now)) result }
 {
     Ok(Create {
         mode: mode_in(text_of(matches, "mode"))?,

@@ -1,15 +1,14 @@
 //! `normalize`: the normal form of a list, or its five.
 ghost use Rattle.std.specs.Prelude.{◌≡◌};
-ghost use Rattle.clap.specs.Words.{found_of, rows_of};
 ghost use Rattle.acl_perm.specs.Profile.{profile_of};
 ghost use Rattle.aclck.specs.Run.{Runs, of_list};
-ghost use Rattle.aclck.specs.Line.{Reads};
+ghost use Rattle.aclck.specs.Line.{Reads, rows_in};
 ghost use Rattle.aclck.specs.Normalize.{NormalizeAnswer, NormalizeInheritAnswer, NormalizedAnswer, normalize_held, normalize_in};
 
 use crate::answer::{Outcome, RunFault};
 use crate::input::xdr::read_list;
-use crate::line::{Argument, LineFault, is_set, text_of};
-use crate::words::values::profile_in;
+use crate::line::{Argument, LineFault, is_set};
+use crate::words::profile::profile_in;
 use acl_normal::{normalize, normalize_inherit};
 use acl_perm::{Profile, Sink, Source};
 use clap::ArgMatches;
@@ -34,10 +33,10 @@ pub struct Normalize {
 /// The values that the words spell.
 #[tactic(auto, unfolding(crate::specs::Normalize::normalize_in))]
 pub(crate) fn read(matches: &ArgMatches<'_>) -> Result<Normalize, LineFault>
-    ensures { Reads normalize_held (normalize_in (rows_of (found_of matches.now))) result }
+    ensures { Reads normalize_held (normalize_in (rows_in matches.now)) result }
 {
     let inherit = is_set(matches, "inherit");
-    let profile = profile_in(text_of(matches, "profile"))?;
+    let profile = profile_in(matches)?;
     Ok(Normalize { inherit, profile })
 }
 

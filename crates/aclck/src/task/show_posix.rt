@@ -1,8 +1,7 @@
 //! `show-posix`: the text of a file in a form.
 ghost use Rattle.std.specs.Prelude.{◌≡◌};
-ghost use Rattle.clap.specs.Words.{found_of, rows_of};
 ghost use Rattle.aclck.specs.Run.{Runs, of_text};
-ghost use Rattle.aclck.specs.Line.{Reads};
+ghost use Rattle.aclck.specs.Line.{Reads, rows_in};
 ghost use Rattle.aclck.specs.ShowPosix.{ShowPosixAnswer, form_value, show_posix_held, show_posix_in};
 
 use crate::answer::{Outcome, RunFault};
@@ -33,7 +32,7 @@ pub struct ShowPosix {
 /// The values that the words spell.
 #[tactic(auto, unfolding(crate::specs::ShowPosix::show_posix_in))]
 pub(crate) fn read(alloc: Global, matches: &ArgMatches<'_>) -> Result<ShowPosix, LineFault>
-    ensures { Reads show_posix_held (show_posix_in (rows_of (found_of matches.now))) result }
+    ensures { Reads show_posix_held (show_posix_in (rows_in matches.now)) result }
 {
     let form = text_of(matches, "form")
         .and_then(form_value)

@@ -1,17 +1,16 @@
 //! `table`: what the normal form of a list says of one right.
 ghost use Rattle.std.specs.Prelude.{◌≡◌, ◌++◌, ◌∷◌, [], IfOk, List, OnOk, decimal, option_and_then, option_map};
-ghost use Rattle.clap.specs.Words.{found_of, rows_of};
 ghost use Rattle.acl_perm.specs.Profile.{profile_of};
 ghost use Rattle.acl_perm.specs.Lines.{line_feed};
 ghost use Rattle.acl_nfs4.specs.AceText.{kind_name, space};
 ghost use Rattle.aclck.specs.Run.{Runs, of_list};
-ghost use Rattle.aclck.specs.Line.{Reads};
+ghost use Rattle.aclck.specs.Line.{Reads, rows_in, text_if_any};
 ghost use Rattle.aclck.specs.BitTable.{AreTableOf, TableAnswer, bit_value, group_word, right_named, row_line, rows_text, table_held, table_in};
 
 use crate::answer::{Outcome, RunFault};
 use crate::input::xdr::read_list;
 use crate::line::{Argument, LineFault, text_of};
-use crate::words::values::profile_in;
+use crate::words::profile::profile_in;
 use acl_nfs4::{Acl, read_mask};
 use acl_normal::{Row, table};
 use acl_perm::{Kind, Mask, Profile, Sink, Source, put_all};
@@ -38,18 +37,16 @@ pub struct BitTable {
 /// The values that the words spell.
 #[tactic(auto, unfolding(crate::specs::BitTable::table_in))]
 pub(crate) fn read(matches: &ArgMatches<'_>) -> Result<BitTable, LineFault>
-    ensures { Reads table_held (table_in (rows_of (found_of matches.now))) result }
+    ensures { Reads table_held (table_in (rows_in matches.now)) result }
 {
-    let profile = profile_in(text_of(matches, "profile"))?;
-    let Some(bit) = bit_in(text_of(matches, "bit"), profile.masks) else {
-        return Err(LineFault::Usage);
-    };
+    let profile = profile_in(matches)?;
+    let bit = bit_in(text_of(matches, "bit"), profile.masks).ok_or(LineFault::Usage)?;
     Ok(BitTable { bit, profile })
 }
 
 fn bit_in(word: Option<&str>, rights: Mask) -> Option<Mask>
     ensures { option_map (λ mask. mask.bits) result
-        ≡ option_and_then (bit_value rights.bits) (option_map (λ s. s.now) word.entry) }
+        ≡ option_and_then (bit_value rights.bits) (text_if_any word.entry) }
 {
     bit_value(word?, rights)
 }

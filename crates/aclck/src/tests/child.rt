@@ -1,7 +1,7 @@
-//! `child` and `mode` over lists in bytes.
+//! `child` over lists in bytes.
 
 use crate::tests::harness::{Table, Trial};
-use crate::tests::lists::{EMPTY, READ_OF_ALICE, READ_OF_THE_GROUP, RETENTION_OF_BOB};
+use crate::tests::lists::{EMPTY, READ_OF_ALICE, READ_OF_THE_GROUP};
 use std::process::Abort;
 
 // ---- lists
@@ -27,22 +27,9 @@ const GROUP_IN_A_DIRECTORY: &[u8] = b"\0\0\0\x01\0\0\0\0\0\0\0\x03\0\0\0\x01\0\0
 // DENY DIR|SUCCESS|GROUP WRITE_DATA staff.
 const OF_STAFF: &[u8] = b"\0\0\0\x01\0\0\0\x01\0\0\0\x52\0\0\0\x02\0\0\0\x05staff\0\0\0";
 
-// DENY - WRITE_DATA OWNER@, ALLOW - READ_DATA|WRITE_DATA|APPEND_DATA EVERYONE@.
-const WITHOUT_THE_OWNER: &[u8] = b"\0\0\0\x02\
-    \0\0\0\x01\0\0\0\0\0\0\0\x02\0\0\0\x06OWNER@\0\0\
-    \0\0\0\0\0\0\0\0\0\0\0\x07\0\0\0\x09EVERYONE@\0\0\0";
-
-// ALLOW - READ_DATA OWNER@, DENY - READ_DATA EVERYONE@, ALLOW INHERITONLY WRITE_DATA|APPEND_DATA GROUP@,
-// ALLOW - EXECUTE EVERYONE@.
-const OF_ALL: &[u8] = b"\0\0\0\x04\
-    \0\0\0\0\0\0\0\0\0\0\0\x01\0\0\0\x06OWNER@\0\0\
-    \0\0\0\x01\0\0\0\0\0\0\0\x01\0\0\0\x09EVERYONE@\0\0\0\
-    \0\0\0\0\0\0\0\x08\0\0\0\x06\0\0\0\x06GROUP@\0\0\
-    \0\0\0\0\0\0\0\0\0\0\0\x20\0\0\0\x09EVERYONE@\0\0\0";
-
 // ---- rows
 
-// Lists with the list that a child has, or with the mode; and lines that are refused, or ask for nothing.
+// Lists with the list that a child has; and lines that are refused, or ask for nothing.
 static TABLE: Table = Table {
     answers: &[
         (
@@ -75,14 +62,6 @@ static TABLE: Table = Table {
             0,
             &[(OF_STAFF, OF_STAFF)],
         ),
-        (
-            "mode",
-            0,
-            &[(WITHOUT_THE_OWNER, b"466\n"), (EMPTY, b"000\n")],
-        ),
-        ("mode --profile narrow", 0, &[(WITHOUT_THE_OWNER, b"466\n")]),
-        ("mode --", 0, &[(OF_ALL, b"511\n")]),
-        ("mode --profile full", 0, &[(RETENTION_OF_BOB, b"000\n")]),
     ],
     refusals: &[
         (
@@ -90,19 +69,8 @@ static TABLE: Table = Table {
             &[(OF_THE_GROUP, "FlagBits at byte 8")],
         ),
         (
-            "mode --profile=narrow",
-            &[(RETENTION_OF_BOB, "MaskBits at byte 12")],
-        ),
-        (
             "child --kind file",
             &[(b"\0\0\0\x01\0\0\0\x02", "AuditOrAlarm at byte 4")],
-        ),
-        (
-            "mode",
-            &[
-                (b"\0\0\0\0\0", "TrailingBytes at byte 4"),
-                (b"\0\0\0", "Truncated at byte 0"),
-            ],
         ),
     ],
     usage: &[
@@ -111,9 +79,6 @@ static TABLE: Table = Table {
         "child --kind=",
         "child --kind file x",
         "child --kind file --kind dir",
-        "mode x",
-        "mode --profile wide",
-        "mode --kind file",
     ],
     unread: EMPTY,
 };

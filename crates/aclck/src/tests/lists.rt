@@ -68,3 +68,9 @@ pub const AMY_AND_ALL: &[u8] = b"\0\0\0\x03\
 pub const AMY_INHERITED: &[u8] = b"\0\0\0\x02\
     \0\0\0\0\0\0\0\x09\0\0\0\x01\0\0\0\x03amy\0\
     \0\0\0\0\0\0\0\0\0\0\0\x01\0\0\0\x03amy\0";
+
+/// ALLOW DIR|GROUP READ_DATA|WRITE_DATA and a group with blanks at both ends.
+pub const BLANKS: &[u8] = b"\0\0\0\x01\0\0\0\0\0\0\0\x42\0\0\0\x03\0\0\0\x0b two words \0";
+
+/// ALLOW INHERITED READ_DATA bob.
+pub const INHERITED_OF_BOB: &[u8] = b"\0\0\0\x01\0\0\0\0\0\0\0\x80\0\0\0\x01\0\0\0\x03bob\0";

@@ -1,6 +1,6 @@
-//! `normalize` over lists in bytes.
+//! `normalize` over lists in bytes, some of which are cut short or damaged.
 
-use crate::tests::harness::{Answer, Table, Trial, Way, repeated_ace};
+use crate::tests::harness::{Answer, FINE, Table, Trial, Way, repeated_ace, run};
 use crate::tests::lists::{
     AMY_AND_ALL, AMY_INHERITED, BEHIND_ALICE, BOB_AND_OWNER, EMPTY, GROUP_FLAGGED, NO_RIGHTS,
     OPS_FIRST, OPS_LAST, OWNER_BOB_OWNER, READ_OF_ALICE, READ_OF_ALL, READ_OF_THE_GROUP,
@@ -110,6 +110,15 @@ fn forms_stay<A: Abort>(rt: &A, trial: Trial, line: &str, rows: &[(&[u8], &[u8])
     }
 }
 
+// The list that lets everyone read, with each bit of one word set.
+fn damaged(place: usize) -> [u8; 32] {
+    let mut bytes = *READ_OF_ALL;
+    for byte in bytes.iter_mut().skip(place).take(4) {
+        *byte = 0xff;
+    }
+    bytes
+}
+
 // What is answered where memory is ample.
 mod ample {
     use super::*;
@@ -135,5 +144,35 @@ mod ample {
             assert!(rt; trial.passes("normalize", &list, answer), "{count}");
         }
         Ok(())
+    }
+
+    // With inheritance and without.
+    #[test]
+    fn normalize_refuses_a_word_of_ones_at_its_place(rt: HostRuntime) {
+        for (place, told) in [
+            (0usize, "TooManyAces at byte 0"),
+            (4, "AceType at byte 4"),
+            (8, "FlagBits at byte 8"),
+            (12, "MaskBits at byte 12"),
+            (16, "WhoLength at byte 16"),
+        ] {
+            let input = damaged(place);
+            let one = run(rt.alloc(), &["normalize"], &input, FINE);
+            assert!(rt; one.is(2, b"", told), "{place}");
+            let five = run(rt.alloc(), &["normalize", "--inherit"], &input, FINE);
+            assert!(rt; five.is(2, b"", told), "{place}");
+        }
+    }
+
+    // With inheritance and without.
+    #[test]
+    fn normalize_refuses_each_beginning_of_a_list(rt: HostRuntime) {
+        for len in 0..32usize {
+            let (front, _) = READ_OF_ALL.split_at(len.min(32));
+            let one = run(rt.alloc(), &["normalize"], front, FINE);
+            assert!(rt; one.is_judged() && one.status == 2, "{len}");
+            let five = run(rt.alloc(), &["normalize", "--inherit"], front, FINE);
+            assert!(rt; five.tells_as(&one) && five.is_judged(), "{len}");
+        }
     }
 }

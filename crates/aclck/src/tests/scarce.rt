@@ -3,7 +3,8 @@
 
 use crate::tests::harness::{Trial, Way};
 use crate::tests::{
-    bridge, check_nfs, child, compare, inherit, nfs_text, normalize, posix, posix_faults, table,
+    bridge, calc_mask, check_nfs, check_posix, child, chmod, compare, create, encode, mode,
+    normalize, normalize_inherit, show_nfs, show_posix, table,
 };
 
 #[test]
@@ -12,13 +13,28 @@ fn bridge_writes_each_list_or_wants_memory(rt: HostRuntime) {
 }
 
 #[test]
+fn calc_mask_writes_each_text_or_wants_memory(rt: HostRuntime) {
+    calc_mask::holds(&rt, Trial::new(rt.alloc(), Way::Scarce));
+}
+
+#[test]
 fn check_nfs_answers_each_row_or_wants_memory(rt: HostRuntime) {
     check_nfs::holds(&rt, Trial::new(rt.alloc(), Way::Scarce));
 }
 
 #[test]
-fn child_and_mode_answer_each_row_or_want_memory(rt: HostRuntime) {
+fn check_posix_answers_each_row_or_wants_memory(rt: HostRuntime) {
+    check_posix::holds(&rt, Trial::new(rt.alloc(), Way::Scarce));
+}
+
+#[test]
+fn child_writes_each_list_or_wants_memory(rt: HostRuntime) {
     child::holds(&rt, Trial::new(rt.alloc(), Way::Scarce));
+}
+
+#[test]
+fn chmod_writes_each_text_or_wants_memory(rt: HostRuntime) {
+    chmod::holds(&rt, Trial::new(rt.alloc(), Way::Scarce));
 }
 
 #[test]
@@ -27,18 +43,18 @@ fn compare_answers_each_pair_or_wants_memory(rt: HostRuntime) {
 }
 
 #[test]
+fn create_writes_each_text_or_wants_memory(rt: HostRuntime) {
+    create::holds(&rt, Trial::new(rt.alloc(), Way::Scarce));
+}
+
+#[test]
 fn encode_writes_each_list_or_wants_memory(rt: HostRuntime) {
-    nfs_text::encoded(&rt, Trial::new(rt.alloc(), Way::Scarce));
+    encode::holds(&rt, Trial::new(rt.alloc(), Way::Scarce));
 }
 
 #[test]
-fn show_nfs_writes_each_text_or_wants_memory(rt: HostRuntime) {
-    nfs_text::shown(&rt, Trial::new(rt.alloc(), Way::Scarce));
-}
-
-#[test]
-fn normalize_writes_five_forms_or_wants_memory(rt: HostRuntime) {
-    inherit::holds(&rt, Trial::new(rt.alloc(), Way::Scarce));
+fn mode_writes_each_mode_or_wants_memory(rt: HostRuntime) {
+    mode::holds(&rt, Trial::new(rt.alloc(), Way::Scarce));
 }
 
 #[test]
@@ -47,23 +63,18 @@ fn normalize_writes_each_normal_form_or_wants_memory(rt: HostRuntime) {
 }
 
 #[test]
+fn normalize_writes_five_forms_or_wants_memory(rt: HostRuntime) {
+    normalize_inherit::holds(&rt, Trial::new(rt.alloc(), Way::Scarce));
+}
+
+#[test]
+fn show_nfs_writes_each_text_or_wants_memory(rt: HostRuntime) {
+    show_nfs::holds(&rt, Trial::new(rt.alloc(), Way::Scarce));
+}
+
+#[test]
 fn show_posix_writes_each_text_or_wants_memory(rt: HostRuntime) {
-    posix::shown(&rt, Trial::new(rt.alloc(), Way::Scarce));
-}
-
-#[test]
-fn chmod_calc_mask_and_create_write_each_text_or_want_memory(rt: HostRuntime) {
-    posix::changed(&rt, Trial::new(rt.alloc(), Way::Scarce));
-}
-
-#[test]
-fn check_posix_answers_each_row_or_wants_memory(rt: HostRuntime) {
-    posix::checked(&rt, Trial::new(rt.alloc(), Way::Scarce));
-}
-
-#[test]
-fn posix_commands_refuse_each_row_or_want_memory(rt: HostRuntime) {
-    posix_faults::refused(&rt, Trial::new(rt.alloc(), Way::Scarce));
+    show_posix::holds(&rt, Trial::new(rt.alloc(), Way::Scarce));
 }
 
 #[test]

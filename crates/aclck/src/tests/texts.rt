@@ -10,3 +10,6 @@ pub const GROUPS: &[u8] = b"u::rwx,g::---,g:50:r--,g:60:-w-,m::rw-,o::---";
 
 /// A directory without a default ACL.
 pub const PLAIN: &[u8] = b"u::rwx,g::r-x,o::---";
+
+/// A text with a mask that cuts two of its entries.
+pub const MASKED: &[u8] = b"u::rw-,u:1001:rw-,g::r--,g:50:rw-,m::r--,o::r--";

@@ -1,9 +1,10 @@
 //! Words that name users and groups: `u:NAME=ID` and `g:NAME=ID`.
-ghost use Rattle.std.specs.Prelude.{◌≡◌, [], None, Some, map, option_map, unwrap_or};
+ghost use Rattle.std.specs.Prelude.{◌≡◌, [], None, Some, option_map, unwrap_or};
+ghost use Rattle.acl_posix.specs.Grammar.{colon};
 ghost use Rattle.acl_posix.specs.Names.{no_names};
-ghost use Rattle.clap.specs.Words.{found_of, rows_of};
-ghost use Rattle.aclck.specs.Line.{Reads, words_of};
-ghost use Rattle.aclck.specs.NameWords.{cut_of, first_cut, last_cut, line_fault_of, named_id, named_of, names_in, with_name, with_words, Adds};
+ghost use Rattle.aclck.specs.Line.{Reads, rows_in, texts, words_of};
+ghost use Rattle.aclck.specs.NameWords.{equals_sign, first_cut, last_cut, named_id, names_in, with_words};
+ghost use Rattle.aclck.specs.internal.Adding.{cut_of, named_of, Adds};
 
 use crate::line::{Argument, LineFault};
 use crate::words::values::id_value;
@@ -13,6 +14,20 @@ use std::alloc::Global;
 
 /// The arguments of the commands that take names and no other word.
 pub(crate) const ARGUMENTS: [Argument; 1] = [Argument::Words];
+
+impl From<NameFault> for LineFault {
+    ghost use Rattle.std.specs.Prelude.{◌≡◌};
+    ghost use Rattle.aclck.specs.internal.Adding.{line_fault_of};
+
+    ghost from_gives = { λ fault line. line ≡ line_fault_of fault };
+
+    fn from(fault: NameFault) -> LineFault {
+        match fault {
+            NameFault::EmptyName | NameFault::DigitsOnly | NameFault::Taken => LineFault::Usage,
+            NameFault::Memory => LineFault::Memory,
+        }
+    }
+}
 
 // A half of a table of names.
 #[derive(Clone, Copy, Debug, PartialEq, Eq)]
@@ -32,22 +47,22 @@ struct NamedId<'a> {
 /// The table of the words that are no option's.
 #[tactic(auto, unfolding(crate::specs::NameWords::names_value))]
 pub(crate) fn names_in(alloc: Global, matches: &ArgMatches<'_>) -> Result<Names, LineFault>
-    ensures { Reads (λ n. n) (names_in (rows_of (found_of matches.now))) result }
+    ensures { Reads (λ n. n) (names_in (rows_in matches.now)) result }
 {
     names_given(alloc, given(matches))
 }
 
 // The words that are no option's, if there are any.
 fn given<'a, 'm>(matches: &'m ArgMatches<'a>) -> Option<&'m [&'a str]>
-    ensures { unwrap_or (option_map (λ ws. map (λ w. w.now) ws.now) result) []
-        ≡ words_of (rows_of (found_of matches.now)) }
+    ensures { unwrap_or (option_map (λ ws. texts ws.now) result) []
+        ≡ words_of (rows_in matches.now) }
 {
     matches.get_strs("words")
 }
 
 fn names_given(alloc: Global, words: Option<&[&str]>) -> Result<Names, LineFault>
     ensures { Reads (λ n. n) (with_words no_names
-        (unwrap_or (option_map (λ ws. map (λ w. w.now) ws.now) words.entry) [])) result }
+        (unwrap_or (option_map (λ ws. texts ws.now) words.entry) [])) result }
 {
     match words {
         Some(words) => names_of(alloc, words),
@@ -56,7 +71,7 @@ fn names_given(alloc: Global, words: Option<&[&str]>) -> Result<Names, LineFault
 }
 
 fn names_of(alloc: Global, words: &[&str]) -> Result<Names, LineFault>
-    ensures { Reads (λ n. n) (with_words no_names (map (λ w. w.now) words.now)) result }
+    ensures { Reads (λ n. n) (with_words no_names (texts words.now)) result }
 {
     let mut names = Names::new(alloc);
     for word in words {
@@ -78,24 +93,11 @@ fn add_word(names: &mut Names, word: &str) -> Result<(), LineFault>
 fn add_name(names: &mut Names, named: NamedId<'_>) -> Result<(), LineFault>
     ensures { Adds names.old (Some (named_of named.entry)) names.new result }
 {
-    let added = match named.half {
-        Half::Users => names.add_user(named.name.as_bytes(), named.id),
-        Half::Groups => names.add_group(named.name.as_bytes(), named.id),
-    };
-    match added {
-        Ok(()) => Ok(()),
-        Err(fault) => Err(line_fault(fault)),
+    match named.half {
+        Half::Users => names.add_user(named.name.as_bytes(), named.id)?,
+        Half::Groups => names.add_group(named.name.as_bytes(), named.id)?,
     }
-}
-
-// A fault of names as one of words.
-fn line_fault(fault: NameFault) -> LineFault
-    ensures { result ≡ line_fault_of fault }
-{
-    match fault {
-        NameFault::EmptyName | NameFault::DigitsOnly | NameFault::Taken => LineFault::Usage,
-        NameFault::Memory => LineFault::Memory,
-    }
+    Ok(())
 }
 
 // What a word spells.
@@ -116,14 +118,14 @@ fn named_id<'a>(word: &'a str) -> Option<NamedId<'a>>
 
 // What stands before and behind the last equals sign.
 fn last_cut<'a>(word: &'a str) -> Option<(&'a str, &'a str)>
-    ensures { option_map cut_of result ≡ last_cut 61 word.entry.now }
+    ensures { option_map cut_of result ≡ last_cut equals_sign word.entry.now }
 {
     word.rsplit_once('=')
 }
 
 // What stands before and behind the first colon.
 fn first_cut<'a>(word: &'a str) -> Option<(&'a str, &'a str)>
-    ensures { option_map cut_of result ≡ first_cut 58 word.entry.now }
+    ensures { option_map cut_of result ≡ first_cut colon word.entry.now }
 {
     word.split_once(':')
 }

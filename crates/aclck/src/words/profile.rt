@@ -1,21 +1,34 @@
-//! The words of the commands that take a profile and no other word.
-ghost use Rattle.clap.specs.Words.{found_of, rows_of};
+//! `--profile`, and the words of the commands that take it and no other.
+ghost use Rattle.std.specs.Prelude.{◌≡◌, option_map};
 ghost use Rattle.acl_perm.specs.Profile.{profile_of};
-ghost use Rattle.aclck.specs.Line.{Reads};
-ghost use Rattle.aclck.specs.ProfileArgument.{profile_in};
+ghost use Rattle.aclck.specs.Line.{Reads, rows_in};
+ghost use Rattle.aclck.specs.ProfileArgument.{profile_in, profile_value};
 
 use crate::line::{Argument, LineFault, text_of};
-use crate::words::values::profile_in;
 use acl_perm::Profile;
 use clap::ArgMatches;
 
 /// The arguments of such a command.
 pub(crate) const ARGUMENTS: [Argument; 1] = [Argument::Default("profile", "full")];
 
-/// What a list may have.
+/// The profile that a list has to keep to.
 #[tactic(auto, unfolding(crate::specs::ProfileArgument::profile_in))]
-pub(crate) fn read(matches: &ArgMatches<'_>) -> Result<Profile, LineFault>
-    ensures { Reads profile_of (profile_in (rows_of (found_of matches.now))) result }
+pub(crate) fn profile_in(matches: &ArgMatches<'_>) -> Result<Profile, LineFault>
+    ensures { Reads profile_of (profile_in (rows_in matches.now)) result }
 {
-    profile_in(text_of(matches, "profile"))
+    text_of(matches, "profile")
+        .and_then(profile_value)
+        .ok_or(LineFault::Usage)
+}
+
+// The value of `--profile`: `full` or `narrow`.
+#[tactic(auto, unfolding(crate::specs::ProfileArgument::profile_value))]
+fn profile_value(word: &str) -> Option<Profile>
+    ensures { option_map profile_of result ≡ profile_value word.now }
+{
+    match word {
+        "full" => Some(Profile::FULL),
+        "narrow" => Some(Profile::NARROW),
+        _ => None,
+    }
 }

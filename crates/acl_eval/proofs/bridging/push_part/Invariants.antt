@@ -1,6 +1,6 @@
 use Rattle.std.proofs.Common.{◌≡◌, ◌++◌, take}
 use Rattle.acl_posix.specs.Entries.{pairs}
-use Rattle.acl_eval.specs.BridgeBody.{part_of}
+use Rattle.acl_eval.specs.internal.BridgeBody.{part_of}
 use Rattle.acl_eval.proofs.bridging.push_part.Given as goal
 
 -- the entries so far added their part

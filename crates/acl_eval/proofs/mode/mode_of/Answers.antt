@@ -1,6 +1,6 @@
 use Rattle.std.proofs.Common.{sym, ap, ◌∙◌}
 use Rattle.acl_eval.specs.ListMode.{is_for_group, is_for_others, is_for_owner}
-use Rattle.acl_eval.specs.Settled.{settled}
+use Rattle.acl_eval.specs.internal.Settled.{settled}
 use Rattle.acl_eval.proofs.Classes.{begins, perm_is, three}
 use Rattle.acl_eval.proofs.mode.mode_of.Goals as goal
 
@@ -15,23 +15,19 @@ loop-ace-init c =
     )
 
 pub loop-ace-preserved : goal.loop-ace-preserved
-loop-ace-preserved c =
-    let whom = c.principal-whom.ensures in (
-      tt,
-      tt,
-      λ bit. c.after-owner.ensures is_for_owner c.next.new.self bit
-          (c.is_for_owner.ensures ∙ ap is_for_owner whom)
-          ∙ ap (λ list. settled is_for_owner c.loop-ace.owner.granted.bits c.loop-ace.owner.left.bits list bit)
-          (sym c.in-Some.ensures.steps.0) ∙ c.loop-ace.invariant.2 bit,
-      λ bit. c.after-group.ensures is_for_group c.next.new.self bit
-          (c.is_for_group.ensures ∙ ap is_for_group whom)
-          ∙ ap (λ list. settled is_for_group c.loop-ace.group.granted.bits c.loop-ace.group.left.bits list bit)
-          (sym c.in-Some.ensures.steps.0) ∙ c.loop-ace.invariant.3 bit,
-      λ bit. c.after-others.ensures is_for_others c.next.new.self bit
-          (c.is_for_others.ensures ∙ ap is_for_others whom)
-          ∙ ap (λ list. settled is_for_others c.loop-ace.others.granted.bits c.loop-ace.others.left.bits list bit)
-          (sym c.in-Some.ensures.steps.0) ∙ c.loop-ace.invariant.4 bit,
-    )
+loop-ace-preserved c = (
+  tt,
+  tt,
+  λ bit. c.after-owner.ensures c.next.new.self bit
+      ∙ ap (λ list. settled is_for_owner c.loop-ace.owner.granted.bits c.loop-ace.owner.left.bits list bit)
+      (sym c.in-Some.ensures.steps.0) ∙ c.loop-ace.invariant.2 bit,
+  λ bit. c.after-group.ensures c.next.new.self bit
+      ∙ ap (λ list. settled is_for_group c.loop-ace.group.granted.bits c.loop-ace.group.left.bits list bit)
+      (sym c.in-Some.ensures.steps.0) ∙ c.loop-ace.invariant.3 bit,
+  λ bit. c.after-others.ensures c.next.new.self bit
+      ∙ ap (λ list. settled is_for_others c.loop-ace.others.granted.bits c.loop-ace.others.left.bits list bit)
+      (sym c.in-Some.ensures.steps.0) ∙ c.loop-ace.invariant.4 bit,
+)
 
 pub returns : goal.returns
 returns c =

@@ -1,7 +1,7 @@
 use Rattle.std.specs.Prelude.{◌≡◌, ℕ}
 use Rattle.acl_perm.specs.Bits.{all_rights}
 use Rattle.acl_eval.specs.ListMode.{is_for_group, is_for_others, is_for_owner}
-use Rattle.acl_eval.specs.Settled.{settled}
+use Rattle.acl_eval.specs.internal.Settled.{settled}
 use Rattle.acl_eval.proofs.mode.mode_of.Given as goal
 
 -- each class, before the rest of the list, settles what it does before the whole

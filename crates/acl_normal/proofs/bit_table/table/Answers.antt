@@ -2,8 +2,8 @@ use Rattle.std.proofs.Common.{◌∙◌, ap}
 use Rattle.std.specs.Prelude.{unwrap_or}
 use Rattle.acl_normal.specs.internal.Emitted.{emitted_aces}
 use Rattle.acl_normal.proofs.Tables.{key_there, row_there, rows_from, rows_shown}
-use Rattle.acl_normal.proofs.Unique.Forming.{form_from}
-use Rattle.acl_normal.proofs.Unique.Taken.{normal_alike, normal_once, taken}
+use Rattle.acl_normal.proofs.unique.Forming.{form_from}
+use Rattle.acl_normal.proofs.unique.Taken.{normal_alike, normal_once, taken}
 use Rattle.acl_normal.proofs.bit_table.table.Goals as goal
 
 pub rows_of-requires : goal.rows_of-requires

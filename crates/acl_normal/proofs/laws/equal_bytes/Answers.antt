@@ -1,4 +1,4 @@
-use Rattle.acl_normal.proofs.Unique.Spelled.{forms_tell, form_of}
+use Rattle.acl_normal.proofs.unique.Spelled.{forms_tell, form_of}
 use Rattle.acl_normal.proofs.laws.equal_bytes.Goals as goal
 
 pub returns-clause-spelled : goal.returns-clause-spelled

@@ -5,8 +5,8 @@ use Rattle.acl_eval.specs.Column.{column}
 use Rattle.acl_normal.specs.Left.{IsTidy}
 use Rattle.acl_normal.specs.Places.{nothing_left}
 use Rattle.acl_normal.specs.internal.Reduced.{IsReducedOf}
-use Rattle.acl_normal.specs.internal.Shown.{aces_in, with_masks}
-use Rattle.acl_normal.proofs.Merging.Rows.{order_alike, rows_alike}
+use Rattle.acl_normal.specs.internal.Shown.{aces_in, bits_in, with_masks}
+use Rattle.acl_normal.proofs.rows.Rows.{order_alike, rows_alike}
 use Rattle.acl_normal.proofs.reduce.reduced_list.Goals as goal
 
 -- what is left has the outline of the ACEs
@@ -18,7 +18,7 @@ outline_left one two aces masks e f same =
 
 pub returns-clause-rows : goal.returns-clause-rows
 returns-clause-rows c =
-    let shown = ap (λ v. with_masks v c.in_ok-masks.masks.items) c.deref-2.ensures.value in
+    let shown = ap (λ v. with_masks v (bits_in c.in_ok-masks.masks.items)) c.deref-2.ensures.value in
     let kept = c.in_ok-masks.ensures.reduced in
     let outline = outline_left c.deref.result.now _ _ _ c.deref.ensures.value c.deref-2.ensures.value
     kept.thinned.outline in
@@ -32,6 +32,6 @@ returns-clause-rows c =
 pub returns-clause-left : goal.returns-clause-left
 returns-clause-left c =
     let same = ap aces_in c.deref-2.ensures.value ∙ c.in_ok-aces.ensures.aces in
-    let left = ap (λ v. with_masks v c.in_ok-masks.masks.items) c.deref-2.ensures.value in
-    subst (λ v. IsReducedOf v (with_masks c.in_ok-aces.aces.items c.in_ok-masks.masks.items)) same
+    let left = ap (λ v. with_masks v (bits_in c.in_ok-masks.masks.items)) c.deref-2.ensures.value in
+    subst (λ v. IsReducedOf v (with_masks c.in_ok-aces.aces.items (bits_in c.in_ok-masks.masks.items))) same
     (subst (λ v. IsReducedOf (aces_in c.deref-2.result.now) v) left c.in_ok-masks.ensures.reduced)

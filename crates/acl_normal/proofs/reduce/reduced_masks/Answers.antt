@@ -1,9 +1,9 @@
 use Rattle.std.specs.Prelude.{◌≡◌, ◌++◌, drop, length, take}
 use Rattle.std.proofs.Common.{◌∙◌, sym}
 use Rattle.std.proofs.lemmas.List.{take_at}
-use Rattle.acl_normal.specs.internal.Shown.{aces_in, with_masks}
-use Rattle.acl_normal.proofs.Reduction.Reducing.{two_passes, reduction_grants, reduction_irreducible, reduction_rights}
-use Rattle.acl_normal.proofs.Reduction.Unneeded.{firsts_through}
+use Rattle.acl_normal.specs.internal.Shown.{aces_in, bits_in, with_masks}
+use Rattle.acl_normal.proofs.reduce.Reducing.{two_passes, reduction_grants, reduction_irreducible, reduction_rights}
+use Rattle.acl_normal.proofs.reduce.Unneeded.{firsts_through}
 use Rattle.acl_normal.proofs.reduce.reduced_masks.Goals as goal
 
 pub returns : goal.returns
@@ -13,8 +13,9 @@ returns c =
     take_at c.drop_needless.new.masks _ _ (c.drop_needless.ensures.places ∙ sym c.in_ok-masks.ensures.places) in
     let first = rw c.deref_mut.ensures.value at c.drop_needless.ensures in
     let whole = aces_in c.args.aces.now in
-    let r = two_passes whole (with_masks c.args.aces.now c.in_ok-masks.masks.items)
-    (with_masks c.args.aces.now c.drop_needless.new.masks) c.requires.accepted c.in_ok-masks.ensures.thinned.outline
+    let r = two_passes whole (with_masks c.args.aces.now (bits_in c.in_ok-masks.masks.items))
+    (with_masks c.args.aces.now (bits_in c.drop_needless.new.masks)) c.requires.accepted
+    c.in_ok-masks.ensures.thinned.outline
     c.in_ok-masks.ensures.columns first.thinned.outline first.thinned.tidy first.columns in
     rw items (record {
       places = c.in_ok-masks.ensures.places;
@@ -23,7 +24,7 @@ returns c =
           outline = r.outline;
           tidy = r.tidy;
           firsts =
-              firsts_through whole (with_masks c.args.aces.now c.in_ok-masks.masks.items) _
+              firsts_through whole (with_masks c.args.aces.now (bits_in c.in_ok-masks.masks.items)) _
               c.in_ok-masks.ensures.thinned.firsts first.thinned.firsts;
         };
         rights = reduction_rights whole _ r;

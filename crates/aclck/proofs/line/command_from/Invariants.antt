@@ -1,6 +1,7 @@
 use Rattle.std.proofs.Common.{◌≡◌, map, take}
 use Rattle.clap.specs.Words.{app_of}
-use Rattle.aclck.specs.Line.{app_from, term}
+use Rattle.aclck.specs.Line.{app_from}
+use Rattle.aclck.specs.internal.Held.{term}
 use Rattle.aclck.proofs.line.command_from.Given as goal
 
 abbrev pub invariant-loop-argument : goal.invariant-loop-argument

@@ -9,6 +9,9 @@ use std::alloc::{AllocError, Global};
 // Room for what a run writes, and for what it tells.
 const ROOM: usize = 256;
 
+// How many bytes the name of the program and a colon take at the beginning of a line on a fault.
+const NAME_LEN: usize = 7;
+
 /// What a command answered, what it wrote and told, and the calls of its devices.
 #[derive(Clone, Copy)]
 pub struct Ran {
@@ -63,12 +66,12 @@ impl Ran {
         if fault.is_empty() {
             return self.told == 0;
         }
-        let (name, line) = self.err.split_at(7);
+        let (name, line) = self.err.split_at(NAME_LEN);
         let len = fault.len();
         name.starts_with(b"aclck: ")
             && line.starts_with(fault.as_bytes())
             && line.get(len) == Some(&b'\n')
-            && self.told == len.saturating_add(8)
+            && self.told == len.saturating_add(NAME_LEN + 1)
     }
 
     /// Whether a read failed, and nothing was read after it or written.

@@ -77,7 +77,7 @@ pub returns-in-Err-clause-given : goal.returns-in-Err-clause-given
 returns-in-Err-clause-given g c =
     let inv = c.loop.invariant in
     let r = c.in_ok-ace.ensures in
-    (inv.given ++ r.given, Consumes-trans _ _ _ _ _ inv.taken r.drawn.taken, inr (inr (inl refl)))
+    (inv.given ++ r.given, Consumes-trans _ _ _ _ _ inv.taken r.drawn.taken, inr (inr (inl c.at_front.ensures)))
 
 pub overflow_add-weight : goal.overflow_add-weight
 overflow_add-weight g c =

@@ -1,7 +1,7 @@
 use Rattle.std.proofs.Common.{ap, ◌∙◌, ◌^◌}
 use Rattle.std.specs.Int.{trailing_zeros, w32}
 use Rattle.acl_normal.proofs.comparison.evaluation.lowest.Goals as goal
-use Rattle.acl_normal.proofs.Searching.SetEvaluation.{lowest_is, one_right}
+use Rattle.acl_normal.proofs.comparison.SetEvaluation.{lowest_is, one_right}
 
 pub invariant_of-result : goal.invariant_of-result
 invariant_of-result c = record {

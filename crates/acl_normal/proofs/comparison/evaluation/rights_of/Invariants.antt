@@ -1,5 +1,5 @@
 use Rattle.acl_normal.proofs.comparison.evaluation.rights_of.Given as goal
-use Rattle.acl_normal.proofs.Searching.SetEvaluation.{Covers}
+use Rattle.acl_normal.proofs.comparison.SetEvaluation.{Covers}
 use Rattle.acl_perm.specs.Bits.{IsMask}
 
 abbrev pub invariant-loop-item : goal.invariant-loop-item

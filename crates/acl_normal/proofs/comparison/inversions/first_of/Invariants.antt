@@ -1,8 +1,8 @@
 use Rattle.std.specs.Prelude.{◌≡◌, ℕ, ◌<◌, true, false, slice_index_or}
 use Rattle.acl_normal.proofs.comparison.inversions.first_of.Given as goal
-use Rattle.acl_normal.specs.internal.FirstPlaces.{inverts_any, no_row}
-use Rattle.acl_normal.specs.internal.PlaceTables.{is_of_sort}
+use Rattle.acl_normal.specs.internal.FirstPlaces.{inverts_any, no_standing}
+use Rattle.acl_normal.specs.internal.PlaceTables.{is_of_camp}
 
 abbrev pub invariant-loop-k : goal.invariant-loop-k
-invariant-loop-k l = (k : ℕ) → k < l.k → is_of_sort l.sort (slice_index_or l.rows k no_row) ≡ true
-    → inverts_any (slice_index_or l.rows k no_row) l.rows ≡ false
+invariant-loop-k l = (k : ℕ) → k < l.k → is_of_camp l.camp (slice_index_or l.standings k no_standing) ≡ true
+    → inverts_any (slice_index_or l.standings k no_standing) l.standings ≡ false

@@ -1,7 +1,7 @@
 use Rattle.std.proofs.Common.{◌∙◌, ap, subst}
 use Rattle.std.proofs.lemmas.List.{map-append}
 use Rattle.acl_nfs4.specs.Ace.{ace}
-use Rattle.acl_normal.proofs.Searching.MentionedRows.{whole_ready, whoms_ready}
+use Rattle.acl_normal.proofs.comparison.MentionedRows.{whole_ready, whoms_ready}
 use Rattle.acl_normal.proofs.comparison.mentioned.mentioned.Goals as goal
 use Rattle.acl_normal.specs.internal.FirstPlaces.{AreWhoms}
 use Rattle.acl_normal.specs.internal.Passes.{list_of}
@@ -17,7 +17,7 @@ returns c =
     let both = ap list_of (c.deref-5.ensures.value ∙ c.in_ok-aces.ensures)
     ∙ map-append ace c.args.list.now c.args.other.now in
     record {
-      whole =
+      in_order =
           whole_ready c.args.list.now c.args.other.now _ _ _ _ _ _ c.in_ok-aces.ensures c.deref-2.ensures.value
           c.deref-4.ensures.value c.in_ok-table.ensures c.in_ok-numbers.ensures;
       whoms =

@@ -1,14 +1,14 @@
-use Rattle.std.proofs.Common.{◌/◌, ◌<◌, ◌∙◌, sym, ap, subst, arith, refl}
+use Rattle.std.proofs.Common.{◌<◌, ◌∙◌, sym, ap, subst, arith, refl}
 use Rattle.acl_eval.specs.Column.{column}
 use Rattle.acl_normal.specs.internal.Counts.{count_left}
 use Rattle.acl_normal.specs.Keys.{plain_key}
 use Rattle.acl_normal.specs.Places.{nothing_left}
 use Rattle.acl_normal.specs.internal.Ready.{FitsKeys, marks}
-use Rattle.acl_normal.proofs.Emission.Drained.{drain_starts, drain_turn, drain_ends, drain_falls, outline_left, emitted_principal, popped_mask, popped_named, ready_within, takes}
-use Rattle.acl_normal.proofs.Emission.InRemaining.{remaining_once}
-use Rattle.acl_normal.proofs.Emission.Few.{remaining_few}
-use Rattle.acl_normal.proofs.Emission.Marks.{nothing_marked}
-use Rattle.acl_normal.proofs.Emission.InRows.{no_rows, rows_turn}
+use Rattle.acl_normal.proofs.emit.Drained.{drain_starts, drain_turn, drain_ends, drain_falls, outline_left, emitted_principal, popped_named}
+use Rattle.acl_normal.proofs.emit.InRemaining.{remaining_once}
+use Rattle.acl_normal.proofs.emit.Few.{remaining_few}
+use Rattle.acl_normal.proofs.emit.Marks.{nothing_marked}
+use Rattle.acl_normal.proofs.emit.InRows.{no_rows, rows_turn}
 use Rattle.acl_normal.specs.internal.Rows.{IsRow}
 use Rattle.acl_normal.proofs.emit.emission.drain.Goals as goal
 
@@ -27,58 +27,38 @@ emitted-init c = rw c.new-out.ensures.items (
   no_rows c.args.rows.now,
 )
 
-pub key_of-key-requires : goal.key_of-key-requires
-key_of-key-requires c =
-    ready_within c.emitted.rows c.emitted.ready c.in-Some.next.number c.in-Some.next.bits c.emitted.invariant.1
-    c.in-Some.ensures.least
+pub pop-requires : goal.pop-requires
+pop-requires c = record { keys = c.emitted.invariant.1; free = c.emitted.invariant.0.free }
 
 pub emit-requires : goal.emit-requires
-emit-requires c =
-    (takes _ _ _ _ _ _ c.emitted.invariant.1 c.in-Some.ensures.least c.in-Some.ensures.taken
-    c.key_of-key.ensures).row
-
-pub invariant_of-mask : goal.invariant_of-mask
-invariant_of-mask c =
-    let t = takes _ _ _ _ _ _ c.emitted.invariant.1 c.in-Some.ensures.least c.in-Some.ensures.taken
-    c.key_of-key.ensures in
-    record {
-      within =
-          popped_mask c.args.rows.now c.emitted.out.items _ _ (plain_key c.key_of-key.result) c.in-Some.next.bits
-          c.emitted.rows c.emitted.invariant.0 t.popped;
-    }
+emit-requires c = c.in-Some.ensures.some.at_row
 
 pub free_after-requires : goal.free_after-requires
 free_after-requires c =
-    let t = takes _ _ _ _ _ _ c.emitted.invariant.1 c.in-Some.ensures.least c.in-Some.ensures.taken
-    c.key_of-key.ensures in
-    subst (λ v. FitsKeys v c.pop.new.self)
-    (sym (outline_left (plain_key c.key_of-key.result).0 c.in-Some.next.bits c.emitted.rows c.emit.new.self
-    c.emit.ensures)) t.fits
+    subst (λ v. FitsKeys v c.pop.new.ready)
+    (sym (outline_left (plain_key c.in-Some.next.key).0 c.in-Some.next.mask.bits c.emitted.rows c.emit.new.self
+    c.emit.ensures)) c.in-Some.ensures.some.fits
 
 pub emitted-smaller : goal.emitted-smaller
 emitted-smaller c =
-    let t = takes _ _ _ _ _ _ c.emitted.invariant.1 c.in-Some.ensures.least c.in-Some.ensures.taken
-    c.key_of-key.ensures in
     subst (λ v. count_left 21 v < count_left 21 c.emitted.rows) (sym c.emit.ensures)
-    (drain_falls c.args.rows.now c.emitted.out.items _ _ (plain_key c.key_of-key.result) c.in-Some.next.bits
-    c.emitted.rows c.emitted.invariant.0 t.popped)
+    (drain_falls c.args.rows.now c.emitted.out.items _ _ (plain_key c.in-Some.next.key) c.in-Some.next.mask.bits
+    c.emitted.rows c.emitted.invariant.0 c.in-Some.ensures.some.popped)
 
 pub emitted-preserved : goal.emitted-preserved
 emitted-preserved c =
-    let t = takes _ _ _ _ _ _ c.emitted.invariant.1 c.in-Some.ensures.least c.in-Some.ensures.taken
-    c.key_of-key.ensures in (
-      drain_turn c.args.rows.now c.emitted.out.items c.push.new.self.items c.emitted.ready c.pop.new.self
-          c.free_after.new.ready c.in-Some.next.number c.in-Some.next.bits (plain_key c.key_of-key.result)
-          c.emitted.rows
-          c.emit.new.self _ c.emitted.invariant.0 t
-          c.in_ok-push.ensures.items refl c.emit.ensures c.in_ok-free_after.ensures.marks,
+    let key = plain_key c.in-Some.next.key in
+    let bits = c.in-Some.next.mask.bits in
+    let takes = c.in-Some.ensures.some in
+    let named = popped_named c.args.rows.now c.emitted.out.items _ _ key bits c.emitted.rows c.emitted.invariant.0
+    takes.popped in (
+      drain_turn c.args.rows.now c.emitted.out.items c.push.new.self.items c.emitted.ready c.pop.new.ready
+          c.free_after.new.ready c.in-Some.next.row bits key c.emitted.rows c.emit.new.self _
+          c.emitted.invariant.0 takes c.in_ok-push.ensures.items refl c.emit.ensures c.in_ok-free_after.ensures.marks,
       c.in_ok-free_after.ensures.keys,
-      rows_turn c.args.rows.now c.emitted.rows c.emit.new.self c.emitted.out.items c.push.new.self.items _
-          (plain_key c.key_of-key.result) c.in-Some.next.bits c.emitted.invariant.2 c.in_ok-push.ensures.items
-          (subst (λ p. IsRow (c.in-Some.next.number / 2) p c.emitted.rows)
-          (sym (emitted_principal (plain_key c.key_of-key.result) c.in-Some.next.bits
-          (popped_named c.args.rows.now c.emitted.out.items _ _ (plain_key c.key_of-key.result) c.in-Some.next.bits
-          c.emitted.rows c.emitted.invariant.0 t.popped))) t.row)
+      rows_turn c.args.rows.now c.emitted.rows c.emit.new.self c.emitted.out.items c.push.new.self.items _ key bits
+          c.emitted.invariant.2 c.in_ok-push.ensures.items
+          (subst (λ p. IsRow c.in-Some.next.row p c.emitted.rows) (sym (emitted_principal key bits named)) takes.at_row)
           c.emit.ensures,
     )
 

@@ -2,7 +2,7 @@ use Rattle.std.proofs.Common.{sym, subst}
 use Rattle.std.specs.Prelude.{option_map, ◌++◌, ◌∷◌, []}
 use Rattle.acl_nfs4.specs.Ace.{ace}
 use Rattle.acl_normal.specs.internal.Passes.{IsLeast, list_of}
-use Rattle.acl_normal.proofs.PlainForm.Candidates.{best_with}
+use Rattle.acl_normal.proofs.plain.Candidates.{best_with}
 use Rattle.acl_normal.proofs.plain.emission.better.Goals as goal
 
 pub returns-in-Some : goal.returns-in-Some

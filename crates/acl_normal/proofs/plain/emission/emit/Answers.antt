@@ -2,8 +2,8 @@ use Rattle.std.proofs.Common.{sym, subst}
 use Rattle.acl_perm.specs.Profile.{full}
 use Rattle.acl_nfs4.specs.Ace.{ace}
 use Rattle.acl_normal.specs.internal.Passes.{AreNowhereFree, IsLeast, list_of}
-use Rattle.acl_normal.proofs.PlainForm.Candidates.{none_free}
-use Rattle.acl_normal.proofs.PlainForm.InTurn.{Emitting, Taken, coming_accepted, emitting_all, emitting_more, emitting_none, fewer_left}
+use Rattle.acl_normal.proofs.plain.Candidates.{none_free}
+use Rattle.acl_normal.proofs.plain.InTurn.{Emitting, Taken, coming_accepted, emitting_all, emitting_more, emitting_none, fewer_left}
 use Rattle.acl_normal.proofs.plain.emission.emit.Goals as goal
 
 pub loop-first-init : goal.loop-first-init

@@ -3,7 +3,7 @@ use Rattle.acl_nfs4.specs.Ace.{ace}
 use Rattle.acl_eval.specs.Column.{column}
 use Rattle.acl_normal.specs.Keys.{ace_key}
 use Rattle.acl_normal.specs.internal.Passes.{is_blocked}
-use Rattle.acl_normal.proofs.PlainForm.Passes.{free_more, union_more, blocks_gathered}
+use Rattle.acl_normal.proofs.plain.Passes.{free_more, union_more, blocks_gathered}
 use Rattle.acl_normal.proofs.plain.emission.free_bits.Goals as goal
 
 pub loop-other-preserved : goal.loop-other-preserved

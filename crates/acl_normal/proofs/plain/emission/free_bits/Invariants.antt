@@ -5,7 +5,7 @@ use Rattle.acl_eval.specs.Column.{column}
 use Rattle.acl_normal.specs.Keys.{ace_key}
 use Rattle.acl_normal.specs.Normal.{is_free}
 use Rattle.acl_normal.specs.internal.Passes.{is_blocked, list_of}
-use Rattle.acl_normal.proofs.PlainForm.Passes.{Marks}
+use Rattle.acl_normal.proofs.plain.Passes.{Marks}
 use Rattle.acl_normal.proofs.plain.emission.free_bits.Given as goal
 
 -- the bits at which the ACEs so far keep the key from coming first, and those at which it is free among them

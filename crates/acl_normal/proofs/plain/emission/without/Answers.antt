@@ -3,8 +3,8 @@ use Rattle.acl_nfs4.specs.Ace.{ace}
 use Rattle.acl_nfs4.specs.Who.{principal_of}
 use Rattle.acl_eval.specs.Column.{column}
 use Rattle.acl_normal.specs.internal.Passes.{KeepsProfiles, list_of}
-use Rattle.acl_normal.proofs.PlainForm.Emptied.{emptied_more}
-use Rattle.acl_normal.proofs.Unique.Kept.{ace_at, difference_fewer, fewer_bits, keeps_more}
+use Rattle.acl_normal.proofs.plain.Emptied.{emptied_more}
+use Rattle.acl_normal.proofs.unique.Kept.{ace_at, difference_fewer, fewer_bits, keeps_more}
 use Rattle.acl_normal.proofs.plain.emission.without.Goals as goal
 
 pub loop-item-preserved : goal.loop-item-preserved

@@ -6,9 +6,9 @@ use Rattle.acl_nfs4.specs.Who.{principal_of}
 use Rattle.acl_eval.specs.Column.{column}
 use Rattle.acl_normal.specs.internal.Passes.{KeepsProfiles, default_in, list_of}
 use Rattle.acl_normal.specs.internal.Plain.{default, is_needed, needed_keys}
-use Rattle.acl_normal.proofs.PlainForm.Passes.{Marks}
-use Rattle.acl_normal.proofs.Unique.Kept.{ace_at, front_true, fewer_bits, keeps_more}
-use Rattle.acl_normal.proofs.PlainForm.NeededBits.{needed_more}
+use Rattle.acl_normal.proofs.plain.Passes.{Marks}
+use Rattle.acl_normal.proofs.unique.Kept.{ace_at, front_true, fewer_bits, keeps_more}
+use Rattle.acl_normal.proofs.plain.NeededBits.{needed_more}
 use Rattle.acl_normal.proofs.plain.reduction.drop_needless.Goals as goal
 
 pub loop-place-preserved : goal.loop-place-preserved

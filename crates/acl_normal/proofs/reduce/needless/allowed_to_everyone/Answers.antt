@@ -1,60 +1,46 @@
-use Rattle.std.specs.Prelude.{◌≡◌, ◌+◌, ◌<◌, Bool, true, false, ◌&&◌, length, slice_index_or, refl}
-use Rattle.std.proofs.Common.{◌∙◌, ap, arith, subst, sym}
-use Rattle.acl_perm.specs.Principal.{everyone}
-use Rattle.acl_perm.specs.declared.kind.Kind.TheVariants.{Allow}
+use Rattle.std.specs.Prelude.{◌≡◌, ◌<◌, length, slice_index_or, refl}
+use Rattle.std.proofs.Common.{◌∙◌, arith}
 use Rattle.acl_nfs4.specs.Ace.{ace}
-use Rattle.acl_nfs4.specs.Who.{principal_of}
-use Rattle.acl_normal.specs.Keys.{kind_eq, principal_eq}
-use Rattle.acl_normal.specs.internal.Shown.{with_masks}
-use Rattle.acl_normal.proofs.Reduction.FirstMasks.{masked}
-use Rattle.acl_normal.proofs.Reduction.LaterBits.{AllowsTo, allows_all, allows_same, allows_start, allows_with, length_masks, masked_at, quiet_index}
-use Rattle.acl_normal.proofs.Unique.Names.{allow_test, everyone_test}
+use Rattle.acl_normal.specs.internal.Shown.{bits_in, with_masks}
+use Rattle.acl_normal.proofs.reduce.FirstMasks.{masked}
+use Rattle.acl_normal.proofs.reduce.LaterBits.{allows_all, allows_more, allows_start, length_masks, masked_at, quiet_index}
+use Rattle.acl_normal.proofs.unique.Bits.{bits_at, bits_length}
 use Rattle.acl_normal.proofs.reduce.needless.allowed_to_everyone.Goals as goal
-use Rattle.acl_normal.proofs.reduce.needless.allowed_to_everyone.Goals.{then-is_everyone+then-is_allow, else-is_everyone, else-is_everyone-via-then-is_everyone+else-is_allow, else-is_everyone-via-else-is_everyone}
 
 pub loop-place-init : goal.loop-place-init
-loop-place-init c = allows_start (with_masks c.args.aces.now c.args.masks.now)
+loop-place-init c = record {
+  within = refl;
+  allows = allows_start (with_masks c.args.aces.now (bits_in c.args.masks.now));
+}
 
 pub loop-place-preserved : goal.loop-place-preserved
 loop-place-preserved c =
-    let shown = with_masks c.args.aces.now c.args.masks.now in
-    let within : c.loop-place.place < length shown =
-    omega (arith, length_masks c.args.aces.now c.args.masks.now c.requires.places, c.loop-place-test.true) in
-    let item =
-    masked (ace c.index-aces-place.result) (slice_index_or c.args.masks.now c.loop-place.place 0) in
-    let is : slice_index_or shown c.loop-place.place item ≡ item =
-    masked_at c.args.aces.now c.args.masks.now c.loop-place.place c.index-aces-place.result c.loop-place-test.true
-    c.requires.places c.index-aces-place.is in
-    let named : principal_eq (principal_of item) everyone ≡ c.is_everyone.result =
-    sym (c.is_everyone.ensures ∙ everyone_test _
-    ∙ ap (λ p. principal_eq p everyone) c.principal.ensures) in
-    elim c.if-is_everyone.branch [
-      | then-is_everyone+then-is_allow w ↦ subst (AllowsTo shown (c.loop-place.place + 1)) (sym w.bits-is)
-          (allows_with shown c.loop-place.place c.loop-place.bits item c.loop-place.invariant within is
-          (quiet_index shown c.loop-place.place item c.requires.tidy.quiet within is)
-          (named ∙ w.if-is_everyone.true) (sym (w.is_allow.ensures ∙ allow_test _) ∙ w.if-is_allow.true))
-      | else-is_everyone w ↦ subst (AllowsTo shown (c.loop-place.place + 1)) (sym w.bits-is)
-          (allows_same shown c.loop-place.place c.loop-place.bits item c.loop-place.invariant within is
-          (elim w.else-is_everyone.branch [
-            | else-is_everyone-via-then-is_everyone+else-is_allow v ↦ and_no (principal_eq (principal_of item) everyone)
-                (kind_eq item.kind Allow) (sym (v.is_allow.ensures ∙ allow_test _) ∙ v.if-is_allow.false)
-            | else-is_everyone-via-else-is_everyone v ↦ no_and (principal_eq (principal_of item) everyone)
-                (kind_eq item.kind Allow) (named ∙ v.if-is_everyone.false)
-          ]))
-    ]
-  where
-    and_no : (t s : Bool) → s ≡ false → (t && s) ≡ false
-    and_no true s e = e
-    and_no false s e = refl
-
-    no_and : (t s : Bool) → t ≡ false → (t && s) ≡ false
-    no_and t s e = rw e refl
+    let masks = bits_in c.args.masks.now in
+    let place = c.loop-place.place in
+    let shown = with_masks c.args.aces.now masks in
+    let count : length masks ≡ length c.args.aces.now = bits_length c.args.masks.now ∙ c.requires.places in
+    let within : place < length shown =
+    omega (arith, length_masks c.args.aces.now masks count, c.loop-place-test.true) in
+    let mask : slice_index_or masks place 0 ≡ c.index-masks-place.result.bits =
+    bits_at c.args.masks.now place 0 _ (omega (arith, c.requires.places, c.loop-place-test.true))
+    c.index-masks-place.is in
+    let item = masked (ace c.index-aces-place.result) (slice_index_or masks place 0) in
+    let is : slice_index_or shown place item ≡ item =
+    masked_at c.args.aces.now masks place c.index-aces-place.result c.loop-place-test.true count
+    c.index-aces-place.is in
+    record {
+      within = c.union-allowed.result.within;
+      allows =
+          allows_more shown place _ c.allowed_by.result.bits _ item c.loop-place.invariant.allows within is
+          (quiet_index shown place item c.requires.tidy.quiet within is)
+          (λ b. rw mask (c.allowed_by.ensures b)) c.union-allowed.ensures.meaning;
+    }
 
 pub returns : goal.returns
 returns c =
-    allows_all (with_masks c.args.aces.now c.args.masks.now) c.loop-place.place c.loop-place.bits
-    c.loop-place.invariant (omega (
+    let masks = bits_in c.args.masks.now in
+    allows_all (with_masks c.args.aces.now masks) c.loop-place.place _ c.loop-place.invariant.allows (omega (
       arith,
-      length_masks c.args.aces.now c.args.masks.now c.requires.places,
+      length_masks c.args.aces.now masks (bits_length c.args.masks.now ∙ c.requires.places),
       c.loop-place-test.false,
     )) c.requires.tidy.once

@@ -1,6 +1,10 @@
-use Rattle.acl_normal.specs.internal.Shown.{with_masks}
-use Rattle.acl_normal.proofs.Reduction.LaterBits.{AllowsTo}
+use Rattle.acl_perm.specs.Bits.{IsMask}
+use Rattle.acl_normal.specs.internal.Shown.{bits_in, with_masks}
+use Rattle.acl_normal.proofs.reduce.LaterBits.{AllowsTo}
 use Rattle.acl_normal.proofs.reduce.needless.allowed_to_everyone.Given as goal
 
 abbrev pub invariant-loop-place : goal.invariant-loop-place
-invariant-loop-place l = AllowsTo (with_masks l.aces l.masks) l.place l.bits
+invariant-loop-place l = record {
+  within : IsMask l.allowed.0;
+  allows : AllowsTo (with_masks l.aces (bits_in l.masks)) l.place l.allowed.0;
+}

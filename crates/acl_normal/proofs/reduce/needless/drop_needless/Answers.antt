@@ -3,22 +3,25 @@ use Rattle.std.specs.Prelude.{ℕ, slice_index_or, slice_set}
 use Rattle.std.proofs.lemmas.Bool.{and_parts}
 use Rattle.acl_perm.specs.Bits.{has_bit}
 use Rattle.acl_nfs4.specs.Ace.{ace}
+use Rattle.acl_nfs4.specs.Who.{principal_of}
+use Rattle.acl_eval.specs.Scan.{without}
 use Rattle.acl_normal.specs.Keys.{ace_key}
 use Rattle.acl_normal.specs.Keys.{plain_key}
 use Rattle.acl_normal.specs.Left.{IsTidy, KeepsFirsts}
-use Rattle.acl_normal.specs.internal.Needed.{default_at, is_kept}
-use Rattle.acl_normal.specs.Places.{key_here, take_out}
-use Rattle.acl_normal.specs.internal.Shown.{with_masks}
-use Rattle.acl_normal.proofs.Merging.Quiet.{tidy_taken}
-use Rattle.acl_normal.proofs.Reduction.FirstMasks.{masked}
-use Rattle.acl_normal.proofs.Reduction.FirstRows.{key_at_index}
-use Rattle.acl_normal.proofs.Reduction.LaterBits.{length_masks, mask_there, masked_at, no_later}
-use Rattle.acl_normal.proofs.Reduction.Unneeded.{cleared_there, taken_firsts, firsts_through, drops_start, drops_on, drops_outline, drops_end}
+use Rattle.acl_normal.specs.internal.Needed.{default_at, is_kept, opposes}
+use Rattle.acl_normal.specs.Places.{take_out}
+use Rattle.acl_normal.specs.internal.Shown.{bits_in, with_masks}
+use Rattle.acl_normal.proofs.rows.Quiet.{tidy_taken}
+use Rattle.acl_normal.proofs.reduce.FirstMasks.{masked}
+use Rattle.acl_normal.proofs.reduce.FirstRows.{key_at_index}
+use Rattle.acl_normal.proofs.reduce.LaterBits.{length_masks, mask_there, masked_at}
+use Rattle.acl_normal.proofs.reduce.Unneeded.{cleared_there, taken_firsts, firsts_through, drops_start, drops_on, drops_outline, drops_end}
+use Rattle.acl_normal.proofs.unique.Bits.{bits_at, bits_length, bits_set, difference_is}
 use Rattle.acl_normal.proofs.reduce.needless.drop_needless.Goals as goal
 
 pub loop-done-init : goal.loop-done-init
 loop-done-init c = record {
-  drops = drops_start (with_masks c.args.aces.now c.args.masks.now) _ no_later;
+  drops = drops_start (with_masks c.args.aces.now (bits_in c.args.masks.now)) _ c.no_later-later.ensures;
   tidy = c.requires.tidy;
   firsts = λ b p k i h. h;
 }
@@ -26,53 +29,61 @@ loop-done-init c = record {
 pub loop-done-preserved : goal.loop-done-preserved
 loop-done-preserved c =
     let place = length c.args.aces.now - 1 - c.loop-done.done in
-    let whole = with_masks c.args.aces.now c.args.masks.now in
-    let shown = with_masks c.args.aces.now c.loop-done.masks in
-    let mask = slice_index_or c.loop-done.masks place 0 in
-    let new = with_masks c.args.aces.now (slice_set c.loop-done.masks place c.without.result) in
-    let count : length c.loop-done.masks ≡ length c.args.aces.now = c.loop-done.auto.masks ∙ c.requires.places in
+    let masks = bits_in c.loop-done.masks in
+    let whole = with_masks c.args.aces.now (bits_in c.args.masks.now) in
+    let shown = with_masks c.args.aces.now masks in
+    let mask = slice_index_or masks place 0 in
+    let dropped = c.needless-dropped.result.bits in
+    let key = plain_key c.key-at.result in
+    let new = with_masks c.args.aces.now (bits_in (slice_set c.loop-done.masks place c.difference.result)) in
+    let before = c.loop-done.invariant in
+    let places : length c.loop-done.masks ≡ length c.args.aces.now = c.loop-done.auto.masks ∙ c.requires.places in
+    let count : length masks ≡ length c.args.aces.now = bits_length c.loop-done.masks ∙ places in
     let here : place < length c.args.aces.now = omega (arith, c.loop-done-test.true) in
-    let within : place < length shown = omega (arith, here, length_masks c.args.aces.now c.loop-done.masks count) in
+    let within : place < length shown = omega (arith, here, length_masks c.args.aces.now masks count) in
     let last : place + suc c.loop-done.done ≡ length whole =
     omega (
       arith,
       c.loop-done-test.true,
-      length_masks c.args.aces.now c.args.masks.now c.requires.places,
+      length_masks c.args.aces.now (bits_in c.args.masks.now) (bits_length c.args.masks.now ∙ c.requires.places),
     ) in
     let item = masked (ace c.index-aces-place.result) mask in
     let is : slice_index_or shown place item ≡ item =
-    masked_at c.args.aces.now c.loop-done.masks place c.index-aces-place.result here count
-    c.index-aces-place.is in
-    let key_is : plain_key c.key-at.result ≡ key_here shown place =
-    c.key-at.ensures ∙ sym (key_at_index shown place item within ∙ ap ace_key is) in
-    let bits : (b : ℕ) → has_bit c.needless-dropped.result b ≡ true → has_bit mask b ≡ true =
-    λ b h. (and_parts (has_bit mask b) _ (sym (c.needless-dropped.ensures b) ∙ h)).0 in
-    let taken : new ≡ take_out (plain_key c.key-at.result).0 c.needless-dropped.result shown =
-    ap (λ v. with_masks c.args.aces.now (slice_set c.loop-done.masks place v)) c.without.ensures
-    ∙ cleared_there c.args.aces.now c.loop-done.masks place c.index-aces-place.result c.needless-dropped.result here
-    count c.index-aces-place.is c.loop-done.invariant.tidy bits
-    ∙ ap (λ k. take_out k.0 c.needless-dropped.result shown) (sym c.key-at.ensures) in
+    masked_at c.args.aces.now masks place c.index-aces-place.result here count c.index-aces-place.is in
+    let at : mask ≡ c.index-masks-place.result.bits =
+    bits_at c.loop-done.masks place 0 _ (omega (arith, here, places)) c.index-masks-place.is in
+    let own : key ≡ ace_key (ace c.index-aces-place.result) =
+    ap (λ p. (p, c.key-at.result.kind)) c.key-at.ensures.principal
+    ∙ ap (λ k. (principal_of (ace c.index-aces-place.result), k)) c.key-at.ensures.kind in
+    let bits : (b : ℕ) → has_bit dropped b ≡ true → has_bit mask b ≡ true =
+    λ b h. ap (λ v. has_bit v b) at
+    ∙ (and_parts (has_bit c.index-masks-place.result.bits b) _ (sym (c.needless-dropped.ensures b) ∙ h)).0 in
+    let taken : new ≡ take_out key.0 dropped shown =
+    ap (with_masks c.args.aces.now) (bits_set c.loop-done.masks place c.difference.result
+    ∙ ap (slice_set masks place)
+    (difference_is _ _ _ c.difference.ensures.meaning ∙ ap (λ v. without v dropped) (sym at)))
+    ∙ cleared_there c.args.aces.now masks place c.index-aces-place.result dropped here count c.index-aces-place.is
+    before.tidy bits
+    ∙ ap (λ k. take_out k.0 dropped shown) (sym own) in
     record {
       drops =
           drops_on whole c.loop-done.done shown c.loop-done.later c.noted-later.result
-          c.allowed_to_everyone-allowed.result place c.needless-dropped.result new (plain_key c.key-at.result) mask
-          c.loop-done.invariant.drops last key_is (mask_there c.args.aces.now c.loop-done.masks place 0 within)
-          c.requires.tidy c.loop-done.invariant.tidy (λ b h. c.allowed_to_everyone-allowed.ensures b) (record {
-            bits =
-                λ b. c.needless-dropped.ensures b
-                ∙ ap (λ t. has_bit mask b
-                && not (is_kept (default_at c.allowed_to_everyone-allowed.result b) (plain_key c.key-at.result) t))
-                (c.opposite.ensures b);
+          c.allowed_to_everyone-allowed.result.bits place dropped new key mask before.drops last
+          (own ∙ sym (key_at_index shown place item within ∙ ap ace_key is))
+          (mask_there c.args.aces.now masks place 0 within) c.requires.tidy before.tidy
+          (λ b h. c.allowed_to_everyone-allowed.ensures b) (record {
+            bits = λ b. c.needless-dropped.ensures b
+                ∙ ap (λ t. has_bit c.index-masks-place.result.bits b
+                && not (is_kept (default_at c.allowed_to_everyone-allowed.result.bits b) key t)) (c.opposite.ensures b)
+                ∙ ap (λ v. has_bit v b && not (is_kept (default_at c.allowed_to_everyone-allowed.result.bits b) key
+                (opposes c.loop-done.later key b))) (sym at);
             taken = taken;
-            noted = c.noted-later.ensures;
+            noted = λ k users b. rw at (c.noted-later.ensures k users b);
           });
-      tidy =
-          subst IsTidy (sym taken)
-          (tidy_taken (plain_key c.key-at.result).0 c.needless-dropped.result shown c.loop-done.invariant.tidy);
+      tidy = subst IsTidy (sym taken) (tidy_taken key.0 dropped shown before.tidy);
       firsts =
-          firsts_through whole shown new c.loop-done.invariant.firsts
-          (subst (λ v. KeepsFirsts shown v) (sym taken)
-          (taken_firsts (plain_key c.key-at.result).0 c.needless-dropped.result shown));
+          firsts_through whole shown new before.firsts
+          (subst (λ v. KeepsFirsts shown v) (sym taken) (taken_firsts key.0 dropped shown));
     }
 
 pub returns : goal.returns
@@ -88,6 +99,6 @@ returns c = record {
       (omega (
         arith,
         c.loop-done-test.false,
-        length_masks c.args.aces.now c.args.masks.now c.requires.places,
+        length_masks c.args.aces.now (bits_in c.args.masks.now) (bits_length c.args.masks.now ∙ c.requires.places),
       ));
 }

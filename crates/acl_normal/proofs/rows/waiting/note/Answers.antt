@@ -1,13 +1,13 @@
 use Rattle.std.proofs.Common.{◌<◌, ◌∷◌, ◌++◌, [], length, ◌∙◌, ap, arith}
 use Rattle.acl_normal.specs.internal.Classes.{is_users}
-use Rattle.acl_normal.proofs.Merging.BitTaken.{slot_below}
-use Rattle.acl_normal.proofs.Merging.WaitingPlaces.{NotesBelow, notes_start, notes_skip, notes_on, notes_all, places_there}
-use Rattle.acl_normal.proofs.Unique.Bits.{past_absent}
+use Rattle.acl_normal.proofs.rows.BitTaken.{slot_below}
+use Rattle.acl_normal.proofs.rows.WaitingPlaces.{NotesBelow, notes_start, notes_skip, notes_on, notes_all, places_there}
+use Rattle.acl_normal.proofs.unique.Bits.{past_absent}
 use Rattle.acl_normal.proofs.rows.waiting.note.Goals as goal
 
 pub loop-right-init : goal.loop-right-init
 loop-right-init c =
-    (notes_start c.args.place c.args.kind (is_users c.args.class) c.args.mask c.args.lists.now.items, omega arith)
+    (notes_start c.args.place c.args.kind (is_users c.args.class) c.args.mask.bits c.args.lists.now.items, omega arith)
 
 pub loop-right-preserved : goal.loop-right-preserved
 loop-right-preserved c =
@@ -24,11 +24,11 @@ loop-right-preserved c =
       c.requires,
       c.args.lists.now.ok,
     ) in (
-      notes_on c.args.place c.args.kind users c.args.mask c.args.lists.now.items lists.items right.bit c.slot.result
-          c.push.new.self
-          (past_absent (NotesBelow c.args.place c.args.kind users c.args.mask c.args.lists.now.items lists.items)
-          c.args.mask c.loop-right.from right.bit
-          (notes_skip c.args.place c.args.kind users c.args.mask c.args.lists.now.items lists.items) next.above
+      notes_on c.args.place c.args.kind users c.args.mask.bits c.args.lists.now.items lists.items right.bit
+          c.slot.result c.push.new.self
+          (past_absent (NotesBelow c.args.place c.args.kind users c.args.mask.bits c.args.lists.now.items lists.items)
+          c.args.mask.bits c.loop-right.from right.bit
+          (notes_skip c.args.place c.args.kind users c.args.mask.bits c.args.lists.now.items lists.items) next.above
           next.lacks c.loop-right.invariant.0)
           next.has right.within (omega (arith, c.requires, c.args.lists.now.ok)) c.slot.ensures
           (c.in_ok-push.ensures.items ∙ ap (λ v. v ++ c.args.place ∷ []) (ap (λ v. v.items)
@@ -39,5 +39,5 @@ loop-right-preserved c =
 
 pub returns : goal.returns
 returns c =
-    notes_all c.args.place c.args.kind (is_users c.args.class) c.args.mask c.args.lists.now.items
+    notes_all c.args.place c.args.kind (is_users c.args.class) c.args.mask.bits c.args.lists.now.items
     c.loop-right.lists.items c.loop-right.from c.loop-right.invariant.0 c.in_default.ensures.none

@@ -1,13 +1,12 @@
-use Rattle.std.proofs.Common.{◌∙◌, ap, subst, arith}
-use Rattle.std.specs.Prelude.{slice_index_or}
+use Rattle.std.proofs.Common.{◌≡◌, ◌∙◌, ap, length, subst, sym, arith}
 use Rattle.std.proofs.lemmas.List.{take_all}
 use Rattle.acl_perm.specs.Principal.{is_user}
 use Rattle.acl_normal.specs.internal.Classes.{is_users}
-use Rattle.acl_normal.specs.internal.Shown.{with_masks}
+use Rattle.acl_normal.specs.internal.Shown.{bits_in, with_masks}
 use Rattle.acl_normal.specs.internal.Waiting.{HoldWaiting}
-use Rattle.acl_normal.proofs.Merging.BitTaken.{same_default}
-use Rattle.acl_normal.proofs.Merging.WaitingPlaces.{holds_more}
-use Rattle.acl_normal.proofs.Unique.Outline.{length_shown}
+use Rattle.acl_normal.proofs.rows.WaitingPlaces.{holds_more}
+use Rattle.acl_normal.proofs.unique.Bits.{bits_at, bits_length}
+use Rattle.acl_normal.proofs.unique.Outline.{length_shown}
 use Rattle.acl_normal.proofs.rows.waiting.waiting_places.Goals as goal
 
 pub loop-place-init : goal.loop-place-init
@@ -18,18 +17,21 @@ note-requires c = omega (arith, c.loop-place.invariant.slots, c.loop-place.lists
 
 pub loop-place-preserved : goal.loop-place-preserved
 loop-place-preserved c =
-    let masks = c.args.masks.now in
+    let masks = bits_in c.args.masks.now in
     let place = c.loop-place.place in
-    let mask = slice_index_or masks place 0 in
-    holds_more c.args.aces.now masks place c.index-aces-place.result mask (is_users c.of.result)
+    let count : length masks ≡ length c.args.aces.now = bits_length c.args.masks.now ∙ c.requires.places in
+    holds_more c.args.aces.now masks place c.index-aces-place.result _ (is_users c.of.result)
     c.loop-place.lists.items
-    c.note.new.lists.items c.loop-place.invariant c.requires.places c.requires.quiet c.loop-place-test.true
-    c.index-aces-place.is (same_default masks place 0 mask (omega (arith, c.loop-place-test.true, c.requires.places)))
+    c.note.new.lists.items c.loop-place.invariant count c.requires.quiet c.loop-place-test.true
+    c.index-aces-place.is
+    (sym (bits_at c.args.masks.now place _ _ (omega (arith, c.loop-place-test.true, c.requires.places))
+    c.index-masks-place.is))
     (c.of.ensures ∙ ap is_user c.principal.ensures) c.in_ok-note.ensures
 
 pub returns : goal.returns
 returns c =
-    let xs = with_masks c.args.aces.now c.args.masks.now in
-    let count = length_shown c.args.aces.now c.args.masks.now c.requires.places in
+    let masks = bits_in c.args.masks.now in
+    let xs = with_masks c.args.aces.now masks in
+    let count = length_shown c.args.aces.now masks (bits_length c.args.masks.now ∙ c.requires.places) in
     subst (λ v. HoldWaiting v c.loop-place.lists.items)
     (take_all c.loop-place.place xs (omega (arith, count, c.loop-place-test.false))) c.loop-place.invariant

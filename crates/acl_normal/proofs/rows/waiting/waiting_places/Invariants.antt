@@ -1,7 +1,7 @@
 use Rattle.std.proofs.Common.{take}
-use Rattle.acl_normal.specs.internal.Shown.{with_masks}
+use Rattle.acl_normal.specs.internal.Shown.{bits_in, with_masks}
 use Rattle.acl_normal.specs.internal.Waiting.{HoldWaiting}
 use Rattle.acl_normal.proofs.rows.waiting.waiting_places.Given as goal
 
 abbrev pub invariant-loop-place : goal.invariant-loop-place
-invariant-loop-place l = HoldWaiting (take l.place (with_masks l.aces l.masks)) l.lists.items
+invariant-loop-place l = HoldWaiting (take l.place (with_masks l.aces (bits_in l.masks))) l.lists.items

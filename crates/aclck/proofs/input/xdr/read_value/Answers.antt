@@ -44,9 +44,9 @@ returns-in-Refused-clause-none g c =
     let inv = c.loop-feed.invariant in
     let d = rw inv.stands at c.in-Refused.ensures.feeds in
     refused_reads (profile_of c.args.profile) c.args.pulled.now inv.given inv.text c.loop-feed.pulled
-    c.left.result.now _ _ c.in-Refused.fault c.list_fault.result (code_profile c.args.profile (omega arith)) inv.parts
+    c.left.result.now _ _ c.in-Refused.fault c.from.result (code_profile c.args.profile (omega arith)) inv.parts
     inv.taken c.left.ensures.is c.left.ensures.short inv.cut
-    (bytes_append inv.text c.left.result.now inv.bytes c.left.ensures.bytes) d.1 c.list_fault.ensures
+    (bytes_append inv.text c.left.result.now inv.bytes c.left.ensures.bytes) d.1 c.from.ensures
 
 pub overflow_add-fed-in-loop-feed : goal.overflow_add-fed-in-loop-feed
 overflow_add-fed-in-loop-feed g c =

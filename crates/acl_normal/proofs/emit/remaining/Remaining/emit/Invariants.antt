@@ -5,7 +5,7 @@ use Rattle.acl_normal.proofs.emit.remaining.Remaining.emit.Given as goal
 
 abbrev pub invariant-loop-right : goal.invariant-loop-right
 invariant-loop-right l =
-    (l.self ≡ take_out (principal l.key.principal) l.bits l.fn.self) × (l.from ≤ 21)
+    (l.self ≡ take_out (principal l.key.principal) l.mask.bits l.fn.self) × (l.from ≤ 21)
 
 abbrev pub decreases-loop-right : goal.decreases-loop-right
 decreases-loop-right l = 21 - l.from

@@ -1,10 +1,10 @@
-use Rattle.std.proofs.Common.{◌≡◌, ◌<◌, ◌==◌, ◌∙◌, ap, sym, subst, arith, bit_and, length, slice_index_or}
-use Rattle.std.proofs.lemmas.Nat.Bits.{shr_and_one}
+use Rattle.std.proofs.Common.{◌≡◌, ◌<◌, ◌∙◌, ap, sym, subst, arith, bit_and, length, slice_index_or}
 use Rattle.acl_perm.specs.Bits.{has_bit}
 use Rattle.acl_normal.specs.Places.{mask_here}
 use Rattle.acl_normal.specs.internal.Remaining.{remaining_of}
-use Rattle.acl_normal.proofs.Emission.InRemaining.{length_remaining, mask_remaining, row_of_place, row_there}
-use Rattle.acl_normal.proofs.Merging.BitTaken.{same_default}
+use Rattle.acl_normal.specs.internal.Shown.{bits_in}
+use Rattle.acl_normal.proofs.emit.InRemaining.{length_remaining, mask_remaining, row_of_place, row_there}
+use Rattle.acl_normal.proofs.unique.Bits.{bits_at}
 use Rattle.acl_normal.proofs.emit.remaining.Remaining.has.Goals as goal
 
 pub index-requires : goal.index-requires
@@ -27,18 +27,19 @@ returns c =
     let s = c.self.inside in
     let within : c.args.place < length (remaining_of s) =
     subst (λ v. c.args.place < length v) (sym c.self.view_is) c.requires in
-    let masked : c.args.place < length s.masks.items =
+    let within_masks : c.args.place < length s.masks.items =
     omega (arith, within, length_remaining s c.self.invariant, c.self.invariant.masks, s.masks.ok) in
     let row = c.index-2.ensures ∙ row_there s _ _ c.self.invariant within in
-    let mask : c.index.result.now ≡ slice_index_or s.masks.items c.args.place 0 =
-    c.index.ensures ∙ same_default s.masks.items c.args.place _ 0 masked in
+    let mask : slice_index_or (bits_in s.masks.items) c.args.place 0 ≡ c.index.result.now.bits =
+    bits_at s.masks.items c.args.place 0 _ within_masks c.index.ensures in
     let left_below : c.index-2.result.now < length s.left.items =
     omega (arith, row, row_of_place s c.args.place c.self.invariant within) in
-    let left : c.index-3.result.now ≡ slice_index_or s.left.items (slice_index_or s.rows.items c.args.place 0) 0 =
-    c.index-3.ensures ∙ same_default s.left.items c.index-2.result.now _ 0 left_below
-    ∙ ap (λ v. slice_index_or s.left.items v 0) row in
-    ap (λ v. v == 1) (shr_and_one (bit_and c.index.result.now c.index-3.result.now) c.args.right.bit)
-    ∙ ap (λ v. has_bit (bit_and v c.index-3.result.now) c.args.right.bit) mask
-    ∙ ap (λ v. has_bit (bit_and (slice_index_or s.masks.items c.args.place 0) v) c.args.right.bit) left
+    let left : slice_index_or (bits_in s.left.items) (slice_index_or s.rows.items c.args.place 0) 0
+    ≡ c.index-3.result.now.bits =
+    ap (λ v. slice_index_or (bits_in s.left.items) v 0) (sym row)
+    ∙ bits_at s.left.items c.index-2.result.now 0 _ left_below c.index-3.ensures in
+    c.has.ensures ∙ ap (λ v. has_bit v c.args.right.bit) c.intersection-mask.ensures.value
+    ∙ ap (λ v. has_bit (bit_and v c.index-3.result.now.bits) c.args.right.bit) (sym mask)
+    ∙ ap (λ v. has_bit (bit_and (slice_index_or (bits_in s.masks.items) c.args.place 0) v) c.args.right.bit) (sym left)
     ∙ ap (λ v. has_bit v c.args.right.bit) (sym (mask_remaining s c.args.place c.self.invariant within))
     ∙ ap (λ v. has_bit (mask_here v c.args.place) c.args.right.bit) c.self.view_is

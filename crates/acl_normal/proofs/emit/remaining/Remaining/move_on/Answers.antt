@@ -1,9 +1,9 @@
 use Rattle.std.proofs.Common.{◌≡◌, ◌<◌, ◌∙◌, ap, arith, length, slice_index_or, subst, sym}
 use Rattle.acl_normal.specs.internal.Classes.{is_users}
 use Rattle.acl_normal.specs.internal.Remaining.{IsQueue, first_in, places_in, remaining_of}
-use Rattle.acl_normal.proofs.Emission.InRemaining.{first_there, moved_right, places_there, queue_at, slot_there}
-use Rattle.acl_normal.proofs.Emission.Remaining.{next_place, queue_from, queue_within}
-use Rattle.acl_normal.proofs.Merging.BitTaken.{same_default}
+use Rattle.acl_normal.proofs.emit.InRemaining.{first_there, moved_right, places_there, queue_at, slot_there}
+use Rattle.acl_normal.proofs.emit.RemainingLemmas.{next_place, queue_from, queue_within}
+use Rattle.acl_normal.proofs.rows.BitTaken.{same_default}
 use Rattle.acl_normal.proofs.emit.remaining.Remaining.move_on.Goals as goal
 
 pub loop-place-init : goal.loop-place-init

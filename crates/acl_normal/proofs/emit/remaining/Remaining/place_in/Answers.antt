@@ -3,8 +3,8 @@ use Rattle.acl_perm.specs.Bits.{has_bit}
 use Rattle.acl_normal.specs.Places.{mask_here}
 use Rattle.acl_normal.specs.internal.Remaining.{remaining_of}
 use Rattle.acl_normal.specs.internal.Rows.{IsRow, first_place}
-use Rattle.acl_normal.proofs.Emission.InRemaining.{order_there, row_there}
-use Rattle.acl_normal.proofs.Merging.FirstPlaces.{row_has, row_passed}
+use Rattle.acl_normal.proofs.emit.InRemaining.{order_there, row_there}
+use Rattle.acl_normal.proofs.rows.FirstPlaces.{row_has, row_passed}
 use Rattle.acl_normal.proofs.emit.remaining.Remaining.place_in.Goals as goal
 
 pub loop-at-init : goal.loop-at-init

@@ -2,8 +2,8 @@ use Rattle.std.proofs.Common.{◌<◌, ◌∙◌, sym, subst, length}
 use Rattle.acl_normal.specs.Places.{key_here}
 use Rattle.acl_normal.specs.internal.Remaining.{remaining_of}
 use Rattle.acl_normal.specs.internal.Rows.{IsRow}
-use Rattle.acl_normal.proofs.Emission.InRemaining.{row_there}
-use Rattle.acl_normal.proofs.Merging.Rows.{named_here}
+use Rattle.acl_normal.proofs.emit.InRemaining.{row_there}
+use Rattle.acl_normal.proofs.rows.Rows.{named_here}
 use Rattle.acl_normal.proofs.emit.remaining.Remaining.row_at.Goals as goal
 
 pub returns : goal.returns

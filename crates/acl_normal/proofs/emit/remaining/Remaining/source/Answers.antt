@@ -1,7 +1,7 @@
 use Rattle.std.proofs.Common.{Some, ◌∙◌, sym, ap, arith}
 use Rattle.acl_perm.specs.Principal.{principal}
-use Rattle.acl_normal.proofs.Merging.FirstPlaces.{first_by_none, first_by_place, first_in}
-use Rattle.acl_normal.proofs.Merging.Rows.{row_below, unnamed_first}
+use Rattle.acl_normal.proofs.rows.FirstPlaces.{first_by_none, first_by_place, first_in}
+use Rattle.acl_normal.proofs.rows.Rows.{row_below, unnamed_first}
 use Rattle.acl_normal.proofs.emit.remaining.Remaining.source.Goals as goal
 
 pub returns-in_err-row : goal.returns-in_err-row

@@ -2,10 +2,11 @@ use Rattle.std.proofs.Common.{◌≡◌, ◌<◌, ◌^◌, Some, length, slice_i
 use Rattle.acl_perm.specs.Principal.{principal, is_user}
 use Rattle.acl_normal.specs.Places.{first_at, slot_of, take_out}
 use Rattle.acl_normal.specs.internal.Rows.{IsRow}
-use Rattle.acl_normal.proofs.Merging.BitTaken.{emit_right, same_default, NoKeys, slot_below, Without}
-use Rattle.acl_normal.proofs.Merging.FirstPlaces.{first_by_none, first_by_place, first_in}
-use Rattle.acl_normal.proofs.Merging.Rows.{row_below}
-use Rattle.acl_normal.proofs.Merging.TakeOut.{take_none}
+use Rattle.acl_normal.proofs.rows.BitTaken.{emit_right, same_default, NoKeys, slot_below, Without}
+use Rattle.acl_normal.proofs.rows.FirstPlaces.{first_by_none, first_by_place, first_in}
+use Rattle.acl_normal.proofs.rows.Rows.{row_below}
+use Rattle.acl_normal.proofs.rows.TakeOut.{take_none}
+use Rattle.acl_normal.proofs.reduce.LaterBits.{right_there}
 use Rattle.acl_normal.proofs.rows.merged.MergedRows.emit_bit.Goals as goal
 
 pub place_in-requires : goal.place_in-requires
@@ -49,14 +50,22 @@ invariant_of-self c =
     let less : Without c.in-Some.place
     (slice_index_or s.waiting.items (slot_of c.kind_at-kind.result (is_user p) b) NoKeys).keys c.remove.new.self.keys =
     subst (λ v. Without c.in-Some.place v.keys c.remove.new.self.keys) set c.remove.ensures.updates.0 in
-    let taken : c.emit.new.self ≡ take_out p (2 ^ b) xs = c.emit.ensures ∙ ap (λ v. take_out p v xs) c.alone.ensures in
+    let is_right = right_there b p xs _ first (c.self.invariant.rights b) in
+    let taken : c.emit.new.self ≡ take_out p (2 ^ b) xs =
+    c.emit.ensures ∙ ap (λ v. take_out p v xs) (c.alone.ensures is_right) in
     rw (at, taken)
     (emit_right s p b c.kind_at-kind.result c.in-Some.place c.remove.new.self c.self.invariant c.args.right.within
     first less)
 
 pub returns-in-Some : goal.returns-in-Some
 returns-in-Some c =
-    c.emit.ensures ∙ ap (λ v. take_out (principal c.args.p) v c.self.inside.rest) c.alone.ensures
+    let xs = c.self.inside.rest in
+    let p = principal c.args.p in
+    let b = c.args.right.bit in
+    let at_row = subst (IsRow c.args.row p) (sym c.self.view_is) c.requires in
+    let first = first_by_place b p xs _ (sym (c.in-Some.ensures p at_row)) in
+    c.emit.ensures
+    ∙ ap (λ v. take_out p v xs) (c.alone.ensures (right_there b p xs _ first (c.self.invariant.rights b)))
     ∙ ap (take_out (principal c.args.p) (2 ^ c.args.right.bit)) c.self.view_is
 
 pub returns-in_default : goal.returns-in_default

@@ -3,21 +3,21 @@ use Rattle.acl_perm.specs.Bits.{all_rights}
 use Rattle.acl_eval.specs.Grant.{SameGrants}
 use Rattle.acl_normal.specs.Left.{KeepsFirsts}
 use Rattle.acl_normal.specs.Places.{waits}
-use Rattle.acl_normal.specs.internal.Shown.{with_masks}
+use Rattle.acl_normal.specs.internal.Shown.{bits_in, with_masks}
 use Rattle.acl_normal.proofs.rows.merged.MergedRows.new.Goals as goal
 
 pub invariant_of-result : goal.invariant_of-result
 invariant_of-result c =
     let aces = c.in_ok-reduced.reduced.aces.items in
-    let masks = c.in_ok-reduced.reduced.masks.items in
+    let masks = bits_in c.in_ok-reduced.reduced.masks.items in
     let is : c.in_ok-rest.rest ≡ with_masks aces masks = c.in_ok-rest.ensures in
     rw is (record {
       sets = c.in_ok-waiting.ensures.slots;
       once = c.in_ok-reduced.ensures.rows.tidy.once;
       rights = c.in_ok-reduced.ensures.rows.rights;
       waiting = λ k u b i l. c.in_ok-waiting.ensures.waiting k u b i l
-          ∙ ap (λ v. waits k u b (with_masks v c.deref-2.result.now) i) c.deref.ensures.value
-          ∙ ap (λ v. waits k u b (with_masks aces v) i) c.deref-2.ensures.value;
+          ∙ ap (λ v. waits k u b (with_masks v (bits_in c.deref-2.result.now)) i) c.deref.ensures.value
+          ∙ ap (λ v. waits k u b (with_masks aces (bits_in v)) i) c.deref-2.ensures.value;
     })
 
 pub returns-clause-firsts : goal.returns-clause-firsts

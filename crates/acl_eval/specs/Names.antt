@@ -1,6 +1,0 @@
--- Parts of names (this library's own): words that only code needs.
-use Rattle.std.specs.Prelude.{ℕ, ◌-◌, List, length, slice_index}
-
--- the last byte, or 0 where there is none
-abbrev pub last_of : List ℕ → ℕ
-last_of name = slice_index name (length name - 1)

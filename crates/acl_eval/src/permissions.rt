@@ -1,0 +1,14 @@
+//! Read, write and execute, and the rights that each stands for: the mode reads them one way, the bridge the other.
+
+use acl_perm::{Mask, Perm};
+
+pub(crate) const READ: Perm = Perm { bits: 4 };
+
+pub(crate) const WRITE: Perm = Perm { bits: 2 };
+
+pub(crate) const EXECUTE: Perm = Perm { bits: 1 };
+
+/// To write is to change what is there and to add to it.
+pub(crate) const WRITE_RIGHTS: Mask = Mask {
+    bits: Mask::WRITE_DATA.bits | Mask::APPEND_DATA.bits,
+};

@@ -1,0 +1,57 @@
+//! The ACE that decides a right.
+
+use super::lists::{GROUP_NAMED, INHERIT_ONLY, LONG_NAMES, NONE, OWNING_GROUP, THREE};
+use crate::*;
+use acl_nfs4::AclView;
+use acl_perm::{Kind, Right};
+
+fn decision_of(bytes: &[u8], user: &str, groups: &[&[u8]], bit: usize) -> Option<Option<Decision>> {
+    let list = AclView::parse_whole(bytes).ok()?;
+    let object = Object::new(b"bob", b"staff")?;
+    let requester = Requester::new(user.as_bytes(), groups)?;
+    let right = Right::new(bit)?;
+    Some(deciding_ace(list.aces(), &object, &requester, right))
+}
+
+// A list of an object of bob's, the requester and its groups, the bit of a right, and the place and the type of the ACE
+// that decides it by RFC 8881, section 6.2.1.
+static DECISIONS: [(&[u8], &str, &[&[u8]], usize, Option<(usize, Kind)>); 11] = [
+    (THREE, "bob", &[], 0, Some((0, Kind::Allow))),
+    // The first of two that speak of the requester.
+    (THREE, "bob", &[], 1, Some((1, Kind::Deny))),
+    // A right that no ACE has, and one that only others have.
+    (THREE, "bob", &[], 2, None),
+    (THREE, "carol", &[], 0, None),
+    (THREE, "carol", &[], 1, None),
+    (NONE, "bob", &[], 0, None),
+    // An ACE with INHERIT_ONLY, alone and before others.
+    (INHERIT_ONLY, "alice", &[], 0, None),
+    (GROUP_NAMED, "alice", &[b"guest"], 0, Some((2, Kind::Allow))),
+    (
+        GROUP_NAMED,
+        "alice",
+        &[b"guest", b"users"],
+        0,
+        Some((1, Kind::Deny)),
+    ),
+    (
+        OWNING_GROUP,
+        "alice",
+        &[b"staff"],
+        0,
+        Some((0, Kind::Allow)),
+    ),
+    (LONG_NAMES, "y-long-name@a", &[], 0, Some((1, Kind::Allow))),
+];
+
+#[test]
+fn the_first_that_has_the_right_and_speaks_of_the_requester_decides(rt: HostRuntime) {
+    for (bytes, user, groups, bit, decider) in DECISIONS {
+        let decision = match decider {
+            Some((place, kind)) => Some(Decision { place, kind }),
+            None => None,
+        };
+        let answer = decision_of(bytes, user, groups, bit);
+        assert!(rt; answer == Some(decision), "{user}, bit {bit}");
+    }
+}

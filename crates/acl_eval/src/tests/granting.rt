@@ -1,0 +1,30 @@
+//! What a list grants, by RFC 8881, section 6.2.1.
+
+use super::lists::{INHERIT_ONLY, NONE, THREE, is_granted};
+
+// A list, the owner, the requester, who is in the group staff, the rights, and whether they are granted.
+static REQUESTS: [(&[u8], &str, &str, u32, bool); 11] = [
+    (THREE, "bob", "bob", 2, false),
+    (THREE, "alice", "alice", 2, true),
+    // What was allowed is not denied by a later ACE.
+    (THREE, "bob", "bob", 1, true),
+    // Both bits of a request, by two ACEs, and one of them denied.
+    (THREE, "alice", "alice", 3, true),
+    (THREE, "bob", "bob", 3, false),
+    // A bit that no ACE decides.
+    (THREE, "alice", "alice", 7, false),
+    (THREE, "alice", "bob", 1, false),
+    // The empty request.
+    (THREE, "alice", "bob", 0, true),
+    (NONE, "alice", "alice", 0, true),
+    (NONE, "alice", "alice", 1, false),
+    (INHERIT_ONLY, "bob", "alice", 1, false),
+];
+
+#[test]
+fn the_first_match_decides(rt: HostRuntime) {
+    for (bytes, owner, user, bits, granted) in REQUESTS {
+        let answer = is_granted(bytes, owner, user, &[b"staff"], bits);
+        assert!(rt; answer == Some(granted), "{user} of {owner}, {bits}");
+    }
+}

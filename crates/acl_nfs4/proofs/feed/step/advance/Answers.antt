@@ -1,0 +1,56 @@
+use Rattle.std.proofs.Common.{◌≡◌, ◌≤◌, ◌+◌, ◌-◌, ◌++◌, ℕ, Some, List, length, take, ap, sym, subst, arith}
+use Rattle.acl_perm.specs.Profile.{profile_of}
+use Rattle.acl_nfs4.specs.Ace.{Ace}
+use Rattle.acl_nfs4.specs.Spelling.{Xdr}
+use Rattle.acl_nfs4.specs.Stream.{done}
+use Rattle.acl_nfs4.specs.internal.Progress.{body_in, IsWhole, Judged}
+use Rattle.acl_nfs4.specs.internal.Body.{aces_of}
+use Rattle.acl_nfs4.proofs.Streaming.{progress_grows, ended}
+use Rattle.acl_nfs4.proofs.Within.{code_profile}
+use Rattle.acl_nfs4.proofs.feed.step.advance.Goals as goal
+
+pub judge-reach-requires : goal.judge-reach-requires
+judge-reach-requires c = rw c.in-Ok.ensures
+    (progress_grows (profile_of c.args.profile) c.args.text.now c.args.piece.now c.args.from c.requires.progress)
+
+pub overflow_sub-reach : goal.overflow_sub-reach
+overflow_sub-reach c =
+    let whole : IsWhole (profile_of c.args.profile) c.extend.new.self c.judge-reach.result.progress =
+    rw c.in-None.is at c.judge-reach.ensures.judged in
+    let e = ended (profile_of c.args.profile) c.args.text.now c.args.piece.now c.extend.new.self
+    c.judge-reach.result.progress (code_profile c.args.profile (omega arith)) c.in-Ok.ensures whole c.requires.cut in
+    subst (λ (k : ℕ). k ≤ 4 + c.judge-reach.result.progress.used) (sym c.len-before.ensures) e.after
+
+pub returns-in-None-clause-feeds : goal.returns-in-None-clause-feeds
+returns-in-None-clause-feeds c =
+    let whole : IsWhole (profile_of c.args.profile) c.extend.new.self c.judge-reach.result.progress =
+    rw c.in-None.is at c.judge-reach.ensures.judged in
+    let e = ended (profile_of c.args.profile) c.args.text.now c.args.piece.now c.extend.new.self
+    c.judge-reach.result.progress (code_profile c.args.profile (omega arith)) c.in-Ok.ensures whole c.requires.cut in
+    let n : length c.args.text.now ≡ c.len-before.result = sym c.len-before.ensures in
+    let list : List Ace =
+    aces_of c.judge-reach.result.progress.seen (body_in c.extend.new.self c.judge-reach.result.progress) in
+    rw c.done.ensures (
+      list,
+      ap (λ (t : List ℕ). done (aces_of c.judge-reach.result.progress.seen t)) c.cut.ensures,
+      subst (λ (k : ℕ). 4 + c.judge-reach.result.progress.used - k ≤ length c.args.piece.now) n e.within,
+      subst (λ (k : ℕ). Xdr (profile_of c.args.profile) list
+          (c.args.text.now ++ take (4 + c.judge-reach.result.progress.used - k) c.args.piece.now)) n e.xdr,
+    )
+
+pub returns-in-Truncated-clause-feed : goal.returns-in-Truncated-clause-feed
+returns-in-Truncated-clause-feed c =
+    let j : Judged (profile_of c.args.profile) c.extend.new.self c.judge-reach.result.progress (Some c.in-Some.fault) =
+    rw c.in-Some.is at c.judge-reach.ensures.judged in
+    rw c.open.ensures (record {
+      profile = code_profile c.args.profile (omega arith);
+      cut = j;
+      why = c.in-Truncated.is;
+      progress = c.judge-reach.ensures.progress;
+    })
+
+pub overflow_add-reach : goal.overflow_add-reach
+overflow_add-reach c =
+    let whole : IsWhole (profile_of c.args.profile) c.extend.new.self c.judge-reach.result.progress =
+    rw c.in-None.is at c.judge-reach.ensures.judged in
+    omega (arith, whole.inside, c.judge-reach.ensures.fits)

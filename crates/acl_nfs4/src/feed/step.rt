@@ -1,0 +1,115 @@
+//! What one more piece makes of a text that is cut short: the list, a fault, or a text that is still cut short.
+ghost use Rattle.std.specs.Prelude.{◌≡◌, ◌+◌, ◌≤◌, ◌<◌, ◌^◌, ◌++◌, length, take, drop};
+ghost use Rattle.acl_perm.specs.Profile.{profile_of};
+ghost use Rattle.acl_nfs4.specs.Stream.{Feeds, IsCut, more};
+ghost use Rattle.acl_nfs4.specs.declared.feed.step.Stage.TheVariants.{Done, Open, Refused};
+ghost use Rattle.acl_nfs4.specs.declared.feed.fed.Fed.TheVariants as fed;
+ghost use Rattle.acl_nfs4.specs.internal.Progress.{IsFeed, IsProgress, Judged, standing};
+
+use crate::feed::fed::Fed;
+use crate::feed::scan::{Progress, Reach, scan};
+use crate::feed::stream::Text;
+use crate::limits::MOST_ACES;
+use crate::xdr::fault::{Fault, Reason};
+use acl_perm::Profile;
+
+/// Where a stream stands: with `Open` it is cut short, and the fault is what an end here would be told as.
+#[derive(Clone, Copy)]
+pub(crate) enum Stage {
+    Open(Fault),
+    Done,
+    Refused(Fault),
+}
+
+/// What a piece makes of a feed, and the answer to it.
+#[derive(Clone, Copy)]
+pub(crate) struct Step {
+    pub stage: Stage,
+    pub progress: Progress,
+    pub fed: Fed,
+}
+
+impl Step {
+    // An end here would be a fault, but more may come.
+    fn open(fault: Fault, progress: Progress) -> Step
+        ensures { result ≡ record { stage = Open fault; progress = progress; fed = fed.More } }
+    {
+        Step {
+            stage: Stage::Open(fault),
+            progress,
+            fed: Fed::More,
+        }
+    }
+
+    // The list ends in the piece, after so many of its bytes.
+    fn done(taken: usize, progress: Progress) -> Step
+        ensures { result ≡ record { stage = Done; progress = progress; fed = fed.Done taken } }
+    {
+        Step {
+            stage: Stage::Done,
+            progress,
+            fed: Fed::Done { taken },
+        }
+    }
+
+    // No list begins so, whatever comes after it.
+    fn refused(fault: Fault, progress: Progress) -> Step
+        ensures { result ≡ record {
+          stage = Refused fault;
+          progress = progress;
+          fed = fed.Refused fault;
+        } }
+    {
+        Step {
+            stage: Stage::Refused(fault),
+            progress,
+            fed: Fed::Refused(fault),
+        }
+    }
+}
+
+// How far a text is judged, where it was judged up to `from` before: so no whole ACE is judged again for each piece.
+fn judge(text: &Text, from: Progress, profile: Profile) -> Reach
+    requires { IsProgress (profile_of profile) text.now from }
+    ensures progress { IsProgress (profile_of profile) text.now result.progress }
+    ensures judged { Judged (profile_of profile) text.now result.progress result.fault }
+    ensures fits { length text.now < 2 ^ 64 }
+{
+    match text.count() {
+        None => Reach::at_fault(from, Fault::at_front(Reason::Truncated)),
+        Some(count) => {
+            if count > MOST_ACES {
+                return Reach::at_fault(from, Fault::at_front(Reason::TooManyAces));
+            }
+            scan(text.body(), count, from, profile)
+        }
+    }
+}
+
+/// One more piece of a text that is cut short. What stands behind a list is cut off, so that a feed that is done holds
+/// the list alone.
+pub(crate) fn advance(text: &mut Text, piece: &[u8], from: Progress, profile: Profile) -> Step
+    requires progress { IsProgress (profile_of profile) text.old from }
+    requires cut { IsCut (profile_of profile) text.old }
+    ensures feed { IsFeed (profile_of profile) result.stage result.progress text.new }
+    ensures feeds { Feeds (more (profile_of profile) text.old) piece.now result.fed
+        (standing (profile_of profile) result.stage result.progress text.new) }
+{
+    let before = text.len();
+    match text.extend(piece) {
+        Err(_) => Step::refused(Fault::at_front(Reason::Memory), from),
+        Ok(()) => {
+            let reach = judge(text, from, profile);
+            match reach.fault {
+                None => {
+                    text.cut(reach.progress.used);
+                    Step::done(4 + reach.progress.used - before, reach.progress)
+                }
+                Some(fault) => match fault.reason {
+                    Reason::Truncated => Step::open(fault, reach.progress),
+                    _ => Step::refused(fault, reach.progress),
+                },
+            }
+        }
+    }
+}

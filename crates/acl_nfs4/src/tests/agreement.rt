@@ -1,0 +1,87 @@
+//! A list is told alike, or refused alike, however it is read.
+
+use super::readers::{ALICE, ONE, THREE, decoded, fault, fed, parsed};
+use crate::*;
+use std::alloc::{AllocError, Global};
+use std::process::Abort;
+
+fn same(alloc: Global, bytes: &[u8], first: usize) -> bool {
+    let fault = parsed(alloc, bytes).err();
+    decoded(alloc, bytes, u64::MAX, 7).err() == fault && fed(alloc, bytes, first).err() == fault
+}
+
+// Three lists cut short are told alike, the first as one that ends too early.
+fn is_cut_alike(alloc: Global, len: usize) -> bool {
+    let (front, _) = THREE.split_at(len.min(72));
+    let (one, _) = ONE.split_at(len.min(31));
+    let (alice, _) = ALICE.split_at(len.min(27));
+    let fault = fed(alloc, front, 5).err();
+    same(alloc, front, len / 2)
+        && fault.is_some_and(|fault| fault.reason == Reason::Truncated)
+        && same(alloc, one, 30)
+        && same(alloc, alice, 3)
+}
+
+// A place, the bytes from there on, and the fault of the list with them.
+static REFUSED: [(usize, &[u8], u64, Reason); 9] = [
+    (0, &[0xff; 4], 0, Reason::TooManyAces),
+    (4, &[0xff; 4], 4, Reason::AceType),
+    (8, &[0xff; 4], 8, Reason::FlagBits),
+    (12, &[0xff; 4], 12, Reason::MaskBits),
+    (16, &[0xff; 4], 16, Reason::WhoLength),
+    (16, b"\0\0\0\x01@\0\0\0", 20, Reason::SpecialWho),
+    (16, b"\0\0\0\x01\xc3\0\0\0", 20, Reason::WhoUtf8),
+    (16, b"\0\0\0\x02\xc3\x09\0\0", 20, Reason::WhoUtf8),
+    (16, b"\0\0\0\x02\x09@\0\0", 20, Reason::WhoControl),
+];
+
+fn told_alike(rt: &impl Abort, alloc: Global, at: usize, bytes: &[u8], told: Fault) {
+    let mut whole = ONE;
+    for (to, from) in whole.iter_mut().skip(at).zip(bytes) {
+        *to = *from;
+    }
+    assert!(rt; parsed(alloc, &whole).err() == Some(told));
+    assert!(rt; same(alloc, &whole, 18), "{told:?}");
+}
+
+// One ACE whose who has 1024 bytes.
+fn longest(alloc: Global) -> Result<Vec<u8>, AllocError> {
+    let (front, _) = ONE.split_at(18);
+    let mut longest = Vec::from_slice(alloc, front)?;
+    longest.extend_from_slice(&[4, 0])?;
+    longest.extend_from_slice(&[b'a'; 1024])?;
+    Ok(longest)
+}
+
+mod ample {
+    use super::*;
+
+    // Each beginning of a list, and a list with each byte damaged in each way.
+    #[test]
+    fn reading_decoding_and_feeding_agree(rt: HostRuntime) {
+        for len in 0..72usize {
+            assert!(rt; is_cut_alike(rt.alloc(), len), "{len} bytes");
+        }
+        for place in 0..72usize {
+            for byte in 0..=255u8 {
+                let mut damaged = THREE;
+                if let Some(at) = damaged.get_mut(place) {
+                    *at = byte;
+                }
+                assert!(rt; same(rt.alloc(), &damaged, place), "{byte} at {place}");
+            }
+        }
+    }
+
+    // Words and names that are refused, by each reader at the same place, and the longest name.
+    #[test]
+    fn refusals_are_told_alike(rt: HostRuntime) -> Result<(), AllocError> {
+        for (at, bytes, offset, reason) in REFUSED {
+            told_alike(&rt, rt.alloc(), at, bytes, fault(offset, reason));
+        }
+        let longest = longest(rt.alloc())?;
+        assert!(rt; parsed(rt.alloc(), &longest).is_ok_and(|list| list.len() == 1));
+        assert!(rt; same(rt.alloc(), &longest, 1000));
+        Ok(())
+    }
+}

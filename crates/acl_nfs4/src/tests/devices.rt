@@ -1,0 +1,70 @@
+//! Sources and sinks, of which some fail.
+
+use super::readers::{ONE, THREE, decoded, fault, parsed, same_list};
+use crate::*;
+use std::alloc::{AllocError, Global};
+use std::process::Abort;
+
+// Two lists in one source, by reads of at most so many bytes: each is taken, and no byte of what follows it.
+fn read_both(rt: &impl Abort, alloc: Global, both: &[u8], step: usize) {
+    let mut source = Counted::new(Fused::new(both, u64::MAX, step));
+    assert!(rt; same_list(decode(alloc, &mut source), parsed(alloc, &ONE)));
+    assert!(rt; same_list(decode(alloc, &mut source), parsed(alloc, &THREE)));
+    let told = decode(alloc, &mut source).err();
+    assert!(rt; told == Some(fault(0, Reason::Truncated)));
+}
+
+// A sink that takes so many bytes and then fails holds just these.
+fn written_so_far(rt: &impl Abort, list: &Acl, calls: u64) {
+    let mut room = [0xffu8; 72];
+    let mut sink = Counted::new(Fused::new(room.as_mut_slice(), calls, 1));
+    let written = list.encode(&mut sink).err().map(|fault| fault.written);
+    assert!(rt; written == (calls < 72).then_some(calls));
+    let (front, back) = room.split_at((calls as usize).min(72));
+    assert!(rt; THREE.starts_with(front) && back.iter().all(|byte| *byte == 0xff));
+}
+
+// No count makes a call ask for memory: with the first request refused, this is still answered by what the bytes are.
+#[test]
+fn a_count_alone_takes_no_memory(rt: HostRuntime) {
+    let told = decoded(rt.alloc(), &[0, 1, 0, 0], u64::MAX, 4).err();
+    assert!(rt; told == Some(fault(4, Reason::Truncated)));
+    let told = decoded(rt.alloc(), &[0, 1, 0, 1], u64::MAX, 1).err();
+    assert!(rt; told == Some(fault(0, Reason::TooManyAces)));
+}
+
+mod ample {
+    use super::*;
+
+    #[test]
+    fn sources_are_read_no_further_than_the_list(rt: HostRuntime) -> Result<(), AllocError> {
+        let mut both = Vec::new(rt.alloc());
+        both.extend_from_slice(&ONE)?;
+        both.extend_from_slice(&THREE)?;
+        for step in [1, 3, 4096usize] {
+            read_both(&rt, rt.alloc(), &both, step);
+        }
+        Ok(())
+    }
+
+    // A read that fails is told at the field that was being read, as the end of the input there would be.
+    #[test]
+    fn failed_reads_are_told_where_they_came(rt: HostRuntime) {
+        for calls in 0..72usize {
+            let (front, _) = THREE.split_at(calls.min(72));
+            let cut = parsed(rt.alloc(), front).err();
+            let told = decoded(rt.alloc(), &THREE, calls as u64, 1).err();
+            assert!(rt; told.map(|fault| fault.reason) == Some(Reason::Read));
+            assert!(rt; told.map(|fault| fault.offset) == cut.map(|fault| fault.offset));
+        }
+    }
+
+    #[test]
+    fn lists_are_written_up_to_the_failure(rt: HostRuntime) -> Result<(), Fault> {
+        let list = parsed(rt.alloc(), &THREE)?;
+        for calls in 0..=72u64 {
+            written_so_far(&rt, &list, calls);
+        }
+        Ok(())
+    }
+}

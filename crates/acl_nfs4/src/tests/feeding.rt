@@ -1,0 +1,147 @@
+//! Lists that come in pieces.
+
+use super::readers::{ONE, THREE, fault, parsed, same_list};
+use crate::*;
+use std::alloc::{AllocError, Global};
+use std::process::Abort;
+
+fn in_two_pieces(rt: &impl Abort, alloc: Global, first: usize, list: &Acl) {
+    let mut feed = Feed::new(alloc);
+    let (front, back) = THREE.split_at(first.min(72));
+    let taken = 72usize.saturating_sub(first);
+    assert!(rt; feed.feed(front) == Fed::More);
+    assert!(rt; feed.feed(back) == Fed::Done { taken });
+    assert!(rt; feed.feed(back) == Fed::Done { taken: 0 });
+    assert!(rt; feed.finish().is_ok_and(|fed| fed == *list));
+}
+
+fn byte_by_byte(rt: &impl Abort, alloc: Global, list: &Acl) {
+    let mut feed = Feed::new(alloc);
+    for (place, byte) in THREE.chunks(1).enumerate() {
+        let last = Fed::Done { taken: 1 };
+        assert!(rt; feed.feed(byte) == (if place < 71 { Fed::More } else { last }));
+    }
+    assert!(rt; feed.finish().is_ok_and(|fed| fed == *list));
+}
+
+fn done_within_a_piece(rt: &impl Abort, alloc: Global) {
+    let mut feed = Feed::new(alloc);
+    let (front, _) = ONE.split_at(30);
+    assert!(rt; feed.feed(&[]) == Fed::More);
+    assert!(rt; feed.feed(front) == Fed::More);
+    assert!(rt; feed.feed(&[0, 0, 0xff]) == Fed::Done { taken: 2 });
+    assert!(rt; feed.feed(&[1, 2]) == Fed::Done { taken: 0 });
+}
+
+// A feed of all but the padding and one byte of that.
+fn fed_to_padding(rt: &impl Abort, alloc: Global) -> Feed {
+    let mut feed = Feed::new(alloc);
+    let (front, _) = ONE.split_at(29);
+    assert!(rt; feed.feed(front) == Fed::More);
+    assert!(rt; feed.feed(&[1]) == Fed::More);
+    feed
+}
+
+// In two pieces under the narrow profile, of which the first is so long.
+fn fed_narrowly(alloc: Global, bytes: &[u8], first: usize) -> Result<Acl, Fault> {
+    let mut feed = Feed::with_profile(alloc, Profile::NARROW);
+    let (front, back) = bytes.split_at(first.min(bytes.len()));
+    let _ = feed.feed(front);
+    let _ = feed.feed(back);
+    feed.finish()
+}
+
+// So many times ALLOW READ_DATA for alice, as a list, and zeros behind it.
+fn many(alloc: Global, count: u32, zeros: u32) -> Result<Vec<u8>, AllocError> {
+    let mut bytes = Vec::new(alloc);
+    bytes.extend_from_slice(&count.to_be_bytes())?;
+    for _ in 0..count {
+        bytes.extend_from_slice(b"\0\0\0\0\0\0\0\0\0\0\0\x01\0\0\0\x05alice\0\0\0")?;
+    }
+    for _ in 0..zeros {
+        bytes.extend_from_slice(&[0; 4096])?;
+    }
+    Ok(bytes)
+}
+
+// In pieces of so many bytes.
+fn fed_in_pieces(alloc: Global, bytes: &[u8], size: usize) -> Result<Acl, Fault> {
+    let mut feed = Feed::new(alloc);
+    for piece in bytes.chunks(size.max(1)) {
+        let _ = feed.feed(piece);
+    }
+    feed.finish()
+}
+
+// Where memory is refused, a feed says so for good.
+#[test]
+fn a_feed_keeps_its_want_of_memory(rt: HostRuntime) {
+    let mut feed = Feed::new(rt.alloc());
+    match feed.feed(&THREE) {
+        Fed::Done { taken } => assert!(rt; taken == 72),
+        Fed::Refused(told) => {
+            assert!(rt; told == fault(0, Reason::Memory));
+            assert!(rt; feed.feed(&THREE) == Fed::Refused(told));
+            assert!(rt; feed.finish().err() == Some(told));
+        }
+        Fed::More => assert!(rt; false),
+    }
+}
+
+mod ample {
+    use super::*;
+
+    // However a list is cut, the bytes that belong to it are told, and later pieces change nothing.
+    #[test]
+    fn lists_are_fed_in_any_two_pieces(rt: HostRuntime) -> Result<(), Fault> {
+        let list = parsed(rt.alloc(), &THREE)?;
+        for first in 0..72usize {
+            in_two_pieces(&rt, rt.alloc(), first, &list);
+        }
+        byte_by_byte(&rt, rt.alloc(), &list);
+        Ok(())
+    }
+
+    #[test]
+    fn pieces_are_answered(rt: HostRuntime) {
+        done_within_a_piece(&rt, rt.alloc());
+        let told = fed_to_padding(&rt, rt.alloc()).finish().err();
+        assert!(rt; told == Some(fault(29, Reason::Truncated)));
+        let mut feed = fed_to_padding(&rt, rt.alloc());
+        let padding = fault(29, Reason::Padding);
+        assert!(rt; feed.feed(&[0, 0]) == Fed::Refused(padding));
+        assert!(rt; feed.feed(&[0, 0]) == Fed::Refused(padding));
+        assert!(rt; feed.finish().err() == Some(padding));
+        let mut feed = Feed::new(rt.alloc());
+        assert!(rt; feed.feed(&[0, 0, 0, 0]) == Fed::Done { taken: 4 });
+    }
+
+    #[test]
+    fn lists_are_fed_narrowly_in_any_two_pieces(rt: HostRuntime) {
+        for first in 0..=72usize {
+            let fed = fed_narrowly(rt.alloc(), &THREE, first);
+            assert!(rt; same_list(fed, parsed(rt.alloc(), &THREE)), "{first}");
+        }
+    }
+
+    // Pieces about as long as what is taken at once.
+    #[test]
+    fn lists_are_fed_in_large_pieces(rt: HostRuntime) -> Result<(), AllocError> {
+        let bytes = many(rt.alloc(), 600, 0)?;
+        for size in [4_095, 4_096, 4_097, 8_192, 16_000usize] {
+            let fed = fed_in_pieces(rt.alloc(), &bytes, size);
+            assert!(rt; same_list(fed, parsed(rt.alloc(), &bytes)), "{size}");
+        }
+        Ok(())
+    }
+
+    // Of a piece that goes on behind the list little more than the list is kept: what this asks for is counted.
+    #[test]
+    fn large_pieces_are_not_kept(rt: HostRuntime) -> Result<(), AllocError> {
+        let bytes = many(rt.alloc(), 200, 1_000)?;
+        let mut feed = Feed::new(rt.alloc());
+        assert!(rt; feed.feed(&bytes) == Fed::Done { taken: 4_804 });
+        assert!(rt; feed.finish().is_ok_and(|list| list.len() == 200));
+        Ok(())
+    }
+}

@@ -1,0 +1,97 @@
+//! What is answered where an ACE is pushed.
+
+use super::harness::is_told;
+use super::rows::{EVERYONE, built, copied, item, repeated, shows};
+use crate::PushFault::{Memory, SpecialWho, TooHeavy, TooManyAces, WhoControl, WhoLength, WhoUtf8};
+use crate::*;
+use std::alloc::Global;
+use std::process::Abort;
+
+// What is answered where an ACE with this mask and who is pushed, and what the list then shows.
+fn pushed(
+    rt: &impl Abort,
+    alloc: Global,
+    mask: u32,
+    who: &'static [u8],
+    answer: Result<(), PushFault>,
+) -> Result<(), PushFault> {
+    let row = (Kind::Allow, 0, mask, who);
+    let mut list = built(alloc, &[EVERYONE])?;
+    if let Some(ace) = item(row) {
+        let pushed = list.push(ace);
+        if pushed == Err(Memory) {
+            return pushed;
+        }
+        assert!(rt; pushed == answer);
+        let both = [EVERYONE, row];
+        let (after, _) = both.split_at(if answer.is_ok() { 2 } else { 1 });
+        assert!(rt; shows(list.aces(), after));
+    }
+    Ok(())
+}
+
+/// A push is judged by its who.
+pub fn a_push_is_judged_by_its_who(rt: &impl Abort, alloc: Global) -> Result<(), PushFault> {
+    let rows: [(&'static [u8], Result<(), PushFault>); 9] = [
+        (b"", Err(WhoLength)),
+        (&[b'a'; 1024], Ok(())),
+        (&[0xff; 1025], Err(WhoLength)),
+        (b"\xff\x09", Err(WhoUtf8)),
+        (b"\x09@", Err(WhoControl)),
+        (b"\xc3\xa9\x7f", Err(WhoControl)),
+        (b"owner@", Err(SpecialWho)),
+        (b"OWNER@x", Ok(())),
+        (b"OWNER@", Ok(())),
+    ];
+    for (who, answer) in rows {
+        pushed(rt, alloc, 1, who, answer)?;
+    }
+    Ok(())
+}
+
+// What a list answers to an ACE of this mask whose who is empty.
+fn pushed_nameless(list: &mut Acl, mask: u32) -> Option<Result<(), PushFault>> {
+    let ace = item((Kind::Allow, 0, mask, b""))?;
+    Some(list.push(ace))
+}
+
+fn heavy_list(rt: &impl Abort, alloc: Global) -> Result<(), PushFault> {
+    let mut heavy = repeated(alloc, 4_096, (Kind::Allow, 0, 0x001f_07ff, b"a"))?;
+    assert!(rt; heavy.weight() == 65_536);
+    assert!(rt; pushed_nameless(&mut heavy, 1) == Some(Err(TooHeavy)));
+    assert!(rt; pushed_nameless(&mut heavy, 0) == Some(Err(WhoLength)));
+    assert!(rt; heavy.len() == 4_096);
+    Ok(())
+}
+
+static LINES: [(PushFault, &str); 7] = [
+    (TooManyAces, "TooManyAces"),
+    (TooHeavy, "TooHeavy"),
+    (WhoLength, "WhoLength"),
+    (WhoUtf8, "WhoUtf8"),
+    (WhoControl, "WhoControl"),
+    (SpecialWho, "SpecialWho"),
+    (Memory, "Memory"),
+];
+
+mod ample {
+    use super::*;
+
+    // What is judged before the who: the number of ACEs, and then the weight.
+    #[test]
+    fn a_full_list_takes_no_more(rt: HostRuntime) -> Result<(), PushFault> {
+        let mut list = repeated(rt.alloc(), 65_536, (Kind::Allow, 0, 0, b"a"))?;
+        assert!(rt; pushed_nameless(&mut list, 1) == Some(Err(TooManyAces)));
+        assert!(rt; list.len() == 65_536);
+        assert!(rt; list.weight() == 0);
+        assert!(rt; copied(&rt, rt.alloc(), &list).is_ok());
+        heavy_list(&rt, rt.alloc())
+    }
+
+    #[test]
+    fn each_refusal_has_its_line(rt: HostRuntime) {
+        for (fault, line) in LINES {
+            assert!(rt; is_told(rt.alloc(), &fault, line) == Ok(true), "{line}");
+        }
+    }
+}

@@ -1,0 +1,13 @@
+use Rattle.acl_normal.proofs.comparison.compared.Compared.difference.Goals as goal
+use Rattle.acl_normal.proofs.comparison.FirstSet.{differs_there, found_is, told_none, told_some}
+
+pub returns-in-None : goal.returns-in-None
+returns-in-None c = told_none c.args.self.now (found_is c.args.self.now _ _ c.requires.found c.in-None.is)
+
+pub difference_at-requires : goal.difference_at-requires
+difference_at-requires c = differs_there c.args.self.now _ (found_is c.args.self.now _ _ c.requires.found c.in-Some.is)
+
+pub returns-in_ok-difference_at-in-Some : goal.returns-in_ok-difference_at-in-Some
+returns-in_ok-difference_at-in-Some c = told_some c.args.self.now _ _ c.requires.named
+    (found_is c.args.self.now _ _ c.requires.found c.in-Some.is)
+    c.in_ok-difference_at-in-Some.ensures.situation c.in_ok-difference_at-in-Some.ensures.bit

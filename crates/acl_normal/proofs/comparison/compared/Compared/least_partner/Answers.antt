@@ -1,0 +1,39 @@
+use Rattle.std.proofs.Common.{arith, sym, ap, subst, length, ◌+◌}
+use Rattle.acl_normal.proofs.comparison.compared.Compared.least_partner.Goals as goal
+use Rattle.acl_normal.proofs.comparison.compared.Compared.least_partner.Goals.{then-has_right+in_ok-standings, else-has_right}
+use Rattle.acl_normal.proofs.comparison.RowFacts.{LeastPartner, least_done, least_skip, others_length, partner_loop, rows_length, unused_pair}
+use Rattle.acl_normal.specs.internal.TwoLists.{all_mentioned}
+
+pub split_at-requires : goal.split_at-requires
+split_at-requires c = omega (
+  arith,
+  rows_length (all_mentioned c.args.self.now) _ _ _ _ c.in_ok-standings.ensures,
+  ap length c.as_slice.ensures.value,
+  c.requires.at,
+)
+
+pub first_inverted-least-requires : goal.first_inverted-least-requires
+first_inverted-least-requires c =
+    omega (
+      arith,
+      others_length (all_mentioned c.args.self.now) _ _ _ c.args.at _ _ _ c.in_ok-standings.ensures
+          c.as_slice.ensures.value c.split_at.ensures.back,
+      c.loop-bit.invariant.within,
+    )
+
+pub loop-bit-preserved : goal.loop-bit-preserved
+loop-bit-preserved c = elim c.if-has_right.branch [
+  | then-has_right+in_ok-standings w ↦ subst (LeastPartner c.args.self.now c.args.at (c.loop-bit.bit + 1))
+      (sym w.least-is)
+      (partner_loop _ _ _ _ _ _ _ _ _ _ _ c.requires.at w.in_ok-standings.ensures w.as_slice.ensures.value
+      w.split_at.ensures.back w.index.ensures c.requires.alone (c.has_right.ensures.right w.if-has_right.true)
+      w.first_inverted-least.ensures.within w.first_inverted-least.ensures.before
+      w.first_inverted-least.ensures.at c.loop-bit.invariant)
+  | else-has_right w ↦ subst (LeastPartner c.args.self.now c.args.at (c.loop-bit.bit + 1)) (sym w.least-is)
+      (least_skip _ _ _ _
+      (unused_pair c.args.self.now c.args.at c.loop-bit.bit (c.has_right.ensures.unused w.if-has_right.false))
+      c.loop-bit.invariant)
+]
+
+pub returns : goal.returns
+returns c = least_done _ _ _ _ c.loop-bit-test.false c.loop-bit.invariant

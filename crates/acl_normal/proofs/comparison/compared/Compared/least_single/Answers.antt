@@ -1,0 +1,26 @@
+use Rattle.std.proofs.Common.{sym, subst, ◌+◌}
+use Rattle.acl_normal.proofs.comparison.compared.Compared.least_single.Goals as goal
+use Rattle.acl_normal.proofs.comparison.compared.Compared.least_single.Goals.{then-has_right+in_ok-standings, else-has_right}
+use Rattle.acl_normal.proofs.comparison.RowFacts.{LeastSingle, least_done, least_skip, rows_limit, single_step, unused_one}
+use Rattle.acl_normal.specs.internal.TwoLists.{StandAs, all_mentioned}
+
+pub first_unlike-least-requires : goal.first_unlike-least-requires
+first_unlike-least-requires c =
+    rows_limit (all_mentioned c.args.self.now) _ _ _ _ _ _ c.in_ok-standings.ensures c.deref.ensures.value
+    c.loop-bit.invariant.within
+
+pub loop-bit-preserved : goal.loop-bit-preserved
+loop-bit-preserved c = elim c.if-has_right.branch [
+  | then-has_right+in_ok-standings w ↦ subst (LeastSingle c.args.self.now (c.loop-bit.bit + 1)) (sym w.least-is)
+      (single_step _ _ _ _ _ _ _
+      (subst (StandAs c.args.self.now c.loop-bit.bit) (sym w.deref.ensures.value) w.in_ok-standings.ensures)
+      (c.has_right.ensures.right w.if-has_right.true) w.first_unlike-least.ensures.within
+      w.first_unlike-least.ensures.before w.first_unlike-least.ensures.at c.loop-bit.invariant)
+  | else-has_right w ↦ subst (LeastSingle c.args.self.now (c.loop-bit.bit + 1)) (sym w.least-is)
+      (least_skip _ _ _ _
+      (unused_one c.args.self.now c.loop-bit.bit (c.has_right.ensures.unused w.if-has_right.false))
+      c.loop-bit.invariant)
+]
+
+pub returns : goal.returns
+returns c = least_done _ _ _ _ c.loop-bit-test.false c.loop-bit.invariant

@@ -1,0 +1,22 @@
+-- What is left of a list in memory has few ACEs: twice their number is one of the machine's.
+use Rattle.std.specs.Prelude.{◌≡◌, ℕ, ◌<◌, ◌≤◌, ◌^◌, List, [], ◌∷◌, length}
+use Rattle.std.proofs.Common.{subst, arith}
+use Rattle.acl_nfs4.specs.Ace.{Ace}
+use Rattle.acl_nfs4.specs.declared.ace.AceRef.{AceRef}
+use Rattle.acl_normal.specs.internal.Remaining.{IsRemaining, masks_left, remaining_of}
+use Rattle.acl_normal.specs.internal.Shown.{bits_in, with_masks}
+use Rattle.acl_normal.specs.declared.emit.remaining.Remaining.TheInside.{Inside}
+
+no_more : (aces : List AceRef) (masks : List ℕ) → length (with_masks aces masks) ≤ length aces
+no_more [] masks = omega arith
+no_more (a ∷ aces) [] = omega arith
+no_more (a ∷ aces) (m ∷ masks) = omega (arith, no_more aces masks)
+
+-- the ACEs that remain are few
+pub remaining_few : (a : Inside) (xs : List Ace) → IsRemaining a → remaining_of a ≡ xs → length xs < 2 ^ 63
+remaining_few a xs r is =
+    subst (λ v. length v < 2 ^ 63) is (omega (
+      arith,
+      no_more a.aces.items (masks_left (bits_in a.masks.items) a.rows.items (bits_in a.left.items)),
+      r.few,
+    ))

@@ -1,0 +1,121 @@
+//! Where two lists first speak of each principal, and what they say there.
+ghost use Rattle.std.specs.Prelude.{◌≡◌, ◌<◌, ◌≤◌, ℕ, IfOk, false, length, slice_index_or, true, vec_len};
+ghost use Rattle.acl_perm.specs.Kind.{is_allow};
+ghost use Rattle.acl_nfs4.specs.Ace.{ace};
+ghost use Rattle.acl_normal.specs.internal.FirstPlaces.{AreFirstFrom, AreWhoms, IsWithin, no_ace, put, stops, stops_at};
+ghost use Rattle.acl_normal.specs.internal.Passes.{list_of};
+ghost use Rattle.acl_normal.specs.internal.SetSearch.{principals};
+
+use crate::class::Class;
+use acl_nfs4::AceRef;
+use acl_perm::{Kind, Principal, Right};
+use std::alloc::{AllocError, Global};
+
+/// The first ACE that speaks of a principal and has some right: its place in the list, and its type. An ACE of everyone
+/// speaks of each principal.
+#[derive(Clone, Copy)]
+pub(crate) struct First {
+    pub place: usize,
+    pub kind: Kind,
+}
+
+impl First {
+    /// Whether it allows.
+    pub(crate) fn allows(self) -> bool
+        ensures { result ≡ is_allow self.kind }
+    {
+        self.kind.is_allow()
+    }
+}
+
+/// Where a principal stands in two lists: what each of them says first, and the class of the principal.
+#[derive(Clone, Copy)]
+pub(crate) struct Standing {
+    pub here: First,
+    pub there: First,
+    pub class: Class,
+}
+
+/// Whom an ACE names: none of the principals, one of them by its number, or all.
+#[derive(Clone, Copy)]
+pub(crate) enum Whom {
+    Nobody,
+    One(usize),
+    Everyone,
+}
+
+// Whether the ACE has the right, and is of everyone.
+fn is_end(item: &AceRef<'_>, whom: Whom, right: Right) -> bool
+    ensures { result ≡ stops right.bit (ace item.now) whom }
+{
+    match whom {
+        Whom::Everyone => item.mask.has(right),
+        _ => false,
+    }
+}
+
+// The place of the first ACE of everyone with the right, or the number of ACEs.
+fn place_of_everyone(list: &[AceRef<'_>], whoms: &[Whom], right: Right) -> usize
+    requires { length whoms.now ≡ length list.now }
+    ensures within { result ≤ length list.now }
+    ensures before { (k : ℕ) → k < result
+        → stops_at (list_of list.now) whoms.now right.bit k ≡ false }
+    ensures at { result < length list.now
+        → stops_at (list_of list.now) whoms.now right.bit result ≡ true }
+{
+    for i in 0..list.len() {
+        if is_end(&list[i], whoms[i], right) {
+            return i;
+        }
+    }
+    list.len()
+}
+
+// The type of the ACE at a place. Behind the list everything is denied.
+fn kind_at(list: &[AceRef<'_>], place: usize) -> Kind
+    ensures { result ≡ (slice_index_or (list_of list.now) place no_ace).kind }
+{
+    match list.get(place) {
+        Some(item) => item.kind,
+        None => Kind::Deny,
+    }
+}
+
+// What an ACE of a principal that has the right says comes before what the later ones say.
+fn put_first(out: &mut Vec<First>, item: &AceRef<'_>, whom: Whom, place: usize, right: Right)
+    requires { IsWithin whom (vec_len out.old) }
+    ensures { out.new.items ≡ put out.old.items (ace item.now) whom place right.bit }
+{
+    if let Whom::One(i) = whom {
+        if item.mask.has(right) {
+            out[i] = First {
+                place,
+                kind: item.kind,
+            };
+        }
+    }
+}
+
+/// What a list says first, on a right, of each of so many principals. All begin with what everyone is told, and the
+/// ACEs before that are put from the last to the first, so that the first of each principal stays.
+pub(crate) fn firsts(
+    alloc: Global,
+    whole: &[Principal<'_>],
+    list: &[AceRef<'_>],
+    whoms: &[Whom],
+    right: Right,
+) -> Result<Vec<First>, AllocError>
+    requires { AreWhoms (principals whole.now) (list_of list.now) whoms.now }
+    ensures { IfOk result (λ v. AreFirstFrom (principals whole.now)
+        (list_of list.now) right.bit 0 v.items) }
+{
+    let end = place_of_everyone(list, whoms, right);
+    let kind = kind_at(list, end);
+    let mut out = vec![in alloc; First { place: end, kind }; whole.len()]?;
+    let mut place = end;
+    while place > 0 {
+        place -= 1;
+        put_first(&mut out, &list[place], whoms[place], place, right);
+    }
+    Ok(out)
+}

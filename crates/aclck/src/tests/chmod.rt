@@ -1,0 +1,25 @@
+//! `chmod` over texts of POSIX ACLs.
+
+use crate::tests::harness::{Table, Trial};
+use crate::tests::texts::{MASKED, PLAIN};
+use std::process::Abort;
+
+// A text whose mask the mode sets, and a line with a digit too many.
+static TABLE: Table = Table {
+    answers: &[(
+        "chmod --mode 660",
+        0,
+        &[(
+            MASKED,
+            b"user::rw-\nuser:1001:rw-\ngroup::r--\ngroup:50:rw-\nmask::rw-\nother::---\n",
+        )],
+    )],
+    refusals: &[],
+    usage: &["chmod --mode 00660"],
+    unread: PLAIN,
+};
+
+/// Each row is answered or refused as it says.
+pub fn holds<A: Abort>(rt: &A, trial: Trial) {
+    TABLE.holds(rt, trial);
+}

@@ -1,0 +1,49 @@
+//! `create` over texts of directories.
+
+use crate::tests::harness::{Table, Trial};
+use crate::tests::texts::PLAIN;
+use std::process::Abort;
+
+// A directory with a default ACL.
+const PARENT: &[u8] = b"u::rwx,g::r-x,o::---,d:u::rwx,d:u:5:rwx,d:g::r-x,d:m::rwx,d:o::r-x";
+
+// Directories with a default ACL and without, and a line that lacks the umask.
+static TABLE: Table = Table {
+    answers: &[
+        (
+            "create --mode 666 --umask 022",
+            0,
+            &[(PLAIN, b"user::rw-\ngroup::r--\nother::r--\n")],
+        ),
+        (
+            "create --mode 666 --umask 022 --dir",
+            0,
+            &[(PLAIN, b"user::rw-\ngroup::r--\nother::r--\n")],
+        ),
+        (
+            "create --mode 640 --umask 077",
+            0,
+            &[(
+                PARENT,
+                b"user::rw-\nuser:5:rwx\ngroup::r-x\nmask::r--\nother::---\n",
+            )],
+        ),
+        (
+            "create --mode 640 --umask 077 --dir",
+            0,
+            &[(
+                PARENT,
+                b"user::rw-\nuser:5:rwx\ngroup::r-x\nmask::r--\nother::---\n\
+        default:user::rwx\ndefault:user:5:rwx\ndefault:group::r-x\ndefault:mask::rwx\ndefault:other::r-x\n",
+            )],
+        ),
+    ],
+    refusals: &[],
+    usage: &["create --mode 666"],
+    unread: PLAIN,
+};
+
+/// Each row is answered or refused as it says.
+pub fn holds<A: Abort>(rt: &A, trial: Trial) {
+    TABLE.holds(rt, trial);
+}
