@@ -139,7 +139,8 @@ fn fill(rows: &Remaining<'_>, ready: &mut Ready) -> Result<(), AllocError>
 fn pop<'a>(rows: &Remaining<'a>, ready: &mut Ready) -> Option<Emitted<'a>>
     requires keys { FitsKeys (nothing_left rows.now) ready.old }
     requires free { HoldsFree (marks (nothing_left rows.now) ready.old) rows.now }
-    ensures some { IfSome result (λ e. Takes rows.now ready.old ready.new e.row (plain_key e.key) e.mask.bits) }
+    ensures some { IfSome result (λ e.
+        Takes rows.now ready.old ready.new e.row (plain_key e.key) e.mask.bits) }
     ensures none { IfNone result ((n : ℕ) → slice_index_or ready.old n 0 ≡ 0) }
 {
     let _ = &rows.masks;

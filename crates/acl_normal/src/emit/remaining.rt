@@ -65,7 +65,8 @@ impl<'a> Model for Remaining<'a> {
 fn queues(alloc: Global, aces: &[AceRef<'_>], masks: &[Mask]) -> Result<Vec<Queue>, AllocError>
     requires places { length masks.now ≡ length aces.now }
     requires quiet { IsQuiet (with_masks aces.now (bits_in masks.now)) }
-    ensures { IfOk result (λ queues. AreQueues (with_masks aces.now (bits_in masks.now)) queues.items) }
+    ensures { IfOk result (λ queues.
+        AreQueues (with_masks aces.now (bits_in masks.now)) queues.items) }
 {
     let mut queues = Vec::new(alloc);
     for places in waiting_places(alloc, aces, masks)? {

@@ -72,7 +72,8 @@ pub(crate) fn waiting_places(
 ) -> Result<Vec<Vec<usize>>, AllocError>
     requires places { length masks.now ≡ length aces.now }
     requires quiet { IsQuiet (with_masks aces.now (bits_in masks.now)) }
-    ensures { IfOk result (λ lists. HoldWaiting (with_masks aces.now (bits_in masks.now)) lists.items) }
+    ensures { IfOk result (λ lists.
+        HoldWaiting (with_masks aces.now (bits_in masks.now)) lists.items) }
 {
     let mut lists = no_places(alloc)?;
     for place in 0..aces.len() {
