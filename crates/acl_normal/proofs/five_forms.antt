@@ -1,4 +1,3 @@
 pub mod Paths
-pub mod FiveFormLemmas
 pub mod FormsOut
 pub mod Writing

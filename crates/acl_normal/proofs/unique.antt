@@ -25,3 +25,4 @@ pub mod Accepted
 pub mod Outline
 pub mod Forming
 pub mod Taken
+pub mod FiveFormLemmas

@@ -1,4 +1,4 @@
-use Rattle.acl_normal.proofs.five_forms.FiveFormLemmas.{five_tell, joined_tell, spelled_tell}
+use Rattle.acl_normal.proofs.unique.FiveFormLemmas.{five_tell, joined_tell, spelled_tell}
 use Rattle.acl_normal.proofs.laws.five_forms_tell_apart.Goals as goal
 
 pub returns-clause-forms : goal.returns-clause-forms
