@@ -1,3 +1,2 @@
 pub mod unique
-pub mod Tables
 pub mod Vectors

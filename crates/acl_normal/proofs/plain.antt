@@ -7,3 +7,4 @@ pub mod Candidates
 pub mod InTurn
 pub mod Shorter
 pub mod PlainForm
+pub mod Kept

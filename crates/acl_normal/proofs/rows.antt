@@ -1,4 +1,3 @@
-pub mod Order
 pub mod PairParts
 pub mod Waits
 pub mod Quiet

@@ -18,7 +18,6 @@ pub mod Invariant
 pub mod Normal
 pub mod Small
 pub mod Weights
-pub mod Kept
 pub mod Profiles
 pub mod Spelled
 pub mod Accepted

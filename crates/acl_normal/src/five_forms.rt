@@ -36,7 +36,7 @@ pub struct FiveForms {
 }
 
 impl FiveForms {
-    /// The same five again, with one allocation each.
+    /// A copy of the five forms, with one allocation each.
     pub fn copy(&self, alloc: Global) -> Result<FiveForms, AllocError>
         ensures { IfOk result (λ forms. forms ≡ self.now) }
     {
@@ -141,10 +141,10 @@ pub fn normalize_inherit(alloc: Global, list: &Acl) -> Result<FiveForms, AllocEr
         IsNormalFormOf (at list.now (below 1 File)) forms.file_in_directory) }
     ensures directory_in_directory { IfOk result (λ forms.
         IsNormalFormOf (at list.now (below 1 Directory)) forms.directory_in_directory) }
-    // Further below, the lists are those one directory below.
+    // The list at a path further below is that of the same kind one directory below.
     ensures further { (count : ℕ) (kind : Kind) → 1 ≤ count
         → at list.now (below count kind) ≡ at list.now (below 1 kind) }
-    // Under a profile under which the list is accepted, so is each of the five.
+    // Each of the five is accepted under every profile under which the list is.
     ensures accepted { IfOk result (λ forms. (p : Profile) → IsProfile p → IsAccepted p list.now
         → AreAccepted p forms) }
 {

@@ -2,9 +2,8 @@
 use Rattle.std.specs.Prelude.{◌≡◌, ℕ, ◌<◌, ◌≤◌, ◌+◌, ◌-◌, Bool, true, false, ◌&&◌, ◌||◌, cond, nat_lt, List, [], ◌∷◌, ◌++◌, Some, None, refl, length, take, drop, slice_index_or, ◌⊎◌}
 use Rattle.std.specs.List.{AllByRecursion}
 use Rattle.std.proofs.Common.{sym, ◌∙◌, ap, subst, arith, suc, zero, inl, inr}
-use Rattle.std.proofs.lemmas.List.{drop_more, take-append-drop, get_or-take, get_or-drop, length-take, length-drop}
+use Rattle.std.proofs.lemmas.List.{drop_more, take-append-drop, get_or-take, get_or-drop, length-take, length-drop, length-map}
 use Rattle.std.proofs.lemmas.Bool.{cases_order, cases_lt}
-use Rattle.std.proofs.lemmas.List.{length-map}
 use Rattle.acl_perm.specs.declared.principal.Principal.{Principal as PrincipalRef}
 use Rattle.acl_eval.specs.Column.{takes_part}
 use Rattle.acl_eval.specs.Grant.{is_allow}
@@ -16,7 +15,8 @@ use Rattle.acl_normal.proofs.comparison.PairGrants.{no_pairs, pair_granted, pair
 use Rattle.acl_normal.proofs.comparison.SetEvaluation.{granted_to-cons}
 use Rattle.acl_normal.proofs.comparison.SetSearchLemmas.{found_left, found_right}
 use Rattle.acl_normal.specs.Keys.{principal_eq}
-use Rattle.acl_normal.specs.internal.FirstPlaces.{Agrees, AgreesAt, AlikeAlone, AlikeWith, AlikeWithAll, IsLeast, OnAll, first_place}
+use Rattle.acl_normal.specs.internal.FirstPlaces.{deciding_place}
+use Rattle.acl_normal.specs.internal.Agreement.{AlikeWith, AlikeWithAll, AlikeAlone, IsLeast, OnAll, AgreesOnAll, AgreesAt}
 use Rattle.acl_normal.specs.internal.SetSearch.{Finds, FindsFirst, GrantAlikeTo, is_granted_to, principals}
 use Rattle.acl_normal.specs.SmallSets.{pairs, partners, singles, small_sets}
 use Rattle.acl_perm.specs.Bits.{all_rights, has_bit}
@@ -77,16 +77,16 @@ partners_first xs ys p (q ∷ ps) (suc v) lt before at =
 
 -- what holds of each bit for all, holds for all of each bit
 pub on_each : (xs ys : List Ace) (p : Principal) (ps : List Principal)
-    → ((b : ℕ) → has_bit all_rights b ≡ true → AgreesAt xs ys ps b p) → Agrees xs ys ps p
+    → ((b : ℕ) → has_bit all_rights b ≡ true → AgreesAt xs ys ps b p) → AgreesOnAll xs ys ps p
 on_each xs ys p [] h = tt
 on_each xs ys p (q ∷ ps) h = ((λ o b has. (h b has).0 o), on_each xs ys p ps (λ b has. (h b has).1))
 
 -- those before the least member of a pair agree with all
 pub front_agrees : (xs ys : List Ace) (ps : List Principal) (z : ℕ) → z ≤ length ps
-    → ((k : ℕ) → k < z → OnAll (AlikeWithAll xs ys ps) k) → AllByRecursion (Agrees xs ys ps) (take z ps)
-front_agrees xs ys ps z le before = all_from_each (Agrees xs ys ps) (take z ps)
+    → ((k : ℕ) → k < z → OnAll (AlikeWithAll xs ys ps) k) → AllByRecursion (AgreesOnAll xs ys ps) (take z ps)
+front_agrees xs ys ps z le before = all_from_each (AgreesOnAll xs ys ps) (take z ps)
     (λ k lt. let l : k < z = omega (arith, length-take z ps) in
-    subst (λ v. Agrees xs ys ps v) (sym (get_or-take z ps k everyone l))
+    subst (λ v. AgreesOnAll xs ys ps v) (sym (get_or-take z ps k everyone l))
     (on_each xs ys (slice_index_or ps k everyone) ps (before k l)))
 
 -- those before a number, the one there, and those behind it
@@ -110,7 +110,7 @@ pairs_at xs ys ps set z lt before f =
 pub pairs_none : (xs ys : List Ace) (ps : List Principal) (z : ℕ) → length ps ≤ z
     → ((k : ℕ) → k < z → OnAll (AlikeWithAll xs ys ps) k) → FindsFirst xs ys (pairs ps) None
 pairs_none xs ys ps z le before =
-    no_pairs xs ys ps ps [] refl (all_from_each (Agrees xs ys ps) ps
+    no_pairs xs ys ps ps [] refl (all_from_each (AgreesOnAll xs ys ps) ps
     (λ k lt. on_each xs ys (slice_index_or ps k everyone) ps (before k (omega arith))))
 
 -- two principals in either order, at one ACE
@@ -137,7 +137,7 @@ pair_swapped (a ∷ xs) p q b =
 -- one principal twice is that one alone
 pub pair_alone : (xs : List Ace) (p : Principal) (b : ℕ) → is_granted_to xs (p ∷ p ∷ []) b ≡ is_granted_to xs (p ∷ []) b
 pair_alone xs p b = pair_granted xs p p b
-    ∙ one_value (nat_lt (first_place (p ∷ []) b xs) (first_place (p ∷ []) b xs)) (is_granted_to xs (p ∷ []) b)
+    ∙ one_value (nat_lt (deciding_place (p ∷ []) b xs) (deciding_place (p ∷ []) b xs)) (is_granted_to xs (p ∷ []) b)
   where
     one_value : (t v : Bool) → cond t v v ≡ v
     one_value true v = refl

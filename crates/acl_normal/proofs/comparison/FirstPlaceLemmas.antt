@@ -10,7 +10,8 @@ use Rattle.acl_nfs4.specs.Ace.{Ace, ace}
 use Rattle.acl_nfs4.specs.Who.{principal_of}
 use Rattle.acl_nfs4.specs.declared.ace.AceRef.{AceRef}
 use Rattle.acl_normal.proofs.comparison.SetEvaluation.{granted_to-cons}
-use Rattle.acl_normal.specs.internal.FirstPlaces.{AreFirstFrom, AreWhoms, IsFirstFrom, IsWhom, IsWithin, first_place, is_of, no_ace, no_first, put, stops, stops_at}
+use Rattle.acl_normal.specs.internal.FirstPlaces.{AreFirstFrom, IsFirstFrom, deciding_place, no_ace, no_first, put, stops, stops_at}
+use Rattle.acl_normal.specs.internal.Whoms.{AreWhoms, IsWhom, NamesBelow, is_of}
 use Rattle.acl_normal.specs.internal.Passes.{list_of}
 use Rattle.acl_normal.specs.internal.SetSearch.{is_granted_to}
 use Rattle.acl_normal.specs.SmallSituations.{is_among}
@@ -51,8 +52,8 @@ pub first_taken : (xs : List Ace) (a : Ace) (b i : ℕ) (p : Principal) → drop
 first_taken xs a b i p is h =
     let head : ((has_bit a.mask b && takes_part a) && is_among (principal_of a) (everyone ∷ p ∷ [])) ≡ true =
     regroup (has_bit a.mask b) (takes_part a) (is_among (principal_of a) (everyone ∷ p ∷ [])) ∙ h in
-    let place : first_place (p ∷ []) b (drop i xs) ≡ 0 =
-    ap (first_place (p ∷ []) b) is ∙ ap (λ t. cond t 0 (first_place (p ∷ []) b (drop (i + 1) xs) + 1)) head in
+    let place : deciding_place (p ∷ []) b (drop i xs) ≡ 0 =
+    ap (deciding_place (p ∷ []) b) is ∙ ap (λ t. cond t 0 (deciding_place (p ∷ []) b (drop (i + 1) xs) + 1)) head in
     record {
       place = omega arith;
       allows =
@@ -61,13 +62,13 @@ first_taken xs a b i p is h =
     }
 
 -- an ACE that is not of the principal leaves what the later ones say
-pub first_kept : (xs : List Ace) (a : Ace) (b i : ℕ) (p : Principal) (f : First) → drop i xs ≡ a ∷ drop (i + 1) xs
+pub speaks_later : (xs : List Ace) (a : Ace) (b i : ℕ) (p : Principal) (f : First) → drop i xs ≡ a ∷ drop (i + 1) xs
     → (has_bit a.mask b && is_of a p) ≡ false → IsFirstFrom xs b (i + 1) p f → IsFirstFrom xs b i p f
-first_kept xs a b i p f is h later =
+speaks_later xs a b i p f is h later =
     let head : ((has_bit a.mask b && takes_part a) && is_among (principal_of a) (everyone ∷ p ∷ [])) ≡ false =
     regroup (has_bit a.mask b) (takes_part a) (is_among (principal_of a) (everyone ∷ p ∷ [])) ∙ h in
-    let place : first_place (p ∷ []) b (drop i xs) ≡ first_place (p ∷ []) b (drop (i + 1) xs) + 1 =
-    ap (first_place (p ∷ []) b) is ∙ ap (λ t. cond t 0 (first_place (p ∷ []) b (drop (i + 1) xs) + 1)) head in
+    let place : deciding_place (p ∷ []) b (drop i xs) ≡ deciding_place (p ∷ []) b (drop (i + 1) xs) + 1 =
+    ap (deciding_place (p ∷ []) b) is ∙ ap (λ t. cond t 0 (deciding_place (p ∷ []) b (drop (i + 1) xs) + 1)) head in
     let old = later.place in
     record {
       place = omega arith;
@@ -94,8 +95,8 @@ first_end ps xs ws b e k lk le stop all = go (cases_lt e (length xs))
     go (inl lt) = first_taken xs (slice_index_or xs e no_ace) b e (slice_index_or ps k everyone)
         (drop_more xs e no_ace lt) (at _ _ (stop lt) (whom_at ps xs ws e lt all))
     go (inr past) =
-        let none : first_place (slice_index_or ps k everyone ∷ []) b (drop e xs) ≡ 0 =
-        ap (first_place (slice_index_or ps k everyone ∷ []) b) (drop_all e xs past) in
+        let none : deciding_place (slice_index_or ps k everyone ∷ []) b (drop e xs) ≡ 0 =
+        ap (deciding_place (slice_index_or ps k everyone ∷ []) b) (drop_all e xs past) in
         record {
           place = omega arith;
           allows = ap (λ a. is_allow a.kind) (get_or_past xs e no_ace past)
@@ -115,7 +116,7 @@ firsts_start ps xs ws b e firsts f n is count fp fa le stop all = record {
     value : (k : ℕ) → k < length ps → slice_index_or firsts k no_first ≡ f
     value k lt = ap (λ v. slice_index_or v k no_first) is ∙ get_or-replicate n k f no_first (omega arith)
 
-    at : (k : ℕ) → k < length ps → e ≡ first_place (slice_index_or ps k everyone ∷ []) b (drop e xs) + e
+    at : (k : ℕ) → k < length ps → e ≡ deciding_place (slice_index_or ps k everyone ∷ []) b (drop e xs) + e
         → is_allow (slice_index_or xs e no_ace).kind ≡ is_granted_to (drop e xs) (slice_index_or ps k everyone ∷ []) b
         → IsFirstFrom xs b e (slice_index_or ps k everyone) (slice_index_or firsts k no_first)
     at k lt p a = record {
@@ -132,7 +133,7 @@ firsts_step ps xs a Nobody b i old is s h later =
     record {
       count = later.count;
       each =
-          λ k lt. first_kept xs a b i (slice_index_or ps k everyone) (slice_index_or old k no_first) is
+          λ k lt. speaks_later xs a b i (slice_index_or ps k everyone) (slice_index_or old k no_first) is
           (rw (h.hit k lt) (none (has_bit a.mask b))) (later.each k lt);
     }
   where
@@ -143,7 +144,7 @@ firsts_step ps xs a Everyone b i old is s h later =
     record {
       count = later.count;
       each =
-          λ k lt. first_kept xs a b i (slice_index_or ps k everyone) (slice_index_or old k no_first) is (rw s refl)
+          λ k lt. speaks_later xs a b i (slice_index_or ps k everyone) (slice_index_or old k no_first) is (rw s refl)
           (later.each k lt);
     }
 firsts_step ps xs a (One j) b i old is s h later = go (has_bit a.mask b) refl
@@ -163,7 +164,7 @@ firsts_step ps xs a (One j) b i old is s h later = go (has_bit a.mask b) refl
     at e k lt (inr other) =
         subst (λ v. IsFirstFrom xs b i (slice_index_or ps k everyone) v)
         (sym (get_or-set_other old j k new no_first other))
-        (first_kept xs a b i (slice_index_or ps k everyone) (slice_index_or old k no_first) is
+        (speaks_later xs a b i (slice_index_or ps k everyone) (slice_index_or old k no_first) is
         (rw (e, h.hit k lt) (ne_eqb k j other)) (later.each k lt))
 
     go : (t : Bool) → has_bit a.mask b ≡ t → AreFirstFrom ps xs b i (put old a (One j) i b)
@@ -171,7 +172,7 @@ firsts_step ps xs a (One j) b i old is s h later = go (has_bit a.mask b) refl
     go false e = rw e (record {
       count = later.count;
       each =
-          λ k lt. first_kept xs a b i (slice_index_or ps k everyone) (slice_index_or old k no_first) is (rw e refl)
+          λ k lt. speaks_later xs a b i (slice_index_or ps k everyone) (slice_index_or old k no_first) is (rw e refl)
           (later.each k lt);
     })
 
@@ -195,7 +196,7 @@ firsts_more ps aces d ws b e n i old new next le within stops all at given later
 
 -- the number that an ACE names is one of a principal
 pub whom_within : (ps : List Principal) (aces : List AceRef) (ws : List Whom) (i n : ℕ) → i < length aces
-    → n ≡ length ps → AreWhoms ps (list_of aces) ws → IsWithin (slice_index_or ws i Nobody) n
+    → n ≡ length ps → AreWhoms ps (list_of aces) ws → NamesBelow (slice_index_or ws i Nobody) n
 whom_within ps aces ws i n lt e all =
-    subst (λ v. IsWithin (slice_index_or ws i Nobody) v) (sym e)
+    subst (λ v. NamesBelow (slice_index_or ws i Nobody) v) (sym e)
     (whom_at ps (list_of aces) ws i (omega (arith, length-map aces ace)) all).within

@@ -11,7 +11,7 @@ use Rattle.acl_normal.proofs.comparison.MentionedPrincipals.{mentioned_rising}
 use Rattle.acl_normal.proofs.comparison.SmallSetLemmas.{first_difference, first_set, found_is_situation, none_then_same, some_then_differ, tells_apart}
 use Rattle.acl_normal.specs.Difference.{IsComparison, situation_of}
 use Rattle.acl_normal.specs.internal.CodeSets.{set_or_none}
-use Rattle.acl_normal.specs.Normal.{HasNames}
+use Rattle.acl_normal.specs.internal.Names.{HasNames}
 use Rattle.acl_normal.specs.internal.SetSearch.{Finds, FindsFirst, GrantAlikeTo, IsLowestDifference, IsRising}
 use Rattle.acl_normal.specs.SmallSets.{IsFirstDifference, TellsApart, longest, mentioned, small_sets, strange_length}
 use Rattle.acl_normal.specs.SmallSituations.{small_situation}

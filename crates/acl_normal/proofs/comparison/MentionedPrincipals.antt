@@ -12,10 +12,10 @@ use Rattle.acl_nfs4.specs.Who.{principal_of}
 use Rattle.acl_normal.proofs.unique.Names.{principal_eq_itself, principal_eq_same}
 use Rattle.acl_normal.proofs.unique.Small.{HasOnly, principal_greater}
 use Rattle.acl_normal.specs.Keys.{principal_eq}
-use Rattle.acl_normal.specs.Normal.{HasNames}
+use Rattle.acl_normal.specs.internal.Names.{HasNames, HasName, longest_name}
 use Rattle.acl_normal.specs.internal.SetSearch.{IsRising}
 use Rattle.acl_normal.specs.SmallSets.{is_mentioning, longest, mentioned, mentioned_with}
-use Rattle.acl_normal.specs.SmallSituations.{HasName, is_among, longest_name}
+use Rattle.acl_normal.specs.SmallSituations.{is_among}
 use Rattle.acl_perm.proofs.Orders.{principal_exact}
 use Rattle.acl_perm.specs.Bits.{has_bit}
 use Rattle.acl_perm.specs.Order.{principal_cmp, principal_name, principal_total}

@@ -21,10 +21,11 @@ use Rattle.acl_normal.proofs.unique.Names.{principal_eq_itself}
 use Rattle.acl_normal.proofs.unique.Realised.{same_answers}
 use Rattle.acl_normal.proofs.unique.Small.{principal_greater}
 use Rattle.acl_normal.specs.Keys.{principal_eq}
-use Rattle.acl_normal.specs.Places.{key_here}
+use Rattle.acl_normal.specs.internal.AtPlaces.{key_here}
 use Rattle.acl_normal.specs.SmallSets.{is_mentioning, mentioned, mentioned_with}
 use Rattle.acl_normal.specs.SmallSituations.{is_among}
-use Rattle.acl_normal.specs.internal.FirstPlaces.{AreWhoms, IsWhom, no_ace}
+use Rattle.acl_normal.specs.internal.FirstPlaces.{no_ace}
+use Rattle.acl_normal.specs.internal.Whoms.{AreWhoms, IsWhom}
 use Rattle.acl_normal.specs.internal.MentionedRows.{AreByRow, AreMentionedRows, AreNumbers, HasNumber, IsMentionedAt, at_row, held, mentioned_by, noted, whom_of, with_found}
 use Rattle.acl_normal.specs.internal.Passes.{list_of}
 use Rattle.acl_normal.specs.internal.Rows.{AreRowNumbers, is_named, row_of}

@@ -14,7 +14,7 @@ use Rattle.acl_normal.proofs.unique.Names.{principal_eq_itself, principal_eq_sam
 use Rattle.acl_normal.proofs.unique.Realised.{same_answers}
 use Rattle.acl_normal.proofs.comparison.SmallSetLemmas.{not_below_itself}
 use Rattle.acl_normal.specs.Keys.{principal_eq}
-use Rattle.acl_normal.specs.internal.FirstPlaces.{IsWhom, is_of}
+use Rattle.acl_normal.specs.internal.Whoms.{IsWhom, is_of}
 use Rattle.acl_normal.specs.internal.SetSearch.{IsRising, principals}
 use Rattle.acl_perm.specs.Order.{principal_cmp}
 use Rattle.acl_perm.specs.Principal.{Principal, everyone, principal}

@@ -8,11 +8,13 @@ use Rattle.acl_eval.specs.Column.{takes_part}
 use Rattle.acl_eval.specs.Grant.{is_allow}
 use Rattle.acl_nfs4.specs.Ace.{Ace}
 use Rattle.acl_nfs4.specs.Who.{principal_of}
-use Rattle.acl_normal.proofs.unique.Names.{bytes_eq_same}
+use Rattle.acl_nfs4.proofs.SetFields.{same_bytes}
 use Rattle.acl_normal.proofs.comparison.SetEvaluation.{granted_to-cons}
 use Rattle.acl_normal.proofs.comparison.SetSearchLemmas.{found_right}
 use Rattle.acl_normal.specs.Keys.{principal_eq}
-use Rattle.acl_normal.specs.internal.FirstPlaces.{Agrees, AgreesAt, IsRow, SameAlone, first_place, inverts, inverts_any}
+use Rattle.acl_normal.specs.internal.FirstPlaces.{deciding_place}
+use Rattle.acl_normal.specs.internal.Agreement.{AgreesOnAll, AgreesAt}
+use Rattle.acl_normal.specs.internal.ComparedRows.{SameAlone, inverts_any, inverts, IsComparedRow}
 use Rattle.acl_normal.specs.internal.SetSearch.{FindsFirst, differ, is_granted_to}
 use Rattle.acl_normal.specs.SmallSets.{pairs, partners}
 use Rattle.acl_normal.specs.declared.comparison.rows.Row.{Row}
@@ -51,7 +53,7 @@ joined true false false false k g gp gq hp hq h = h ∙ ap (λ l. cond l gq gp) 
 
 -- what is granted to two is what is granted to the one that comes first
 pub pair_granted : (xs : List Ace) (p q : Principal) (b : ℕ)
-    → is_granted_to xs (p ∷ q ∷ []) b ≡ cond (nat_lt (first_place (q ∷ []) b xs) (first_place (p ∷ []) b xs))
+    → is_granted_to xs (p ∷ q ∷ []) b ≡ cond (nat_lt (deciding_place (q ∷ []) b xs) (deciding_place (p ∷ []) b xs))
     (is_granted_to xs (q ∷ []) b) (is_granted_to xs (p ∷ []) b)
 pair_granted [] p q b = refl
 pair_granted (a ∷ xs) p q b =
@@ -59,13 +61,13 @@ pair_granted (a ∷ xs) p q b =
     ∙ joined (has_bit a.mask b && takes_part a) (principal_eq (principal_of a) everyone)
     (principal_eq (principal_of a) p) (principal_eq (principal_of a) q) (is_allow a.kind)
     (is_granted_to xs (p ∷ q ∷ []) b) (is_granted_to xs (p ∷ []) b) (is_granted_to xs (q ∷ []) b)
-    (first_place (p ∷ []) b xs) (first_place (q ∷ []) b xs) (pair_granted xs p q b)
-    ∙ sym (cond_same (nat_lt (first_place (q ∷ []) b (a ∷ xs)) (first_place (p ∷ []) b (a ∷ xs))) _ _ _ _
+    (deciding_place (p ∷ []) b xs) (deciding_place (q ∷ []) b xs) (pair_granted xs p q b)
+    ∙ sym (cond_same (nat_lt (deciding_place (q ∷ []) b (a ∷ xs)) (deciding_place (p ∷ []) b (a ∷ xs))) _ _ _ _
     (granted_to-cons a xs (q ∷ []) b) (granted_to-cons a xs (p ∷ []) b))
 
 -- two users that may overlap are one
 both_users : (p q : Principal) → is_user p ≡ true → is_user q ≡ true → may_overlap p q ≡ true → p ≡ q
-both_users (user a) (user b) h i o = ap user (bytes_eq_same a b o)
+both_users (user a) (user b) h i o = ap user (same_bytes a b o)
 both_users (user a) _ h i o = cc
 both_users _ q h i o = cc
 
@@ -108,20 +110,23 @@ other_choice false true true false h e = cc
 other_choice false true false true h e = cc
 
 -- what the rows say of a pair, in both lists
-pub here_is : (xs ys : List Ace) (b : ℕ) (p q : Principal) (r s : Row) → IsRow xs ys b p r → IsRow xs ys b q s
+pub here_is : (xs ys : List Ace) (b : ℕ) (p q : Principal) (r s : Row) → IsComparedRow xs ys b p r
+    → IsComparedRow xs ys b q s
     → is_granted_to xs (p ∷ q ∷ []) b ≡ cond (nat_lt s.here.place r.here.place) s.here.allows r.here.allows
 here_is xs ys b p q r s h i = pair_granted xs p q b
     ∙ rw (← h.here.place, ← i.here.place, ← h.here.allows, ← i.here.allows) refl
 
 -- and in the second list
-pub there_is : (xs ys : List Ace) (b : ℕ) (p q : Principal) (r s : Row) → IsRow xs ys b p r → IsRow xs ys b q s
+pub there_is : (xs ys : List Ace) (b : ℕ) (p q : Principal) (r s : Row) → IsComparedRow xs ys b p r
+    → IsComparedRow xs ys b q s
     → SameAlone r → SameAlone s → is_granted_to ys (p ∷ q ∷ []) b
     ≡ cond (nat_lt s.there.place r.there.place) s.here.allows r.here.allows
 there_is xs ys b p q r s h i u v =
     pair_granted ys p q b ∙ rw (← h.there.place, ← i.there.place, ← h.there.allows, ← i.there.allows, ← u, ← v) refl
 
 -- a pair that is not inverted is granted alike
-pub not_inverted : (xs ys : List Ace) (b : ℕ) (p q : Principal) (r s : Row) → IsRow xs ys b p r → IsRow xs ys b q s
+pub not_inverted : (xs ys : List Ace) (b : ℕ) (p q : Principal) (r s : Row) → IsComparedRow xs ys b p r
+    → IsComparedRow xs ys b q s
     → SameAlone r → SameAlone s → inverts r s ≡ false → may_overlap p q ≡ true
     → is_granted_to xs (p ∷ q ∷ []) b ≡ is_granted_to ys (p ∷ q ∷ []) b
 not_inverted xs ys b p q r s h i u v e o = here_is xs ys b p q r s h i ∙ go (r.user && s.user) refl
@@ -145,7 +150,8 @@ not_inverted xs ys b p q r s h i u v e o = here_is xs ys b p q r s h i ∙ go (r
         (nat_lt s.here.place r.here.place) (nat_lt s.there.place r.there.place)) k) ∙ e)
 
 -- one that is inverted may overlap, and is not
-pub inverted : (xs ys : List Ace) (b : ℕ) (p q : Principal) (r s : Row) → IsRow xs ys b p r → IsRow xs ys b q s
+pub inverted : (xs ys : List Ace) (b : ℕ) (p q : Principal) (r s : Row) → IsComparedRow xs ys b p r
+    → IsComparedRow xs ys b q s
     → SameAlone r → SameAlone s → inverts r s ≡ true
     → (may_overlap p q ≡ true) × (is_granted_to xs (p ∷ q ∷ []) b ≢ is_granted_to ys (p ∷ q ∷ []) b)
 inverted xs ys b p q r s h i u v e =
@@ -168,7 +174,7 @@ inverted xs ys b p q r s h i u v e =
 
 -- a principal agrees with all the others on the bit just where its row inverts none
 pub agrees_from_rows : (xs ys : List Ace) (b : ℕ) (p : Principal) (r : Row) (ps : List Principal) (rows : List Row)
-    → IsRow xs ys b p r → SameAlone r → AllZip (IsRow xs ys b) ps rows → AllByRecursion SameAlone rows
+    → IsComparedRow xs ys b p r → SameAlone r → AllZip (IsComparedRow xs ys b) ps rows → AllByRecursion SameAlone rows
     → inverts_any r rows ≡ false → AgreesAt xs ys ps b p
 agrees_from_rows xs ys b p r [] [] h u z all e = tt
 agrees_from_rows xs ys b p r (q ∷ ps) (s ∷ rows) h u z all e =
@@ -178,7 +184,7 @@ agrees_from_rows xs ys b p r _ _ h u z all e = absurd z
 
 -- and doesn't where it inverts one
 pub not_agrees_from_rows : (xs ys : List Ace) (b : ℕ) (p : Principal) (r : Row) (ps : List Principal)
-    (rows : List Row) → IsRow xs ys b p r → SameAlone r → AllZip (IsRow xs ys b) ps rows
+    (rows : List Row) → IsComparedRow xs ys b p r → SameAlone r → AllZip (IsComparedRow xs ys b) ps rows
     → AllByRecursion SameAlone rows → inverts_any r rows ≡ true → AgreesAt xs ys ps b p → ⊥
 not_agrees_from_rows xs ys b p r [] [] h u z all e a = cc
 not_agrees_from_rows xs ys b p r (q ∷ ps) (s ∷ rows) h u z all e a =
@@ -191,7 +197,7 @@ not_agrees_from_rows xs ys b p r (q ∷ ps) (s ∷ rows) h u z all e a =
 not_agrees_from_rows xs ys b p r _ _ h u z all e a = absurd z
 
 -- all pairs agree where each principal agrees with all
-pub partners_agree : (xs ys : List Ace) (p : Principal) (ps : List Principal) → Agrees xs ys ps p
+pub partners_agree : (xs ys : List Ace) (p : Principal) (ps : List Principal) → AgreesOnAll xs ys ps p
     → FindsFirst xs ys (partners p ps) None
 partners_agree xs ys p [] h = refl
 partners_agree xs ys p (q ∷ ps) h = go (may_overlap p q) refl (partners_agree xs ys p ps h.1)
@@ -202,32 +208,33 @@ partners_agree xs ys p (q ∷ ps) h = go (may_overlap p q) refl (partners_agree 
     go false e ih = rw e ih
 
 -- who agrees with all agrees with the rest
-pub agrees_rest : (xs ys : List Ace) (ps rest : List Principal) (p : Principal) → Agrees xs ys (ps ++ rest) p
-    → Agrees xs ys rest p
+pub agrees_rest : (xs ys : List Ace) (ps rest : List Principal) (p : Principal) → AgreesOnAll xs ys (ps ++ rest) p
+    → AgreesOnAll xs ys rest p
 agrees_rest xs ys [] rest p h = h
 agrees_rest xs ys (q ∷ ps) rest p h = agrees_rest xs ys ps rest p h.1
 
 -- if each of the first principals agrees with all, the pairs of the rest decide
 pub pairs_after : (xs ys : List Ace) (whole before rest done : List Principal) (r : Option (List Principal))
-    → whole ≡ done ++ (before ++ rest) → AllByRecursion (Agrees xs ys whole) before → FindsFirst xs ys (pairs rest) r
+    → whole ≡ done ++ (before ++ rest) → AllByRecursion (AgreesOnAll xs ys whole) before
+    → FindsFirst xs ys (pairs rest) r
     → FindsFirst xs ys (pairs (before ++ rest)) r
 pairs_after xs ys whole [] rest done r is h f = f
 pairs_after xs ys whole (p ∷ before) rest done r is h f =
     let longer : whole ≡ (done ++ p ∷ []) ++ (before ++ rest) =
     is ∙ sym (append_assoc done (p ∷ []) (before ++ rest)) in
-    let tail : Agrees xs ys (before ++ rest) p =
-    agrees_rest xs ys (done ++ p ∷ []) (before ++ rest) p (subst (λ v. Agrees xs ys v p) longer h.0) in
+    let tail : AgreesOnAll xs ys (before ++ rest) p =
+    agrees_rest xs ys (done ++ p ∷ []) (before ++ rest) p (subst (λ v. AgreesOnAll xs ys v p) longer h.0) in
     found_right xs ys (partners p (before ++ rest)) (pairs (before ++ rest)) r
     (partners_agree xs ys p (before ++ rest) tail)
     (pairs_after xs ys whole before rest (done ++ p ∷ []) r longer h.1 f)
 
 -- where all agree with all, no pair differs
 pub no_pairs : (xs ys : List Ace) (whole rest done : List Principal) → whole ≡ done ++ rest
-    → AllByRecursion (Agrees xs ys whole) rest → FindsFirst xs ys (pairs rest) None
+    → AllByRecursion (AgreesOnAll xs ys whole) rest → FindsFirst xs ys (pairs rest) None
 no_pairs xs ys whole [] done is h = refl
 no_pairs xs ys whole (p ∷ rest) done is h =
     let longer : whole ≡ (done ++ p ∷ []) ++ rest = is ∙ sym (append_assoc done (p ∷ []) rest) in
-    let tail : Agrees xs ys rest p =
-    agrees_rest xs ys (done ++ p ∷ []) rest p (subst (λ v. Agrees xs ys v p) longer h.0) in
+    let tail : AgreesOnAll xs ys rest p =
+    agrees_rest xs ys (done ++ p ∷ []) rest p (subst (λ v. AgreesOnAll xs ys v p) longer h.0) in
     found_right xs ys (partners p rest) (pairs rest) None (partners_agree xs ys p rest tail)
     (no_pairs xs ys whole rest (done ++ p ∷ []) longer h.1)

@@ -1,10 +1,9 @@
 -- The least number of a principal at which two lists grant otherwise, bit by bit.
 use Rattle.std.specs.Prelude.{◌≡◌, ℕ, ◌<◌, ◌≤◌, ◌+◌, Bool, true, false, List, [], ◌∷◌, ◌++◌, length, take, drop, slice_index_or, ◌⊎◌}
 use Rattle.std.specs.List.{AllByRecursion, AllZip}
-use Rattle.std.proofs.Common.{sym, ◌∙◌, ap, subst, arith, suc, zero, inl, inr, lit<}
+use Rattle.std.proofs.Common.{sym, ◌∙◌, ap, subst, arith, suc, zero, inl, inr, lit<, eqb}
 use Rattle.std.proofs.lemmas.List.{take_more, map-append, get_or_read, length-map}
 use Rattle.std.proofs.lemmas.Bool.{cases_lt, cases_eq, false≢true}
-use Rattle.std.proofs.Common.{eqb}
 use Rattle.std.proofs.lemmas.Nat.Bits.{bit_at_above}
 use Rattle.acl_perm.specs.declared.principal.Principal.{Principal as PrincipalRef}
 use Rattle.acl_nfs4.specs.Ace.{Ace}
@@ -13,12 +12,15 @@ use Rattle.acl_normal.proofs.comparison.FirstPlaceLemmas.{zip_length}
 use Rattle.acl_normal.proofs.comparison.Numbers.{principal_at, zip_push}
 use Rattle.acl_normal.proofs.comparison.PairGrants.{agrees_from_rows, inverted, not_agrees_from_rows, not_inverted}
 use Rattle.acl_normal.proofs.comparison.SetEvaluation.{unused_denied}
-use Rattle.acl_normal.specs.internal.FirstPlaces.{AgreesAt, AlikeAlone, AlikeWith, AlikeWithAll, AreFirstFrom, AreRows, IsFirst, IsFirstFrom, IsLeast, IsRow, OnAll, SameAlone, inverts, inverts_any, no_first, no_row}
+use Rattle.acl_normal.specs.internal.FirstPlaces.{AreFirstFrom, IsFirst, IsFirstFrom, no_first}
+use Rattle.acl_normal.specs.internal.Agreement.{AlikeWith, AlikeWithAll, AlikeAlone, IsLeast, OnAll, AgreesAt}
+use Rattle.acl_normal.specs.internal.ComparedRows.{SameAlone, no_row, inverts_any, inverts, AreComparedRows, IsComparedRow}
 use Rattle.acl_normal.specs.internal.SetSearch.{AreRightsOf, is_granted_to, principals}
 use Rattle.acl_normal.specs.declared.comparison.rows.First.{First}
 use Rattle.acl_normal.specs.declared.comparison.rows.Row.{Row}
 use Rattle.acl_perm.specs.Bits.{all_rights, has_bit}
 use Rattle.acl_perm.specs.Principal.{Principal, everyone, principal, is_user}
+use Rattle.acl_normal.proofs.reduce.Reducing.{rights_below}
 
 -- what all ACEs say first
 pub first_of_all : (xs : List Ace) (b : ℕ) (p : Principal) (f : First) → IsFirstFrom xs b 0 p f → IsFirst xs b p f
@@ -30,13 +32,14 @@ pub rows_more : (names : List PrincipalRef) (q : PrincipalRef) (xs ys : List Ace
     → h ≡ slice_index_or heres i h → t ≡ slice_index_or theres i t
     → u ≡ is_user (principal (slice_index_or names i q)) → AreFirstFrom (principals names) xs b 0 heres
     → AreFirstFrom (principals names) ys b 0 theres → new ≡ old ++ record { here = h; there = t; user = u } ∷ []
-    → AreRows (principals (take i names)) xs ys b old → AreRows (principals (take (i + 1) names)) xs ys b new
+    → AreComparedRows (principals (take i names)) xs ys b old
+    → AreComparedRows (principals (take (i + 1) names)) xs ys b new
 rows_more names q xs ys b i heres theres h t u old new lt hi ti ui hs ts is all =
     let inside : i < length (principals names) = omega (arith, length-map names principal) in
     let s : Principal = slice_index_or (principals names) i everyone in
     let here : h ≡ slice_index_or heres i no_first = get_or_read heres i h (omega (arith, hs.count)) hi no_first in
     let there : t ≡ slice_index_or theres i no_first = get_or_read theres i t (omega (arith, ts.count)) ti no_first in
-    let row : IsRow xs ys b s (record { here = h; there = t; user = u }) = record {
+    let row : IsComparedRow xs ys b s (record { here = h; there = t; user = u }) = record {
       here = subst (λ v. IsFirst xs b s v) (sym here)
           (first_of_all xs b s (slice_index_or heres i no_first) (hs.each i inside));
       there = subst (λ v. IsFirst ys b s v) (sym there)
@@ -47,28 +50,29 @@ rows_more names q xs ys b i heres theres h t u old new lt hi ti ui hs ts is all 
     ap principals (take_more names i q lt) ∙ map-append principal (take i names) (slice_index_or names i q ∷ [])
     ∙ ap (λ v. principals (take i names) ++ v ∷ []) (sym (principal_at names q i lt)) in
     record {
-      each = subst (λ v. AllZip (IsRow xs ys b) v new) (sym longer)
-          (subst (λ v. AllZip (IsRow xs ys b) (principals (take i names) ++ s ∷ []) v) (sym is)
-          (zip_push (IsRow xs ys b) (principals (take i names)) old s (record { here = h; there = t; user = u })
+      each = subst (λ v. AllZip (IsComparedRow xs ys b) v new) (sym longer)
+          (subst (λ v. AllZip (IsComparedRow xs ys b) (principals (take i names) ++ s ∷ []) v) (sym is)
+          (zip_push (IsComparedRow xs ys b) (principals (take i names)) old s (record { here = h; there = t; user = u })
           all.each row));
     }
 
 -- the row of a number
 pub row_at : (ps : List Principal) (xs ys : List Ace) (b k : ℕ) (rows : List Row) → k < length ps
-    → AllZip (IsRow xs ys b) ps rows → IsRow xs ys b (slice_index_or ps k everyone) (slice_index_or rows k no_row)
+    → AllZip (IsComparedRow xs ys b) ps rows
+    → IsComparedRow xs ys b (slice_index_or ps k everyone) (slice_index_or rows k no_row)
 row_at [] xs ys b k [] lt z = absurd (omega arith)
 row_at (p ∷ ps) xs ys b zero (r ∷ rows) lt z = z.0
 row_at (p ∷ ps) xs ys b (suc k) (r ∷ rows) lt z = row_at ps xs ys b k rows (omega arith) z.1
 row_at _ xs ys b k _ lt z = absurd z
 
 -- there are as many rows as principals
-pub rows_length : (ps : List Principal) (xs ys : List Ace) (b : ℕ) (rows : List Row) → AreRows ps xs ys b rows
+pub rows_length : (ps : List Principal) (xs ys : List Ace) (b : ℕ) (rows : List Row) → AreComparedRows ps xs ys b rows
     → length rows ≡ length ps
-rows_length ps xs ys b rows h = zip_length (IsRow xs ys b) ps rows h.each
+rows_length ps xs ys b rows h = zip_length (IsComparedRow xs ys b) ps rows h.each
 
 -- a limit within the principals is within their rows
 pub rows_limit : (ps : List Principal) (xs ys : List Ace) (b : ℕ) (rows shown : List Row) (limit : ℕ)
-    → AreRows ps xs ys b rows → shown ≡ rows → limit ≤ length ps → limit ≤ length shown
+    → AreComparedRows ps xs ys b rows → shown ≡ rows → limit ≤ length ps → limit ≤ length shown
 rows_limit ps xs ys b rows shown limit h is within =
     omega (arith, rows_length ps xs ys b rows h, ap length is, within)
 
@@ -111,35 +115,30 @@ least_skip Q n bit least all h =
     at_bit k l b has_b below (inl e) = subst (λ v. Q v k) (sym e) (all k)
     at_bit k l b has_b below (inr n) = h.before k l b (omega arith) has_b
 
--- every right is below bit 21
-pub bits_below : (b : ℕ) → has_bit all_rights b ≡ true → b < 21
-bits_below b has = go (cases_lt b 21)
-  where
-    go : (b < 21) ⊎ (21 ≤ b) → b < 21
-    go (inl l) = l
-    go (inr le) = let none = bit_at_above all_rights 21 b (lit< tt) le in
-        absurd (false≢true (sym (ap (λ d. eqb d 1) none) ∙ has))
-
 -- after the last bit the least number is known
 pub least_done : (Q : ℕ → ℕ → Type 0) (n bit least : ℕ) → 21 ≤ bit → Least Q n bit least → IsLeast (OnAll Q) n least
 least_done Q n bit least le h =
-    record { within = h.within; before = λ k l b has. h.before k l b (omega (arith, bits_below b has)) has; at = h.at }
+    record {
+      within = h.within;
+      before = λ k l b has. h.before k l b (omega (arith, rights_below b has)) has;
+      at = h.at;
+    }
 
 -- single principals
 pub alone_from_row : (ps : List Principal) (xs ys : List Ace) (b k : ℕ) (rows : List Row) → k < length ps
-    → AreRows ps xs ys b rows → SameAlone (slice_index_or rows k no_row) → AlikeAlone xs ys ps b k
+    → AreComparedRows ps xs ys b rows → SameAlone (slice_index_or rows k no_row) → AlikeAlone xs ys ps b k
 alone_from_row ps xs ys b k rows lt h e = let r = row_at ps xs ys b k rows lt h.each in
     sym r.here.allows ∙ e ∙ r.there.allows
 
 -- and where they say otherwise, not
 pub not_alone_from_row : (ps : List Principal) (xs ys : List Ace) (b k : ℕ) (rows : List Row) → k < length ps
-    → AreRows ps xs ys b rows → (SameAlone (slice_index_or rows k no_row) → ⊥) → AlikeAlone xs ys ps b k → ⊥
+    → AreComparedRows ps xs ys b rows → (SameAlone (slice_index_or rows k no_row) → ⊥) → AlikeAlone xs ys ps b k → ⊥
 not_alone_from_row ps xs ys b k rows lt h n e = let r = row_at ps xs ys b k rows lt h.each in
     n (r.here.allows ∙ e ∙ sym r.there.allows)
 
 -- one more bit of the search among single principals
 pub single_step : (ps : List Principal) (xs ys : List Ace) (bit old new : ℕ) (rows : List Row)
-    → AreRows ps xs ys bit rows → has_bit all_rights bit ≡ true → new ≤ old
+    → AreComparedRows ps xs ys bit rows → has_bit all_rights bit ≡ true → new ≤ old
     → ((k : ℕ) → k < new → SameAlone (slice_index_or rows k no_row))
     → (new < old → SameAlone (slice_index_or rows new no_row) → ⊥) → Least (AlikeAlone xs ys ps) (length ps) bit old
     → Least (AlikeAlone xs ys ps) (length ps) (bit + 1) new
@@ -149,7 +148,8 @@ single_step ps xs ys bit old new rows h has le each stop l =
     (λ lt e. not_alone_from_row ps xs ys bit new rows (omega (arith, l.within)) h (stop lt) e) l
 
 -- a principal and all others
-pub all_alone : (ps : List Principal) (xs ys : List Ace) (b : ℕ) (rows : List Row) → AllZip (IsRow xs ys b) ps rows
+pub all_alone : (ps : List Principal) (xs ys : List Ace) (b : ℕ) (rows : List Row)
+    → AllZip (IsComparedRow xs ys b) ps rows
     → ((k : ℕ) → k < length ps → AlikeAlone xs ys ps b k) → AllByRecursion SameAlone rows
 all_alone [] xs ys b [] z h = tt
 all_alone (p ∷ ps) xs ys b (r ∷ rows) z h = (
@@ -168,7 +168,7 @@ same_at (r ∷ rows) (suc k) lt h = same_at rows k (omega arith) h.1
 
 -- one more bit of the search for the lesser member of a pair
 pub member_step : (ps : List Principal) (xs ys : List Ace) (bit old new : ℕ) (rows : List Row)
-    → AreRows ps xs ys bit rows → ((k : ℕ) → k < length ps → OnAll (AlikeAlone xs ys ps) k)
+    → AreComparedRows ps xs ys bit rows → ((k : ℕ) → k < length ps → OnAll (AlikeAlone xs ys ps) k)
     → has_bit all_rights bit ≡ true → new ≤ old
     → ((k : ℕ) → k < new → inverts_any (slice_index_or rows k no_row) rows ≡ false)
     → (new < old → inverts_any (slice_index_or rows new no_row) rows ≡ true)
@@ -194,7 +194,8 @@ zip_drop R (suc n) _ _ z = absurd z
 
 -- one more bit of the search for its partner
 pub partner_step : (p : Principal) (r : Row) (ps : List Principal) (xs ys : List Ace) (bit old new : ℕ)
-    (rows : List Row) → IsRow xs ys bit p r → SameAlone r → AreRows ps xs ys bit rows → AllByRecursion SameAlone rows
+    (rows : List Row) → IsComparedRow xs ys bit p r → SameAlone r → AreComparedRows ps xs ys bit rows
+    → AllByRecursion SameAlone rows
     → has_bit all_rights bit ≡ true → new ≤ old
     → ((k : ℕ) → k < new → inverts r (slice_index_or rows k no_row) ≡ false)
     → (new < old → inverts r (slice_index_or rows new no_row) ≡ true)
@@ -217,15 +218,15 @@ all_drop P (suc n) (x ∷ xs) h = all_drop P n xs h.1
 
 -- there are as many later rows as later principals
 pub others_length : (ps : List Principal) (xs ys : List Ace) (b at : ℕ) (items slice others : List Row)
-    → AreRows ps xs ys b items → slice ≡ items → others ≡ drop (at + 1) slice
+    → AreComparedRows ps xs ys b items → slice ≡ items → others ≡ drop (at + 1) slice
     → length others ≡ length (drop (at + 1) ps)
 others_length ps xs ys b at items slice others h is split = ap length (split ∙ ap (drop (at + 1)) is)
-    ∙ zip_length (IsRow xs ys b) (drop (at + 1) ps) (drop (at + 1) items)
-    (zip_drop (IsRow xs ys b) (at + 1) ps items h.each)
+    ∙ zip_length (IsComparedRow xs ys b) (drop (at + 1) ps) (drop (at + 1) items)
+    (zip_drop (IsComparedRow xs ys b) (at + 1) ps items h.each)
 
 -- the same, as the code holds the rows
 pub partner_loop : (ps : List Principal) (xs ys : List Ace) (bit at old new : ℕ) (row : Row)
-    (items slice others : List Row) → at < length ps → AreRows ps xs ys bit items → slice ≡ items
+    (items slice others : List Row) → at < length ps → AreComparedRows ps xs ys bit items → slice ≡ items
     → others ≡ drop (at + 1) slice → row ≡ slice_index_or items at row
     → ((k : ℕ) → k < length ps → OnAll (AlikeAlone xs ys ps) k) → has_bit all_rights bit ≡ true → new ≤ old
     → ((k : ℕ) → k < new → inverts row (slice_index_or others k no_row) ≡ false)
@@ -239,11 +240,12 @@ partner_loop ps xs ys bit at old new row items slice others lt h is split read a
     let own : row ≡ slice_index_or items at no_row = get_or_read items at row (omega arith) read no_row in
     let rest : others ≡ drop (at + 1) items = split ∙ ap (drop (at + 1)) is in
     partner_step (slice_index_or ps at everyone) row (drop (at + 1) ps) xs ys bit old new others
-    (subst (λ v. IsRow xs ys bit (slice_index_or ps at everyone) v) (sym own) (row_at ps xs ys bit at items lt h.each))
+    (subst (λ v. IsComparedRow xs ys bit (slice_index_or ps at everyone) v) (sym own)
+    (row_at ps xs ys bit at items lt h.each))
     (subst (λ v. SameAlone v) (sym own) (same_at items at (omega arith) same))
     (record {
-      each = subst (λ v. AllZip (IsRow xs ys bit) (drop (at + 1) ps) v) (sym rest)
-          (zip_drop (IsRow xs ys bit) (at + 1) ps items h.each);
+      each = subst (λ v. AllZip (IsComparedRow xs ys bit) (drop (at + 1) ps) v) (sym rest)
+          (zip_drop (IsComparedRow xs ys bit) (at + 1) ps items h.each);
     })
     (subst (λ v. AllByRecursion SameAlone v) (sym rest) (all_drop SameAlone (at + 1) items same))
     has le each stop l

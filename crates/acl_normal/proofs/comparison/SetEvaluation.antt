@@ -11,11 +11,12 @@ use Rattle.acl_eval.specs.Grant.{is_allow}
 use Rattle.acl_nfs4.specs.Ace.{Ace, ace}
 use Rattle.acl_nfs4.specs.Who.{principal_of}
 use Rattle.acl_nfs4.specs.declared.ace.AceRef.{AceRef}
-use Rattle.acl_normal.proofs.unique.Bits.{has_power, power_has}
+use Rattle.acl_normal.proofs.unique.Bits.{has_power}
+use Rattle.acl_eval.proofs.Same.{only_bit}
 use Rattle.acl_normal.proofs.unique.Realised.{same_answers}
 use Rattle.acl_normal.proofs.unique.SameKeys.{alike}
 use Rattle.acl_normal.specs.internal.Passes.{list_of}
-use Rattle.acl_normal.specs.internal.SetSearch.{AreDiffering, AreGranted, AreRightsOf, GrantAlikeTo, HasBitsOf, IsLowest, IsLowestDifference, differ, is_granted_to}
+use Rattle.acl_normal.specs.internal.SetSearch.{AreDiffering, AreGranted, AreRightsOf, GrantAlikeTo, HasBitsOf, IsLowestBit, IsLowestDifference, differ, is_granted_to}
 use Rattle.acl_normal.specs.SmallSituations.{is_among}
 use Rattle.acl_perm.proofs.Sets.{IsMask-lt, bits_from_mask, mask_from_bits, no_bit, same_set}
 use Rattle.acl_perm.specs.Bits.{IsDifference, IsMask, IsSubset, IsUnion, all_rights, has_bit}
@@ -201,8 +202,8 @@ tells_unlike list other set rights within h = go (rights == 0) refl
     go false e = λ alike. false≢true (sym e ∙ eq-eqb rights 0 ((none_differ list other set rights within h).1 alike))
 
 -- the number of zeros at the end of a set that isn't empty is its lowest bit
-pub lowest_is : (rights : ℕ) → rights ≢ 0 → IsMask rights → IsLowest rights (trailing_zeros w32 rights)
-lowest_is rights ne within =
+pub lowest_zeros : (rights : ℕ) → rights ≢ 0 → IsMask rights → IsLowestBit rights (trailing_zeros w32 rights)
+lowest_zeros rights ne within =
     let t = bit_at-trailing_zeros w32 rights (omega arith) (IsMask-lt rights within) in
     record {
       has = ap (λ (d : ℕ). d == 1) t.1;
@@ -212,7 +213,7 @@ lowest_is rights ne within =
 -- a bit of a set of rights is one right
 pub one_right : (rights mask k : ℕ) → IsMask rights → has_bit rights k ≡ true → mask ≡ 2 ^ k → IsMask mask
 one_right rights mask k within has is = mask_from_bits mask (λ b h.
-    let same : b ≡ k = power_has k b (subst (λ m. has_bit m b ≡ true) is h) in
+    let same : b ≡ k = only_bit k b (subst (λ m. has_bit m b ≡ true) is h) in
     subst (λ v. has_bit all_rights v ≡ true) (sym same) (bits_from_mask rights k within has))
 
 -- a set has one right as a part exactly if it has the bit
@@ -221,12 +222,12 @@ has_part : (mask granted k : ℕ) (part : Bool) → mask ≡ 2 ^ k → IsTrue pa
 has_part mask granted k part is h = same_answers part (has_bit granted k)
     (λ e. h.0 e k (subst (λ m. has_bit m k ≡ true) (sym is) (has_power k)))
     (λ has. h.1 (λ b i.
-    let same : b ≡ k = power_has k b (subst (λ m. has_bit m b ≡ true) is i) in
+    let same : b ≡ k = only_bit k b (subst (λ m. has_bit m b ≡ true) is i) in
     subst (λ v. has_bit granted v ≡ true) (sym same) has))
 
 -- the lowest of the rights on which the lists differ
 pub lowest_difference : (list other : List Ace) (set : List Principal) (rights mask granted k : ℕ) (first : Bool)
-    → IsMask rights → AreDiffering list other set rights → IsLowest rights k → mask ≡ 2 ^ k
+    → IsMask rights → AreDiffering list other set rights → IsLowestBit rights k → mask ≡ 2 ^ k
     → AreGranted list set granted → IsTrue first ↔ IsSubset mask granted
     → IsLowestDifference list other set mask first
 lowest_difference list other set rights mask granted k first within d l is g f = record {
@@ -240,13 +241,14 @@ lowest_difference list other set rights mask granted k first within d l is g f =
 }
 
 -- without the rights so far, the rest of the list has the columns of the whole
-pub record Covers (refs : List AceRef) (i rights : ℕ) : Type 0 where
+pub record CoversColumns (refs : List AceRef) (i rights : ℕ) : Type 0 where
   pub columns : (bit : ℕ) → has_bit rights bit ≡ false
       → column (list_of (drop i refs)) bit ≡ column (list_of refs) bit
 
 -- the step at an ACE
 pub covers_more : (refs : List AceRef) (x : AceRef) (i rights more : ℕ) → i < length refs
-    → x ≡ slice_index_or refs i x → IsUnion rights x.mask.bits more → Covers refs i rights → Covers refs (i + 1) more
+    → x ≡ slice_index_or refs i x → IsUnion rights x.mask.bits more → CoversColumns refs i rights
+    → CoversColumns refs (i + 1) more
 covers_more refs x i rights more lt at u h = record {
   columns = λ bit absent.
       let parts = or_parts (has_bit rights bit) (has_bit x.mask.bits bit) (sym (u bit) ∙ absent) in
@@ -260,7 +262,7 @@ covers_more refs x i rights more lt at u h = record {
     first_lacks a rest bit e = rw e refl
 
 -- after the last ACE no right is left out
-pub covers_all : (refs : List AceRef) (i rights : ℕ) → length refs ≤ i → Covers refs i rights
+pub covers_all : (refs : List AceRef) (i rights : ℕ) → length refs ≤ i → CoversColumns refs i rights
     → AreRightsOf (list_of refs) rights
 covers_all refs i rights le h = record {
   unused = λ bit absent. sym (h.columns bit absent) ∙ ap (λ r. column (list_of r) bit) (drop_all i refs le);

@@ -8,17 +8,18 @@ use Rattle.std.proofs.lemmas.Bool.{or_cases, or_left, false≢true}
 use Rattle.acl_eval.specs.Column.{column}
 use Rattle.acl_eval.specs.Grant.{Grant, SameGrants, grants_bit, is_allow}
 use Rattle.acl_nfs4.specs.Ace.{Ace}
-use Rattle.acl_normal.proofs.unique.Bits.{has_power, power_has}
+use Rattle.acl_normal.proofs.unique.Bits.{has_power}
+use Rattle.acl_eval.proofs.Same.{only_bit}
 use Rattle.acl_normal.proofs.unique.ListColumns.{same_grants_from_columns, same_verdicts}
 use Rattle.acl_normal.proofs.comparison.MentionedPrincipals.{IsOneOf, column_is_short, first_has, mentioned_named, mentioned_others, mentioned_rising, one_is_short, second_has}
 use Rattle.acl_normal.proofs.unique.Names.{overlaps_itself, principal_eq_same}
-use Rattle.acl_normal.proofs.unique.Realised.{AllNamed, AreShort, HasOneUser, first_kind_alike, one_user, small_is_situation, small_matches}
+use Rattle.acl_normal.proofs.unique.Realised.{AllNamed, AreShort, HasOneUser, first_kind_alike, two_names, small_is_situation, small_matches}
 use Rattle.acl_normal.proofs.unique.Small.{IsSmallSet, none, one, small_suffice, two}
 use Rattle.acl_normal.specs.Keys.{principal_eq}
-use Rattle.acl_normal.specs.Normal.{HasNames}
+use Rattle.acl_normal.specs.internal.Names.{HasNames, HasName, longest_name}
 use Rattle.acl_normal.specs.internal.SetSearch.{FindsFirst, GrantAlikeTo, IsRising, is_granted_to}
 use Rattle.acl_normal.specs.SmallSets.{GrantAlike, IsFirstDifference, SmallSituationsSuffice, TellsApart, longest, mentioned, pairs, partners, singles, small_sets, strange_length}
-use Rattle.acl_normal.specs.SmallSituations.{HasName, is_among, longest_name, small_situation}
+use Rattle.acl_normal.specs.SmallSituations.{is_among, small_situation}
 use Rattle.acl_perm.specs.Bits.{all_rights, has_bit}
 use Rattle.acl_perm.specs.Order.{principal_cmp, principal_name, principal_total}
 use Rattle.acl_perm.specs.Overlap.{may_overlap}
@@ -192,11 +193,11 @@ small_named _ (two p q m k e f o l) = (m, (k, tt))
 pub small_one_user : (P : Principal → Type 0) (set : List Principal) → IsSmallSet P set → HasOneUser set
 small_one_user P _ none a b h i = cc
 small_one_user P _ (one p m e) a b h i =
-    one_user p p (overlaps_itself p) a b (or_left _ _ (one_of (user a) h)) (or_left _ _ (one_of (user b) i))
+    two_names p p (overlaps_itself p) a b (or_left _ _ (one_of (user a) h)) (or_left _ _ (one_of (user b) i))
   where
     one_of : (r : Principal) → is_among r (p ∷ []) ≡ true → principal_eq r p ≡ true
     one_of r h = ⊎_elim (λ e. e) (λ e. absurd (false≢true e)) (or_cases (principal_eq r p) false h)
-small_one_user P _ (two p q m k e f o l) a b h i = one_user p q o a b h i
+small_one_user P _ (two p q m k e f o l) a b h i = two_names p q o a b h i
 
 -- names are shorter than more than the longest
 pub all_short : (ps : List Principal) (n : ℕ) → longest ps < n → AllByRecursion (λ p. length (principal_name p) < n) ps
@@ -376,7 +377,7 @@ one_bit_granted : (xs : List Ace) (s : Situation) (bit mask : ℕ) (first : Bool
 one_bit_granted xs s bit mask first is h = (
   λ g. h ∙ g bit (subst (λ m. has_bit m bit ≡ true) (sym is) (has_power bit)),
   λ e b i.
-      let same : b ≡ bit = power_has bit b (subst (λ m. has_bit m b ≡ true) is i) in
+      let same : b ≡ bit = only_bit bit b (subst (λ m. has_bit m b ≡ true) is i) in
       subst (λ v. grants_bit xs s v ≡ true) (sym same) (sym h ∙ e),
 )
 

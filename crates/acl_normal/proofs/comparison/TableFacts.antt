@@ -1,20 +1,18 @@
 -- Tables tell which rows invert another.
 use Rattle.std.specs.Prelude.{◌≡◌, ℕ, ◌<◌, ◌≤◌, ◌+◌, ◌-◌, Bool, true, false, not, ◌&&◌, ◌||◌, ◌==◌, cond, nat_lt, List, [], ◌∷◌, ◌++◌, max, refl, length, take, slice_index_or, slice_set, replicate, ◌⊎◌}
 use Rattle.std.proofs.Common.{sym, ◌∙◌, ap, subst, arith, suc, zero, inl, inr}
-use Rattle.std.proofs.lemmas.List.{take_more, take_all, get_or_read, get_or-set_same, get_or-set_other, get_or-replicate, length-set, length-replicate}
-use Rattle.std.proofs.lemmas.Bool.{cases_eq, cases_order, eq-eqb, ne_eqb, lt-ltb, le-ltb}
+use Rattle.std.proofs.lemmas.List.{take_more, take_all, get_or_read, get_or-set_same, get_or-set_other, get_or-replicate, length-set, length-replicate, length-map}
+use Rattle.std.proofs.lemmas.Bool.{cases_eq, cases_order, eq-eqb, ne_eqb, lt-ltb, le-ltb, and_parts}
 use Rattle.std.proofs.lemmas.Bool.Decides.{nat_tests}
-use Rattle.std.specs.List.{AllZip}
-use Rattle.std.proofs.lemmas.List.{length-map}
-use Rattle.std.proofs.lemmas.Bool.{and_parts}
-use Rattle.std.specs.List.{AllByRecursion}
+use Rattle.std.specs.List.{AllZip, AllByRecursion}
 use Rattle.acl_eval.specs.Column.{takes_part}
 use Rattle.acl_nfs4.specs.Ace.{Ace, ace}
 use Rattle.acl_nfs4.specs.Who.{principal_of}
 use Rattle.acl_nfs4.specs.declared.ace.AceRef.{AceRef}
-use Rattle.acl_normal.specs.internal.FirstPlaces.{AreRows, IsRow, first_place, inverts, inverts_any, no_row}
+use Rattle.acl_normal.specs.internal.FirstPlaces.{deciding_place}
+use Rattle.acl_normal.specs.internal.ComparedRows.{no_row, inverts_any, inverts, AreComparedRows, IsComparedRow}
 use Rattle.acl_normal.specs.internal.Passes.{list_of}
-use Rattle.acl_normal.specs.internal.PlaceTables.{HasPlaces, IsFirstOf, IsScattered, IsTable, Raises, is_counted, is_of_sort, is_told, most_at, most_before, other_place, place_of}
+use Rattle.acl_normal.specs.internal.PlaceTables.{HasPlaces, IsFirstOf, IsScattered, HoldsMost, Raises, is_counted, is_of_sort, is_told, most_at, most_before, other_place, place_of}
 use Rattle.acl_normal.specs.internal.SetSearch.{differ}
 use Rattle.acl_normal.specs.SmallSituations.{is_among}
 use Rattle.acl_normal.specs.declared.comparison.inversions.Sort.{Sort}
@@ -53,10 +51,10 @@ before_zero q w (r ∷ rows) =
     none false = refl
 
 -- the head's share, one place on
-one_more : (t : Bool) (k j v : ℕ)
+one_place_on : (t : Bool) (k j v : ℕ)
     → cond (t && nat_lt j (k + 1)) v 0 ≡ max (cond (t && (j + 1 == k + 1)) v 0) (cond (t && nat_lt j k) v 0)
-one_more false k j v = refl
-one_more true k j v = go (cases_order j k)
+one_place_on false k j v = refl
+one_place_on true k j v = go (cases_order j k)
   where
     go : (j ≡ k) ⊎ ((j < k) ⊎ (k < j))
         → cond (nat_lt j (k + 1)) v 0 ≡ max (cond (j + 1 == k + 1) v 0) (cond (nat_lt j k) v 0)
@@ -80,7 +78,7 @@ pub before_more : (q : Sort) (w : Bool) (k : ℕ) (rows : List Row)
     → most_before q w (k + 1) rows ≡ max (most_at q w (k + 1) rows) (most_before q w k rows)
 before_more q w k [] = refl
 before_more q w k (r ∷ rows) =
-    let head = one_more (is_counted q r) k (place_of w r) (other_place w r + 1) in
+    let head = one_place_on (is_counted q r) k (place_of w r) (other_place w r + 1) in
     let ih = before_more q w k rows in
     omega arith
 
@@ -251,7 +249,7 @@ summed_more q w size k x y rows old new pos lt xi yi is h = record {
 
 -- after the last place the table is done
 pub summed_done : (q : Sort) (w : Bool) (size k : ℕ) (rows : List Row) (table : List ℕ) → size + 2 ≤ k
-    → IsSummed q w size k rows table → IsTable q w size rows table
+    → IsSummed q w size k rows table → HoldsMost q w size rows table
 summed_done q w size k rows table le h = record { count = h.count; each = λ j lt. h.done j (omega arith) }
 
 -- the places of one of the rows
@@ -260,11 +258,6 @@ pub places_at : (size i : ℕ) (rows : List Row) (d : Row) → i < length rows �
 places_at size i [] d lt h = absurd (omega arith)
 places_at size zero (r ∷ rows) d lt h = h.0
 places_at size (suc i) (r ∷ rows) d lt h = places_at size i rows d (omega arith) h.1
-
--- its places are within the lists, in either order
-pub key_within : (w : Bool) (size : ℕ) (r : Row) → HasPlaces size r → (place_of w r ≤ size) × (other_place w r ≤ size)
-key_within true size r h = (h.there, h.here)
-key_within false size r h = (h.here, h.there)
 
 -- answers that don't differ are the same
 not_differ : (x y : Bool) → not (differ x y) ≡ true → x ≡ y
@@ -281,7 +274,7 @@ kind_is q r h = let p = and_parts (not (differ q.allows r.here.allows)) (not (di
 
 -- what the two tables say of a row of their sort
 pub by_kind : (q : Sort) (size : ℕ) (rows : List Row) (r : Row) (forward back : List ℕ) → is_of_sort q r ≡ true
-    → HasPlaces size r → IsTable q false size rows forward → IsTable q true size rows back
+    → HasPlaces size r → HoldsMost q false size rows forward → HoldsMost q true size rows back
     → inverts_any r rows ≡ (nat_lt r.there.place (slice_index_or forward r.here.place 0) || nat_lt r.here.place
     (slice_index_or back r.there.place 0))
 by_kind q size rows r forward back k p f b =
@@ -294,8 +287,8 @@ by_kind q size rows r forward back k p f b =
 
 -- a row that is told inverts another
 pub found_true : (q : Sort) (size : ℕ) (rows : List Row) (r : Row) (forward back : List ℕ) (t : Bool)
-    → t ≡ is_told q r forward back → t ≡ true → HasPlaces size r → IsTable q false size rows forward
-    → IsTable q true size rows back → inverts_any r rows ≡ true
+    → t ≡ is_told q r forward back → t ≡ true → HasPlaces size r → HoldsMost q false size rows forward
+    → HoldsMost q true size rows back → inverts_any r rows ≡ true
 found_true q size rows r forward back t h e p f b =
     let parts = and_parts (is_of_sort q r)
     (nat_lt r.there.place (slice_index_or forward r.here.place 0) || nat_lt r.here.place
@@ -304,8 +297,8 @@ found_true q size rows r forward back t h e p f b =
 
 -- one of the sort that is not told inverts none
 pub found_false : (q : Sort) (size : ℕ) (rows : List Row) (r : Row) (forward back : List ℕ) (t : Bool)
-    → t ≡ is_told q r forward back → t ≡ false → HasPlaces size r → IsTable q false size rows forward
-    → IsTable q true size rows back → is_of_sort q r ≡ true → inverts_any r rows ≡ false
+    → t ≡ is_told q r forward back → t ≡ false → HasPlaces size r → HoldsMost q false size rows forward
+    → HoldsMost q true size rows back → is_of_sort q r ≡ true → inverts_any r rows ≡ false
 found_false q size rows r forward back t h e p f b k =
     by_kind q size rows r forward back k p f b
     ∙ sym (ap (λ v. v && (nat_lt r.there.place (slice_index_or forward r.here.place 0) || nat_lt r.here.place
@@ -313,18 +306,18 @@ found_false q size rows r forward back t h e p f b k =
     ∙ sym h ∙ e
 
 -- places of rows are within the lists
-pub first_place_within : (ps : List Principal) (b : ℕ) (xs : List Ace) → first_place ps b xs ≤ length xs
+pub first_place_within : (ps : List Principal) (b : ℕ) (xs : List Ace) → deciding_place ps b xs ≤ length xs
 first_place_within ps b [] = omega arith
 first_place_within ps b (a ∷ xs) =
     go ((has_bit a.mask b && takes_part a) && is_among (principal_of a) (everyone ∷ ps)) (first_place_within ps b xs)
   where
-    go : (t : Bool) → first_place ps b xs ≤ length xs → cond t 0 (first_place ps b xs + 1) ≤ length (a ∷ xs)
+    go : (t : Bool) → deciding_place ps b xs ≤ length xs → cond t 0 (deciding_place ps b xs + 1) ≤ length (a ∷ xs)
     go true h = omega arith
     go false h = omega arith
 
 -- the places of rows are within the lists
 pub rows_within : (ps : List Principal) (xs ys : List Ace) (b size : ℕ) (rows : List Row) → length xs ≤ size
-    → length ys ≤ size → AllZip (IsRow xs ys b) ps rows → AllByRecursion (HasPlaces size) rows
+    → length ys ≤ size → AllZip (IsComparedRow xs ys b) ps rows → AllByRecursion (HasPlaces size) rows
 rows_within [] xs ys b size [] lx ly z = tt
 rows_within (p ∷ ps) xs ys b size (r ∷ rows) lx ly z = (
   record {
@@ -338,7 +331,8 @@ rows_within _ xs ys b size _ lx ly z = absurd z
 
 -- the same, as the code holds the rows
 pub slice_within : (ps : List Principal) (first second : List AceRef) (b size : ℕ) (items slice : List Row)
-    → slice ≡ items → length first ≤ size → length second ≤ size → AreRows ps (list_of first) (list_of second) b items
+    → slice ≡ items → length first ≤ size → length second ≤ size
+    → AreComparedRows ps (list_of first) (list_of second) b items
     → AllByRecursion (HasPlaces size) slice
 slice_within ps first second b size items slice is lx ly h =
     subst (λ v. AllByRecursion (HasPlaces size) v) (sym is)
@@ -350,25 +344,25 @@ pub first_of_kind : (q : Sort) (size limit k : ℕ) (rows : List Row) (forward b
     → k < limit → limit ≤ length rows
     → ((j : ℕ) → j < k → is_of_sort q (slice_index_or rows j no_row) ≡ true
     → inverts_any (slice_index_or rows j no_row) rows ≡ false) → AllByRecursion (HasPlaces size) rows
-    → IsTable q false size rows forward → IsTable q true size rows back → fs ≡ forward → bs ≡ back
+    → HoldsMost q false size rows forward → HoldsMost q true size rows back → fs ≡ forward → bs ≡ back
     → t ≡ is_told q (slice_index_or rows k no_row) fs bs → t ≡ true → IsFirstOf q rows limit k
 first_of_kind q size limit k rows forward back fs bs t lt le before places f b fe be h e = record {
   within = omega arith;
   before = before;
   at = λ _. found_true q size rows (slice_index_or rows k no_row) fs bs t h e
-      (places_at size k rows no_row (omega arith) places) (subst (λ v. IsTable q false size rows v) (sym fe) f)
-      (subst (λ v. IsTable q true size rows v) (sym be) b);
+      (places_at size k rows no_row (omega arith) places) (subst (λ v. HoldsMost q false size rows v) (sym fe) f)
+      (subst (λ v. HoldsMost q true size rows v) (sym be) b);
 }
 
 -- one more row of which none is told
 pub not_of_kind : (q : Sort) (size k : ℕ) (rows : List Row) (forward back fs bs : List ℕ) (t : Bool)
-    → k < length rows → AllByRecursion (HasPlaces size) rows → IsTable q false size rows forward
-    → IsTable q true size rows back → fs ≡ forward → bs ≡ back
+    → k < length rows → AllByRecursion (HasPlaces size) rows → HoldsMost q false size rows forward
+    → HoldsMost q true size rows back → fs ≡ forward → bs ≡ back
     → t ≡ is_told q (slice_index_or rows k no_row) fs bs → t ≡ false
     → is_of_sort q (slice_index_or rows k no_row) ≡ true → inverts_any (slice_index_or rows k no_row) rows ≡ false
 not_of_kind q size k rows forward back fs bs t lt places f b fe be h e =
     found_false q size rows (slice_index_or rows k no_row) fs bs t h e (places_at size k rows no_row lt places)
-    (subst (λ v. IsTable q false size rows v) (sym fe) f) (subst (λ v. IsTable q true size rows v) (sym be) b)
+    (subst (λ v. HoldsMost q false size rows v) (sym fe) f) (subst (λ v. HoldsMost q true size rows v) (sym be) b)
 
 -- a row raises the table, or leaves it
 pub ruleset raising = (raises_set, raises_none)

@@ -1,12 +1,12 @@
 -- The loop that emits: what it keeps, what a turn does, and that it ends.
 use Rattle.acl_normal.proofs.unique.Shorter.{without_no_longer, without_shorter}
-use Rattle.std.specs.Prelude.{◌≡◌, ◌≢◌, ℕ, zero, suc, ◌*◌, ◌/◌, ◌<◌, ◌≤◌, Bool, true, false, cond, not, ◌&&◌, ◌⊎◌, ◌==◌, List, [], ◌∷◌, ◌++◌, Some, None, length, slice_index_or, slice_set, refl}
+use Rattle.std.specs.Prelude.{◌≡◌, ◌≢◌, ℕ, zero, suc, ◌*◌, ◌/◌, ◌<◌, ◌≤◌, Bool, true, false, cond, not, ◌&&◌, ◌⊎◌, ◌==◌, if◌then◌else◌, List, [], ◌∷◌, ◌++◌, Some, None, length, slice_index_or, slice_set, refl}
 use Rattle.std.specs.Ordering.{is_le}
 use Rattle.std.specs.Str.{bytes_eq}
 use Rattle.std.proofs.Common.{sym, ◌∙◌, ap, subst, arith, inl, inr, ⊎_elim}
 use Rattle.std.proofs.lemmas.Bool.{cases_eq, cases_lt, or_cases, and_parts, or_left, or_right, and_from, false_from_ne_true}
 use Rattle.std.proofs.lemmas.Nat.Bits.{bit_at-zero}
-use Rattle.acl_perm.specs.Principal.{Principal, user, is_user}
+use Rattle.acl_perm.specs.Principal.{Principal, owner, user, group, group_named, everyone, is_user}
 use Rattle.acl_perm.specs.Overlap.{may_overlap}
 use Rattle.acl_perm.specs.declared.kind.Kind.{Kind}
 use Rattle.acl_perm.specs.declared.kind.Kind.TheVariants.{Deny, Allow}
@@ -17,16 +17,17 @@ use Rattle.acl_nfs4.specs.Who.{principal_of, owner_name, group_name, everyone_na
 use Rattle.acl_normal.specs.declared.emit.emission.Emitted.{Emitted}
 use Rattle.acl_eval.specs.Column.{Column, first_kind, column}
 use Rattle.acl_normal.specs.Keys.{principal_eq, Key, compare_keys, ace_key, conflicts, kind_eq}
-use Rattle.acl_normal.specs.Places.{principal_named, take_out, key_here, nothing_left}
+use Rattle.acl_normal.specs.Places.{take_out, nothing_left}
+use Rattle.acl_normal.specs.internal.AtPlaces.{key_here}
 use Rattle.acl_perm.specs.Kind.{other_kind}
 use Rattle.acl_normal.specs.internal.Alike.{is_either}
 use Rattle.acl_normal.specs.Normal.{is_free, flags_for}
 use Rattle.acl_normal.specs.internal.Plain.{without_principal}
-use Rattle.acl_normal.specs.internal.Emissions.{IsOnce, HasOnceColumns, IsStep, IsEmission}
+use Rattle.acl_normal.specs.internal.Emissions.{IsOnce, HasOnceColumns, IsStep, IsEmission, count_left}
 use Rattle.acl_normal.specs.internal.Ready.{Marked, key_eq, marks, FitsKeys, IsKeyNumber, IsLeastReady, Frees, HoldsFree, who_for, emitted}
-use Rattle.acl_normal.specs.internal.Rows.{IsRow, is_named, key_number}
-use Rattle.acl_normal.specs.internal.Counts.{count_left}
-use Rattle.acl_normal.proofs.unique.Names.{principal_eq_same, principal_eq_itself, overlaps_itself, bytes_eq_same, bytes_eq_itself}
+use Rattle.acl_normal.specs.internal.Rows.{IsRowOf, is_named, key_number}
+use Rattle.acl_normal.proofs.unique.Names.{principal_eq_same, principal_eq_itself, overlaps_itself, bytes_eq_itself}
+use Rattle.acl_nfs4.proofs.SetFields.{same_bytes}
 use Rattle.acl_normal.proofs.unique.Free.{kind_eq_same, kind_eq_itself, ahead_from_free, no_conflict, some_same}
 use Rattle.acl_normal.proofs.unique.Realised.{same_answers}
 use Rattle.acl_normal.proofs.unique.Unique.{head_is_free}
@@ -50,7 +51,7 @@ kinds_differ Allow Allow h = cc
 -- of two different principals that overlap one is no user name
 one_is_other : (p q : Principal) → may_overlap p q ≡ true → principal_eq q p ≡ false → (is_user p && is_user q) ≡ false
 one_is_other (user a) (user b) o n =
-    let same : a ≡ b = bytes_eq_same a b o in
+    let same : a ≡ b = same_bytes a b o in
     let equal : bytes_eq b a ≡ true = subst (λ v. bytes_eq b v ≡ true) (sym same) (bytes_eq_itself b) in
     cc
 one_is_other _ (user b) o n = refl
@@ -151,6 +152,13 @@ lacks_free c p k h =
 
 -- ---- keys of principals that keys name
 
+-- whom a who names, with IDENTIFIER_GROUP or without it
+abbrev pub principal_named : List ℕ → Bool → Principal
+principal_named who is_group = if bytes_eq who owner_name then owner
+    else (if bytes_eq who group_name then group
+    else (if bytes_eq who everyone_name then everyone
+    else (if is_group then group_named who else user who)))
+
 -- the who and the flags of a principal name it again
 pub named_again : (w : List ℕ) (g : Bool)
     → principal_named (who_for (principal_named w g)) (has_bit (flags_for (principal_named w g)) 6) ≡ principal_named
@@ -231,7 +239,7 @@ ready_within xs old n m f l =
 
 -- the key of the least number was taken
 pub record Takes (xs : List Ace) (old new : List ℕ) (n m : ℕ) (q : Key) : Type 0 where
-  pub row : IsRow (n / 2) q.0 xs
+  pub row : IsRowOf (n / 2) q.0 xs
   pub popped : Popped (marks (nothing_left xs) old) q m (marks (nothing_left xs) new)
   pub fits : FitsKeys (nothing_left xs) new
 
@@ -248,7 +256,7 @@ takes xs old new n m q f l set whose = go (f.sound n (λ none. l.some (l.is ∙ 
         let same : k.key ≡ q = sym (whose k.key named is) in
         record {
           row =
-              subst (λ (e : Key). IsRow (n / 2) e.0 xs) same (record {
+              subst (λ (e : Key). IsRowOf (n / 2) e.0 xs) same (record {
                 named = named;
                 is = number_row k.key xs n is;
               });
@@ -510,10 +518,10 @@ count_kept (suc n) p m xs =
     go false = omega arith
 
 -- and shrink with one of them
-pub count_falls : (n : ℕ) (p : Principal) (m : ℕ) (xs : List Ace) (b : ℕ) → b < n
+pub count_shrinks : (n : ℕ) (p : Principal) (m : ℕ) (xs : List Ace) (b : ℕ) → b < n
     → length (column (take_out p m xs) b) < length (column xs b) → count_left n (take_out p m xs) < count_left n xs
-count_falls zero p m xs b l h = absurd (omega (arith, l))
-count_falls (suc n) p m xs b l h = go (cases_eq b n) (count_falls n p m xs b)
+count_shrinks zero p m xs b l h = absurd (omega (arith, l))
+count_shrinks (suc n) p m xs b l h = go (cases_eq b n) (count_shrinks n p m xs b)
   where
     at : (t : Bool) → length (cond t (without_principal p (column xs n)) (column xs n)) ≤ length (column xs n)
     at true = without_no_longer p (column xs n)
@@ -544,7 +552,7 @@ drain_falls whole out old rest q m xs d p = go (some_below m 21)
         let first =
         ahead_from_free (column xs b) q.0 q.1 free q.0
         (overlaps_itself q.0) in
-        count_falls 21 q.0 m xs b
+        count_shrinks 21 q.0 m xs b
         (⊎_elim (λ l. l) (λ l. absurd (clash (sym e ∙ popped_low whole out old rest q m xs d p b l)))
         (cases_lt b 21)) (rw (column_taken b q.0 m xs, e)
         (without_shorter q.0 (column xs b) q.1 first))

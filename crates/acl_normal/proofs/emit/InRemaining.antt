@@ -14,22 +14,23 @@ use Rattle.acl_nfs4.specs.declared.ace.AceRef.{AceRef}
 use Rattle.acl_eval.specs.Column.{column}
 use Rattle.acl_eval.specs.Scan.{without}
 use Rattle.acl_normal.specs.Keys.{ace_key}
-use Rattle.acl_normal.specs.Left.{IsTidy}
-use Rattle.acl_normal.specs.Normal.{IsQuiet, counts}
-use Rattle.acl_normal.specs.Places.{key_here, mask_here, nothing_left, slot_of, take_out}
+use Rattle.acl_normal.specs.internal.Tidy.{IsTidy, IsQuiet}
+use Rattle.acl_normal.specs.Normal.{counts}
+use Rattle.acl_normal.specs.Places.{nothing_left, take_out}
+use Rattle.acl_normal.specs.internal.Waiting.{slot_of, HoldWaiting}
+use Rattle.acl_normal.specs.internal.AtPlaces.{mask_here, key_here}
 use Rattle.acl_normal.specs.declared.emit.remaining.Queue.{Queue}
 use Rattle.acl_normal.specs.declared.emit.remaining.Remaining.TheInside.{Inside}
 use Rattle.acl_normal.specs.internal.Emissions.{IsOnce}
 use Rattle.acl_normal.specs.internal.Remaining.{AreQueues, IsQueue, IsQueueFrom, IsNumbered, IsRemaining, first_in, masks_left, places_in, remaining_of}
-use Rattle.acl_normal.specs.internal.Rows.{AreRowNumbers, IsRow, row_of}
+use Rattle.acl_normal.specs.internal.Rows.{AreRowNumbers, IsRowOf, row_of}
 use Rattle.acl_normal.specs.internal.Shown.{aces_in, with_masks}
-use Rattle.acl_normal.specs.internal.Waiting.{HoldWaiting}
 use Rattle.acl_normal.proofs.rows.WaitingPlaces.{all_places, quiet_counts}
-use Rattle.acl_normal.proofs.reduce.LaterBits.{has_bit-and}
-use Rattle.acl_normal.proofs.unique.Bits.{masks_same, no_bits_of_zero}
+use Rattle.acl_perm.proofs.Sets.{has_bit-and, no_bit}
+use Rattle.acl_normal.proofs.unique.Bits.{masks_same}
 use Rattle.acl_normal.proofs.emit.Walk.{waits_within}
-use Rattle.acl_normal.proofs.emit.RemainingLemmas.{all_left, left_at, length_left, mask_shown, queue_taken, row_taken, waits_has}
-use Rattle.acl_normal.proofs.rows.BitTaken.{same_default, slot_below, slot_same}
+use Rattle.acl_normal.proofs.emit.RemainingLemmas.{whole_left, left_at, length_left, mask_shown, queue_taken, row_taken, waits_has}
+use Rattle.acl_normal.proofs.rows.BitTaken.{default_unread, slot_below, slot_same}
 use Rattle.acl_normal.proofs.rows.Quiet.{tidy_taken}
 use Rattle.acl_normal.proofs.rows.Rows.{named_here, order_alike, outline_taken, row_below, row_same, rows_alike}
 use Rattle.acl_normal.proofs.rows.TakeOut.{none_taken}
@@ -61,16 +62,16 @@ row_of_place s i right l =
     omega (arith, right.list.rows.at i l, below, length_remaining s right, right.left, s.left.ok)
 
 -- and so is that of whom an ACE names
-pub row_of_named : (s : Inside) (row : ℕ) (p : Principal) → IsRemaining s → IsRow row p (remaining_of s)
+pub row_of_named : (s : Inside) (row : ℕ) (p : Principal) → IsRemaining s → IsRowOf row p (remaining_of s)
     → row < length s.left.items
 row_of_named s row p right at_row =
     let below = row_below p (remaining_of s) at_row.named in
     omega (arith, below, at_row.is, length_remaining s right, right.left, s.left.ok)
 
 -- the row that indexing gives
-pub row_there : (s : Inside) (i d : ℕ) → IsRemaining s → i < length (remaining_of s)
+pub row_read : (s : Inside) (i d : ℕ) → IsRemaining s → i < length (remaining_of s)
     → slice_index_or s.rows.items i d ≡ slice_index_or s.rows.items i 0
-row_there s i d right l = same_default s.rows.items i d 0 (omega (arith, l, right.list.rows.count))
+row_read s i d right l = default_unread s.rows.items i d 0 (omega (arith, l, right.list.rows.count))
 
 -- and the place that it gives of the order, which is one of the list
 pub order_there : (s : Inside) (i d n : ℕ) → IsRemaining s → i < length (remaining_of s)
@@ -78,7 +79,7 @@ pub order_there : (s : Inside) (i d n : ℕ) → IsRemaining s → i < length (r
 order_there s i d n right l is = (same, omega (arith, same, right.list.order.within i l))
   where
     same : n ≡ slice_index_or s.order.items i 0
-    same = is ∙ same_default s.order.items i d 0 (omega (arith, l, right.list.order.count))
+    same = is ∙ default_unread s.order.items i d 0 (omega (arith, l, right.list.order.count))
 
 -- the mask that is left at a place
 pub mask_remaining : (s : Inside) (i : ℕ) → IsRemaining s → i < length (remaining_of s)
@@ -92,7 +93,7 @@ mask_remaining s i right l =
     (omega (arith, l, length_remaining s right, right.masks, s.masks.ok))
 
 -- the list, where bits of a row are left out
-pub taken_view : (s : Inside) (row m : ℕ) (p : Principal) → IsRemaining s → IsRow row p (remaining_of s)
+pub taken_view : (s : Inside) (row m : ℕ) (p : Principal) → IsRemaining s → IsRowOf row p (remaining_of s)
     → with_masks s.aces.items (masks_left s.masks.items s.rows.items
     (slice_set s.left.items row (without (slice_index_or s.left.items row 0) m))) ≡ take_out p m (remaining_of s)
 taken_view s row m p right at_row =
@@ -106,7 +107,7 @@ taken_view s row m p right at_row =
     xs = remaining_of s
 
 -- what is left is right then
-pub taken_right : (s : Inside) (row m mask : ℕ) (p : Principal) → IsRemaining s → IsRow row p (remaining_of s)
+pub taken_right : (s : Inside) (row m mask : ℕ) (p : Principal) → IsRemaining s → IsRowOf row p (remaining_of s)
     → mask ≡ without (slice_index_or s.left.items row 0) m
     → IsRemaining (record {
       aces = s.aces;
@@ -285,7 +286,7 @@ queues_wait xs lists queues f g = record {
 
 -- no ACE of a quiet list has a bit of which the column is empty
 no_bit_here : (b : ℕ) (xs : List Ace) (i : ℕ) → IsQuiet xs → column xs b ≡ [] → has_bit (mask_here xs i) b ≡ false
-no_bit_here b [] i quiet h = no_bits_of_zero b
+no_bit_here b [] i quiet h = no_bit b
 no_bit_here b (a ∷ xs) i quiet h = go i (counts b a) refl (no_bit_here b xs)
   where
     clash : [] ≡ ace_key a ∷ column xs b → ⊥
@@ -303,7 +304,7 @@ pub all_remains : (aces : List AceRef) (masks rows left : List ℕ) → length m
     → length left ≡ length aces → IsTidy (with_masks aces masks) → AreRowNumbers (with_masks aces masks) rows
     → ((i : ℕ) → i < length left → slice_index_or left i 0 ≡ 2 ^ 32 - 1) → masks_left masks rows left ≡ masks
 all_remains aces masks rows left e f tidy numbers full =
-    all_left masks rows left (omega (arith, numbers.count, count, e)) (λ i l. here i l)
+    whole_left masks rows left (omega (arith, numbers.count, count, e)) (λ i l. here i l)
   where
     xs : List Ace
     xs = with_masks aces masks

@@ -12,11 +12,11 @@ use Rattle.acl_eval.specs.Column.{Column, first_kind, column}
 use Rattle.acl_eval.specs.Grant.{SameGrants}
 use Rattle.acl_normal.specs.Keys.{principal_eq, ace_key}
 use Rattle.acl_normal.specs.internal.Alike.{is_either, IsAlike}
-use Rattle.acl_normal.specs.Normal.{IsIrreducibleList, IsNormal, HasMasks, counts, IsQuiet}
-use Rattle.acl_normal.specs.internal.Emissions.{IsOnce, IsEmission}
+use Rattle.acl_normal.specs.Normal.{IsIrreducibleList, IsNormal, counts}
+use Rattle.acl_normal.specs.internal.Tidy.{HasMasks, IsQuiet}
+use Rattle.acl_normal.specs.internal.Emissions.{IsOnce, IsEmission, count_left}
 use Rattle.acl_normal.specs.internal.Plain.{without_principal}
 use Rattle.acl_normal.specs.Left.{left}
-use Rattle.acl_normal.specs.internal.Counts.{count_left}
 use Rattle.acl_normal.proofs.unique.Names.{overlaps_itself, either_first, principal_eq_itself, principal_eq_same}
 use Rattle.acl_normal.proofs.unique.ListColumns.{no_other_bits, same_grants_from_columns}
 use Rattle.acl_normal.proofs.unique.Unique.{unique}

@@ -17,7 +17,7 @@ use Rattle.acl_nfs4.specs.Ace.{Ace}
 use Rattle.acl_normal.specs.Keys.{principal_eq, Key, compare_keys, kind_eq}
 use Rattle.acl_normal.specs.Places.{nothing_left}
 use Rattle.acl_normal.specs.internal.Ready.{key_eq, marks, IsKeyNumber, FitsKeys, Adds}
-use Rattle.acl_normal.specs.internal.Rows.{IsRow, is_named, key_number, row_of}
+use Rattle.acl_normal.specs.internal.Rows.{IsRowOf, is_named, key_number, row_of}
 use Rattle.acl_normal.proofs.unique.Names.{principal_eq_same, principal_eq_itself}
 use Rattle.acl_normal.proofs.unique.Free.{kind_eq_same, kind_eq_itself}
 use Rattle.acl_normal.proofs.unique.Bits.{has_power}
@@ -55,14 +55,14 @@ number_same k l xs h i e =
     ap (λ v. (v, k.1)) (row_same k.0 l.0 xs h i rows) ∙ ap (λ v. (l.0, v)) (rank_same k.1 l.1 kinds)
 
 -- what twice a row and a type come to
-pub record IsNumberOf (k : Key) (xs : List Ace) (number : ℕ) : Type 0 where
+pub record NumbersKey (k : Key) (xs : List Ace) (number : ℕ) : Type 0 where
   pub below : number < 2 * length xs
   pub named : is_named k.0 (nothing_left xs) ≡ true
   pub is : number ≡ key_number k (nothing_left xs)
 
 -- the number of a key, whatever masks there are
-pub number_at : (k : Key) (xs : List Ace) (row rank : ℕ) → IsRow row k.0 xs → rank ≡ kind_rank k.1
-    → IsNumberOf k xs (2 * row + rank)
+pub number_at : (k : Key) (xs : List Ace) (row rank : ℕ) → IsRowOf row k.0 xs → rank ≡ kind_rank k.1
+    → NumbersKey k xs (2 * row + rank)
 number_at k xs row rank r is = record {
   below = omega (arith, row_below k.0 xs r.named, r.is, is, rank_below k.1);
   named = named_outline k.0 xs ∙ r.named;

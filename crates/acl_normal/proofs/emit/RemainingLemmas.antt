@@ -4,12 +4,11 @@ use Rattle.std.specs.Ordering.{nat_cmp}
 use Rattle.std.specs.BTreeMap.{is_at}
 use Rattle.std.specs.List.{list_any, slice_range, PartBy}
 use Rattle.std.specs.Option.{unwrap_or}
-use Rattle.std.proofs.Common.{sym, ◌∙◌, ap, subst, arith, ⊎_elim, inl, inr}
+use Rattle.std.proofs.Common.{sym, ◌∙◌, ap, subst, arith, ⊎_elim, inl, inr, Bor}
 use Rattle.std.proofs.lemmas.Bool.{and_parts, cases_eq, or_cases, or_right, false_from_ne_true}
 use Rattle.std.proofs.lemmas.List.{append-nil, drop_all, get_or-set_same, get_or-set_other}
 use Rattle.std.proofs.lemmas.List.Folds.{drop_split}
 use Rattle.std.proofs.Math.Seq.{drop-cons}
-use Rattle.std.proofs.Common.{Bor}
 use Rattle.std.proofs.lemmas.Map.Keys.{sorted_head, sorted_tail}
 use Rattle.acl_perm.specs.Bits.{has_bit}
 use Rattle.acl_perm.specs.Principal.{Principal}
@@ -20,8 +19,10 @@ use Rattle.acl_nfs4.specs.declared.ace.AceRef.{AceRef}
 use Rattle.acl_eval.specs.Scan.{without}
 use Rattle.acl_eval.proofs.Scans.{has_bit-without}
 use Rattle.acl_normal.specs.Keys.{principal_eq}
-use Rattle.acl_normal.specs.Normal.{IsQuiet, counts, is_inherit_only}
-use Rattle.acl_normal.specs.Places.{is_waiting, key_here, mask_here, take_out, waits, waits_before, without_bits}
+use Rattle.acl_normal.specs.Normal.{counts, is_inherit_only}
+use Rattle.acl_normal.specs.internal.Tidy.{IsQuiet}
+use Rattle.acl_normal.specs.Places.{is_waiting, take_out, waits, without_bits}
+use Rattle.acl_normal.specs.internal.AtPlaces.{waits_before, mask_here, key_here}
 use Rattle.acl_normal.specs.internal.Remaining.{IsQueue, IsQueueFrom, masks_left}
 use Rattle.acl_normal.specs.internal.Shown.{with_masks}
 use Rattle.acl_normal.proofs.emit.Walk.{head_in, later_than}
@@ -30,8 +31,8 @@ use Rattle.acl_normal.proofs.rows.Rows.{outline_taken}
 use Rattle.acl_normal.proofs.rows.TakeOut.{waiting_left}
 use Rattle.acl_normal.proofs.rows.Waits.{before_none}
 use Rattle.acl_normal.proofs.rows.WaitingPlaces.{shown_with}
-use Rattle.acl_normal.proofs.reduce.LaterBits.{has_bit-and}
-use Rattle.acl_normal.proofs.unique.Bits.{masks_same, no_bits_of_zero}
+use Rattle.acl_perm.proofs.Sets.{has_bit-and, no_bit}
+use Rattle.acl_normal.proofs.unique.Bits.{masks_same}
 use Rattle.acl_normal.proofs.unique.Names.{principal_eq_same, principal_eq_itself}
 use Rattle.acl_normal.proofs.unique.Outline.{length_alike}
 
@@ -62,15 +63,15 @@ mask_shown (a ∷ aces) (m ∷ masks) zero e = refl
 mask_shown (a ∷ aces) (m ∷ masks) (suc i) e = mask_shown aces masks i (omega (arith, e))
 
 -- where each row has its numbers, all that has the bits of the masks is left
-pub all_left : (masks rows left : List ℕ) → length rows ≡ length masks
+pub whole_left : (masks rows left : List ℕ) → length rows ≡ length masks
     → ((i : ℕ) → i < length masks → bit_and (slice_index_or masks i 0) (slice_index_or left (slice_index_or rows i 0) 0)
     ≡ slice_index_or masks i 0)
     → masks_left masks rows left ≡ masks
-all_left [] rows left e h = refl
-all_left (m ∷ masks) [] left e h = absurd (omega (arith, e))
-all_left (m ∷ masks) (r ∷ rows) left e h =
+whole_left [] rows left e h = refl
+whole_left (m ∷ masks) [] left e h = absurd (omega (arith, e))
+whole_left (m ∷ masks) (r ∷ rows) left e h =
     ap (λ v. v ∷ masks_left masks rows left) (h 0 (omega arith))
-    ∙ ap (λ v. m ∷ v) (all_left masks rows left (omega (arith, e)) (λ i l. h (suc i) (omega (arith, l))))
+    ∙ ap (λ v. m ∷ v) (whole_left masks rows left (omega (arith, e)) (λ i l. h (suc i) (omega (arith, l))))
 
 -- bits leave a mask and its row alike
 and_without : (m l n : ℕ) → bit_and m (without l n) ≡ without (bit_and m l) n
@@ -86,7 +87,7 @@ and_without m l n =
 
 nothing_without : (n : ℕ) → without 0 n ≡ 0
 nothing_without n =
-    masks_same _ _ (λ b. has_bit-without 0 n b ∙ rw (no_bits_of_zero b) refl)
+    masks_same _ _ (λ b. has_bit-without 0 n b ∙ rw (no_bit b) refl)
 
 -- without bits of a row, the list is without bits of its principal
 pub row_taken : (p : Principal) (m row : ℕ) (aces : List AceRef) (masks rows left : List ℕ) → row < length left

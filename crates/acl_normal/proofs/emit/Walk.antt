@@ -16,7 +16,8 @@ use Rattle.acl_nfs4.specs.Ace.{Ace}
 use Rattle.acl_nfs4.specs.Who.{principal_of}
 use Rattle.acl_eval.specs.Column.{column}
 use Rattle.acl_normal.specs.Keys.{principal_eq, Key, kind_eq}
-use Rattle.acl_normal.specs.Places.{same_class, is_waiting, waits, waits_before, is_blocked, first_at, key_here, mask_here}
+use Rattle.acl_normal.specs.Places.{same_class, is_waiting, waits, first_at}
+use Rattle.acl_normal.specs.internal.AtPlaces.{is_blocked, waits_before, mask_here, key_here}
 use Rattle.acl_perm.specs.Kind.{other_kind}
 use Rattle.acl_normal.specs.Normal.{is_free, counts}
 use Rattle.acl_normal.specs.internal.Emissions.{IsOnce}

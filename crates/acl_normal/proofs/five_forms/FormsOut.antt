@@ -18,8 +18,8 @@ abbrev pub AreLeft : Option (List ℕ) → Option (List ℕ) → ℕ → List �
 AreLeft held holds done whole lists = IsOut 0 done held holds whole (spellings lists)
 
 -- at first all are left
-pub all_left : (held : Option (List ℕ)) (lists : List (List Ace)) → AreLeft held held 0 (spellings lists) lists
-all_left held lists = out_none 0 held (spellings lists) (spellings lists) refl
+pub all_to_write : (held : Option (List ℕ)) (lists : List (List Ace)) → AreLeft held held 0 (spellings lists) lists
+all_to_write held lists = out_none 0 held (spellings lists) (spellings lists) refl
 
 -- one more list is out
 pub one_out : (a b c : Option (List ℕ)) (done count : ℕ) (whole : List ℕ) (list : List Ace) (lists : List (List Ace))
@@ -65,7 +65,7 @@ after_object f = f.file ∷ after_file f
 pub object_out : (f : FiveForms) (a b : Option (List ℕ)) (count : ℕ) → WritesFrom a b 0 (spelling f.object) (Ok count)
     → AreLeft a b count (five_spellings f) (after_object f)
 object_out f a b count said =
-    one_out a a b 0 count (five_spellings f) f.object (after_object f) (all_left a (five_lists f)) said
+    one_out a a b 0 count (five_spellings f) f.object (after_object f) (all_to_write a (five_lists f)) said
 
 -- then the second
 pub file_out : (f : FiveForms) (a b c : Option (List ℕ)) (first count : ℕ)

@@ -18,12 +18,9 @@ use Rattle.acl_eval.proofs.Children.{child_fits, child_has, child_lacks, directo
 use Rattle.acl_normal.specs.Normal.{HasNormalFlags, flags_for}
 use Rattle.acl_normal.specs.NormalForm.{IsNormalFormOf}
 use Rattle.acl_normal.specs.Paths.{Path, SameAt, SameAtEveryPath, SameAtFive, at, below, directory_below, here}
+use Rattle.std.proofs.Math.Bool.{and-false}
 
 -- ---- the flags of an ACE in a new directory, and in a new directory in that
-
-lacks : (b : Bool) → (b && false) ≡ false
-lacks true = refl
-lacks false = refl
 
 kept_twice : (h c : Bool) → ((h && c) && c) ≡ (h && c)
 kept_twice true true = refl
@@ -65,10 +62,10 @@ nothing_behind : (flags : ℕ) (kind : ChildKind) → child_flags kind (ends fla
 nothing_behind flags kind = by kind (has_bit (ends flags) no_propagate_inherit) refl
   where
     no_file : has_bit (ends flags) file_inherit ≡ false
-    no_file = has_bit-and flags 0x70 0 ∙ lacks (has_bit flags 0)
+    no_file = has_bit-and flags 0x70 0 ∙ and-false (has_bit flags 0)
 
     no_directory : has_bit (ends flags) directory_inherit ≡ false
-    no_directory = has_bit-and flags 0x70 1 ∙ lacks (has_bit flags 1)
+    no_directory = has_bit-and flags 0x70 1 ∙ and-false (has_bit flags 1)
 
     by : (kind : ChildKind) (n : Bool) → has_bit (ends flags) no_propagate_inherit ≡ n
         → child_flags kind (ends flags) ≡ None
@@ -107,9 +104,9 @@ handed_on flags f e =
 
 -- ---- lists
 
-behind : (kind : ChildKind) (a : Ace) (list other : List Ace) → children kind list ≡ children kind other
+children_behind : (kind : ChildKind) (a : Ace) (list other : List Ace) → children kind list ≡ children kind other
     → children kind (a ∷ list) ≡ children kind (a ∷ other)
-behind kind a list other same = by (child_flags kind a.flags) refl
+children_behind kind a list other same = by (child_flags kind a.flags) refl
   where
     by : (o : Option ℕ) → child_flags kind a.flags ≡ o → children kind (a ∷ list) ≡ children kind (a ∷ other)
     by None e = child_lacks kind a list e ∙ same ∙ sym (child_lacks kind a other e)
@@ -129,7 +126,7 @@ second_is_first kind (a ∷ list) = by (second_is_first kind list) (child_flags 
         → children kind (children Directory (with_flags a f ∷ first)) ≡ children kind (with_flags a f ∷ first)
     in_second f on rest = elim on [
       | inl again ↦ ap (children kind) (child_has Directory (with_flags a f) first f again)
-          ∙ behind kind (with_flags a f) (children Directory first) first rest
+          ∙ children_behind kind (with_flags a f) (children Directory first) first rest
       | inr none ↦ ap (children kind) (child_lacks Directory (with_flags a f) first (none Directory)) ∙ rest
           ∙ sym (child_lacks kind (with_flags a f) first (none kind))
     ]
@@ -182,9 +179,9 @@ five_suffice rights list other = (
 abbrev pub with_inherit_only : Profile → Profile
 with_inherit_only p = record { masks = p.masks; flags = bit_or p.flags 0x08 }
 
-is_either : (a b : Bool) → (a && (a || b)) ≡ a
-is_either true b = refl
-is_either false b = refl
+and_absorbs : (a b : Bool) → (a && (a || b)) ≡ a
+and_absorbs true b = refl
+and_absorbs false b = refl
 
 or_true : (b : Bool) → (b || true) ≡ true
 or_true true = refl
@@ -198,7 +195,7 @@ flags_inside : (p : Profile) → IsWithin (with_inherit_only p).flags p.flags
 flags_inside p = same_set _ _ (λ k.
     has_bit-and p.flags (bit_or p.flags 0x08) k
     ∙ ap (λ (b : Bool). has_bit p.flags k && b) (has_bit-or p.flags 0x08 k)
-    ∙ is_either (has_bit p.flags k) (has_bit 0x08 k))
+    ∙ and_absorbs (has_bit p.flags k) (has_bit 0x08 k))
 
 -- it is a profile
 pub wider_is : (p : Profile) → IsProfile p → IsProfile (with_inherit_only p)
@@ -231,12 +228,12 @@ inside_first true true e whole none = refl
 inside_first true false true whole none = sym none
 inside_first true false false whole none = whole
 
-no_inherit_only : (p : Principal) → bit_and (flags_for p) 0x08 ≡ 0
-no_inherit_only owner = refl
-no_inherit_only (user name) = refl
-no_inherit_only group = refl
-no_inherit_only (group_named name) = refl
-no_inherit_only everyone = refl
+inherit_only_unused : (p : Principal) → bit_and (flags_for p) 0x08 ≡ 0
+inherit_only_unused owner = refl
+inherit_only_unused (user name) = refl
+inherit_only_unused group = refl
+inherit_only_unused (group_named name) = refl
+inherit_only_unused everyone = refl
 
 flags_back : (p : Profile) (flags : ℕ) → bit_and flags 0x08 ≡ 0 → IsWithin (with_inherit_only p).flags flags
     → IsWithin p.flags flags
@@ -252,7 +249,7 @@ pub fits_back : (p : Profile) (list : List Ace) → HasNormalFlags list → Fits
 fits_back p [] normal fits = tt
 fits_back p (a ∷ list) normal fits = (
   (
-    flags_back p a.flags (ap (λ (n : ℕ). bit_and n 0x08) normal.0 ∙ no_inherit_only (principal_of a)) fits.0.0,
+    flags_back p a.flags (ap (λ (n : ℕ). bit_and n 0x08) normal.0 ∙ inherit_only_unused (principal_of a)) fits.0.0,
     fits.0.1,
   ),
   fits_back p list normal.1 fits.1,

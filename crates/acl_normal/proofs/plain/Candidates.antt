@@ -21,12 +21,12 @@ use Rattle.acl_eval.specs.Column.{Column, column}
 use Rattle.acl_normal.specs.Keys.{Key, ace_key, key_record, compare_keys, principal_eq, kind_eq, conflicts}
 use Rattle.acl_normal.specs.Normal.{is_free, flags_for, counts}
 use Rattle.acl_normal.specs.internal.Emissions.{HasEmptyColumns}
-use Rattle.acl_normal.specs.internal.Passes.{IsNowhereFree, IsCandidate, IsBelow, AreNowhereFree, IsWithinAs, IsLeast, Best, lesser}
+use Rattle.acl_normal.specs.internal.Passes.{IsNowhereFree, IsCandidate, IsBelow, AreNowhereFree, IsWithinAs, IsLeastCandidate, Best, lesser}
 use Rattle.acl_normal.proofs.unique.Names.{principal_eq_same}
 use Rattle.acl_normal.proofs.unique.Free.{kind_eq_same}
-use Rattle.acl_normal.proofs.unique.Bits.{power_has}
+use Rattle.acl_eval.proofs.Same.{only_bit}
 use Rattle.acl_normal.proofs.unique.Unique.{head_is_free}
-use Rattle.acl_normal.proofs.unique.Kept.{within_from, within_fewer}
+use Rattle.acl_normal.proofs.plain.Kept.{within_from, within_fewer}
 use Rattle.acl_normal.proofs.unique.Profiles.{column_outside}
 use Rattle.acl_normal.proofs.unique.Columns.{column_has, column_lacks}
 
@@ -54,8 +54,8 @@ free_among P (x ∷ xs) bit e h free = go (counts bit x) refl (free_among P xs b
     go false f ih = ih (sym (ap (λ c. is_free c e) (column_lacks bit x xs f)) ∙ free)
 
 -- where none is free, no bit is left
-pub none_free : (xs : List Ace) → AreNowhereFree xs xs → HasEmptyColumns xs
-none_free xs h bit = go (column xs bit) refl
+pub nothing_free : (xs : List Ace) → AreNowhereFree xs xs → HasEmptyColumns xs
+nothing_free xs h bit = go (column xs bit) refl
   where
     go : (c : Column) → column xs bit ≡ c → column xs bit ≡ []
     go [] e = e
@@ -104,20 +104,10 @@ each_weaker : (P Q : Ace → Type 0) (xs : List Ace) → ((x : Ace) → P x → 
 each_weaker P Q [] f h = tt
 each_weaker P Q (x ∷ xs) f h = (f x h.0, each_weaker P Q xs f h.1)
 
--- one more ACE that is free nowhere changes nothing
-pub best_without : (list seen : List Ace) (item : Ace) (best : Option Ace) → Best list seen best
-    → IsNowhereFree list item → Best list (seen ++ item ∷ []) best
-best_without list seen item None h none = each_more (IsNowhereFree list) seen item h none
-best_without list seen item (Some a) h none = record {
-  candidate = h.candidate;
-  below = each_more (IsBelow list a) seen item h.below (λ bit free. absurd (false≢true (sym (none bit) ∙ free)));
-  within = h.within;
-}
-
 -- one more that is free somewhere: the lesser of its candidate and the best so far is the best
 pub best_with : (list seen : List Ace) (item next : Ace) (best : Option Ace) → Best list seen best
     → IsCandidate list next → IsWithinAs list next → ace_key next ≡ ace_key item
-    → IsLeast list (seen ++ item ∷ []) (lesser best next)
+    → IsLeastCandidate list (seen ++ item ∷ []) (lesser best next)
 best_with list seen item next None h candidate within key = record {
   candidate = candidate;
   below = each_more (IsBelow list next) seen item
@@ -130,7 +120,7 @@ best_with list seen item next (Some a) h candidate within key =
     go (is_le (compare_keys (ace_key a) (ace_key next))) refl
   where
     go : (t : Bool) → is_le (compare_keys (ace_key a) (ace_key next)) ≡ t
-        → IsLeast list (seen ++ item ∷ []) (lesser (Some a) next)
+        → IsLeastCandidate list (seen ++ item ∷ []) (lesser (Some a) next)
     go true e = rw e (record {
       candidate = h.candidate;
       below = each_more (IsBelow list a) seen item h.below
@@ -152,9 +142,9 @@ best_with list seen item next (Some a) h candidate within key =
 no_flags : (set : ℕ) → IsWithin set 0
 no_flags set = within_from set 0 (λ k h. absurd (false≢true (sym (no_bit k) ∙ h)))
 
-group_flag : (set flags : ℕ) → IsWithin set flags → has_bit flags identifier_group ≡ true → IsWithin set 0x40
-group_flag set flags is has =
-    within_fewer set 0x40 flags is (λ k h. subst (λ n. has_bit flags n ≡ true) (sym (power_has 6 k h)) has)
+group_within : (set flags : ℕ) → IsWithin set flags → has_bit flags identifier_group ≡ true → IsWithin set 0x40
+group_within set flags is has =
+    within_fewer set 0x40 flags is (λ k h. subst (λ n. has_bit flags n ≡ true) (sym (only_bit 6 k h)) has)
 
 -- the flags that a principal needs are among those of an ACE that names it
 pub naming_within : (set : ℕ) (a : Ace) → IsWithin set a.flags → IsWithin set (flags_for (principal_of a))
@@ -167,7 +157,7 @@ naming_within set a is = go (bytes_eq a.who owner_name) refl (bytes_eq a.who gro
     go true h g i e j f k = rw h (no_flags set)
     go false h true i e j f k = rw (h, i) (no_flags set)
     go false h false i true j f k = rw (h, i, j) (no_flags set)
-    go false h false i false j true k = rw (h, i, j, k) (group_flag set a.flags is k)
+    go false h false i false j true k = rw (h, i, j, k) (group_within set a.flags is k)
     go false h false i false j false k = rw (h, i, j, k) (no_flags set)
 
 -- bits at which a key is free are rights of the profile

@@ -19,9 +19,9 @@ use Rattle.acl_normal.proofs.unique.ListColumns.{column-append}
 use Rattle.acl_normal.proofs.plain.Passes.{Marks, list_of-append}
 
 -- the default, by the set of the bits that it allows
-pub default_is : (allowed bit : ℕ) (c : Column) → has_bit allowed bit ≡ kind_eq (default c) Allow
+pub default_in_is : (allowed bit : ℕ) (c : Column) → has_bit allowed bit ≡ kind_eq (default c) Allow
     → default_in allowed bit ≡ default c
-default_is allowed bit c is = go (has_bit allowed bit) refl (default c) refl
+default_in_is allowed bit c is = go (has_bit allowed bit) refl (default c) refl
   where
     go : (t : Bool) → has_bit allowed bit ≡ t → (k : Kind) → default c ≡ k → default_in allowed bit ≡ default c
     go true e Allow f = rw (e, f) refl
@@ -75,7 +75,7 @@ pub needed_more : (xs : List AceRef) (y : AceRef) (kept : List AceRef) (r : AceR
 needed_more xs y kept r i allowed lt is entry part marks mask bit whole so_far =
     let d = default (column (list_of xs) bit) in
     let rest = column (list_of (drop (i + 1) xs)) bit in
-    let known = default_is allowed bit (column (list_of xs) bit) (marks bit) in
+    let known = default_in_is allowed bit (column (list_of xs) bit) (marks bit) in
     ap (λ v. column v bit ++ needed_keys d rest) (list_of-append kept (r ∷ []))
     ∙ ap (λ v. v ++ needed_keys d rest) (column-append bit (list_of kept) (ace r ∷ []))
     ∙ append_assoc (column (list_of kept) bit) (column (ace r ∷ []) bit) (needed_keys d rest)

@@ -16,7 +16,7 @@ use Rattle.acl_eval.specs.Column.{Column, column, first_kind, verdict}
 use Rattle.acl_normal.specs.internal.Alike.{is_either}
 use Rattle.acl_normal.specs.Keys.{Key, principal_eq, kind_eq, conflicts}
 use Rattle.acl_normal.specs.Normal.{is_free, counts}
-use Rattle.acl_normal.specs.internal.Passes.{list_of, is_shadowed, is_blocked}
+use Rattle.acl_normal.specs.internal.Passes.{list_of, is_shadowed, is_opposed}
 use Rattle.acl_normal.specs.internal.Plain.{default, has_opposite}
 use Rattle.acl_normal.proofs.unique.ListColumns.{column-append}
 
@@ -80,16 +80,16 @@ pub opposites_gathered : (d : Kind) (p : Principal) → IsGathered (λ list bit.
 opposites_gathered d p xs ys bit =
     ap (has_opposite d p) (column-append bit xs ys) ∙ opposite-append d p (column xs bit) (column ys bit)
 
-blocked-append : (e : Key) (l r : Column) → is_blocked (l ++ r) e ≡ (is_blocked l e || is_blocked r e)
+blocked-append : (e : Key) (l r : Column) → is_opposed (l ++ r) e ≡ (is_opposed l e || is_opposed r e)
 blocked-append e [] r = refl
 blocked-append e (f ∷ l) r =
     ap (λ b. conflicts f e || b) (blocked-append e l r)
-    ∙ sym (or_assoc (conflicts f e) (is_blocked l e) (is_blocked r e))
+    ∙ sym (or_assoc (conflicts f e) (is_opposed l e) (is_opposed r e))
 
 -- and the bits at which a key is kept from coming first
-pub blocks_gathered : (e : Key) → IsGathered (λ list bit. is_blocked (column list bit) e)
+pub blocks_gathered : (e : Key) → IsGathered (λ list bit. is_opposed (column list bit) e)
 blocks_gathered e xs ys bit =
-    ap (λ c. is_blocked c e) (column-append bit xs ys) ∙ blocked-append e (column xs bit) (column ys bit)
+    ap (λ c. is_opposed c e) (column-append bit xs ys) ∙ blocked-append e (column xs bit) (column ys bit)
 
 -- ---- what everyone is allowed
 
@@ -128,16 +128,16 @@ free_parts true k f b g = refl
 free_parts false true f b g = sym (and_false_right g)
 free_parts false false f b g = refl
 
-free-append : (e : Key) (l r : Column) → is_free (l ++ r) e ≡ (is_free l e || (is_free r e && not (is_blocked l e)))
+free-append : (e : Key) (l r : Column) → is_free (l ++ r) e ≡ (is_free l e || (is_free r e && not (is_opposed l e)))
 free-append e [] r = sym (and_true_right (is_free r e))
 free-append e (f ∷ l) r =
     ap (λ b. (principal_eq f.0 e.0 && kind_eq f.1 e.1) || (not (conflicts f e) && b)) (free-append e l r)
-    ∙ free_parts (principal_eq f.0 e.0 && kind_eq f.1 e.1) (conflicts f e) (is_free l e) (is_blocked l e) (is_free r e)
+    ∙ free_parts (principal_eq f.0 e.0 && kind_eq f.1 e.1) (conflicts f e) (is_free l e) (is_opposed l e) (is_free r e)
 
 -- one more ACE adds its bits of that key, where none before it conflicts
 pub free_more : (e : Key) (xs : List AceRef) (x : AceRef) (i m n s u : ℕ) → i < length xs
     → x ≡ slice_index_or xs i x → Marks m (λ bit. is_free (column (list_of (take i xs)) bit) e)
-    → Marks s (λ bit. is_blocked (column (list_of (take i xs)) bit) e)
+    → Marks s (λ bit. is_opposed (column (list_of (take i xs)) bit) e)
     → Marks n (λ bit. is_free (column (ace x ∷ []) bit) e && not (has_bit s bit))
     → IsUnion m n u → Marks u (λ bit. is_free (column (list_of (take (i + 1) xs)) bit) e)
 free_more e xs x i m n s u lt is before blocked here both bit =

@@ -12,8 +12,7 @@ use Rattle.acl_eval.specs.Column.{column}
 use Rattle.acl_eval.specs.Grant.{SameGrants}
 use Rattle.acl_eval.specs.Laws.{IsEquivalence}
 use Rattle.acl_eval.proofs.Same.{equivalence}
-use Rattle.acl_normal.specs.internal.Counts.{count_left}
-use Rattle.acl_normal.specs.internal.Emissions.{HasOnceColumns, IsEmission, IsOnce}
+use Rattle.acl_normal.specs.internal.Emissions.{count_left, HasOnceColumns, IsEmission, IsOnce}
 use Rattle.acl_normal.specs.Normal.{IsNormal}
 use Rattle.acl_normal.specs.NormalForm.{IsNormalFormOf}
 use Rattle.acl_normal.specs.internal.Passes.{IsPlainReduction, KeepsProfiles}
@@ -23,15 +22,15 @@ use Rattle.acl_normal.proofs.unique.Normal.{emitted_is_normal, quiet_flags}
 use Rattle.acl_normal.proofs.plain.Reduced.{reduced_once}
 use Rattle.acl_normal.proofs.plain.Shorter.{reduced_shorter}
 use Rattle.acl_normal.proofs.unique.Unique.{unique}
-use Rattle.acl_normal.proofs.unique.Weights.{count_falls, count_within, length_under, weight_falls}
+use Rattle.acl_normal.proofs.unique.Weights.{count_no_greater, count_within, length_under, weight_falls}
 
 -- a normal list with the grants of an accepted one, with no more keys at any bit and within what that is within, is
 -- its normal form
-pub form_from : (source result : List Ace) → IsAccepted full source → IsNormal result
+pub plain_form : (source result : List Ace) → IsAccepted full source → IsNormal result
     → SameGrants all_rights source result
     → ((bit : ℕ) → length (column result bit) ≤ length (column source bit)) → KeepsProfiles source result
     → IsNormalFormOf source result
-form_from source result accepted normal grants shorter kept =
+plain_form source result accepted normal grants shorter kept =
     let each = kept full accepted.each in
     let light : weight result ≤ weight source =
     weight_falls source result (quiet_flags result normal.flags) (each_mask result each) shorter in record {
@@ -67,7 +66,12 @@ reduced_fewer source needed h bit = omega (arith, ap length (h.columns bit), red
 pub reduced_small : (source needed : List Ace) → IsAccepted full source → IsPlainReduction source needed
     → count_left 32 needed ≤ most_weight
 reduced_small source needed accepted h =
-    omega (arith, count_falls 32 source needed (reduced_fewer source needed h), count_within 32 source, accepted.weight)
+    omega (
+      arith,
+      count_no_greater 32 source needed (reduced_fewer source needed h),
+      count_within 32 source,
+      accepted.weight,
+    )
 
 -- what is emitted of it is the normal form
 pub reduced_form : (source needed result : List Ace) → IsAccepted full source → IsPlainReduction source needed
@@ -77,7 +81,7 @@ reduced_form source needed result accepted h emission shorter kept =
     let each = h.profiles full accepted.each in
     let both = emitted_is_normal source needed result h.columns (each_name full needed each) emission
     (each_mask result (kept full each)) in
-    form_from source result accepted both.0 both.1
+    plain_form source result accepted both.0 both.1
     (λ bit. omega (arith, shorter bit, reduced_fewer source needed h bit)) (λ p within. kept p (h.profiles p within))
 
 -- the two passes make the plain reduction, where the second answers

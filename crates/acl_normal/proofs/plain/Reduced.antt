@@ -270,9 +270,9 @@ other_behind d p c q x j f h = record {
     go false e = rw e h.kind
 
 -- a key of another principal, since the column has each once
-apart : (x q : Principal) (c : Column) (k : Kind) → first_kind (is_either x x) c ≡ None
+other_principal : (x q : Principal) (c : Column) (k : Kind) → first_kind (is_either x x) c ≡ None
     → first_kind (is_either q q) c ≡ Some k → principal_eq x q ≡ false
-apart x q c k none has =
+other_principal x q c k none has =
     false_from_ne_true _ (λ e. clash (subst (λ v. first_kind (is_either v v) c ≡ None) (principal_eq_same x q e) none))
   where
     clash : first_kind (is_either q q) c ≡ None → ⊥
@@ -325,7 +325,7 @@ find_other d p ((x, j) ∷ c) clean h has =
     go false e (inr f) ih = behind (ih (sym (default_rest x j c e) ∙ h) f)
       where
         behind : (q : Principal) × IsOther d p c q → (q : Principal) × IsOther d p ((x, j) ∷ c) q
-        behind (q, o) = (q, other_behind d p c q x j (apart x q c (opposite d) clean.0 o.source) o)
+        behind (q, o) = (q, other_behind d p c q x j (other_principal x q c (opposite d) clean.0 o.source) o)
 
 find_witness : (d : Kind) (p : Principal) (c : Column) → IsClean c → default c ≡ d → principal_eq p everyone ≡ false
     → first_kind (is_either p p) (needed_keys d c) ≡ Some d
@@ -342,7 +342,7 @@ find_witness d p ((x, j) ∷ c) clean h ne has =
         → (q : Principal) × IsOther d p ((x, j) ∷ c) q
         × (first_kind (is_either p q) (needed_keys d ((x, j) ∷ c)) ≡ Some d)
     later b f e (q, o, a) =
-        let other : principal_eq x q ≡ false = apart x q c (opposite d) clean.0 o.source in
+        let other : principal_eq x q ≡ false = other_principal x q c (opposite d) clean.0 o.source in
         (q, other_behind d p c q x j other o, kept b f other a)
       where
         kept : (b : Bool) → is_needed d x j c ≡ b → principal_eq x q ≡ false
@@ -415,7 +415,7 @@ find_witness d p ((x, j) ∷ c) clean h ne has =
             × (first_kind (is_either p q) (needed_keys d ((x, j) ∷ c)) ≡ Some d)
         here (q, o) = (
           q,
-          other_behind d p c q x j (apart x q c (opposite d) clean.0 o.source) o,
+          other_behind d p c q x j (other_principal x q c (opposite d) clean.0 o.source) o,
           rw f
               (rw (or_left (principal_eq x p) (principal_eq x q) e) (ap Some kind)),
         )

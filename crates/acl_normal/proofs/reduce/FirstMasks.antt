@@ -7,7 +7,7 @@ use Rattle.acl_perm.specs.Bits.{has_bit}
 use Rattle.acl_perm.specs.Principal.{Principal, everyone}
 use Rattle.acl_perm.specs.Profile.{full}
 use Rattle.acl_perm.specs.declared.kind.Kind.{Kind}
-use Rattle.acl_perm.proofs.Sets.{has_bit-or}
+use Rattle.acl_perm.proofs.Sets.{has_bit-or, no_bit}
 use Rattle.acl_nfs4.specs.Ace.{Ace, ace}
 use Rattle.acl_nfs4.specs.Spelling.{IsAccepted}
 use Rattle.acl_nfs4.specs.Who.{principal_of}
@@ -18,18 +18,19 @@ use Rattle.acl_eval.proofs.Scans.{has_bit-without}
 use Rattle.acl_normal.specs.internal.Alike.{is_either}
 use Rattle.acl_normal.specs.Keys.{Key, ace_key, principal_eq}
 use Rattle.acl_normal.specs.internal.Emissions.{IsOnce}
-use Rattle.acl_normal.specs.Left.{IsTidy, KeepsFirsts}
-use Rattle.acl_normal.specs.Normal.{IsQuiet, is_inherit_only, counts}
+use Rattle.acl_normal.specs.Left.{KeepsFirsts}
+use Rattle.acl_normal.specs.internal.Tidy.{IsTidy, IsQuiet}
+use Rattle.acl_normal.specs.Normal.{is_inherit_only, counts}
 use Rattle.acl_normal.specs.Places.{first_at, nothing_left}
 use Rattle.acl_normal.specs.internal.Plain.{unshadowed}
 use Rattle.acl_normal.specs.internal.Rows.{AreRowNumbers, is_named, row_of}
 use Rattle.acl_normal.specs.internal.Shown.{aces_in, with_masks}
 use Rattle.acl_normal.proofs.unique.Accepted.{accepted_masks}
-use Rattle.acl_normal.proofs.unique.Bits.{no_bits, no_bits_of_zero}
+use Rattle.acl_normal.proofs.unique.Bits.{no_bits}
 use Rattle.acl_normal.proofs.unique.Columns.{column_first}
-use Rattle.acl_normal.proofs.rows.BitTaken.{same_default}
+use Rattle.acl_normal.proofs.rows.BitTaken.{default_unread}
 use Rattle.acl_normal.proofs.unique.FirstKind.{none_within}
-use Rattle.acl_normal.proofs.reduce.FirstRows.{column_more, first_then, first_there, index_is, key_at_index, length_of, none_from, none_is, some_either, unshadowed_push}
+use Rattle.acl_normal.proofs.reduce.FirstRows.{column_more, first_then, first_stands, index_is, key_at_index, length_of, none_from, none_is, some_either, unshadowed_push}
 use Rattle.acl_normal.proofs.unique.Irreducible.{either_same}
 use Rattle.acl_normal.proofs.unique.ListColumns.{column-append}
 use Rattle.acl_normal.proofs.unique.Names.{either_first, either_second, principal_eq_itself, principal_eq_same}
@@ -224,7 +225,7 @@ firsts_to_more whole n xs a m f l is fresh = record {
         here true t true x true y false z = cc (rw (y, z) at counts_is)
         here true t true x true y true z =
             let pair : Some at ≡ Some (k, i) = rw (t, x) at whole_is in
-            first_there b p n whole a l is y x none ∙ ap (λ w. Some (a.kind, w)) (sym count) ∙ pair
+            first_stands b p n whole a l is y x none ∙ ap (λ w. Some (a.kind, w)) (sym count) ∙ pair
           where
             either : first_kind (is_either (principal_of a) everyone) (column (take n whole) b) ≡ None
             either =
@@ -274,8 +275,8 @@ seen_start whole seen is = record {
   rows =
       λ p h b. ap (λ v. has_bit (slice_index_or v (row_of p whole) 0) b) is
       ∙ ap (λ v. has_bit v b) (get_or-replicate (length whole) (row_of p whole) 0 0 (row_below p whole h))
-      ∙ no_bits_of_zero b;
-  everyone = λ b. no_bits_of_zero b;
+      ∙ no_bit b;
+  everyone = λ b. no_bit b;
 }
 
 -- the bits that are new, by what was seen
@@ -403,15 +404,15 @@ row_here whole rows i a r l is =
     r.at i l ∙ ap (λ k. row_of k.0 whole) (key_at_index whole i a l ∙ ap ace_key is)
 
 -- who is named
-pub named_there : (whole : List Ace) (i : ℕ) (a : Ace) → i < length whole → slice_index_or whole i a ≡ a
+pub named_by_ace : (whole : List Ace) (i : ℕ) (a : Ace) → i < length whole → slice_index_or whole i a ≡ a
     → is_named (principal_of a) whole ≡ true
-named_there whole i a l is =
+named_by_ace whole i a l is =
     ap (λ k. is_named k.0 whole) (sym (key_at_index whole i a l ∙ ap ace_key is)) ∙ named_here whole i l
 
 -- what stands at the row
 pub row_value : (seen : List ℕ) (row r v : ℕ) → v ≡ slice_index_or seen row v → row ≡ r → r < length seen
     → v ≡ slice_index_or seen r 0
-row_value seen row r v h e l = h ∙ ap (λ n. slice_index_or seen n v) e ∙ same_default seen r v 0 l
+row_value seen row r v h e l = h ∙ ap (λ n. slice_index_or seen n v) e ∙ default_unread seen r v 0 l
 
 -- the row of the ACE at a place is one of those that are seen
 pub row_seen : (aces : List AceRef) (rows seen : List ℕ) (place all : ℕ) (xs : List Ace) (x : AceRef)
@@ -423,6 +424,6 @@ row_seen aces rows seen place all xs x r l is holds =
     omega (
       arith,
       row_here (aces_in aces) rows place (ace x) r within at,
-      row_below (principal_of (ace x)) (aces_in aces) (named_there (aces_in aces) place (ace x) within at),
+      row_below (principal_of (ace x)) (aces_in aces) (named_by_ace (aces_in aces) place (ace x) within at),
       holds.count,
     )

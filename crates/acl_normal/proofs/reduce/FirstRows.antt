@@ -11,7 +11,8 @@ use Rattle.acl_eval.specs.Column.{Column, first_kind, column}
 use Rattle.acl_normal.specs.Keys.{principal_eq, Key, ace_key}
 use Rattle.acl_normal.specs.internal.Alike.{is_either}
 use Rattle.acl_normal.specs.internal.Plain.{unshadowed}
-use Rattle.acl_normal.specs.Places.{first_at, key_here}
+use Rattle.acl_normal.specs.Places.{first_at}
+use Rattle.acl_normal.specs.internal.AtPlaces.{key_here}
 use Rattle.acl_normal.specs.Normal.{counts}
 use Rattle.acl_normal.specs.internal.Shown.{aces_in}
 use Rattle.acl_normal.proofs.unique.Names.{either_second}
@@ -99,15 +100,15 @@ unshadowed_push c k =
 -- ---- one place more
 
 -- where a place has the bit and none before it of the same principal
-pub first_there : (b : ℕ) (p : Principal) (i : ℕ) (xs : List Ace) (a : Ace) → i < length xs → slice_index_or xs i a ≡ a
+pub first_stands : (b : ℕ) (p : Principal) (i : ℕ) (xs : List Ace) (a : Ace) → i < length xs → slice_index_or xs i a ≡ a
     → counts b a ≡ true → principal_eq (principal_of a) p ≡ true → first_at b p (take i xs) ≡ None
     → first_at b p xs ≡ Some (a.kind, i)
-first_there b p i [] a l is has same none = absurd (omega (arith, l))
-first_there b p zero (x ∷ xs) a l is has same none =
+first_stands b p i [] a l is has same none = absurd (omega (arith, l))
+first_stands b p zero (x ∷ xs) a l is has same none =
     subst (λ v. first_at b p (v ∷ xs) ≡ Some (a.kind, 0)) (sym is) (rw (has, same) refl)
-first_there b p (suc i) (x ∷ xs) a l is has same none =
+first_stands b p (suc i) (x ∷ xs) a l is has same none =
     let both = none_cases b p x (take i xs) none in
-    let rest = first_there b p i xs a (omega (arith, l)) is has same both.1 in
+    let rest = first_stands b p i xs a (omega (arith, l)) is has same both.1 in
     rw (both.0, rest) refl
 
 -- the key of the ACE at a place

@@ -1,16 +1,13 @@
 -- The masks of what later ACEs have, and of what everyone is allowed.
 use Rattle.std.proofs.Math.Bool.{and-false}
 use Rattle.std.specs.Prelude.{◌≡◌, ℕ, ◌+◌, ◌<◌, ◌≤◌, zero, suc, Bool, true, false, cond, not, ◌||◌, ◌&&◌, List, [], ◌∷◌, ◌++◌, take, Option, Some, None, option_map, bit_or, bit_and, length, slice_index_or, refl}
-use Rattle.std.specs.Int.{bit_at}
 use Rattle.std.proofs.Common.{sym, ◌∙◌, ap, subst, arith}
-use Rattle.std.proofs.lemmas.Bool.{eq-eqb, ne_eqb, eqb-true}
 use Rattle.std.proofs.lemmas.List.{take_all, take_more}
-use Rattle.std.proofs.lemmas.Nat.Bits.{bit_at_and, bit_at-lt}
 use Rattle.acl_perm.specs.Principal.{Principal, everyone}
 use Rattle.acl_perm.specs.declared.kind.Kind.{Kind}
 use Rattle.acl_perm.specs.declared.kind.Kind.TheVariants.{Deny, Allow}
 use Rattle.acl_perm.specs.Bits.{has_bit}
-use Rattle.acl_perm.proofs.Sets.{has_bit-or}
+use Rattle.acl_perm.proofs.Sets.{has_bit-or, has_bit-and, no_bit}
 use Rattle.acl_nfs4.specs.Ace.{Ace, ace}
 use Rattle.acl_nfs4.specs.Who.{principal_of}
 use Rattle.acl_nfs4.specs.declared.ace.AceRef.{AceRef}
@@ -18,31 +15,19 @@ use Rattle.acl_eval.specs.Column.{first_kind, column}
 use Rattle.acl_eval.specs.Scan.{without}
 use Rattle.acl_eval.proofs.Scans.{has_bit-without}
 use Rattle.acl_normal.specs.Keys.{principal_eq, Key, kind_eq}
-use Rattle.acl_normal.specs.Places.{same_class, first_at, mask_here}
+use Rattle.acl_normal.specs.Places.{same_class, first_at}
+use Rattle.acl_normal.specs.internal.AtPlaces.{mask_here}
 use Rattle.acl_normal.specs.internal.Alike.{is_either}
 use Rattle.acl_normal.specs.internal.Emissions.{HasOnceColumns, IsOnce}
-use Rattle.acl_normal.specs.Normal.{IsQuiet, is_inherit_only, counts}
+use Rattle.acl_normal.specs.Normal.{is_inherit_only, counts}
+use Rattle.acl_normal.specs.internal.Tidy.{IsQuiet}
 use Rattle.acl_normal.specs.internal.Plain.{default}
 use Rattle.acl_normal.specs.internal.Shown.{with_masks}
 use Rattle.acl_normal.specs.declared.reduce.needless.ByClass.{ByClass}
 use Rattle.acl_normal.specs.internal.Needed.{class_mask, default_at, later_mask, is_kept}
-use Rattle.acl_normal.proofs.unique.Bits.{no_bit, no_bits_of_zero}
 use Rattle.acl_normal.proofs.reduce.FirstMasks.{masked}
 use Rattle.acl_normal.proofs.unique.Names.{principal_eq_same}
 use Rattle.acl_normal.proofs.unique.Normal.{counts_mask}
-
--- the bits of both of two masks
-pub has_bit-and : (m n b : ℕ) → has_bit (bit_and m n) b ≡ (has_bit m b && has_bit n b)
-has_bit-and m n b = go (has_bit m b) refl (has_bit n b) refl
-  where
-    go : (s : Bool) → has_bit m b ≡ s → (t : Bool) → has_bit n b ≡ t
-        → has_bit (bit_and m n) b ≡ (has_bit m b && has_bit n b)
-    go true e true f =
-        rw (e, f) (eq-eqb _ _ (omega (arith, bit_at_and m n b, eqb-true (bit_at m b) 1 e, eqb-true (bit_at n b) 1 f)))
-    go true e false f =
-        rw (e, f) (ne_eqb _ _ (λ g. absurd
-        (omega (arith, g, bit_at_and m n b, eqb-true (bit_at m b) 1 e, no_bit n b f))))
-    go false e t f = rw e (ne_eqb _ _ (λ g. absurd (omega (arith, g, bit_at_and m n b, no_bit m b e, bit_at-lt n b))))
 
 -- ---- the masks by type and class
 
@@ -52,10 +37,10 @@ pub no_later : (k : Kind) (users : Bool) (b : ℕ)
       deny = record { users = 0; others = 0 };
       allow = record { users = 0; others = 0 };
     }) k users) b ≡ false
-no_later Deny true b = no_bits_of_zero b
-no_later Deny false b = no_bits_of_zero b
-no_later Allow true b = no_bits_of_zero b
-no_later Allow false b = no_bits_of_zero b
+no_later Deny true b = no_bit b
+no_later Deny false b = no_bit b
+no_later Allow true b = no_bit b
+no_later Allow false b = no_bit b
 
 -- one of two masks with more bits
 abbrev pub with_bits : ByClass → Bool → ℕ → ByClass
@@ -183,7 +168,7 @@ AllowsTo xs n bits = (b : ℕ) → has_bit bits b ≡ allowed_in b (take n xs)
 
 -- before the first place
 pub allows_start : (xs : List Ace) → AllowsTo xs 0 0
-allows_start xs b = no_bits_of_zero b
+allows_start xs b = no_bit b
 
 allowed_push : (b : ℕ) (xs : List Ace) (a : Ace) → allowed_in b (xs ++ a ∷ [])
     ≡ (allowed_in b xs || (counts b a && (principal_eq (principal_of a) everyone && kind_eq a.kind Allow)))
@@ -202,10 +187,10 @@ allowed_push b (x ∷ xs) a =
     together true y z = refl
     together false y z = refl
 
-allowed_more : (xs : List Ace) (n bits b : ℕ) (a : Ace) → AllowsTo xs n bits → n < length xs
+allowed_turn : (xs : List Ace) (n bits b : ℕ) (a : Ace) → AllowsTo xs n bits → n < length xs
     → slice_index_or xs n a ≡ a → allowed_in b (take (n + 1) xs)
     ≡ (has_bit bits b || (counts b a && (principal_eq (principal_of a) everyone && kind_eq a.kind Allow)))
-allowed_more xs n bits b a h l is =
+allowed_turn xs n bits b a h l is =
     ap (allowed_in b) (take_more xs n a l ∙ ap (λ v. take n xs ++ v ∷ []) is) ∙ allowed_push b (take n xs) a
     ∙ ap (λ t. t || (counts b a && (principal_eq (principal_of a) everyone && kind_eq a.kind Allow))) (sym (h b))
 
@@ -218,7 +203,7 @@ allows_with xs n bits a h l is quiet e k b =
     has_bit-or bits a.mask b ∙ ap (λ t. has_bit bits b || t) (sym (counts_mask b a quiet) ∙ sym (all (counts b a)))
     ∙ ap (λ t. has_bit bits b || (counts b a && (t && true))) (sym e)
     ∙ ap (λ t. has_bit bits b || (counts b a && (principal_eq (principal_of a) everyone && t))) (sym k)
-    ∙ sym (allowed_more xs n bits b a h l is)
+    ∙ sym (allowed_turn xs n bits b a h l is)
   where
     all : (t : Bool) → (t && (true && true)) ≡ t
     all true = refl
@@ -230,7 +215,7 @@ pub allows_same : (xs : List Ace) (n bits : ℕ) (a : Ace) → AllowsTo xs n bit
     → AllowsTo xs (n + 1) bits
 allows_same xs n bits a h l is e b =
     none (has_bit bits b) (counts b a) ∙ ap (λ t. has_bit bits b || (counts b a && t)) (sym e)
-    ∙ sym (allowed_more xs n bits b a h l is)
+    ∙ sym (allowed_turn xs n bits b a h l is)
   where
     none : (t s : Bool) → t ≡ (t || (s && false))
     none true s = refl
@@ -243,13 +228,6 @@ allows_all xs n bits h l once b =
     ap (λ t. cond t Allow Deny) (h b ∙ ap (allowed_in b) (take_all n xs l)) ∙ default_is b xs (once b)
 
 -- ---- places
-
--- as many ACEs as masks
-pub length_masks : (aces : List AceRef) (masks : List ℕ) → length masks ≡ length aces
-    → length (with_masks aces masks) ≡ length aces
-length_masks [] masks h = refl
-length_masks (x ∷ aces) [] h = absurd (omega (arith, h))
-length_masks (x ∷ aces) (m ∷ masks) h = ap suc (length_masks aces masks (omega (arith, h)))
 
 -- the mask at a place
 pub mask_there : (aces : List AceRef) (masks : List ℕ) (i d : ℕ) → i < length (with_masks aces masks)

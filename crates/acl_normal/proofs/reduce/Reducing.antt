@@ -13,9 +13,11 @@ use Rattle.acl_nfs4.specs.Spelling.{IsAccepted}
 use Rattle.acl_eval.specs.Column.{verdict, column}
 use Rattle.acl_eval.specs.Grant.{SameGrants}
 use Rattle.acl_normal.specs.internal.Alike.{IsIrreducible}
-use Rattle.acl_normal.specs.Normal.{HasNoEmptyMask, IsIrreducibleList, IsNormal, IsQuiet, HasMasks, HasNames}
+use Rattle.acl_normal.specs.Normal.{HasNoEmptyMask, IsIrreducibleList, IsNormal}
+use Rattle.acl_normal.specs.internal.Names.{HasNames}
+use Rattle.acl_normal.specs.internal.Tidy.{HasMasks, IsQuiet, IsTidy}
 use Rattle.acl_normal.specs.internal.Plain.{unshadowed, default, needed_keys, reduced}
-use Rattle.acl_normal.specs.Left.{IsTidy, left}
+use Rattle.acl_normal.specs.Left.{left}
 use Rattle.acl_normal.specs.Places.{nothing_left}
 use Rattle.acl_normal.proofs.unique.Accepted.{accepted_masks, accepted_names}
 use Rattle.acl_normal.proofs.unique.ListColumns.{names_in_column, same_grants_from_columns}
@@ -56,8 +58,8 @@ no_column b (a ∷ xs) h out = go (has_bit a.mask b) refl (no_column b xs h.1 ou
     go false e ih = rw e ih
 
 -- a right is one of the first 21 bits
-pub below : (b : ℕ) → has_bit all_rights b ≡ true → b < 21
-below b h = ⊎_elim (λ l. l) (λ l. absurd (high l)) (cases_lt b 21)
+pub rights_below : (b : ℕ) → has_bit all_rights b ≡ true → b < 21
+rights_below b h = ⊎_elim (λ l. l) (λ l. absurd (high l)) (cases_lt b 21)
   where
     high : 21 ≤ b → ⊥
     high l = omega (arith, bit_at_above all_rights 21 b (omega arith) l, eqb-true (bit_at all_rights b) 1 h)
@@ -67,7 +69,7 @@ pub no_right : (b : ℕ) → 21 ≤ b → has_bit all_rights b ≡ false
 no_right b h = go (has_bit all_rights b) refl
   where
     go : (t : Bool) → has_bit all_rights b ≡ t → t ≡ false
-    go true e = absurd (omega (arith, h, below b e))
+    go true e = absurd (omega (arith, h, rights_below b e))
     go false e = refl
 
 -- ---- without the empty keys
@@ -142,7 +144,7 @@ pub reduction_grants : (xs ys : List Ace) → ((b : ℕ) → b < 21 → column y
     → SameGrants all_rights xs ys
 reduction_grants xs ys columns = same_grants_from_columns xs ys (λ b inside s valid.
     sym (same_reduced (matches s) (column xs b) (clique_of s) refl)
-    ∙ ap (verdict (matches s)) (sym (columns b (below b inside))))
+    ∙ ap (verdict (matches s)) (sym (columns b (rights_below b inside))))
 
 -- ---- the normal form is the only normal list with the grants
 

@@ -16,17 +16,20 @@ use Rattle.acl_eval.specs.Column.{Column, first_kind, column}
 use Rattle.acl_eval.specs.Scan.{without}
 use Rattle.acl_eval.proofs.Scans.{has_bit-without}
 use Rattle.acl_normal.specs.Keys.{principal_eq, Key, ace_key, kind_eq}
-use Rattle.acl_normal.specs.Places.{same_class, first_at, without_bits, take_out, key_here, mask_here, nothing_left}
+use Rattle.acl_normal.specs.Places.{same_class, first_at, without_bits, take_out, nothing_left}
+use Rattle.acl_normal.specs.internal.AtPlaces.{mask_here, key_here}
 use Rattle.acl_perm.specs.Kind.{other_kind}
 use Rattle.acl_normal.specs.internal.Alike.{is_either}
-use Rattle.acl_normal.specs.Normal.{is_inherit_only, IsQuiet, counts}
+use Rattle.acl_normal.specs.Normal.{is_inherit_only, counts}
+use Rattle.acl_normal.specs.internal.Tidy.{IsQuiet, IsTidy}
 use Rattle.acl_normal.specs.internal.Emissions.{IsOnce, HasOnceColumns}
 use Rattle.acl_normal.specs.internal.Plain.{default, has_opposite, is_needed, needed_keys}
-use Rattle.acl_normal.specs.Left.{IsTidy, KeepsFirsts}
+use Rattle.acl_normal.specs.Left.{KeepsFirsts}
 use Rattle.acl_normal.specs.internal.Shown.{with_masks}
 use Rattle.acl_normal.specs.declared.reduce.needless.Later.{Later}
 use Rattle.acl_normal.specs.internal.Needed.{default_at, some_of, later_mask, opposes, is_kept}
-use Rattle.acl_normal.proofs.unique.Bits.{masks_same, no_bits_of_zero}
+use Rattle.acl_normal.proofs.unique.Bits.{masks_same}
+use Rattle.acl_perm.proofs.Sets.{no_bit}
 use Rattle.acl_normal.proofs.unique.Names.{principal_eq_itself, principal_eq_same, overlaps_back}
 use Rattle.acl_normal.proofs.unique.ListColumns.{column-append}
 use Rattle.acl_normal.proofs.unique.Normal.{counts_mask, quiet_at}
@@ -537,7 +540,7 @@ own_without m a quiet = go (is_inherit_only a) refl
         masks_same _ _ (λ b. none b ∙ sym (has_bit-without a.mask m b ∙ ap (λ t. t && not (has_bit m b)) (none b)))
       where
         none : (b : ℕ) → has_bit a.mask b ≡ false
-        none b = ap (λ v. has_bit v b) e ∙ no_bits_of_zero b
+        none b = ap (λ v. has_bit v b) e ∙ no_bit b
 
     go : (t : Bool) → is_inherit_only a ≡ t → without_bits (principal_of a) m a ≡ masked a (without a.mask m)
     go false e = rw (principal_eq_itself (principal_of a), e) refl

@@ -15,20 +15,22 @@ use Rattle.acl_perm.specs.declared.kind.Kind.{Kind}
 use Rattle.acl_perm.specs.declared.kind.Kind.TheVariants.{Deny, Allow}
 use Rattle.acl_perm.specs.Bits.{has_bit}
 use Rattle.acl_normal.specs.Keys.{kind_eq}
-use Rattle.acl_normal.specs.Places.{waits, first_at, slot_of, take_out, same_class}
+use Rattle.acl_normal.specs.Places.{waits, first_at, take_out, same_class}
+use Rattle.acl_normal.specs.internal.Waiting.{slot_of}
 use Rattle.acl_normal.specs.declared.rows.merged.MergedRows.TheInside.{Inside}
 use Rattle.acl_normal.specs.internal.Merged.{IsRight}
 use Rattle.acl_normal.proofs.unique.Free.{kind_eq_same}
-use Rattle.acl_normal.proofs.unique.Bits.{has_power, power_has}
+use Rattle.acl_normal.proofs.unique.Bits.{has_power}
+use Rattle.acl_eval.proofs.Same.{only_bit}
 use Rattle.std.proofs.lemmas.Map.Lookups.{exact_unsigned}
 use Rattle.acl_normal.proofs.rows.TakeOut.{waits_kept, waits_gone, waits_apart, waits_first, none_taken, once_taken}
 
 -- within the list the default plays no part
-pub same_default : {A : Type 0} (xs : List A) (i : ℕ) (d e : A) → i < length xs
+pub default_unread : {A : Type 0} (xs : List A) (i : ℕ) (d e : A) → i < length xs
     → slice_index_or xs i d ≡ slice_index_or xs i e
-same_default [] i d e h = absurd (omega arith)
-same_default (x ∷ xs) zero d e h = refl
-same_default (x ∷ xs) (suc i) d e h = same_default xs i d e (omega arith)
+default_unread [] i d e h = absurd (omega arith)
+default_unread (x ∷ xs) zero d e h = refl
+default_unread (x ∷ xs) (suc i) d e h = default_unread xs i d e (omega arith)
 
 -- a slot is one of 84
 pub slot_below : (k : Kind) (u : Bool) (b : ℕ) → b < 21 → slot_of k u b < 84
@@ -71,7 +73,7 @@ power_is b i = ⊎_elim (λ e. here e) (λ n. there n) (cases_eq i b)
     here e = ap (has_bit (2 ^ b)) e ∙ has_power b ∙ sym (eq-eqb i b e)
 
     there : (i ≡ b → ⊥) → has_bit (2 ^ b) i ≡ (i == b)
-    there n = false_from_ne_true _ (λ t. n (power_has b i t)) ∙ sym (ne_eqb i b n)
+    there n = false_from_ne_true _ (λ t. n (only_bit b i t)) ∙ sym (ne_eqb i b n)
 
 -- a place is found at itself
 pub is_eq_itself : (i : ℕ) → is_eq (nat_cmp i i) ≡ true

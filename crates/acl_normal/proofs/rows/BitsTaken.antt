@@ -4,7 +4,7 @@ use Rattle.std.proofs.Common.{sym, ◌∙◌, ap, arith, ⊎_elim, add-one, subs
 use Rattle.std.proofs.lemmas.Bool.{cases_eq, eq-eqb, ne_eqb, cases_lt, le-ltb, lt-ltb}
 use Rattle.acl_perm.specs.Principal.{Principal}
 use Rattle.acl_perm.specs.Bits.{has_bit}
-use Rattle.acl_perm.proofs.Sets.{has_bit-or}
+use Rattle.acl_perm.proofs.Sets.{has_bit-or, no_bit}
 use Rattle.acl_nfs4.specs.Ace.{Ace, ace}
 use Rattle.acl_nfs4.specs.Who.{principal_of}
 use Rattle.acl_nfs4.specs.declared.ace.AceRef.{AceRef}
@@ -13,9 +13,10 @@ use Rattle.acl_eval.proofs.Scans.{has_bit-without}
 use Rattle.acl_normal.specs.Keys.{principal_eq}
 use Rattle.acl_normal.specs.Normal.{is_inherit_only}
 use Rattle.acl_normal.specs.internal.Shown.{with_masks}
-use Rattle.acl_normal.specs.Places.{without_bits, take_out, key_here}
+use Rattle.acl_normal.specs.Places.{without_bits, take_out}
+use Rattle.acl_normal.specs.internal.AtPlaces.{key_here}
 use Rattle.acl_normal.specs.internal.Ready.{low_bits}
-use Rattle.acl_normal.proofs.unique.Bits.{masks_same, no_bits_of_zero}
+use Rattle.acl_normal.proofs.unique.Bits.{masks_same}
 use Rattle.acl_normal.proofs.rows.BitTaken.{power_is}
 
 -- no bits taken out leave the ACE
@@ -23,7 +24,7 @@ pub without_nothing : (p : Principal) (a : Ace) → without_bits p 0 a ≡ a
 without_nothing p a = go (principal_eq (principal_of a) p && not (is_inherit_only a)) refl
   where
     same : without a.mask 0 ≡ a.mask
-    same = masks_same _ _ (λ b. has_bit-without a.mask 0 b ∙ rw (no_bits_of_zero b) (kept (has_bit a.mask b)))
+    same = masks_same _ _ (λ b. has_bit-without a.mask 0 b ∙ rw (no_bit b) (kept (has_bit a.mask b)))
       where
         kept : (t : Bool) → (t && true) ≡ t
         kept true = refl
@@ -79,7 +80,7 @@ emit_same p m b xs ys h e = rw add-one (rw h e)
 
 -- the bits below a place
 pub has_bit-low : (m b i : ℕ) → has_bit (low_bits m b) i ≡ (has_bit m i && nat_lt i b)
-has_bit-low m zero i = no_bits_of_zero i ∙ sym (rw (le-ltb i 0 (omega arith)) (none (has_bit m i)))
+has_bit-low m zero i = no_bit i ∙ sym (rw (le-ltb i 0 (omega arith)) (none (has_bit m i)))
   where
     none : (t : Bool) → (t && false) ≡ false
     none true = refl

@@ -15,10 +15,12 @@ use Rattle.acl_nfs4.specs.Ace.{Ace}
 use Rattle.acl_nfs4.specs.Who.{principal_of}
 use Rattle.acl_eval.specs.Column.{column}
 use Rattle.acl_normal.specs.Keys.{Key, kind_eq}
-use Rattle.acl_normal.specs.Normal.{IsQuiet, counts}
-use Rattle.acl_normal.specs.Places.{first_at, key_here, mask_here, principal_here, same_class, waits}
+use Rattle.acl_normal.specs.Normal.{counts}
+use Rattle.acl_normal.specs.internal.Tidy.{IsQuiet}
+use Rattle.acl_normal.specs.Places.{first_at, same_class, waits}
+use Rattle.acl_normal.specs.internal.AtPlaces.{mask_here, principal_here, key_here}
 use Rattle.acl_normal.specs.internal.Emissions.{IsOnce}
-use Rattle.acl_normal.specs.internal.Rows.{AreRowNumbers, IsByPrincipal, IsRow, first_place, row_of}
+use Rattle.acl_normal.specs.internal.Rows.{AreRowNumbers, IsByPrincipal, IsRowOf, first_place, row_of}
 use Rattle.acl_normal.proofs.emit.Walk.{key_from_first, same_class_itself, stands_at}
 use Rattle.acl_normal.proofs.rows.Rows.{named_here, row_same}
 use Rattle.acl_normal.proofs.rows.TakeOut.{IsHere, IsThere, first_cases}
@@ -38,9 +40,9 @@ first_by_place b p xs i h = go (first_at b p xs) refl
         e ∙ ap (λ v. Some (v, l)) (sym kind) ∙ ap (λ v. Some ((key_here xs v).1, v)) same
 
 -- which is one of the list
-pub first_in : (b : ℕ) (p : Principal) (xs : List Ace) (e : Kind × ℕ) → first_at b p xs ≡ Some e → e.1 < length xs
-first_in b p [] e h = cc
-first_in b p (a ∷ xs) (j, i) h = go (first_cases b p a xs j i h) (λ l. first_in b p xs (j, l))
+pub first_in_list : (b : ℕ) (p : Principal) (xs : List Ace) (e : Kind × ℕ) → first_at b p xs ≡ Some e → e.1 < length xs
+first_in_list b p [] e h = cc
+first_in_list b p (a ∷ xs) (j, i) h = go (first_cases b p a xs j i h) (λ l. first_in_list b p xs (j, l))
   where
     go : IsHere b p a j i ⊎ IsThere b p a xs j i
         → ((l : ℕ) → first_at b p xs ≡ Some (j, l) → l < length xs) → i < length (a ∷ xs)
@@ -86,8 +88,8 @@ has_first b p (a ∷ xs) j i h = go (first_cases b p a xs j i h) (has_first b p 
     go (inr there) ih = rw there.place (ih there.before there.first)
 
 -- the ACE at a place that is first of a principal names it
-named_there : (b : ℕ) (p : Principal) (xs : List Ace) (i : ℕ) → first_place b p xs ≡ Some i → principal_here xs i ≡ p
-named_there b p xs i h = ap (λ (k : Key). k.0) (key_from_first b p xs _ i (first_by_place b p xs i h))
+first_named : (b : ℕ) (p : Principal) (xs : List Ace) (i : ℕ) → first_place b p xs ≡ Some i → principal_here xs i ≡ p
+first_named b p xs i h = ap (λ (k : Key). k.0) (key_from_first b p xs _ i (first_by_place b p xs i h))
 
 -- ---- the places of a row, in the order of the principals
 
@@ -120,7 +122,7 @@ ArePassed b xs order from to =
 
 -- where none of the places of a row had the bit up to one of another row, or to the last, its principal has none
 pub row_passed : (b : ℕ) (xs : List Ace) (rows order : List ℕ) (row to : ℕ) (p : Principal) → AreRowNumbers xs rows
-    → IsByPrincipal xs order → IsRow row p xs → row ≤ to → ArePassed b xs order row to
+    → IsByPrincipal xs order → IsRowOf row p xs → row ≤ to → ArePassed b xs order row to
     → (to < length xs → slice_index_or rows (slice_index_or order to 0) 0 ≡ row → ⊥) → first_place b p xs ≡ None
 row_passed b xs rows order row to p numbers by at from passed other = go (first_place b p xs) refl
   where
@@ -128,8 +130,8 @@ row_passed b xs rows order row to p numbers by at from passed other = go (first_
     go None e = e
     go (Some i) e =
         let first = first_by_place b p xs i e in
-        let within : i < length xs = first_in b p xs _ first in
-        let whose : principal_here xs i ≡ p = named_there b p xs i e in
+        let within : i < length xs = first_in_list b p xs _ first in
+        let whose : principal_here xs i ≡ p = first_named b p xs i e in
         let w = by.whole i within in
         let begins : row ≤ w.0 = omega (arith, at.is, ap (λ v. row_of v xs) whose, w.1) in
         absurd (⊎_elim
@@ -147,7 +149,7 @@ row_passed b xs rows order row to p numbers by at from passed other = go (first_
 
 -- a place of the row that has the bit is that of its principal's first ACE with it
 pub row_has : (b : ℕ) (xs : List Ace) (rows : List ℕ) (row i : ℕ) (p : Principal) → AreRowNumbers xs rows
-    → IsRow row p xs → IsOnce (column xs b) → IsQuiet xs → i < length xs → slice_index_or rows i 0 ≡ row
+    → IsRowOf row p xs → IsOnce (column xs b) → IsQuiet xs → i < length xs → slice_index_or rows i 0 ≡ row
     → has_bit (mask_here xs i) b ≡ true → first_place b p xs ≡ Some i
 row_has b xs rows row i p numbers at once quiet l is has =
     let whose : principal_here xs i ≡ p =

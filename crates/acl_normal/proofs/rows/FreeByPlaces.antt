@@ -8,7 +8,8 @@ use Rattle.acl_nfs4.specs.Ace.{Ace}
 use Rattle.acl_nfs4.specs.Who.{principal_of}
 use Rattle.acl_eval.specs.Column.{Column, first_kind, column}
 use Rattle.acl_normal.specs.Keys.{principal_eq, kind_eq, conflicts}
-use Rattle.acl_normal.specs.Places.{same_class, waits_before, is_blocked, first_at}
+use Rattle.acl_normal.specs.Places.{same_class, first_at}
+use Rattle.acl_normal.specs.internal.AtPlaces.{is_blocked, waits_before}
 use Rattle.acl_perm.specs.Kind.{other_kind}
 use Rattle.acl_normal.specs.internal.Alike.{is_either}
 use Rattle.acl_normal.specs.Normal.{is_free, counts}
@@ -16,6 +17,7 @@ use Rattle.acl_normal.specs.internal.Emissions.{IsOnce}
 use Rattle.acl_normal.proofs.unique.Names.{principal_eq_same}
 use Rattle.acl_normal.proofs.unique.Free.{kind_eq_itself}
 use Rattle.acl_normal.proofs.rows.PairParts.{some_pair}
+use Rattle.std.proofs.Math.Bool.{and-false}
 
 -- different principals conflict if their kinds differ and one is no user name
 pub conflict_is : (s p : Principal) (j k : Kind) → principal_eq s p ≡ false
@@ -79,11 +81,6 @@ lacking_not_free p k ((s, j) ∷ c) h = go (principal_eq s p) refl (lacking_not_
         none true = refl
         none false = refl
 
--- nothing and nothing
-pub and_false : (t : Bool) → (t && false) ≡ false
-and_false true = refl
-and_false false = refl
-
 other_differs : (j : Kind) → kind_eq j (other_kind j) ≡ false
 other_differs Deny = refl
 other_differs Allow = refl
@@ -135,8 +132,8 @@ free_at_first b p (a ∷ xs) j i once h =
           other_differs j,
           lacking_not_free p (other_kind j) (column xs b)
               lacks,
-          and_false (not (is_user p)),
-        ) (refl, and_false _)
+          and-false (not (is_user p)),
+        ) (refl, and-false _)
     go true e false f None g ih = cc (rw (e, f, g) at h)
     go true e false f (Some (l, k)) g ih =
         let both = some_pair l j (suc k) i (rw (e, f, g) at h) in
@@ -146,7 +143,7 @@ free_at_first b p (a ∷ xs) j i once h =
         let before = ih k later.1 (g ∙ ap (λ v. Some (v, k)) kind) in
         let clash = conflict_is (principal_of a) p a.kind j f in
         let none : is_free ((principal_of a, a.kind) ∷ column xs b) (p, other_kind j) ≡ false =
-        rw (f, before.1) (and_false (not (conflicts (principal_of a, a.kind) (p, other_kind j)))) in
+        rw (f, before.1) (and-false (not (conflicts (principal_of a, a.kind) (p, other_kind j)))) in
         let some : is_free ((principal_of a, a.kind) ∷ column xs b) (p, j)
         ≡ (not (conflicts (principal_of a, a.kind) (p, j)) && not (is_blocked j (is_user p) b xs k)) =
         rw (f, before.0) refl in
@@ -171,5 +168,5 @@ none_free b p k (a ∷ xs) h =
     go false e s f None g ih = rw e (ih g)
     go false e s f (Some l) g ih = cc (rw (e, g) at h)
     go true e true f o g ih = cc (rw (e, f) at h)
-    go true e false f None g ih = rw (e, f, ih g) (and_false (not (conflicts (principal_of a, a.kind) (p, k))))
+    go true e false f None g ih = rw (e, f, ih g) (and-false (not (conflicts (principal_of a, a.kind) (p, k))))
     go true e false f (Some l) g ih = cc (rw (e, f, g) at h)

@@ -63,18 +63,18 @@ compare {A} m k below above same = go (cases_lt m k) (cases_lt k m)
     go (inr l) (inr u) = same (omega (arith, l, u))
 
 -- two numbers, compared first, leave an answer as it is
-abbrev Agrees : ℕ → ℕ → Ordering → Type 0
-Agrees m k o = ordering_then (nat_cmp m k) o ≡ o
+abbrev AgreesFirst : ℕ → ℕ → Ordering → Type 0
+AgreesFirst m k o = ordering_then (nat_cmp m k) o ≡ o
 
 -- numbers that never say other than the answer
-agrees : (m k : ℕ) (o : Ordering) → (m < k → o ≡ Less) → (k < m → o ≡ Greater) → Agrees m k o
+agrees : (m k : ℕ) (o : Ordering) → (m < k → o ≡ Less) → (k < m → o ≡ Greater) → AgreesFirst m k o
 agrees m k o below above =
     compare m k (λ l. rw (less m k l) (sym (below l))) (λ l. rw (greater m k l) (sym (above l)))
     (λ e. rw (equal m k e) refl)
 
 -- heads that follow what stands before them, and agree with the rest where that is the same
-decided : (b c m k : ℕ) (rest : Ordering) → (b < c → m < k) → (c < b → k < m) → (b ≡ c → Agrees m k rest)
-    → Agrees m k (ordering_then (nat_cmp b c) rest)
+decided : (b c m k : ℕ) (rest : Ordering) → (b < c → m < k) → (c < b → k < m) → (b ≡ c → AgreesFirst m k rest)
+    → AgreesFirst m k (ordering_then (nat_cmp b c) rest)
 decided b c m k rest below above same =
     compare b c
     (λ l. rw (less b c l) (agrees m k Less (λ h. refl) (λ h. absurd (omega (arith, h, below l)))))
@@ -83,7 +83,7 @@ decided b c m k rest below above same =
 
 -- behind equal bytes the names decide
 names_agree : (n m k : ℕ) (xs ys : List ℕ) → IsBytes xs → IsBytes ys → m ≡ k
-    → Agrees (head_from m n xs) (head_from k n ys) (slice_cmp nat_cmp xs ys)
+    → AgreesFirst (head_from m n xs) (head_from k n ys) (slice_cmp nat_cmp xs ys)
 names_agree zero m k xs ys f g e = rw (equal m k e) refl
 names_agree (suc n) m k [] [] f g e = rw e (rw (equal (head_from k (suc n) []) (head_from k (suc n) []) refl) refl)
 names_agree (suc n) m k [] (c ∷ ys) f g e =
@@ -102,7 +102,7 @@ names_agree (suc n) m k (b ∷ xs) (c ∷ ys) f g e =
 
 -- the heads never say other than the principals
 heads_agree : (p q : Principal) → IsBytes (principal_name p) → IsBytes (principal_name q)
-    → Agrees (principal_head p) (principal_head q) (principal_cmp p q)
+    → AgreesFirst (principal_head p) (principal_head q) (principal_cmp p q)
 heads_agree p q f g =
     decided (principal_rank p) (principal_rank q) (principal_head p) (principal_head q)
     (slice_cmp nat_cmp (principal_name p) (principal_name q))
@@ -118,7 +118,7 @@ compared_as p q m k answer f g e unlike = e ∙ go (nat_cmp m k) refl ∙ whole
     principals : Ordering
     principals = principal_cmp (principal p) (principal q)
 
-    whole : Agrees m k principals
+    whole : AgreesFirst m k principals
     whole = rw (f.is, g.is) (heads_agree (principal p) (principal q) f.bytes g.bytes)
 
     go : (o : Ordering) → nat_cmp m k ≡ o → o ≡ ordering_then o principals

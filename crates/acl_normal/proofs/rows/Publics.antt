@@ -7,18 +7,17 @@ use Rattle.acl_perm.specs.Principal.{Principal}
 use Rattle.acl_perm.specs.declared.kind.Kind.{Kind}
 use Rattle.acl_perm.specs.declared.right.Right.{Right}
 use Rattle.acl_perm.specs.declared.kind.Kind.TheVariants.{Deny, Allow}
-use Rattle.acl_perm.proofs.Sets.{bits_from_mask}
+use Rattle.acl_perm.proofs.Sets.{bits_from_mask, no_bit}
 use Rattle.acl_nfs4.specs.Ace.{Ace}
 use Rattle.acl_eval.specs.Column.{column}
 use Rattle.acl_normal.specs.Left.{HasFree, IsLowest}
 use Rattle.acl_normal.specs.Normal.{is_free}
 use Rattle.acl_normal.specs.internal.NextRight.{IsNextRight, LacksFrom}
-use Rattle.acl_normal.proofs.reduce.Reducing.{below}
-use Rattle.acl_normal.proofs.unique.Bits.{no_bits_of_zero}
+use Rattle.acl_normal.proofs.reduce.Reducing.{rights_below}
 
 -- a right is one of the first 21 bits
 pub right_below : (bits b : ℕ) → IsMask bits → has_bit bits b ≡ true → b < 21
-right_below bits b is h = below b (bits_from_mask bits b is h)
+right_below bits b is h = rights_below b (bits_from_mask bits b is h)
 
 -- a set of rights has no bit from 21 on
 pub no_right_above : (bits : ℕ) → IsMask bits → (b : ℕ) → 21 ≤ b → has_bit bits b ≡ false
@@ -30,11 +29,11 @@ no_right_above bits is b l = false_from_ne_true _ (λ h. absurd (omega (arith, l
 abbrev pub free_either : List Ace → Principal → ℕ → Bool
 free_either list p b = is_free (column list b) (p, Deny) || is_free (column list b) (p, Allow)
 
--- none of the bits below a place is free
+-- none of the bits rights_below a place is free
 abbrev pub NoneFree : List Ace → Principal → ℕ → ℕ → Type 0
 NoneFree list p bits n = (b : ℕ) → b < n → has_bit bits b ≡ true → free_either list p b ≡ false
 
--- below the first place there is none
+-- rights_below the first place there is none
 pub none_free_yet : (list : List Ace) (p : Principal) (bits : ℕ) → NoneFree list p bits 0
 none_free_yet list p bits b l h = absurd (omega (arith, l))
 
@@ -49,12 +48,12 @@ none_free_more list p bits n before here b l h = elim (cases_eq b n) [
     less : (b ≡ n → ⊥) → b < n
     less other = ⊎_elim (λ g. g) (λ g. absurd (other (omega (arith, g, l)))) (cases_lt b n)
 
-some_kind : (list : List Ace) (p : Principal) (bits b : ℕ) (d a : Bool) → has_bit bits b ≡ true
+free_kind : (list : List Ace) (p : Principal) (bits b : ℕ) (d a : Bool) → has_bit bits b ≡ true
     → is_free (column list b) (p, Deny) ≡ d → is_free (column list b) (p, Allow) ≡ a → (d || a) ≡ true
     → HasFree list p bits
-some_kind list p bits b true a has e f h = (b, Deny, has, e)
-some_kind list p bits b false true has e f h = (b, Allow, has, f)
-some_kind list p bits b false false has e f h = absurd cc
+free_kind list p bits b true a has e f h = (b, Deny, has, e)
+free_kind list p bits b false true has e f h = (b, Allow, has, f)
+free_kind list p bits b false false has e f h = absurd cc
 
 -- a bit that is not asked for
 pub none_free_absent : (list : List Ace) (p : Principal) (bits n : ℕ) → NoneFree list p bits n
@@ -68,7 +67,7 @@ none_free_absent list p bits n before lacks =
 -- a bit that is free
 pub free_there : (list : List Ace) (p : Principal) (bits b : ℕ) → has_bit bits b ≡ true
     → free_either list p b ≡ true → IsTrue true ↔ HasFree list p bits
-free_there list p bits b has free = (λ t. some_kind list p bits b _ _ has refl refl free, λ h. refl)
+free_there list p bits b has free = (λ t. free_kind list p bits b _ _ has refl refl free, λ h. refl)
 
 -- where none is, there is none
 pub free_nowhere : (list : List Ace) (p : Principal) (bits : ℕ) → IsMask bits → NoneFree list p bits 21
@@ -116,7 +115,7 @@ pub no_lowest : (bits : ℕ) (next : Option Right) → IfSome next (λ right. Is
     → next ≡ None
 no_lowest bits None some none = refl
 no_lowest bits (Some right) some none =
-    absurd (clash (sym (ap (λ v. has_bit v right.bit) none ∙ no_bits_of_zero right.bit) ∙ some.has))
+    absurd (clash (sym (ap (λ v. has_bit v right.bit) none ∙ no_bit right.bit) ∙ some.has))
   where
     clash : false ≡ true → ⊥
     clash e = cc

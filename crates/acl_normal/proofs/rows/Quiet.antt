@@ -5,8 +5,8 @@ use Rattle.acl_perm.specs.Principal.{Principal}
 use Rattle.acl_nfs4.specs.Ace.{Ace}
 use Rattle.acl_nfs4.specs.Who.{principal_of}
 use Rattle.acl_normal.specs.Keys.{principal_eq}
-use Rattle.acl_normal.specs.Left.{IsTidy}
-use Rattle.acl_normal.specs.Normal.{is_inherit_only, IsQuiet}
+use Rattle.acl_normal.specs.internal.Tidy.{IsTidy, IsQuiet}
+use Rattle.acl_normal.specs.Normal.{is_inherit_only}
 use Rattle.acl_normal.specs.Places.{without_bits, take_out}
 use Rattle.acl_normal.proofs.rows.TakeOut.{low_taken, once_taken}
 

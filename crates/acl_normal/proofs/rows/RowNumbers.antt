@@ -17,9 +17,9 @@ use Rattle.acl_perm.proofs.Orders.{principal_exact, principal_order, principals_
 use Rattle.acl_nfs4.specs.Ace.{Ace, ace}
 use Rattle.acl_nfs4.specs.Who.{principal_of}
 use Rattle.acl_nfs4.specs.declared.ace.AceRef.{AceRef}
-use Rattle.acl_normal.specs.Places.{key_here}
+use Rattle.acl_normal.specs.internal.AtPlaces.{key_here}
 use Rattle.acl_normal.specs.internal.RowNumbers.{AreSortedNames, named_from, named_of}
-use Rattle.acl_normal.specs.internal.Rows.{AreRowNumbers, IsByPrincipal, IsRow, is_named, row_of}
+use Rattle.acl_normal.specs.internal.Rows.{AreRowNumbers, IsByPrincipal, IsRowOf, is_named, row_of}
 use Rattle.acl_normal.specs.internal.Shown.{aces_in}
 use Rattle.acl_normal.specs.declared.rows.numbers.NamedPlace.{NamedPlace}
 use Rattle.acl_normal.proofs.rows.HeadOrder.{owner_head}
@@ -126,9 +126,9 @@ le_then_less a b p h l = go (principal_cmp a b) refl
         let turned : principal_cmp b a ≡ Less = principal_order.reversed a b ∙ ap ordering_reverse e in
         absurd (cc)
 
--- who is neither below nor above is the same
-neither : (a b : Principal) → is_lt (principal_cmp a b) ≡ false → is_lt (principal_cmp b a) ≡ false → a ≡ b
-neither a b h l = go (principal_cmp a b) refl
+-- who is neither_below below nor above is the same
+neither_below : (a b : Principal) → is_lt (principal_cmp a b) ≡ false → is_lt (principal_cmp b a) ≡ false → a ≡ b
+neither_below a b h l = go (principal_cmp a b) refl
   where
     go : (o : Ordering) → principal_cmp a b ≡ o → a ≡ b
     go Less e = cc
@@ -248,7 +248,7 @@ module _ (xs : List Ace) (names : List (Principal × ℕ)) (s : AreSortedNames x
       before : (k : ℕ) → suc k ≡ i → row ≤ k → ⊥
       before k e le =
           first k e
-          (neither (at k).0 p ((row_parts p).1 k no_name le (omega (arith, l, e)))
+          (neither_below (at k).0 p ((row_parts p).1 k no_name le (omega (arith, l, e)))
           (names_far k i (omega (arith, e)) l))
 
       last : (i : ℕ) → row < i → (k : ℕ) × (suc k ≡ i)
@@ -514,7 +514,7 @@ places_by_principal xs named s = record {
         let row : row_of p xs < length xs = row_below p xs h in
         let le : row_of p xs ≤ w.0 = after p w.0 w.1 is (cases_lt w.0 (row_of p xs)) in
         here (row_of p xs) row
-        ∙ neither (at (row_of p xs)).0 p
+        ∙ neither_below (at (row_of p xs)).0 p
         ((row_parts xs names s p).1 (row_of p xs) no_name (omega arith) (in_names (row_of p xs) row))
         (subst (λ v. is_lt (principal_cmp v (at (row_of p xs)).0) ≡ false) is
         (names_far xs names s (row_of p xs) w.0 le w.1))
@@ -560,7 +560,7 @@ search_rises xs order p o =
 pub found_row : (xs : List Ace) (rows order : List ℕ) (p : Principal) (i : ℕ) → AreRowNumbers xs rows
     → IsByPrincipal xs order → i < length order
     → HoldsAt (λ y. principal_cmp (key_here xs y).0 p ≡ Equal) order i
-    → IsRow (slice_index_or rows (slice_index_or order i 0) 0) p xs
+    → IsRowOf (slice_index_or rows (slice_index_or order i 0) 0) p xs
 found_row xs rows order p i r o l h =
     let place : slice_index_or order i 0 < length xs = o.within i (omega (arith, l, o.count)) in
     let is : (key_here xs (slice_index_or order i 0)).0 ≡ p =

@@ -1,5 +1,5 @@
 -- Bits of a principal taken out of a list.
-use Rattle.std.specs.Prelude.{◌≡◌, ◌≢◌, ℕ, ◌≤◌, ◌^◌, ◌⊎◌, zero, suc, Bool, true, false, cond, not, ◌&&◌, List, [], ◌∷◌, Option, Some, None, slice_set, slice_index_or, refl}
+use Rattle.std.specs.Prelude.{◌≡◌, ◌≢◌, ℕ, ◌≤◌, ◌^◌, ◌⊎◌, zero, suc, Bool, true, false, cond, not, ◌&&◌, List, [], ◌∷◌, Option, Some, None, refl}
 use Rattle.std.proofs.Common.{sym, ◌∙◌, ap, subst, inl, inr}
 use Rattle.std.proofs.lemmas.Bool.{and_parts}
 use Rattle.acl_perm.specs.Principal.{Principal, is_user}
@@ -7,7 +7,6 @@ use Rattle.acl_perm.specs.declared.kind.Kind.{Kind}
 use Rattle.acl_perm.specs.Bits.{has_bit}
 use Rattle.acl_nfs4.specs.Ace.{Ace}
 use Rattle.acl_nfs4.specs.Who.{principal_of}
-use Rattle.acl_nfs4.specs.declared.ace.AceRef.{AceRef}
 use Rattle.acl_eval.specs.Column.{Column, first_kind, column}
 use Rattle.acl_eval.specs.Scan.{without}
 use Rattle.acl_eval.proofs.Scans.{has_bit-without}
@@ -17,9 +16,9 @@ use Rattle.acl_normal.specs.internal.Alike.{is_either}
 use Rattle.acl_normal.specs.Normal.{is_inherit_only, counts}
 use Rattle.acl_normal.specs.internal.Emissions.{IsOnce, HasOnceColumns}
 use Rattle.acl_normal.specs.internal.Plain.{without_principal}
-use Rattle.acl_normal.specs.internal.Shown.{with_masks}
 use Rattle.acl_normal.proofs.unique.Names.{principal_eq_same, principal_eq_itself}
-use Rattle.acl_normal.proofs.unique.Bits.{power_has, masks_same}
+use Rattle.acl_normal.proofs.unique.Bits.{masks_same}
+use Rattle.acl_eval.proofs.Same.{only_bit}
 use Rattle.acl_normal.proofs.unique.FirstAndRest.{once_without}
 use Rattle.acl_normal.proofs.rows.PairParts.{some_pair}
 use Rattle.acl_normal.proofs.unique.Columns.{column_first}
@@ -260,7 +259,7 @@ bits_absent b p a h = go (principal_eq (principal_of a) p) refl (is_inherit_only
         at : (i : ℕ) (t : Bool) → has_bit (2 ^ b) i ≡ t
             → (has_bit a.mask i && not (has_bit (2 ^ b) i)) ≡ has_bit a.mask i
         at i true e =
-            let same : i ≡ b = power_has b i e in
+            let same : i ≡ b = only_bit b i e in
             let none : has_bit a.mask i ≡ false = subst (λ v. has_bit a.mask v ≡ false) (sym same) l in
             rw none refl
         at i false e = rw e (pure (has_bit a.mask i))
@@ -359,35 +358,6 @@ once_taken p m xs once b = rw (column_taken b p m xs) (go (has_bit m b))
     go : (t : Bool) → IsOnce (cond t (without_principal p (column xs b)) (column xs b))
     go true = once_without p (column xs b) (once b)
     go false = once b
-
--- with the mask at the place written
-pub written : (b : ℕ) (p : Principal) (aces : List AceRef) (masks : List ℕ) (j : Kind) (i : ℕ)
-    → IsOnce (column (with_masks aces masks) b) → first_at b p (with_masks aces masks) ≡ Some (j, i)
-    → with_masks aces (slice_set masks i (without (slice_index_or masks i 0) (2 ^ b))) ≡ take_out p (2 ^ b)
-    (with_masks aces masks)
-written b p [] masks j i once f = cc
-written b p (x ∷ aces) [] j i once f = cc
-written b p (x ∷ aces) (m ∷ masks) j i once f =
-    go (first_cases b p head (with_masks aces masks) j i f) (written b p aces masks j)
-  where
-    head : Ace
-    head = record { kind = x.kind; flags = x.flags.bits; mask = m; who = x.who.now }
-
-    go : IsHere b p head j i ⊎ IsThere b p head (with_masks aces masks) j i
-        → ((i : ℕ) → IsOnce (column (with_masks aces masks) b) → first_at b p (with_masks aces masks) ≡ Some (j, i)
-        → with_masks aces (slice_set masks i (without (slice_index_or masks i 0) (2 ^ b))) ≡ take_out p (2 ^ b)
-        (with_masks aces masks)) → with_masks (x ∷ aces)
-        (slice_set (m ∷ masks) i (without (slice_index_or (m ∷ masks) i 0) (2 ^ b))) ≡ take_out p (2 ^ b)
-        (with_masks (x ∷ aces) (m ∷ masks))
-    go (inl here) ih =
-        let both = and_parts (has_bit m b) (not (is_inherit_only head)) here.counts in
-        rw (here.place, here.same, both.1)
-        (ap (λ v. record head { mask = without m (2 ^ b) } ∷ v)
-        (sym (take_none b p (with_masks aces masks) (none_behind b p head (with_masks aces masks) j i once here))))
-    go (inr there) ih =
-        rw there.place (ap (λ v. head ∷ v)
-        (ih there.before (once_rest b head (with_masks aces masks) once) there.first)
-        ∙ ap (λ v. v ∷ take_out p (2 ^ b) (with_masks aces masks)) (sym (bits_absent b p head there.other)))
 
 -- what no column has does not appear
 pub none_taken : (p : Principal) (m : ℕ) (xs : List Ace) (b : ℕ) → column xs b ≡ [] → column (take_out p m xs) b ≡ []

@@ -18,14 +18,15 @@ use Rattle.acl_nfs4.specs.Ace.{Ace}
 use Rattle.acl_nfs4.specs.Who.{principal_of}
 use Rattle.acl_nfs4.specs.declared.ace.AceRef.{AceRef}
 use Rattle.acl_normal.specs.Keys.{kind_eq}
-use Rattle.acl_normal.specs.Normal.{IsQuiet, is_inherit_only, counts}
-use Rattle.acl_normal.specs.Places.{is_waiting, same_class, slot_of, waits}
+use Rattle.acl_normal.specs.Normal.{is_inherit_only, counts}
+use Rattle.acl_normal.specs.internal.Tidy.{IsQuiet}
+use Rattle.acl_normal.specs.Places.{is_waiting, same_class, waits}
+use Rattle.acl_normal.specs.internal.Waiting.{slot_of, HoldWaiting, Notes, places_of}
 use Rattle.acl_perm.specs.Principal.{is_user}
 use Rattle.acl_normal.specs.internal.Shown.{with_masks}
-use Rattle.acl_normal.specs.internal.Waiting.{HoldWaiting, Notes, places_of}
 use Rattle.acl_normal.proofs.emit.Walk.{head_in, waits_within}
 use Rattle.acl_normal.proofs.rows.BitTaken.{NoKeys, class_same, is_eq_itself, is_eq_same, slot_below, slot_same}
-use Rattle.acl_normal.proofs.unique.Bits.{no_bits_of_zero}
+use Rattle.acl_perm.proofs.Sets.{no_bit}
 use Rattle.acl_normal.proofs.unique.Free.{kind_eq_same, kind_eq_itself}
 use Rattle.acl_normal.proofs.unique.Outline.{length_shown}
 
@@ -91,11 +92,11 @@ no_places_hold lists n e is = record {
 }
 
 -- the places of a list that indexing gives
-pub places_there : (lists : List (Vec ℕ Global)) (i : ℕ) (d : Vec ℕ Global) → i < length lists
+pub listed_there : (lists : List (Vec ℕ Global)) (i : ℕ) (d : Vec ℕ Global) → i < length lists
     → (slice_index_or lists i d).items ≡ slice_index_or (all_places lists) i []
-places_there [] i d l = absurd (omega (arith, l))
-places_there (v ∷ lists) zero d l = refl
-places_there (v ∷ lists) (suc i) d l = places_there lists i d (omega (arith, l))
+listed_there [] i d l = absurd (omega (arith, l))
+listed_there (v ∷ lists) zero d l = refl
+listed_there (v ∷ lists) (suc i) d l = listed_there lists i d (omega (arith, l))
 
 -- ---- the bits of a mask
 
@@ -302,15 +303,15 @@ quiet_counts b a quiet = go (is_inherit_only a) refl
         kept true = refl
         kept false = refl
     go true e =
-        let none : has_bit a.mask b ≡ false = ap (λ m. has_bit m b) (quiet e) ∙ no_bits_of_zero b in
+        let none : has_bit a.mask b ≡ false = ap (λ m. has_bit m b) (quiet e) ∙ no_bit b in
         rw (none) refl
 
 -- an ACE of a quiet list is quiet
-pub quiet_at : (xs : List Ace) (i : ℕ) (d : Ace) → IsQuiet xs → i < length xs
+pub quiet_here : (xs : List Ace) (i : ℕ) (d : Ace) → IsQuiet xs → i < length xs
     → is_inherit_only (slice_index_or xs i d) ≡ true → (slice_index_or xs i d).mask ≡ 0
-quiet_at [] i d q l = absurd (omega (arith, l))
-quiet_at (a ∷ xs) zero d q l = q.0
-quiet_at (a ∷ xs) (suc i) d q l = quiet_at xs i d q.1 (omega (arith, l))
+quiet_here [] i d q l = absurd (omega (arith, l))
+quiet_here (a ∷ xs) zero d q l = q.0
+quiet_here (a ∷ xs) (suc i) d q l = quiet_here xs i d q.1 (omega (arith, l))
 
 -- the ACE that is shown with a mask
 abbrev pub shown_with : AceRef → ℕ → Ace
@@ -383,7 +384,7 @@ holds_more aces masks i x m user old new f e quiet l a b class g = record {
       where
         still : is_inherit_only (shown_with x m) ≡ true → m ≡ 0
         still h =
-            sym (ap (λ v. v.mask) is) ∙ quiet_at xs i (shown_with x m) quiet (omega (arith, l, count))
+            sym (ap (λ v. v.mask) is) ∙ quiet_here xs i (shown_with x m) quiet (omega (arith, l, count))
             (ap is_inherit_only is ∙ h)
 
     here : (k : Kind) (u : Bool) (c j : ℕ)

@@ -6,7 +6,8 @@ use Rattle.acl_perm.specs.declared.kind.Kind.{Kind}
 use Rattle.acl_nfs4.specs.Ace.{Ace}
 use Rattle.acl_eval.specs.Column.{column}
 use Rattle.acl_normal.specs.Keys.{ace_key}
-use Rattle.acl_normal.specs.Places.{is_waiting, waits, waits_before}
+use Rattle.acl_normal.specs.Places.{is_waiting, waits}
+use Rattle.acl_normal.specs.internal.AtPlaces.{waits_before}
 use Rattle.acl_normal.proofs.unique.Columns.{column_has, column_lacks, counts}
 
 -- none before, if none of the lesser places waits

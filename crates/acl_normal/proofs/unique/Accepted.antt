@@ -15,8 +15,8 @@ use Rattle.acl_nfs4.specs.Ace.{Ace}
 use Rattle.acl_nfs4.specs.Who.{IsWho, is_no_who_len, principal_of, owner_name, group_name, everyone_name}
 use Rattle.acl_nfs4.specs.Spelling.{IsAce, IsAccepted}
 use Rattle.acl_nfs4.proofs.Fields.{who_bounds}
-use Rattle.acl_normal.specs.SmallSituations.{HasName}
-use Rattle.acl_normal.specs.Normal.{HasNames, HasMasks}
+use Rattle.acl_normal.specs.internal.Names.{HasName, HasNames}
+use Rattle.acl_normal.specs.internal.Tidy.{HasMasks}
 
 -- ---- a who is a name
 

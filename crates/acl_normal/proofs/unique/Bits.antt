@@ -14,23 +14,9 @@ use Rattle.acl_perm.specs.declared.right.Right.{Right}
 use Rattle.acl_eval.specs.Scan.{without}
 use Rattle.acl_normal.specs.internal.NextRight.{IsNextRight, LacksFrom}
 
--- no mask, no bit
-pub no_bits_of_zero : (b : ℕ) → has_bit 0 b ≡ false
-no_bits_of_zero b = ap (λ v. v == 1) (bit_at-zero b)
-
 -- a power of two has its bit
 pub has_power : (b : ℕ) → has_bit (2 ^ b) b ≡ true
 has_power b = rw bit_at-pow_same refl
-
--- and no other
-pub power_has : (b i : ℕ) → has_bit (2 ^ b) i ≡ true → i ≡ b
-power_has b i h = ⊎_elim (λ e. e) (λ n. absurd (no n)) (cases_eq i b)
-  where
-    no : (i ≡ b → ⊥) → ⊥
-    no n =
-        let zero = bit_at-pow_other b i n in
-        let one = eqb-true (bit_at (2 ^ b) i) 1 h in
-        omega arith
 
 -- without a bit, a set does not have it
 pub bit_cleared : (m b : ℕ) → has_bit (without m (2 ^ b)) b ≡ false

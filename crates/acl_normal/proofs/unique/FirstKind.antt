@@ -9,11 +9,11 @@ use Rattle.acl_normal.specs.internal.Alike.{is_either, IsAlike}
 use Rattle.acl_normal.proofs.unique.Names.{either_first, either_second, either_within, overlaps_itself}
 
 -- the first test passes only where the second does
-abbrev pub IsWithin : (Principal → Bool) → (Principal → Bool) → Type 0
-IsWithin n m = (x : Principal) → n x ≡ true → m x ≡ true
+abbrev pub IsNarrower : (Principal → Bool) → (Principal → Bool) → Type 0
+IsNarrower n m = (x : Principal) → n x ≡ true → m x ≡ true
 
 -- a narrower test finds nothing where a wider one does not
-pub none_within : (m n : Principal → Bool) (c : Column) → first_kind m c ≡ None → IsWithin n m → first_kind n c ≡ None
+pub none_within : (m n : Principal → Bool) (c : Column) → first_kind m c ≡ None → IsNarrower n m → first_kind n c ≡ None
 none_within m n [] h w = refl
 none_within m n ((p, k) ∷ c) h w = grind (arith, none_within m n c, w p)
 
@@ -60,7 +60,7 @@ splits_at m ((p, j) ∷ c) k h = go (m p) refl (splits_at m c k)
 
 -- the first key that passes is the first of any narrower test that it passes
 pub first_within : (m n : Principal → Bool) (c : Column) (k : Kind) (s : SplitsAt m c k) → n s.principal ≡ true
-    → IsWithin n m → first_kind n c ≡ Some k
+    → IsNarrower n m → first_kind n c ≡ Some k
 first_within m n c k s h w =
     let none : first_kind n s.before ≡ None = none_within m n s.before s.none w in
     ap (first_kind n) s.is ∙ append_none n s.before _ none ∙ grind arith
@@ -75,7 +75,7 @@ not_missed : (m : Principal → Bool) (c d : Column) (k : Kind) → IsAlike c d 
 not_missed m c d k a h i =
     let s = splits_at m c k h in
     let p : Principal = s.principal in
-    let w : IsWithin (is_either p p) m = either_within m p p s.passes s.passes in
+    let w : IsNarrower (is_either p p) m = either_within m p p s.passes s.passes in
     let found = first_within m (is_either p p) c k s (either_first p p) w in
     let missed = none_within m (is_either p p) d i w in
     let both = a p p (overlaps_itself p) in
@@ -92,7 +92,7 @@ alike_agree m c d q a = go (first_kind m c) (first_kind m d) refl refl
     go (Some j) (Some k) h i =
         let s = splits_at m c j h in
         let t = splits_at m d k i in
-        let w : IsWithin (is_either s.principal t.principal) m =
+        let w : IsNarrower (is_either s.principal t.principal) m =
         either_within m s.principal t.principal s.passes t.passes in
         let left = first_within m (is_either s.principal t.principal) c j s (either_first s.principal t.principal) w in
         let right =

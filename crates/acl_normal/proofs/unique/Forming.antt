@@ -21,16 +21,20 @@ use Rattle.acl_eval.specs.Column.{Column, column}
 use Rattle.acl_eval.specs.Grant.{SameGrants}
 use Rattle.acl_normal.specs.Keys.{Key, ace_key}
 use Rattle.acl_normal.specs.Laws.{Has}
-use Rattle.acl_normal.specs.Normal.{IsNormal, HasNoEmptyMask, HasNormalFlags, HasMasks, flags_for, is_inherit_only, counts}
+use Rattle.acl_normal.specs.Normal.{IsNormal, HasNoEmptyMask, HasNormalFlags, flags_for, is_inherit_only, counts}
+use Rattle.acl_normal.specs.internal.Tidy.{HasMasks}
 use Rattle.acl_normal.specs.NormalForm.{IsNormalFormOf}
-use Rattle.acl_normal.proofs.unique.Bits.{no_bits, power_has}
+use Rattle.acl_normal.proofs.unique.Bits.{no_bits}
+use Rattle.acl_eval.proofs.Same.{only_bit}
 use Rattle.acl_normal.proofs.unique.Columns.{column_has, column_lacks}
 use Rattle.acl_normal.proofs.emit.Drained.{some_below}
 use Rattle.acl_normal.proofs.emit.Leaving.{masks_of_quiet}
 use Rattle.acl_normal.proofs.unique.ListColumns.{column-append, no_other_bits}
-use Rattle.acl_normal.proofs.reduce.Reducing.{below, only_one}
+use Rattle.acl_normal.proofs.reduce.Reducing.{rights_below, only_one}
 use Rattle.acl_normal.specs.internal.Ready.{who_for}
 use Rattle.acl_normal.proofs.unique.Unique.{who_is, column_with}
+use Rattle.acl_normal.proofs.unique.Weights.{length_under}
+use Rattle.acl_normal.proofs.plain.Kept.{within_from}
 
 -- the ACE of a list that is a key of a column
 pub record IsSource (b : ℕ) (xs : List Ace) (e : Key) : Type 0 where
@@ -103,14 +107,6 @@ pub record IsTaken (source result : List Ace) : Type 0 where
 masks_of : (xs : List Ace) → IsNormal xs → HasMasks xs
 masks_of xs n = masks_of_quiet xs (quiet_flags xs n.flags) (λ b out. no_other_bits xs b n.irreducible out)
 
-long_enough : (xs : List Ace) → HasNoEmptyMask xs → length xs ≤ weight xs
-long_enough [] h = omega arith
-long_enough (a ∷ xs) h = omega (arith, long_enough xs h.1, some (count_ones a.mask) refl, weight-cons a xs)
-  where
-    some : (n : ℕ) → count_ones a.mask ≡ n → 1 ≤ count_ones a.mask
-    some zero e = absurd (h.0 (zero_from_ones a.mask e))
-    some (suc n) e = omega (arith, e)
-
 -- a bit of an ACE of the result is one of an ACE of the source, of the same principal and type
 bit_source : (source xs l : List Ace) (a : Ace) (r : List Ace) (b : ℕ) → IsTaken source xs → xs ≡ l ++ a ∷ r
     → has_bit a.mask b ≡ true → IsSource b source (ace_key a)
@@ -133,7 +129,8 @@ own_source source xs l a r t is = elim (some_below a.mask 21) [
 ]
   where
     low : (b : ℕ) → has_bit a.mask b ≡ true → b < 21
-    low b h = below b (each_at (λ v. IsSubset v.mask all_rights) l a r (subst HasMasks is (masks_of xs t.normal)) b h)
+    low b h = rights_below b
+        (each_at (λ v. IsSubset v.mask all_rights) l a r (subst HasMasks is (masks_of xs t.normal)) b h)
 
     clash : false ≡ true → ⊥
     clash h = cc
@@ -141,21 +138,13 @@ own_source source xs l a r t is = elim (some_below a.mask 21) [
 same_who : (a s : Ace) → ace_key s ≡ ace_key a → a.who ≡ s.who
 same_who a s e = sym (who_is a) ∙ ap (λ k. who_for k.0) (sym e) ∙ who_is s
 
--- a set of bits that are bits of another is within it
-within_from : (set n : ℕ) → ((b : ℕ) → has_bit n b ≡ true → has_bit set b ≡ true) → IsWithin set n
-within_from set n h = same_set _ _ (λ b. has_bit-and n set b ∙ go b (has_bit n b) refl)
-  where
-    go : (b : ℕ) (t : Bool) → has_bit n b ≡ t → (has_bit n b && has_bit set b) ≡ has_bit n b
-    go b true e = rw (e, h b e) refl
-    go b false e = rw e refl
-
 -- and its bits are bits of that
-bits_within : (set n b : ℕ) → IsWithin set n → has_bit n b ≡ true → has_bit set b ≡ true
-bits_within set n b is h =
+bit_within : (set n b : ℕ) → IsWithin set n → has_bit n b ≡ true → has_bit set b ≡ true
+bit_within set n b is h =
     (and_parts (has_bit n b) (has_bit set b) (sym (has_bit-and n set b) ∙ ap (λ v. has_bit v b) is ∙ h)).1
 
 only_group : (b : ℕ) → has_bit 0x40 b ≡ true → b ≡ identifier_group
-only_group b h = power_has 6 b h
+only_group b h = only_bit 6 b h
 
 no_zero : (b : ℕ) → has_bit 0 b ≡ true → ⊥
 no_zero b h = absurd (clash (sym (ap (λ v. v == 1) (bit_at-zero b)) ∙ h))
@@ -202,19 +191,19 @@ taken_fits source xs t p h =
         (subst (Fits p) s.is h) in
         let own = each_at (λ v. v.flags ≡ flags_for (principal_of v)) l a r (subst HasNormalFlags is t.normal.flags) in
         subst (IsWithin p.flags) (sym own)
-        (flags_within p.flags (principal_of a) (λ name e. bits_within p.flags s.item.flags identifier_group fit.0
+        (flags_within p.flags (principal_of a) (λ name e. bit_within p.flags s.item.flags identifier_group fit.0
         (group_flag s.item name (ap (λ k. k.0) s.entry ∙ e))))
 
     masks : (l : List Ace) (a : Ace) (r : List Ace) → xs ≡ l ++ a ∷ r → IsWithin p.masks a.mask
     masks l a r is = within_from p.masks a.mask (λ b e.
         let s = bit_source source xs l a r b t is e in
-        bits_within p.masks s.item.mask b (each_at (λ v. IsWithin p.flags v.flags × IsWithin p.masks v.mask) s.before
+        bit_within p.masks s.item.mask b (each_at (λ v. IsWithin p.flags v.flags × IsWithin p.masks v.mask) s.before
         s.item s.after (subst (Fits p) s.is h)).1 s.has)
 
 -- and it is accepted where the source is
 pub taken_accepted : (source xs : List Ace) → IsTaken source xs → IsAccepted full source → IsAccepted full xs
 taken_accepted source xs t ok = record {
-  count = omega (arith, long_enough xs t.normal.irreducible.no_empty_mask, t.lighter, ok.weight);
+  count = omega (arith, length_under xs t.normal.irreducible.no_empty_mask, t.lighter, ok.weight);
   weight = omega (arith, t.lighter, ok.weight);
   each = each_from (IsAce full) xs (λ l a r is. record {
     flags =

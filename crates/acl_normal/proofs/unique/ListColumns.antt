@@ -8,8 +8,8 @@ use Rattle.acl_nfs4.specs.Ace.{Ace}
 use Rattle.acl_eval.specs.Column.{Column, verdict, SameVerdicts, column}
 use Rattle.acl_eval.specs.Grant.{SameGrants}
 use Rattle.acl_normal.specs.internal.Alike.{IsIrreducible, IsAlike}
-use Rattle.acl_normal.specs.SmallSituations.{HaveNames}
-use Rattle.acl_normal.specs.Normal.{is_inherit_only, without_bit, IsIrreducibleList, HasNames}
+use Rattle.acl_normal.specs.internal.Names.{HaveNames, HasNames}
+use Rattle.acl_normal.specs.Normal.{is_inherit_only, without_bit, IsIrreducibleList}
 use Rattle.acl_normal.specs.Keys.{Key, ace_key}
 use Rattle.acl_eval.proofs.Same.{by_columns}
 use Rattle.acl_normal.proofs.unique.Columns.{column_first}

@@ -12,8 +12,8 @@ use Rattle.acl_perm.specs.declared.kind.Kind.{Kind}
 use Rattle.acl_perm.specs.Situation.{IsName, is_one_of}
 use Rattle.acl_eval.specs.Column.{Column}
 use Rattle.acl_normal.specs.internal.Alike.{IsIrreducible}
-use Rattle.acl_normal.specs.SmallSituations.{HasName, HaveNames}
-use Rattle.acl_normal.proofs.unique.Names.{bytes_eq_same}
+use Rattle.acl_normal.specs.internal.Names.{HaveNames, HasName}
+use Rattle.acl_nfs4.proofs.SetFields.{same_bytes}
 use Rattle.acl_normal.proofs.unique.Irreducible.{not_needless}
 
 -- each number is a byte
@@ -29,7 +29,7 @@ Decides-is_name a =
 one_of_names : (a : List ℕ) (names : List (List ℕ)) → AllByRecursion IsName names → is_one_of a names ≡ true → IsName a
 one_of_names a [] h i = absurd (cc)
 one_of_names a (x ∷ names) h i =
-    ⊎_elim (λ e. subst (λ v. IsName v) (sym (bytes_eq_same a x e)) h.0) (λ e. one_of_names a names h.1 e)
+    ⊎_elim (λ e. subst (λ v. IsName v) (sym (same_bytes a x e)) h.0) (λ e. one_of_names a names h.1 e)
     (or_cases (bytes_eq a x) (is_one_of a names) i)
 
 -- what can't lack being a name is one
@@ -47,17 +47,17 @@ key_named c l r group k irr is = tt
 key_named c l r everyone k irr is = tt
 key_named c l r (user a) k irr is =
     name_unless a (λ e. not_needless c l r (user a) k irr is
-    (λ s valid none at. absurd (e (subst (λ v. IsName v) (bytes_eq_same s.user_name a at) valid.user_name))))
+    (λ s valid none at. absurd (e (subst (λ v. IsName v) (same_bytes s.user_name a at) valid.user_name))))
 key_named c l r (group_named a) k irr is =
     name_unless a (λ e. not_needless c l r (group_named a) k irr is
     (λ s valid none at. absurd (e
     (one_of_names a s.groups (recursion_from_All IsName s.groups valid.groups) at))))
 
-named_after : (c l d : Column) → IsIrreducible c → c ≡ l ++ d → HaveNames d
-named_after c l [] irr is = tt
-named_after c l ((p, k) ∷ r) irr is =
-    (key_named c l r p k irr is, named_after c (l ++ (p, k) ∷ []) r irr (is ∙ sym (append_assoc l ((p, k) ∷ []) r)))
+names_after : (c l d : Column) → IsIrreducible c → c ≡ l ++ d → HaveNames d
+names_after c l [] irr is = tt
+names_after c l ((p, k) ∷ r) irr is =
+    (key_named c l r p k irr is, names_after c (l ++ (p, k) ∷ []) r irr (is ∙ sym (append_assoc l ((p, k) ∷ []) r)))
 
 -- the principals of an irreducible column have names that a situation may have
 pub irreducible_named : (c : Column) → IsIrreducible c → HaveNames c
-irreducible_named c irr = named_after c [] c irr refl
+irreducible_named c irr = names_after c [] c irr refl

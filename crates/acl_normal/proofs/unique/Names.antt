@@ -14,6 +14,7 @@ use Rattle.acl_perm.specs.Overlap.{may_overlap}
 use Rattle.acl_perm.specs.Situation.{Situation, matches}
 use Rattle.acl_normal.specs.Keys.{kind_eq, principal_eq}
 use Rattle.acl_normal.specs.internal.Alike.{is_either, is_either_or_everyone}
+use Rattle.acl_nfs4.proofs.SetFields.{same_bytes}
 
 -- the test for everyone is that for the same principal
 pub everyone_test : (p : Principal) → is_everyone p ≡ principal_eq p everyone
@@ -32,15 +33,11 @@ allow_test Allow = refl
 pub bytes_eq_itself : (a : List ℕ) → bytes_eq a a ≡ true
 bytes_eq_itself a = (bytes_eq-Decides a a).1 refl
 
--- names that are told to be the same are
-pub bytes_eq_same : (a b : List ℕ) → bytes_eq a b ≡ true → a ≡ b
-bytes_eq_same a b = (bytes_eq-Decides a b).0
-
 -- two names are compared alike either way round
 pub bytes_eq_turned : (a b : List ℕ) → bytes_eq a b ≡ bytes_eq b a
 bytes_eq_turned a b = same_answers (bytes_eq a b) (bytes_eq b a)
-    (λ h. (bytes_eq-Decides b a).1 (sym (bytes_eq_same a b h)))
-    (λ h. (bytes_eq-Decides a b).1 (sym (bytes_eq_same b a h)))
+    (λ h. (bytes_eq-Decides b a).1 (sym (same_bytes a b h)))
+    (λ h. (bytes_eq-Decides a b).1 (sym (same_bytes b a h)))
 
 -- a principal is the same as itself
 pub principal_eq_itself : (p : Principal) → principal_eq p p ≡ true
@@ -53,9 +50,9 @@ principal_eq_itself everyone = refl
 -- principals that are told to be the same are
 pub principal_eq_same : (p q : Principal) → principal_eq p q ≡ true → p ≡ q
 principal_eq_same owner owner h = refl
-principal_eq_same (user a) (user b) h = ap user (bytes_eq_same a b h)
+principal_eq_same (user a) (user b) h = ap user (same_bytes a b h)
 principal_eq_same group group h = refl
-principal_eq_same (group_named a) (group_named b) h = ap group_named (bytes_eq_same a b h)
+principal_eq_same (group_named a) (group_named b) h = ap group_named (same_bytes a b h)
 principal_eq_same everyone everyone h = refl
 principal_eq_same _ _ h = cc
 
@@ -71,7 +68,7 @@ overlaps_everyone _ = refl
 
 -- who overlaps is overlapped
 pub overlaps_back : (p q : Principal) → may_overlap p q ≡ true → may_overlap q p ≡ true
-overlaps_back (user a) (user b) h = (bytes_eq-Decides b a).1 (sym (bytes_eq_same a b h))
+overlaps_back (user a) (user b) h = (bytes_eq-Decides b a).1 (sym (same_bytes a b h))
 overlaps_back _ (user b) h = refl
 overlaps_back _ _ h = refl
 

@@ -13,16 +13,17 @@ use Rattle.acl_nfs4.specs.Who.{principal_of}
 use Rattle.acl_eval.specs.Column.{Column, first_kind, verdict, column}
 use Rattle.acl_eval.specs.Grant.{SameGrants}
 use Rattle.acl_normal.specs.internal.Alike.{is_either, IsAlike, IsIrreducible}
-use Rattle.acl_normal.specs.SmallSituations.{HasName, HaveNames}
+use Rattle.acl_normal.specs.internal.Names.{HaveNames, HasName, HasNames}
 use Rattle.acl_normal.specs.Keys.{ace_key}
-use Rattle.acl_normal.specs.Normal.{without_bit, HasNoEmptyMask, IsIrreducibleList, IsNormal, HasNormalFlags, HasNames, HasMasks, IsQuiet, is_inherit_only}
+use Rattle.acl_normal.specs.Normal.{without_bit, HasNoEmptyMask, IsIrreducibleList, IsNormal, HasNormalFlags, is_inherit_only}
+use Rattle.acl_normal.specs.internal.Tidy.{HasMasks, IsQuiet}
 use Rattle.acl_normal.specs.internal.Plain.{unshadowed, default, reduced}
 use Rattle.acl_normal.specs.internal.Emissions.{IsEmission}
-use Rattle.acl_normal.proofs.unique.Names.{overlaps_itself, matches_overlap, either_first}
+use Rattle.acl_normal.proofs.unique.Names.{overlaps_itself, either_first, matches_overlap}
 use Rattle.acl_normal.proofs.unique.FirstKind.{IsClique, alike_agree}
 use Rattle.acl_normal.proofs.unique.ListColumns.{column-append, column_without, irreducible_column, same_grants_from_columns, same_verdicts, names_in_column}
 use Rattle.acl_normal.proofs.unique.Unique.{no_inherit_only}
-use Rattle.acl_normal.proofs.unique.SameKeys.{named_at}
+use Rattle.acl_normal.proofs.unique.SameKeys.{name_at}
 use Rattle.acl_normal.proofs.unique.SameOrder.{has_once}
 use Rattle.acl_normal.proofs.unique.Settled.{settled_alike, settled_irreducible}
 use Rattle.acl_normal.proofs.unique.Invariant.{irreducible_alike, same_by_alike}
@@ -54,10 +55,10 @@ names_alike c d names back ((p, k) ∷ e) within = (name, names_alike c d names 
             at : (i : Kind) × (first_kind (is_either p p) c ≡ Some i) → HasName p
             at (i, g) =
                 let has = has_once c p i g in
-                named_at has.before has.after p i (subst (λ v. HaveNames v) has.is names)
+                name_at has.before has.after p i (subst (λ v. HaveNames v) has.is names)
 
-named_alike : (c d : Column) → HaveNames c → IsAlike c d → HaveNames d
-named_alike c d names a = names_alike c d names (λ p k h. (k, a p p (overlaps_itself p) ∙ h)) d (λ p h. h)
+names_alike_from : (c d : Column) → HaveNames c → IsAlike c d → HaveNames d
+names_alike_from c d names a = names_alike c d names (λ p k h. (k, a p p (overlaps_itself p) ∙ h)) d (λ p h. h)
 
 mask_at : (l : List Ace) (a : Ace) (r : List Ace) → HasMasks (l ++ a ∷ r) → IsSubset a.mask all_rights
 mask_at [] a r h = h.0
@@ -137,7 +138,7 @@ emitted_is_normal xs rest ns columns names emitted masks = (
   where
     irr : (b : ℕ) → IsIrreducible (column ns b)
     irr b = settled_irreducible (column ns b) (default (unshadowed [] (column xs b))) (emitted.once b)
-        (named_alike (column rest b) (column ns b) (names_in_column b rest names) (emitted.alike b))
+        (names_alike_from (column rest b) (column ns b) (names_in_column b rest names) (emitted.alike b))
         (settled_alike (column rest b) (column ns b) (default (unshadowed [] (column xs b))) (emitted.alike b)
         (rw (columns b) (reduced_settled (column xs b))))
 

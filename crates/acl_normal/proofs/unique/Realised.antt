@@ -16,12 +16,14 @@ use Rattle.acl_perm.specs.Order.{principal_name}
 use Rattle.acl_eval.specs.Column.{Column, first_kind, verdict, SameVerdicts}
 use Rattle.acl_normal.specs.Keys.{principal_eq}
 use Rattle.acl_normal.specs.internal.Alike.{is_either_or_everyone}
-use Rattle.acl_normal.specs.SmallSituations.{small_situation, first_user, group_names, is_among, first_or, names_or, longest_name, HasName}
-use Rattle.acl_normal.proofs.unique.Names.{bytes_eq_itself, bytes_eq_turned, bytes_eq_same, principal_eq_same}
+use Rattle.acl_normal.specs.SmallSituations.{small_situation, first_user, group_names, is_among, first_or, names_or}
+use Rattle.acl_normal.specs.internal.Names.{longest_name, HasName}
+use Rattle.acl_normal.proofs.unique.Names.{bytes_eq_itself, bytes_eq_turned, principal_eq_same}
+use Rattle.acl_nfs4.proofs.SetFields.{same_bytes}
 
 -- names of different lengths are different
 other_length : (a b : List ℕ) → (length a ≡ length b → ⊥) → bytes_eq a b ≡ false
-other_length a b h = false_from_ne_true (bytes_eq a b) (λ e. h (ap (λ x. length x) (bytes_eq_same a b e)))
+other_length a b h = false_from_ne_true (bytes_eq a b) (λ e. h (ap (λ x. length x) (same_bytes a b e)))
 
 -- of the names below n bytes
 abbrev pub AreShort : ℕ → List Principal → Type 0
@@ -82,7 +84,7 @@ user_matches n ps a only h = go (first_user ps) refl
         (λ same. absurd (omega (arith, same ∙ length-replicate n 117))))
     go (Some b) e =
         rw e (same_answers _ _
-        (λ i. subst (λ v. is_among (user v) ps ≡ true) (sym (bytes_eq_same a b i)) (user_is_among ps b e))
+        (λ i. subst (λ v. is_among (user v) ps ≡ true) (sym (same_bytes a b i)) (user_is_among ps b e))
         (λ i. (bytes_eq-Decides a b).1 (only a b i (user_is_among ps b e))))
 
 owner_matches : (n : ℕ) (ps : List Principal) → AreShort n ps → 0 < n
@@ -219,11 +221,11 @@ among_two p q r h =
 same_user : (p q : Principal) (a b : List ℕ) → may_overlap p q ≡ true → user a ≡ p → user b ≡ q → a ≡ b
 same_user p q a b o e f =
     let second : may_overlap p (user b) ≡ true = subst (λ w. may_overlap p w ≡ true) (sym f) o in
-    bytes_eq_same a b (subst (λ v. may_overlap v (user b) ≡ true) (sym e) second)
+    same_bytes a b (subst (λ v. may_overlap v (user b) ≡ true) (sym e) second)
 
 -- of two that overlap at most one is a user name
-pub one_user : (p q : Principal) → may_overlap p q ≡ true → HasOneUser (p ∷ q ∷ [])
-one_user p q o a b h i =
+pub two_names : (p q : Principal) → may_overlap p q ≡ true → HasOneUser (p ∷ q ∷ [])
+two_names p q o a b h i =
     ⊎_elim
     (λ e. ⊎_elim (λ f. ap principal_name (e ∙ sym f)) (λ f. same_user p q a b o e f) (among_two p q (user b) i))
     (λ e. ⊎_elim (λ f. sym (same_user p q b a o f e)) (λ f. ap principal_name (e ∙ sym f)) (among_two p q (user b) i))
@@ -238,7 +240,7 @@ pairs_from_situations c d p q same np nq o =
     (max (length (principal_name p)) (length (principal_name q)))) in
     let m = matches (small_situation n (p ∷ q ∷ [])) in
     let are : (r : Principal) → length (principal_name r) < n → m r ≡ is_either_or_everyone p q r =
-    λ r l. small_matches n (p ∷ q ∷ []) (omega arith, (omega arith, tt)) (one_user p q o) (omega arith) r l
+    λ r l. small_matches n (p ∷ q ∷ []) (omega arith, (omega arith, tt)) (two_names p q o) (omega arith) r l
     ∙ reorder (principal_eq r p) (principal_eq r q) (principal_eq r everyone) in
     let first = ap (λ x. unwrap_or x Deny) (first_kind_alike m (is_either_or_everyone p q) c n are (omega arith)) in
     let second = ap (λ x. unwrap_or x Deny) (first_kind_alike m (is_either_or_everyone p q) d n are (omega arith)) in

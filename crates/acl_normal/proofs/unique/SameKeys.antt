@@ -9,9 +9,9 @@ use Rattle.acl_perm.specs.Situation.{Situation, matches}
 use Rattle.acl_eval.specs.Column.{Column, first_kind, verdict, SameVerdicts}
 use Rattle.acl_normal.specs.Keys.{principal_eq}
 use Rattle.acl_normal.specs.internal.Alike.{IsIrreducible, is_either, is_either_or_everyone, IsAlike}
-use Rattle.acl_normal.specs.SmallSituations.{HasName, HaveNames}
-use Rattle.acl_normal.proofs.unique.Names.{principal_eq_same, either_first, either_second, either_within, overlaps_itself, overlaps_back, matches_overlap, or_everyone_first, either_or_everyone_within}
-use Rattle.acl_normal.proofs.unique.FirstKind.{IsWithin, none_within, append_none, SplitsAt, splits_at, first_within}
+use Rattle.acl_normal.specs.internal.Names.{HaveNames, HasName}
+use Rattle.acl_normal.proofs.unique.Names.{principal_eq_same, either_first, either_second, either_within, overlaps_itself, overlaps_back, or_everyone_first, either_or_everyone_within, matches_overlap}
+use Rattle.acl_normal.proofs.unique.FirstKind.{IsNarrower, none_within, append_none, SplitsAt, splits_at, first_within}
 use Rattle.acl_normal.proofs.unique.Realised.{pairs_from_situations}
 use Rattle.acl_normal.proofs.unique.Irreducible.{IsNeedless, not_needless, clean_after, clean, either_is, first_decides, first_kind_without, allows_everyone}
 
@@ -22,9 +22,9 @@ AgreeAtNames c d =
     ≡ verdict (is_either_or_everyone p q) d
 
 -- a key of a column whose principals have names has one
-pub named_at : (l r : Column) (p : Principal) (k : Kind) → HaveNames (l ++ (p, k) ∷ r) → HasName p
-named_at [] r p k h = h.0
-named_at ((q, j) ∷ l) r p k h = named_at l r p k h.1
+pub name_at : (l r : Column) (p : Principal) (k : Kind) → HaveNames (l ++ (p, k) ∷ r) → HasName p
+name_at [] r p k h = h.0
+name_at ((q, j) ∷ l) r p k h = name_at l r p k h.1
 
 -- a test that doesn't pass what the column has alone
 pub skip_to : (n : Principal → Bool) (l r : Column) (x : Principal) (k : Kind) → first_kind n l ≡ None → n x ≡ false
@@ -79,7 +79,7 @@ pub record Lost (c d l r : Column) (x : Principal) (k : Kind) : Type 0 where
   pub missing : first_kind (is_either x x) d ≡ None
 
 lost_named : (c d l r : Column) (x : Principal) (k : Kind) → Lost c d l r x k → HasName x
-lost_named c d l r x k h = named_at l r x k (subst (λ v. HaveNames v) h.is h.names)
+lost_named c d l r x k h = name_at l r x k (subst (λ v. HaveNames v) h.is h.names)
 
 -- a lost key has the kind that the column has where nobody matches
 lost_default : (c d l r : Column) (x : Principal) (k : Kind) → Lost c d l r x k
@@ -120,9 +120,9 @@ lost_before c d l r x k h e w none at j s false other =
     let y : Principal = s.principal in
     let here : c ≡ (l ++ (x, k) ∷ s.before) ++ (y, j) ∷ s.after =
     h.is ∙ ap (λ v. l ++ (x, k) ∷ v) s.is ∙ sym (append_assoc l ((x, k) ∷ s.before) ((y, j) ∷ s.after)) in
-    let y_named : HasName y = named_at (l ++ (x, k) ∷ s.before) s.after y j (subst (λ v. HaveNames v) here h.names) in
-    let both : IsWithin (is_either_or_everyone x y) m = either_or_everyone_within m x y at s.passes refl in
-    let alone : IsWithin (is_either_or_everyone y y) m = either_or_everyone_within m y y s.passes s.passes refl in
+    let y_named : HasName y = name_at (l ++ (x, k) ∷ s.before) s.after y j (subst (λ v. HaveNames v) here h.names) in
+    let both : IsNarrower (is_either_or_everyone x y) m = either_or_everyone_within m x y at s.passes refl in
+    let alone : IsNarrower (is_either_or_everyone y y) m = either_or_everyone_within m y y s.passes s.passes refl in
     let skip : is_either_or_everyone y y x ≡ false = rw (other, e) refl in
     let both_front = none_within m (is_either_or_everyone x y) l none both in
     let alone_front = none_within m (is_either_or_everyone y y) l none alone in
@@ -150,7 +150,7 @@ lost_needless c d l r x k h e w valid none at = go (first_kind m r) refl
 
     go : (o : Option Kind) → first_kind m r ≡ o → verdict m r ≡ k
     go None i =
-        let within : IsWithin (is_either_or_everyone everyone everyone) m =
+        let within : IsNarrower (is_either_or_everyone everyone everyone) m =
         either_or_everyone_within m everyone everyone refl refl refl in
         let front = none_within m (is_either_or_everyone everyone everyone) l none within in
         let back = none_within m (is_either_or_everyone everyone everyone) r i within in
@@ -171,7 +171,7 @@ present : (c d : Column) (p q : Principal) (k : Kind) → IsIrreducible c → Ha
 present c d p q k irr names agree h missing =
     let s = splits_at (is_either p q) c k h in
     let x : Principal = s.principal in
-    let w : IsWithin (is_either x x) (is_either p q) = either_within (is_either p q) x x s.passes s.passes in
+    let w : IsNarrower (is_either x x) (is_either p q) = either_within (is_either p q) x x s.passes s.passes in
     let found = first_within (is_either p q) (is_either x x) c k s (either_first x x) w in
     let lack = none_within (is_either p q) (is_either x x) d missing w in
     let lost : Lost c d s.before s.after x k = record {
@@ -223,15 +223,15 @@ alike c d ic id nc nd same p q o = go (first_kind (is_either p q) c) (first_kind
         let t = splits_at (is_either p q) d k i in
         let x : Principal = s.principal in
         let y : Principal = t.principal in
-        let w : IsWithin (is_either x y) (is_either p q) = either_within (is_either p q) x y s.passes t.passes in
+        let w : IsNarrower (is_either x y) (is_either p q) = either_within (is_either p q) x y s.passes t.passes in
         let left =
         first_decides x y c j (clean c ic) (first_within (is_either p q) (is_either x y) c j s (either_first x y)
         w) in
         let right =
         first_decides x y d k (clean d id)
         (first_within (is_either p q) (is_either x y) d k t (either_second x y) w) in
-        let nx : HasName x = named_at s.before s.after x j (subst (λ v. HaveNames v) s.is nc) in
-        let ny : HasName y = named_at t.before t.after y k (subst (λ v. HaveNames v) t.is nd) in
+        let nx : HasName x = name_at s.before s.after x j (subst (λ v. HaveNames v) s.is nc) in
+        let ny : HasName y = name_at t.before t.after y k (subst (λ v. HaveNames v) t.is nd) in
         let over : may_overlap x y ≡ true = either_overlap p q o x y s.passes t.passes in
         let same_kind : j ≡ k = sym left ∙ agree x y nx ny over ∙ right in
         h ∙ ap Some same_kind ∙ sym i

@@ -9,13 +9,13 @@ use Rattle.acl_perm.specs.declared.kind.Kind.TheVariants.{Deny, Allow}
 use Rattle.acl_eval.specs.Column.{Column, first_kind, verdict}
 use Rattle.acl_normal.specs.Keys.{principal_eq}
 use Rattle.acl_normal.specs.internal.Alike.{IsIrreducible, is_either, is_either_or_everyone, IsAlike}
-use Rattle.acl_normal.specs.SmallSituations.{HasName, HaveNames}
+use Rattle.acl_normal.specs.internal.Names.{HaveNames, HasName}
 use Rattle.acl_normal.specs.internal.Emissions.{IsOnce}
 use Rattle.acl_normal.proofs.unique.Names.{principal_eq_same, overlaps_itself, overlaps_everyone, either_first, or_everyone_first}
 use Rattle.acl_normal.proofs.unique.FirstKind.{append_none, append_some}
 use Rattle.acl_normal.proofs.unique.Irreducible.{first_kind_without}
 use Rattle.acl_normal.proofs.unique.Free.{some_same}
-use Rattle.acl_normal.proofs.unique.SameKeys.{named_at, skip_to, stop_at, thrice}
+use Rattle.acl_normal.proofs.unique.SameKeys.{name_at, skip_to, stop_at, thrice}
 use Rattle.acl_normal.proofs.unique.FirstAndRest.{first_kind_same}
 use Rattle.acl_normal.proofs.unique.SameOrder.{once_before, once_has, has_once}
 use Rattle.acl_normal.proofs.unique.Realised.{pairs_from_situations}
@@ -259,7 +259,7 @@ pub settled_irreducible : (c : Column) (d : Kind) → IsOnce c → HaveNames c �
 settled_irreducible c d once names s l (p, k) r is same = go (principal_eq p everyone) refl
   where
     named : HasName p
-    named = named_at l r p k (subst (λ v. HaveNames v) is names)
+    named = name_at l r p k (subst (λ v. HaveNames v) is names)
 
     at_everyone : (j : Kind) → p ≡ everyone → first_kind (is_either everyone everyone) c ≡ everyone_for j → ⊥
     at_everyone j e i =
@@ -288,7 +288,7 @@ settled_irreducible c d once names s l (p, k) r is same = go (principal_eq p eve
         by (q, w) =
             let has = has_once c q (opposite j) w.kind in
             let q_named : HasName q =
-            named_at has.before has.after q (opposite j) (subst (λ v. HaveNames v) has.is names) in
+            name_at has.before has.after q (opposite j) (subst (λ v. HaveNames v) has.is names) in
             default_kind_needed c j l p r place q w (pairs_from_situations c (l ++ r) p q same named q_named w.overlap)
 
     go : (b : Bool) → principal_eq p everyone ≡ b → ⊥

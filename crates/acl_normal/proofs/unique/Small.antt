@@ -15,11 +15,12 @@ use Rattle.acl_eval.specs.Column.{Column, first_kind, verdict, SameVerdicts}
 use Rattle.acl_perm.proofs.Orders.{principal_exact}
 use Rattle.acl_normal.specs.Keys.{principal_eq}
 use Rattle.acl_normal.specs.internal.Alike.{is_either_or_everyone}
-use Rattle.acl_normal.specs.SmallSituations.{small_situation, is_among, longest_name}
-use Rattle.acl_normal.proofs.unique.Names.{principal_eq_same, overlaps_itself, overlaps_back, matches_overlap, or_everyone_first, or_everyone_second, either_or_everyone_within}
+use Rattle.acl_normal.specs.SmallSituations.{small_situation, is_among}
+use Rattle.acl_normal.specs.internal.Names.{longest_name}
+use Rattle.acl_normal.proofs.unique.Names.{principal_eq_same, overlaps_itself, overlaps_back, or_everyone_first, or_everyone_second, either_or_everyone_within, matches_overlap}
 use Rattle.acl_normal.proofs.unique.FirstAndRest.{or_swap}
-use Rattle.acl_normal.proofs.unique.FirstKind.{IsWithin, IsClique, none_within, SplitsAt, splits_at, first_within}
-use Rattle.acl_normal.proofs.unique.Realised.{AreShort, one_user, small_matches, first_kind_alike, HasOneUser, reorder}
+use Rattle.acl_normal.proofs.unique.FirstKind.{IsNarrower, IsClique, none_within, SplitsAt, splits_at, first_within}
+use Rattle.acl_normal.proofs.unique.Realised.{AreShort, two_names, small_matches, first_kind_alike, HasOneUser, reorder}
 
 -- the columns agree at each two principals of which P holds that overlap
 abbrev pub AgreeWhere : (Principal → Type 0) → Column → Column → Type 0
@@ -46,7 +47,7 @@ one_found : (P : Principal → Type 0) (m : Principal → Bool) (c d : Column) (
 one_found P m c d k e oc a h i =
     let s = splits_at m c k h in
     let p : Principal = s.principal in
-    let w : IsWithin (is_either_or_everyone p p) m = either_or_everyone_within m p p s.passes s.passes e in
+    let w : IsNarrower (is_either_or_everyone p p) m = either_or_everyone_within m p p s.passes s.passes e in
     let found = first_within m (is_either_or_everyone p p) c k s (or_everyone_first p p) w in
     let missed = none_within m (is_either_or_everyone p p) d i w in
     let both = a p p (only_split P m c k s oc) (only_split P m c k s oc) (overlaps_itself p) in
@@ -66,7 +67,7 @@ own_pairs_agree P m c d q e oc od a = go (first_kind m c) (first_kind m d) refl 
         let t = splits_at m d k i in
         let p : Principal = s.principal in
         let r : Principal = t.principal in
-        let w : IsWithin (is_either_or_everyone p r) m = either_or_everyone_within m p r s.passes t.passes e in
+        let w : IsNarrower (is_either_or_everyone p r) m = either_or_everyone_within m p r s.passes t.passes e in
         let left = first_within m (is_either_or_everyone p r) c j s (or_everyone_first p r) w in
         let right = first_within m (is_either_or_everyone p r) d k t (or_everyone_second p r) w in
         let both = a p r (only_split P m c j s oc) (only_split P m d k t od) (q p r s.passes t.passes) in
@@ -123,7 +124,7 @@ covers P p q n hp hq sp sq o = go (principal_eq p everyone) refl (principal_eq q
     nobody a b h i = cc
 
     alone : (x : Principal) → HasOneUser (x ∷ [])
-    alone x a b h i = one_user x x (overlaps_itself x) a b (first (user a) h) (first (user b) i)
+    alone x a b h i = two_names x x (overlaps_itself x) a b (first (user a) h) (first (user b) i)
       where
         first : (r : Principal) → is_among r (x ∷ []) ≡ true → is_among r (x ∷ x ∷ []) ≡ true
         first r h = ⊎_elim (λ e. or_left _ _ e) (λ e. absurd (false≢true e)) (or_cases (principal_eq r x) false h)
@@ -160,7 +161,7 @@ covers P p q n hp hq sp sq o = go (principal_eq p everyone) refl (principal_eq q
       set = p ∷ q ∷ [];
       small = two p q hp hq e f o g;
       short = (sp, (sq, tt));
-      one_user = one_user p q o;
+      one_user = two_names p q o;
       same = λ r. reorder (principal_eq r p) (principal_eq r q) (principal_eq r everyone);
     }
     go false e false f Equal g =
@@ -170,7 +171,7 @@ covers P p q n hp hq sp sq o = go (principal_eq p everyone) refl (principal_eq q
       set = q ∷ p ∷ [];
       small = two q p hq hp f e (overlaps_back p q o) (principal_greater p q g);
       short = (sq, (sp, tt));
-      one_user = one_user q p (overlaps_back p q o);
+      one_user = two_names q p (overlaps_back p q o);
       same = λ r. h5 (principal_eq r everyone) (principal_eq r p) (principal_eq r q);
     }
 

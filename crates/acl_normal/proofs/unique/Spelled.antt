@@ -11,8 +11,7 @@ use Rattle.acl_nfs4.proofs.Within.{accepted_where_it_fits}
 use Rattle.acl_eval.specs.Grant.{SameGrants}
 use Rattle.acl_eval.specs.Laws.{IsEquivalence}
 use Rattle.acl_eval.proofs.Same.{equivalence}
-use Rattle.acl_normal.specs.Normal.{IsNormal}
-use Rattle.acl_normal.specs.NormalForm.{IsNormalFormOf}
+use Rattle.acl_normal.specs.NormalForm.{IsFormUnder, IsNormalFormOf}
 use Rattle.acl_normal.proofs.unique.Unique.{unique}
 use Rattle.acl_normal.proofs.unique.Profiles.{same_within}
 
@@ -24,14 +23,8 @@ spelled_alike p list other is taken taken_other same =
     (record { accepted = taken_other; spelled = refl })
     (append-nil (spelling list) ∙ same ∙ sym (append-nil (spelling other)))).0
 
--- an accepted normal list with the grants of a source, under a profile
-pub record IsForm (p : Profile) (source form : List Ace) : Type 0 where
-  pub accepted : IsAccepted p form
-  pub normal : IsNormal form
-  pub grants : SameGrants p.masks source form
-
 -- the spellings of two such lists are equal exactly if their sources grant the same
-pub forms_tell : (p : Profile) (a b n m : List Ace) → IsProfile p → IsForm p a n → IsForm p b m
+pub forms_tell : (p : Profile) (a b n m : List Ace) → IsProfile p → IsFormUnder p a n → IsFormUnder p b m
     → (spelling n ≡ spelling m) ↔ SameGrants p.masks a b
 forms_tell p a b n m is f g = (
   λ same.
@@ -50,7 +43,7 @@ forms_tell p a b n m is f g = (
 
 -- the normal form of a list that is accepted under a profile is such a list
 pub form_of : (p : Profile) (source result : List Ace) → IsProfile p → IsAccepted p source
-    → IsNormalFormOf source result → IsForm p source result
+    → IsNormalFormOf source result → IsFormUnder p source result
 form_of p source result is taken h =
     let fits = ((accepted_where_it_fits p source is).0 taken).1 in record {
       accepted = (accepted_where_it_fits p result is).1 (h.accepted, h.fits p fits);

@@ -13,7 +13,8 @@ use Rattle.acl_normal.specs.internal.Emissions.{IsOnce}
 use Rattle.acl_normal.specs.Keys.{Key}
 use Rattle.acl_normal.specs.Laws.{Has}
 use Rattle.acl_normal.specs.Left.{left}
-use Rattle.acl_normal.specs.Normal.{IsIrreducibleList, IsNormal, HasMasks}
+use Rattle.acl_normal.specs.Normal.{IsIrreducibleList, IsNormal}
+use Rattle.acl_normal.specs.internal.Tidy.{HasMasks}
 use Rattle.acl_normal.specs.internal.Plain.{unshadowed, default, is_needed, needed_keys, reduced}
 use Rattle.acl_normal.proofs.unique.Forming.{IsTaken, first_same}
 use Rattle.acl_normal.proofs.unique.Free.{once_from_clean}
@@ -22,7 +23,7 @@ use Rattle.acl_normal.proofs.emit.Leaving.{alike_length, column_left, masks_of_q
 use Rattle.acl_normal.proofs.unique.ListColumns.{alike_columns, irreducible_column, no_other_bits}
 use Rattle.acl_normal.proofs.unique.Names.{overlaps_itself}
 use Rattle.acl_normal.proofs.unique.Normal.{quiet_flags}
-use Rattle.acl_normal.proofs.reduce.Reducing.{below, grants_back, grants_through}
+use Rattle.acl_normal.proofs.reduce.Reducing.{rights_below, grants_back, grants_through}
 use Rattle.acl_normal.proofs.plain.Shorter.{reduced_shorter}
 use Rattle.acl_normal.proofs.unique.SameOrder.{has_once, once_has}
 use Rattle.acl_normal.proofs.unique.Weights.{weight_falls}
@@ -115,7 +116,7 @@ taken xs ys ns columns irr f n g = record {
     high b l h = omega (arith, l, h)
 
     none : (b : ℕ) → 21 ≤ b → column ns b ≡ []
-    none b l = no_other_bits ns b n.irreducible (false_from_ne_true _ (λ t. absurd (high b l (below b t))))
+    none b l = no_other_bits ns b n.irreducible (false_from_ne_true _ (λ t. absurd (high b l (rights_below b t))))
 
     like : (b : ℕ) → IsAlike (column ys b) (column ns b)
     like b = normal_alike xs ys ns b irr f n (grants_through xs ys ns f g)

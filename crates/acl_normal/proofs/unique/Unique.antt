@@ -15,7 +15,8 @@ use Rattle.acl_normal.specs.internal.Alike.{is_either, IsAlike}
 use Rattle.acl_normal.specs.Normal.{HasNoEmptyMask, is_free, IsOrdered, HasNormalFlags, flags_for, IsNormal}
 use Rattle.acl_normal.specs.internal.Emissions.{IsOnce}
 use Rattle.acl_normal.specs.internal.Ready.{who_for}
-use Rattle.acl_normal.proofs.unique.Names.{bytes_eq_same, either_first, principal_eq_itself, overlaps_itself}
+use Rattle.acl_normal.proofs.unique.Names.{either_first, principal_eq_itself, overlaps_itself}
+use Rattle.acl_nfs4.proofs.SetFields.{same_bytes}
 use Rattle.acl_normal.proofs.unique.Columns.{column_first}
 use Rattle.acl_perm.proofs.Sets.{same_set}
 use Rattle.acl_normal.proofs.unique.Bits.{no_bits}
@@ -32,9 +33,9 @@ who_is a = go (bytes_eq a.who owner_name) refl (bytes_eq a.who group_name) refl 
     go : (o : Bool) → bytes_eq a.who owner_name ≡ o → (g : Bool) → bytes_eq a.who group_name ≡ g
         → (e : Bool) → bytes_eq a.who everyone_name ≡ e → (f : Bool) → has_bit a.flags identifier_group ≡ f
         → who_for (principal_of a) ≡ a.who
-    go true h g i e j f k = rw h (sym (bytes_eq_same _ _ h))
-    go false h true i e j f k = rw (h, i) (sym (bytes_eq_same _ _ i))
-    go false h false i true j f k = rw (h, i, j) (sym (bytes_eq_same _ _ j))
+    go true h g i e j f k = rw h (sym (same_bytes _ _ h))
+    go false h true i e j f k = rw (h, i) (sym (same_bytes _ _ i))
+    go false h false i true j f k = rw (h, i, j) (sym (same_bytes _ _ j))
     go false h false i false j true k = rw (h, i, j, k) refl
     go false h false i false j false k = rw (h, i, j, k) refl
 

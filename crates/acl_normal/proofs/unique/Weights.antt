@@ -9,8 +9,9 @@ use Rattle.std.proofs.lemmas.Nat.Bits.{bit_at-suc, bit_at_lowest, bit_at_above}
 use Rattle.acl_perm.specs.Bits.{has_bit, all_rights}
 use Rattle.acl_nfs4.specs.Ace.{Ace}
 use Rattle.acl_eval.specs.Column.{column}
-use Rattle.acl_normal.specs.Normal.{is_inherit_only, IsQuiet, HasMasks, HasNoEmptyMask}
-use Rattle.acl_normal.specs.internal.Counts.{count_left}
+use Rattle.acl_normal.specs.Normal.{is_inherit_only, HasNoEmptyMask}
+use Rattle.acl_normal.specs.internal.Tidy.{HasMasks, IsQuiet}
+use Rattle.acl_normal.specs.internal.Emissions.{count_left}
 use Rattle.acl_normal.proofs.unique.Columns.{counts, column_lacks}
 use Rattle.acl_nfs4.specs.Spelling.{weight}
 use Rattle.acl_nfs4.proofs.Lists.{weight-cons}
@@ -129,10 +130,10 @@ count_all n (a ∷ xs) q h =
 -- ---- lists with as few keys at each bit
 
 -- with as few keys at each bit there are as few in all
-pub count_falls : (n : ℕ) (xs ys : List Ace) → ((b : ℕ) → length (column ys b) ≤ length (column xs b))
+pub count_no_greater : (n : ℕ) (xs ys : List Ace) → ((b : ℕ) → length (column ys b) ≤ length (column xs b))
     → count_left n ys ≤ count_left n xs
-count_falls zero xs ys h = omega arith
-count_falls (suc n) xs ys h = omega (arith, count_falls n xs ys h, h n)
+count_no_greater zero xs ys h = omega arith
+count_no_greater (suc n) xs ys h = omega (arith, count_no_greater n xs ys h, h n)
 
 above : (b : ℕ) → 32 ≤ b → has_bit all_rights b ≡ false
 above b l = ap (λ v. v == 1) (bit_at_above all_rights 32 b (lit< tt) l)
@@ -149,7 +150,7 @@ column_above (a ∷ ys) b h l =
 pub weight_under : (xs ys : List Ace) → IsQuiet ys → HasMasks ys
     → ((b : ℕ) → length (column ys b) ≤ length (column xs b)) → weight ys ≤ count_left 32 xs
 weight_under xs ys quiet masks fewer =
-    omega (arith, count_all 32 ys quiet (λ b l. column_above ys b masks l), count_falls 32 xs ys fewer)
+    omega (arith, count_all 32 ys quiet (λ b l. column_above ys b masks l), count_no_greater 32 xs ys fewer)
 
 -- and is no heavier than that list
 pub weight_falls : (xs ys : List Ace) → IsQuiet ys → HasMasks ys
@@ -163,7 +164,7 @@ count_less zero k xs ys lt h less = absurd (omega (arith, lt))
 count_less (suc n) k xs ys lt h less = elim (cases_eq k n) [
   | inl e ↦
       let here = subst (λ b. length (column ys b) < length (column xs b)) e less in
-      omega (arith, count_falls n xs ys h, here)
+      omega (arith, count_no_greater n xs ys h, here)
   | inr other ↦ omega (arith, count_less n k xs ys (omega (arith, lt, other)) h less, h n)
 ]
 

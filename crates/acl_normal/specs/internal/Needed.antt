@@ -1,4 +1,4 @@
--- Which bits are needed, told from masks (this library's own): words that only code needs.
+-- Which bits are needed, told from masks (this library's own).
 use Rattle.std.specs.Prelude.{ℕ, Bool, true, false, cond, not, ◌||◌, ◌&&◌, [], ◌∷◌}
 use Rattle.acl_perm.specs.Principal.{everyone, is_user}
 use Rattle.acl_perm.specs.declared.kind.Kind.{Kind}

@@ -15,7 +15,7 @@ use Rattle.acl_normal.specs.internal.Rows.{is_named, key_number}
 abbrev pub Marked : Type 0
 Marked = Key → ℕ
 
--- the same key
+-- two keys are the same
 abbrev pub key_eq : Key → Key → Bool
 key_eq k l = principal_eq k.0 l.0 && kind_eq k.1 l.1
 
@@ -50,13 +50,14 @@ pub record Grows (xs : List Ace) (old new : Marked) : Type 0 where
   pub sound : (k : Key) (b : ℕ) → has_bit (new k) b ≡ true
       → (has_bit (old k) b ≡ true) ⊎ (is_free (column xs b) k ≡ true)
 
--- and all of a kind and a class are there
+-- only free bits were added, and all free keys of a type and a class have the bit
 pub record Enters (kind : Kind) (users : Bool) (bit : ℕ) (xs : List Ace) (old new : Marked) : Type 0 where
   pub grows : Grows xs old new
   pub all : (q : Principal) → is_user q ≡ users → is_free (column xs bit) (q, kind) ≡ true
       → has_bit (new (q, kind)) bit ≡ true
 
--- all of the other kind that overlap the key are there, at some bits
+-- only free bits were added, and at each of some bits all free keys of the other type that may overlap the key have
+-- it
 pub record Frees (k : Key) (bits : ℕ) (xs : List Ace) (old new : Marked) : Type 0 where
   pub grows : Grows xs old new
   pub all : (q : Principal) (b : ℕ) → b < 21 → has_bit bits b ≡ true → (is_user k.0 && is_user q) ≡ false

@@ -4,7 +4,7 @@ ghost use Rattle.acl_perm.specs.Order.{principal_name};
 ghost use Rattle.acl_perm.specs.Principal.{principal};
 ghost use Rattle.acl_nfs4.specs.Ace.{ace};
 ghost use Rattle.acl_normal.specs.SmallSets.{longest};
-ghost use Rattle.acl_normal.specs.internal.FirstPlaces.{AreWhoms};
+ghost use Rattle.acl_normal.specs.internal.Whoms.{AreWhoms};
 ghost use Rattle.acl_normal.specs.internal.MentionedRows.{AreByRow, AreMentioned, AreMentionedRows, AreNumbers, mentioned_by, noted, whom_of, with_found};
 ghost use Rattle.acl_normal.specs.internal.Passes.{list_of};
 ghost use Rattle.acl_normal.specs.internal.Rows.{AreRowNumbers};

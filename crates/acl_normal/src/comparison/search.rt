@@ -1,6 +1,7 @@
 //! The search for the first small set at which two lists grant otherwise, without going over all pairs.
 ghost use Rattle.std.specs.Prelude.{◌++◌, ◌<◌, IfOk, length};
-ghost use Rattle.acl_normal.specs.internal.FirstPlaces.{AreWhoms, IsAlikeAlone, IsCompared, IsFirstMember, IsFirstPartner, IsFirstSingle};
+ghost use Rattle.acl_normal.specs.internal.Agreement.{IsFirstPartner, IsFirstMember, IsFirstSingle, IsAlikeAlone, IsCompared};
+ghost use Rattle.acl_normal.specs.internal.Whoms.{AreWhoms};
 ghost use Rattle.acl_normal.specs.SmallSets.{small_sets};
 ghost use Rattle.acl_normal.specs.internal.CodeSets.{set_or_none};
 ghost use Rattle.acl_normal.specs.internal.Passes.{list_of};

@@ -1,4 +1,4 @@
-//! The comparison that goes over all small sets: slow, and for tests of the fast one.
+//! The comparison that goes over all small sets of principals, against which tests hold the fast one.
 ghost use Rattle.std.specs.Prelude.{◌≡◌, ◌∷◌, [], IfOk, true};
 ghost use Rattle.std.specs.Bool.{OnFalse, OnTrue};
 ghost use Rattle.acl_perm.specs.Overlap.{may_overlap};
@@ -49,7 +49,8 @@ fn pair_differs(
     ensures differ { OnTrue result (GrantAlikeTo (list_of list.now) (list_of other.now)
         (principal p.entry ∷ principal q.entry ∷ []) → ⊥) }
     ensures agree { OnFalse result (may_overlap (principal p.entry) (principal q.entry) ≡ true
-        → GrantAlikeTo (list_of list.now) (list_of other.now) (principal p.entry ∷ principal q.entry ∷ [])) }
+        → GrantAlikeTo (list_of list.now) (list_of other.now)
+        (principal p.entry ∷ principal q.entry ∷ [])) }
 {
     overlaps(p, q) && !grant_alike(list, other, SmallSet::Two(p, q))
 }
@@ -111,9 +112,10 @@ fn first_set<'a>(
     first_pair(list, other, whole)
 }
 
-/// The same as [`crate::compare`], by going over all small situations: its cost is cubic in the number of principals.
+/// The first difference of two lists, as [`crate::compare`] tells it, by going over all small situations: its cost is
+/// cubic in the number of principals.
 pub fn compare(alloc: Global, first: &Acl, second: &Acl) -> Result<Option<Difference>, AllocError>
-    // The same answer: None exactly if both lists grant the same, else the first difference.
+    // None exactly if both lists grant the same, else the first difference.
     ensures { IfOk result (λ told. IsComparison first.now second.now told) }
 {
     let list = collect(alloc, first)?;

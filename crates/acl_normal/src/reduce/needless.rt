@@ -4,15 +4,15 @@ ghost use Rattle.acl_perm.specs.Bits.{has_bit};
 ghost use Rattle.acl_perm.specs.declared.kind.Kind.{Kind as Sort};
 ghost use Rattle.acl_nfs4.specs.Ace.{ace};
 ghost use Rattle.acl_eval.specs.Column.{column};
-ghost use Rattle.acl_normal.specs.Left.{IsTidy};
-ghost use Rattle.acl_normal.specs.Keys.{ace_key, kind_eq, plain_key};
+ghost use Rattle.acl_normal.specs.internal.Tidy.{IsTidy};
+ghost use Rattle.acl_normal.specs.Keys.{ace_key, kind_eq};
+ghost use Rattle.acl_normal.specs.internal.Shown.{plain_key, with_masks};
 ghost use Rattle.acl_normal.specs.internal.Classes.{is_users};
 ghost use Rattle.acl_normal.specs.internal.Needed.{class_mask, default_at, is_kept, later_mask, opposes};
 ghost use Rattle.acl_normal.specs.Places.{same_class};
 ghost use Rattle.acl_perm.specs.Principal.{is_user};
 ghost use Rattle.acl_normal.specs.internal.Plain.{default, needed_keys};
 ghost use Rattle.acl_normal.specs.internal.Reduced.{IsThinned};
-ghost use Rattle.acl_normal.specs.internal.Shown.{with_masks};
 
 use crate::bits::without;
 use crate::class::Class;
@@ -32,7 +32,7 @@ impl ByClass {
         others: 0,
     };
 
-    /// With more bits of one class.
+    /// These bits with more of one class.
     fn with(self, class: Class, mask: u32) -> ByClass
         ensures { (users : Bool) (b : ℕ) → has_bit (class_mask result users) b
             ≡ (has_bit (class_mask self users) b || (same_class (is_users class) users && has_bit mask b)) }
@@ -79,7 +79,7 @@ fn opposite(later: Later, at: Key<'_>) -> u32
     }
 }
 
-/// With the bits of one more ACE.
+/// The bits of later ACEs with those of one more.
 fn noted(later: Later, at: Key<'_>, mask: u32) -> Later
     ensures { (k : Sort) (users : Bool) (b : ℕ) → has_bit (later_mask result k users) b
         ≡ (has_bit (later_mask later k users) b

@@ -1,7 +1,8 @@
 use Rattle.std.proofs.Common.{◌*◌, ◌+◌, ◌<◌, length, ◌∙◌, sym, ap, arith}
 use Rattle.std.proofs.lemmas.Result.{on_ok_weaker}
 use Rattle.acl_perm.specs.Order.{kind_rank}
-use Rattle.acl_normal.specs.Places.{key_here, nothing_left}
+use Rattle.acl_normal.specs.Places.{nothing_left}
+use Rattle.acl_normal.specs.internal.AtPlaces.{key_here}
 use Rattle.acl_normal.proofs.emit.Few.{remaining_few}
 use Rattle.acl_normal.proofs.emit.Marks.{adds, fits_written, number_at}
 use Rattle.acl_normal.proofs.rows.Rows.{row_below}

@@ -1,4 +1,4 @@
-use Rattle.acl_normal.specs.internal.Counts.{count_left}
+use Rattle.acl_normal.specs.internal.Emissions.{count_left}
 use Rattle.acl_normal.specs.Places.{nothing_left}
 use Rattle.acl_normal.specs.internal.Ready.{FitsKeys, marks}
 use Rattle.acl_normal.proofs.emit.Drained.{Drains}

@@ -1,5 +1,5 @@
 use Rattle.std.specs.Prelude.{◌-◌, ◌≤◌}
-use Rattle.acl_normal.specs.Keys.{plain_key}
+use Rattle.acl_normal.specs.internal.Shown.{plain_key}
 use Rattle.acl_normal.specs.Places.{nothing_left}
 use Rattle.acl_normal.specs.internal.Ready.{FitsKeys, marks}
 use Rattle.acl_normal.proofs.emit.NewlyFree.{FreesBelow}

@@ -1,4 +1,4 @@
-use Rattle.acl_normal.specs.internal.Counts.{count_left}
+use Rattle.acl_normal.specs.internal.Emissions.{count_left}
 use Rattle.acl_normal.specs.internal.Passes.{list_of}
 use Rattle.acl_normal.proofs.plain.InTurn.{Emitting}
 use Rattle.acl_normal.proofs.plain.emission.emit.Given as goal

@@ -7,7 +7,7 @@ use Rattle.acl_eval.specs.Scan.{without}
 use Rattle.acl_normal.specs.Keys.{principal_eq}
 use Rattle.acl_normal.specs.internal.Rows.{row_of}
 use Rattle.acl_normal.specs.internal.Shown.{aces_in, with_masks}
-use Rattle.acl_normal.proofs.reduce.FirstMasks.{FirstsTo, HoldsSeen, IsFresh, firsts_tidy, firsts_to_all, firsts_to_more, firsts_to_start, fresh_is, masked, masks_none, masks_push, named_there, row_here, row_seen, row_value, seen_more, seen_start}
+use Rattle.acl_normal.proofs.reduce.FirstMasks.{FirstsTo, HoldsSeen, IsFresh, firsts_tidy, firsts_to_all, firsts_to_more, firsts_to_start, fresh_is, masked, masks_none, masks_push, named_by_ace, row_here, row_seen, row_value, seen_more, seen_start}
 use Rattle.acl_normal.proofs.reduce.FirstRows.{index_is, length_of}
 use Rattle.acl_normal.proofs.rows.Rows.{row_below}
 use Rattle.acl_normal.proofs.unique.Names.{everyone_test}
@@ -48,7 +48,7 @@ loop-place-preserved c =
     omega (arith, length_of c.args.aces.now, c.loop-place-test.true) in
     let is = index_is c.args.aces.now c.loop-place.place _ c.loop-place-test.true c.index-aces-place.is in
     let row = row_here (aces_in c.args.aces.now) c.args.rows.now c.loop-place.place _ c.requires.rows within is in
-    let named = named_there (aces_in c.args.aces.now) c.loop-place.place _ within is in
+    let named = named_by_ace (aces_in c.args.aces.now) c.loop-place.place _ within is in
     let below : row_of (principal_of (ace c.index-aces-place.result)) (aces_in c.args.aces.now)
     < length c.loop-place.seen.items = omega (
       arith,

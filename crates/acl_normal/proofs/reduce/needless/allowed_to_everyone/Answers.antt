@@ -7,7 +7,8 @@ use Rattle.acl_nfs4.specs.Who.{principal_of}
 use Rattle.acl_normal.specs.Keys.{kind_eq, principal_eq}
 use Rattle.acl_normal.specs.internal.Shown.{with_masks}
 use Rattle.acl_normal.proofs.reduce.FirstMasks.{masked}
-use Rattle.acl_normal.proofs.reduce.LaterBits.{AllowsTo, allows_all, allows_same, allows_start, allows_with, length_masks, masked_at, quiet_index}
+use Rattle.acl_normal.proofs.reduce.LaterBits.{AllowsTo, allows_all, allows_same, allows_start, allows_with, masked_at, quiet_index}
+use Rattle.acl_normal.proofs.unique.Outline.{length_shown}
 use Rattle.acl_normal.proofs.unique.Names.{allow_test, everyone_test}
 use Rattle.acl_normal.proofs.reduce.needless.allowed_to_everyone.Goals as goal
 use Rattle.acl_normal.proofs.reduce.needless.allowed_to_everyone.Goals.{then-is_everyone+then-is_allow, else-is_everyone, else-is_everyone-via-then-is_everyone+else-is_allow, else-is_everyone-via-else-is_everyone}
@@ -19,7 +20,7 @@ pub loop-place-preserved : goal.loop-place-preserved
 loop-place-preserved c =
     let shown = with_masks c.args.aces.now c.args.masks.now in
     let within : c.loop-place.place < length shown =
-    omega (arith, length_masks c.args.aces.now c.args.masks.now c.requires.places, c.loop-place-test.true) in
+    omega (arith, length_shown c.args.aces.now c.args.masks.now c.requires.places, c.loop-place-test.true) in
     let item =
     masked (ace c.index-aces-place.result) (slice_index_or c.args.masks.now c.loop-place.place 0) in
     let is : slice_index_or shown c.loop-place.place item ≡ item =
@@ -55,6 +56,6 @@ returns c =
     allows_all (with_masks c.args.aces.now c.args.masks.now) c.loop-place.place c.loop-place.bits
     c.loop-place.invariant (omega (
       arith,
-      length_masks c.args.aces.now c.args.masks.now c.requires.places,
+      length_shown c.args.aces.now c.args.masks.now c.requires.places,
       c.loop-place-test.false,
     )) c.requires.tidy.once

@@ -4,15 +4,17 @@ use Rattle.std.proofs.lemmas.Bool.{and_parts}
 use Rattle.acl_perm.specs.Bits.{has_bit}
 use Rattle.acl_nfs4.specs.Ace.{ace}
 use Rattle.acl_normal.specs.Keys.{ace_key}
-use Rattle.acl_normal.specs.Keys.{plain_key}
-use Rattle.acl_normal.specs.Left.{IsTidy, KeepsFirsts}
+use Rattle.acl_normal.specs.internal.Shown.{plain_key, with_masks}
+use Rattle.acl_normal.specs.Left.{KeepsFirsts}
+use Rattle.acl_normal.specs.internal.Tidy.{IsTidy}
 use Rattle.acl_normal.specs.internal.Needed.{default_at, is_kept}
-use Rattle.acl_normal.specs.Places.{key_here, take_out}
-use Rattle.acl_normal.specs.internal.Shown.{with_masks}
+use Rattle.acl_normal.specs.Places.{take_out}
+use Rattle.acl_normal.specs.internal.AtPlaces.{key_here}
 use Rattle.acl_normal.proofs.rows.Quiet.{tidy_taken}
 use Rattle.acl_normal.proofs.reduce.FirstMasks.{masked}
 use Rattle.acl_normal.proofs.reduce.FirstRows.{key_at_index}
-use Rattle.acl_normal.proofs.reduce.LaterBits.{length_masks, mask_there, masked_at, no_later}
+use Rattle.acl_normal.proofs.reduce.LaterBits.{mask_there, masked_at, no_later}
+use Rattle.acl_normal.proofs.unique.Outline.{length_shown}
 use Rattle.acl_normal.proofs.reduce.Unneeded.{cleared_there, taken_firsts, firsts_through, drops_start, drops_on, drops_outline, drops_end}
 use Rattle.acl_normal.proofs.reduce.needless.drop_needless.Goals as goal
 
@@ -32,12 +34,12 @@ loop-done-preserved c =
     let new = with_masks c.args.aces.now (slice_set c.loop-done.masks place c.without.result) in
     let count : length c.loop-done.masks ≡ length c.args.aces.now = c.loop-done.auto.masks ∙ c.requires.places in
     let here : place < length c.args.aces.now = omega (arith, c.loop-done-test.true) in
-    let within : place < length shown = omega (arith, here, length_masks c.args.aces.now c.loop-done.masks count) in
+    let within : place < length shown = omega (arith, here, length_shown c.args.aces.now c.loop-done.masks count) in
     let last : place + suc c.loop-done.done ≡ length whole =
     omega (
       arith,
       c.loop-done-test.true,
-      length_masks c.args.aces.now c.args.masks.now c.requires.places,
+      length_shown c.args.aces.now c.args.masks.now c.requires.places,
     ) in
     let item = masked (ace c.index-aces-place.result) mask in
     let is : slice_index_or shown place item ≡ item =
@@ -88,6 +90,6 @@ returns c = record {
       (omega (
         arith,
         c.loop-done-test.false,
-        length_masks c.args.aces.now c.args.masks.now c.requires.places,
+        length_shown c.args.aces.now c.args.masks.now c.requires.places,
       ));
 }

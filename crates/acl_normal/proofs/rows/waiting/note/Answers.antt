@@ -1,7 +1,7 @@
 use Rattle.std.proofs.Common.{◌<◌, ◌∷◌, ◌++◌, [], length, ◌∙◌, ap, arith}
 use Rattle.acl_normal.specs.internal.Classes.{is_users}
 use Rattle.acl_normal.proofs.rows.BitTaken.{slot_below}
-use Rattle.acl_normal.proofs.rows.WaitingPlaces.{NotesBelow, notes_start, notes_skip, notes_on, notes_all, places_there}
+use Rattle.acl_normal.proofs.rows.WaitingPlaces.{NotesBelow, notes_start, notes_skip, notes_on, notes_all, listed_there}
 use Rattle.acl_normal.proofs.unique.Bits.{past_absent}
 use Rattle.acl_normal.proofs.rows.waiting.note.Goals as goal
 
@@ -33,7 +33,7 @@ loop-right-preserved c =
           next.has right.within (omega (arith, c.requires, c.args.lists.now.ok)) c.slot.ensures
           (c.in_ok-push.ensures.items ∙ ap (λ v. v ++ c.args.place ∷ []) (ap (λ v. v.items)
           c.index_mut-list.ensures.value
-          ∙ places_there lists.items c.slot.result _ within)),
+          ∙ listed_there lists.items c.slot.result _ within)),
       omega (arith, right.within),
     )
 

@@ -5,7 +5,7 @@ use Rattle.acl_perm.specs.Principal.{is_user}
 use Rattle.acl_normal.specs.internal.Classes.{is_users}
 use Rattle.acl_normal.specs.internal.Shown.{with_masks}
 use Rattle.acl_normal.specs.internal.Waiting.{HoldWaiting}
-use Rattle.acl_normal.proofs.rows.BitTaken.{same_default}
+use Rattle.acl_normal.proofs.rows.BitTaken.{default_unread}
 use Rattle.acl_normal.proofs.rows.WaitingPlaces.{holds_more}
 use Rattle.acl_normal.proofs.unique.Outline.{length_shown}
 use Rattle.acl_normal.proofs.rows.waiting.waiting_places.Goals as goal
@@ -24,7 +24,7 @@ loop-place-preserved c =
     holds_more c.args.aces.now masks place c.index-aces-place.result mask (is_users c.of.result)
     c.loop-place.lists.items
     c.note.new.lists.items c.loop-place.invariant c.requires.places c.requires.quiet c.loop-place-test.true
-    c.index-aces-place.is (same_default masks place 0 mask (omega (arith, c.loop-place-test.true, c.requires.places)))
+    c.index-aces-place.is (default_unread masks place 0 mask (omega (arith, c.loop-place-test.true, c.requires.places)))
     (c.of.ensures ∙ ap is_user c.principal.ensures) c.in_ok-note.ensures
 
 pub returns : goal.returns

@@ -49,9 +49,9 @@ fewer_bits p a r flags who fewer h = record {
 }
 
 -- what holds of each ACE of a list holds of that at a place
-pub ace_at : (xs : List AceRef) (x : AceRef) (i : ℕ) → i < length xs → x ≡ slice_index_or xs i x
+pub within_at : (xs : List AceRef) (x : AceRef) (i : ℕ) → i < length xs → x ≡ slice_index_or xs i x
     → IsWithinAs (list_of xs) (ace x)
-ace_at xs x i lt is = λ q h. go q xs i lt is h
+within_at xs x i lt is = λ q h. go q xs i lt is h
   where
     go : (q : Profile) (xs : List AceRef) (i : ℕ) → i < length xs → x ≡ slice_index_or xs i x
         → AllByRecursion (IsAce q) (list_of xs) → IsAce q (ace x)

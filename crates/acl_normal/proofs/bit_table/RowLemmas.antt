@@ -13,10 +13,11 @@ use Rattle.acl_normal.specs.internal.Emissions.{IsOnce}
 use Rattle.acl_normal.specs.internal.Rows.{ArePlaces}
 use Rattle.acl_normal.specs.internal.Emitted.{StandInRows, emitted_ace, emitted_aces}
 use Rattle.acl_normal.specs.Left.{KeepsFirsts}
-use Rattle.acl_normal.specs.Keys.{plain_key}
+use Rattle.acl_normal.specs.internal.Shown.{plain_key}
 use Rattle.acl_normal.specs.Places.{first_at}
 use Rattle.acl_normal.specs.Normal.{counts}
-use Rattle.acl_normal.specs.Tables.{AddsRow, AreRows, HasKey, IsRow, with_bit}
+use Rattle.acl_normal.specs.Tables.{AreRows, IsRow, with_bit}
+use Rattle.acl_normal.specs.internal.TableRows.{AddsRow, HasKey}
 use Rattle.acl_normal.specs.declared.bit_table.Row.{Row}
 use Rattle.acl_normal.specs.declared.emit.emission.Emitted.{Emitted}
 use Rattle.acl_normal.proofs.unique.Columns.{column_has}
@@ -29,8 +30,9 @@ use Rattle.acl_normal.proofs.five_forms.Writing.{split_at}
 use Rattle.acl_normal.proofs.rows.Rows.{row_below}
 
 -- an ACE without the bit has no row
-pub no_row : (b : ℕ) (xs : List Ace) (a : Ace) (rows : List Row) → has_bit a.mask b ≡ false → AddsRow b xs a rows rows
-no_row b xs a rows lacks list so = rw lacks (subst (λ v. AreRows b xs v rows) (sym (append-nil list)) so)
+pub adds_no_row : (b : ℕ) (xs : List Ace) (a : Ace) (rows : List Row) → has_bit a.mask b ≡ false
+    → AddsRow b xs a rows rows
+adds_no_row b xs a rows lacks list so = rw lacks (subst (λ v. AreRows b xs v rows) (sym (append-nil list)) so)
 
 rows_push : (b : ℕ) (xs list : List Ace) (a : Ace) (rows : List Row) (r : Row) → AreRows b xs list rows → IsRow b xs a r
     → AreRows b xs (list ++ a ∷ []) (rows ++ r ∷ [])
@@ -114,10 +116,10 @@ rows_all b xs es i rows l so = subst (λ v. AreRows b xs (with_bit b (emitted_ac
 -- ---- the table
 
 -- each ACE of a list without repetition has its key in one that is alike
-pub key_there : (b : ℕ) (xs : List Ace) (es : List Emitted) → IsOnce (column (emitted_aces es) b)
+pub has_key_there : (b : ℕ) (xs : List Ace) (es : List Emitted) → IsOnce (column (emitted_aces es) b)
     → IsAlike (column xs b) (column (emitted_aces es) b) → (i : ℕ) (d : Emitted) → i < length es
     → HasKey b xs (emitted_ace (slice_index_or es i d))
-key_there b xs es once alike i d l has =
+has_key_there b xs es once alike i d l has =
     let a = emitted_ace (slice_index_or es i d) in
     let front = emitted_aces (take i es) in
     let back = emitted_aces (drop (suc i) es) in
@@ -145,9 +147,9 @@ rows_from b xs ys (a ∷ list) (r ∷ rows) keeps so = (
 )
 
 -- what stands in the rows of a list stands in one of so many
-pub row_there : (xs : List Ace) (es shown : List Emitted) (n : ℕ) → StandInRows xs es → shown ≡ es → n ≡ length xs
+pub row_in_list : (xs : List Ace) (es shown : List Emitted) (n : ℕ) → StandInRows xs es → shown ≡ es → n ≡ length xs
     → All (λ e. e.row < n) shown
-row_there xs es shown n stand is count = subst (λ v. All (λ e. e.row < n) v) (sym is) below
+row_in_list xs es shown n stand is count = subst (λ v. All (λ e. e.row < n) v) (sym is) below
   where
     below : (k : ℕ) (d : Emitted) → k < length es → (slice_index_or es k d).row < n
     below k d l = let at = stand k d l in
