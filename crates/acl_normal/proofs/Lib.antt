@@ -1,9 +1,2 @@
-pub mod Unique
-pub mod PlainForm
-pub mod Inheritance
-pub mod Merging
-pub mod Emission
-pub mod Reduction
-pub mod Searching
-pub mod Tables
+pub mod unique
 pub mod Vectors

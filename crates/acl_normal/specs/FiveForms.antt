@@ -13,7 +13,7 @@ use Rattle.acl_normal.specs.NormalForm.{IsNormalFormOf}
 use Rattle.acl_normal.specs.Paths.{at, below, here}
 use Rattle.acl_normal.specs.declared.five_forms.FiveForms.{FiveForms}
 
--- each of the five is the normal form of the list at its path
+-- each of the five forms is the normal form of the list at its path
 pub record AreFormsOf (source : List Ace) (forms : FiveForms) : Type 0 where
   pub object : IsNormalFormOf (at source here) forms.object
   pub file : IsNormalFormOf (at source (below 0 File)) forms.file
@@ -21,7 +21,12 @@ pub record AreFormsOf (source : List Ace) (forms : FiveForms) : Type 0 where
   pub file_in_directory : IsNormalFormOf (at source (below 1 File)) forms.file_in_directory
   pub directory_in_directory : IsNormalFormOf (at source (below 1 Directory)) forms.directory_in_directory
 
--- each of the five is accepted under the profile
+-- the list is accepted under the profile, and these are its five forms
+pub record AreFormsUnder (p : Profile) (source : List Ace) (five : FiveForms) : Type 0 where
+  pub accepted : IsAccepted p source
+  pub forms : AreFormsOf source five
+
+-- each of the five forms is accepted under the profile
 pub record AreAccepted (p : Profile) (forms : FiveForms) : Type 0 where
   pub object : IsAccepted p forms.object
   pub file : IsAccepted p forms.file
@@ -29,7 +34,7 @@ pub record AreAccepted (p : Profile) (forms : FiveForms) : Type 0 where
   pub file_in_directory : IsAccepted p forms.file_in_directory
   pub directory_in_directory : IsAccepted p forms.directory_in_directory
 
--- each of the five has the spelling of its fellow (RFC 4506)
+-- each of the five forms has the spelling of its fellow (RFC 4506)
 pub record AreSpelledAlike (forms other : FiveForms) : Type 0 where
   pub object : spelling forms.object ≡ spelling other.object
   pub file : spelling forms.file ≡ spelling other.file
@@ -37,23 +42,23 @@ pub record AreSpelledAlike (forms other : FiveForms) : Type 0 where
   pub file_in_directory : spelling forms.file_in_directory ≡ spelling other.file_in_directory
   pub directory_in_directory : spelling forms.directory_in_directory ≡ spelling other.directory_in_directory
 
--- the five lists, in the order of the fields
+-- the five forms as a list, in the order of the fields
 abbrev pub five_lists : FiveForms → List (List Ace)
 five_lists forms = forms.object ∷ forms.file ∷ forms.directory ∷ forms.file_in_directory
     ∷ forms.directory_in_directory ∷ []
 
--- their spellings, one behind the other
+-- the spellings of the five forms, one behind the other
 abbrev pub five_spellings : FiveForms → List ℕ
 five_spellings forms = flat_map spelling (five_lists forms)
 
--- each of the five has the spelling of its fellow, as a test; of accepted lists that is that they are the same
+-- each of the five forms has the spelling of its fellow, as a test; accepted ones are then the same
 abbrev pub same_forms : FiveForms → FiveForms → Bool
 same_forms = on five_lists (pointwise same_list)
 
--- the five are compared by a partial equivalence
+-- the test whether two fives are spelled alike is a partial equivalence
 pub same_forms_laws : IsPartialEquivalence same_forms
 same_forms_laws = on_per five_lists (lists_per same_list_laws)
 
--- and by an equivalence
+-- the test whether two fives are spelled alike is an equivalence
 pub same_forms_equiv : IsEquivalence same_forms
 same_forms_equiv = on_equiv five_lists (lists_equiv same_list_equiv)

@@ -6,7 +6,6 @@ use Rattle.std.specs.declared.cmp.Ordering.{Ordering}
 use Rattle.acl_perm.specs.Principal.{Principal, principal, owner, user, group, group_named, everyone}
 use Rattle.acl_perm.specs.Overlap.{may_overlap}
 use Rattle.acl_perm.specs.Order.{Key as Record, key_cmp}
-use Rattle.acl_perm.specs.declared.key.Key.{Key as CodeKey}
 use Rattle.acl_perm.specs.declared.kind.Kind.{Kind}
 use Rattle.acl_perm.specs.declared.kind.Kind.TheVariants.{Deny, Allow}
 use Rattle.acl_nfs4.specs.Ace.{Ace}
@@ -20,42 +19,23 @@ Key = Principal × Kind
 abbrev pub ace_key : Ace → Key
 ace_key a = (principal_of a, a.kind)
 
--- the same principal
+-- two principals are the same
 abbrev pub principal_eq : Principal → Principal → Bool
 principal_eq owner owner = true
-principal_eq owner (user other) = false
-principal_eq owner group = false
-principal_eq owner (group_named other) = false
-principal_eq owner everyone = false
-principal_eq (user name) owner = false
 principal_eq (user name) (user other) = bytes_eq name other
-principal_eq (user name) group = false
-principal_eq (user name) (group_named other) = false
-principal_eq (user name) everyone = false
-principal_eq group owner = false
-principal_eq group (user other) = false
 principal_eq group group = true
-principal_eq group (group_named other) = false
-principal_eq group everyone = false
-principal_eq (group_named name) owner = false
-principal_eq (group_named name) (user other) = false
-principal_eq (group_named name) group = false
 principal_eq (group_named name) (group_named other) = bytes_eq name other
-principal_eq (group_named name) everyone = false
-principal_eq everyone owner = false
-principal_eq everyone (user other) = false
-principal_eq everyone group = false
-principal_eq everyone (group_named other) = false
 principal_eq everyone everyone = true
+principal_eq _ _ = false
 
--- the same type
+-- two types are the same
 abbrev pub kind_eq : Kind → Kind → Bool
 kind_eq Deny Deny = true
 kind_eq Deny Allow = false
 kind_eq Allow Deny = false
 kind_eq Allow Allow = true
 
--- the types differ, and one requester may be spoken of by both
+-- two keys conflict: their types differ, and one requester may be spoken of by both
 abbrev pub conflicts : Key → Key → Bool
 conflicts e f = may_overlap e.0 f.0 && not (kind_eq e.1 f.1)
 
@@ -66,7 +46,3 @@ key_record e = record { principal = e.0; kind = e.1 }
 -- keys are ordered as in acl_perm
 abbrev pub compare_keys : Key → Key → Ordering
 compare_keys e f = key_cmp (key_record e) (key_record f)
-
--- whom a key of the code names, and whether it denies or allows
-abbrev pub plain_key : CodeKey → Key
-plain_key k = (principal k.principal, k.kind)

@@ -1,13 +1,12 @@
 -- What is left of a list of ACEs while its normal form is made (RFC 8881, section 6.2.1): the list, by place, with the
 -- masks that are left.
-use Rattle.std.specs.Prelude.{◌≡◌, ℕ, ◌<◌, ◌≤◌, false, if◌then◌else◌, ◌==◌, IsTrue, List, [], ◌∷◌, Some}
+use Rattle.std.specs.Prelude.{◌≡◌, ℕ, ◌<◌, false, if◌then◌else◌, ◌==◌, IsTrue, List, [], ◌∷◌, Some}
 use Rattle.acl_perm.specs.Bits.{has_bit}
 use Rattle.acl_perm.specs.Principal.{Principal}
 use Rattle.acl_perm.specs.declared.kind.Kind.{Kind}
 use Rattle.acl_nfs4.specs.Ace.{Ace}
 use Rattle.acl_eval.specs.Column.{column}
-use Rattle.acl_normal.specs.internal.Emissions.{HasOnceColumns}
-use Rattle.acl_normal.specs.Normal.{IsQuiet, is_free}
+use Rattle.acl_normal.specs.Normal.{is_free}
 use Rattle.acl_normal.specs.Places.{first_at}
 
 -- the ACEs of which something is left
@@ -17,20 +16,15 @@ left (a ∷ list) = if a.mask == 0 then left list else a ∷ left list
 
 -- what stands first for a principal and a bit stands first in the source too, at the same place
 abbrev pub KeepsFirsts : List Ace → List Ace → Type 0
-KeepsFirsts source list = (bit : ℕ) (p : Principal) (kind : Kind) (place : ℕ) → first_at bit p list ≡ Some (kind, place)
-    → first_at bit p source ≡ Some (kind, place)
+KeepsFirsts source list = (bit : ℕ) (p : Principal) (kind : Kind) (place : ℕ)
+    → first_at bit p list ≡ Some (kind, place) → first_at bit p source ≡ Some (kind, place)
 
 -- at one of the bits, a key of the principal stands in the column and none before it conflicts with it
 abbrev pub HasFree : List Ace → Principal → ℕ → Type 0
-HasFree list p bits =
-    (bit : ℕ) × (kind : Kind) × IsTrue (has_bit bits bit) × IsTrue (is_free (column list bit) (p, kind))
+HasFree list p bits = (bit : ℕ) × (kind : Kind) × IsTrue (has_bit bits bit)
+    × IsTrue (is_free (column list bit) (p, kind))
 
 -- the lowest of the bits
 abbrev pub IsLowest : ℕ → ℕ → Type 0
-IsLowest bit bits = IsTrue (has_bit bits bit) × ((other : ℕ) → other < bit → has_bit bits other ≡ false)
-
--- each column has each principal once, and what takes no part or is no bit of the twenty-one is absent
-pub record IsTidy (list : List Ace) : Type 0 where
-  pub once : HasOnceColumns list
-  pub quiet : IsQuiet list
-  pub low : (bit : ℕ) → 21 ≤ bit → column list bit ≡ []
+IsLowest bit bits =
+    IsTrue (has_bit bits bit) × ((other : ℕ) → other < bit → has_bit bits other ≡ false)

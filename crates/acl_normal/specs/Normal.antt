@@ -1,9 +1,9 @@
 -- The normal form of a list of ACEs (this library's own, over what lists grant by RFC 8881, section 6.2.1): no bit that
 -- plays no part, one order, and no flag that plays no part.
-use Rattle.std.specs.Prelude.{⊤, ◌≡◌, ◌≢◌, ℕ, ◌^◌, Bool, true, false, not, ◌||◌, ◌&&◌, IsTrue, List, [], ◌∷◌, ◌++◌}
+use Rattle.std.specs.Prelude.{⊤, ◌≡◌, ◌≢◌, ℕ, ◌^◌, Bool, false, not, ◌||◌, ◌&&◌, IsTrue, List, [], ◌∷◌, ◌++◌}
 use Rattle.std.specs.List.{AllByRecursion}
 use Rattle.std.specs.Ordering.{is_le}
-use Rattle.acl_perm.specs.Bits.{has_bit, all_rights, inherit_only, IsSubset}
+use Rattle.acl_perm.specs.Bits.{has_bit, all_rights, inherit_only}
 use Rattle.acl_perm.specs.Principal.{Principal, owner, user, group, group_named, everyone}
 use Rattle.acl_nfs4.specs.Ace.{Ace}
 use Rattle.acl_nfs4.specs.Who.{principal_of}
@@ -11,7 +11,6 @@ use Rattle.acl_eval.specs.Column.{Column, column}
 use Rattle.acl_eval.specs.Grant.{SameGrants}
 use Rattle.acl_eval.specs.Scan.{without}
 use Rattle.acl_normal.specs.Keys.{Key, ace_key, principal_eq, kind_eq, conflicts, compare_keys}
-use Rattle.acl_normal.specs.SmallSituations.{HasName}
 
 -- the ACE without one bit of its mask
 abbrev pub without_bit : Ace → ℕ → Ace
@@ -29,21 +28,28 @@ HasNoEmptyMask list = AllByRecursion (λ a. a.mask ≢ 0) list
 -- no mask is empty, and each bit of each mask is needed
 pub record IsIrreducibleList (list : List Ace) : Type 0 where
   pub no_empty_mask : HasNoEmptyMask list
-  pub needed : (before : List Ace) (a : Ace) (after : List Ace) (bit : ℕ) → list ≡ before ++ a ∷ after
-      → IsTrue (has_bit a.mask bit) → IsNeeded before a after bit
+  pub needed : (before : List Ace) (a : Ace) (after : List Ace) (bit : ℕ)
+      → list ≡ before ++ a ∷ after → IsTrue (has_bit a.mask bit) → IsNeeded before a after bit
 
 -- the key is free in a column: it stands there, and none before it conflicts with it
 abbrev pub is_free : Column → Key → Bool
 is_free [] e = false
-is_free (first ∷ c) e = (principal_eq first.0 e.0 && kind_eq first.1 e.1) || (not (conflicts first e) && is_free c e)
+is_free (first ∷ c) e =
+    (principal_eq first.0 e.0 && kind_eq first.1 e.1) || (not (conflicts first e) && is_free c e)
+
+-- no key that is free in the list at some bit is less than that of the ACE
+abbrev pub HasLeastKey : List Ace → Ace → Type 0
+HasLeastKey list a = (e : Key) (bit : ℕ) → IsTrue (is_free (column list bit) e)
+    → IsTrue (is_le (compare_keys (ace_key a) e))
+
+-- the ACE has all bits at which its key is free in the list, and no others
+abbrev pub HasFreeBits : List Ace → Ace → Type 0
+HasFreeBits list a = (bit : ℕ) → has_bit a.mask bit ≡ is_free (column list bit) (ace_key a)
 
 -- at each place stands the least key that is free at some bit from there on, with all bits at which it is free
 abbrev pub IsOrdered : List Ace → Type 0
 IsOrdered [] = ⊤
-IsOrdered (a ∷ list) =
-    ((e : Key) (bit : ℕ) → IsTrue (is_free (column (a ∷ list) bit) e) → IsTrue (is_le (compare_keys (ace_key a) e)))
-    × ((bit : ℕ) → has_bit a.mask bit ≡ is_free (column (a ∷ list) bit) (ace_key a))
-    × IsOrdered list
+IsOrdered (a ∷ list) = HasLeastKey (a ∷ list) a × HasFreeBits (a ∷ list) a × IsOrdered list
 
 -- IDENTIFIER_GROUP on a group name, and no other flag (RFC 8881, section 6.2.1.4)
 abbrev pub flags_for : Principal → ℕ
@@ -72,15 +78,3 @@ is_inherit_only a = has_bit a.flags inherit_only
 -- the ACE has the bit and takes part, so that it is a key of the bit's column
 abbrev pub counts : ℕ → Ace → Bool
 counts bit a = has_bit a.mask bit && not (is_inherit_only a)
-
--- an ACE that takes no part has no bit
-abbrev pub IsQuiet : List Ace → Type 0
-IsQuiet list = AllByRecursion (λ a. is_inherit_only a ≡ true → a.mask ≡ 0) list
-
--- every bit is one of the sixteen rights
-abbrev pub HasMasks : List Ace → Type 0
-HasMasks list = AllByRecursion (λ a. IsSubset a.mask all_rights) list
-
--- each who that is a user or group name is one that a situation may have
-abbrev pub HasNames : List Ace → Type 0
-HasNames list = AllByRecursion (λ a. HasName (principal_of a)) list

@@ -16,8 +16,15 @@ pub record IsNormalFormOf (source result : List Ace) : Type 0 where
   pub lighter : weight result ≤ weight source
   pub accepted : IsAccepted full result
   pub fits : (p : Profile) → Fits p source → Fits p result
-  pub only : (other : List Ace) → IsNormal other → SameGrants all_rights source other → result ≡ other
+  pub only : (other : List Ace) → IsNormal other → SameGrants all_rights source other
+      → result ≡ other
   pub itself : IsNormal source → result ≡ source
+
+-- under a profile: the list is accepted, normal, and grants what the source grants of the rights that the profile has
+pub record IsFormUnder (p : Profile) (source form : List Ace) : Type 0 where
+  pub accepted : IsAccepted p form
+  pub normal : IsNormal form
+  pub grants : SameGrants p.masks source form
 
 -- the bytes spell a list, and the text its normal form (RFC 4506)
 pub record Normalises (p : Profile) (bytes text : List ℕ) : Type 0 where

@@ -64,10 +64,11 @@ small_situations list other =
 
 -- each right is granted by both lists or by none
 abbrev pub GrantAlike : List Ace → List Ace → Situation → Type 0
-GrantAlike list other s = (bit : ℕ) → IsTrue (has_bit all_rights bit) → grants_bit list s bit ≡ grants_bit other s bit
+GrantAlike list other s = (bit : ℕ) → IsTrue (has_bit all_rights bit)
+    → grants_bit list s bit ≡ grants_bit other s bit
 
--- The first small situation in which the lists grant otherwise, the lowest bit on which they do, as a set of one right,
--- and whether the first list grants it there.
+-- the first small situation in which the lists grant otherwise, the lowest bit on which they do, as a set of one right,
+-- and whether the first list grants it there
 pub record IsFirstDifference (list other : List Ace) (s : Situation) (mask : ℕ) (first_grants : Bool) : Type 0 where
   pub before : List Situation
   pub after : List Situation
@@ -77,10 +78,11 @@ pub record IsFirstDifference (list other : List Ace) (s : Situation) (mask : ℕ
   pub one_bit : mask ≡ 2 ^ bit
   pub of_rights : IsTrue (has_bit all_rights bit)
   pub differs : grants_bit list s bit ≢ grants_bit other s bit
-  pub lowest : (b : ℕ) → b < bit → IsTrue (has_bit all_rights b) → grants_bit list s b ≡ grants_bit other s b
+  pub lowest : (b : ℕ) → b < bit → IsTrue (has_bit all_rights b)
+      → grants_bit list s b ≡ grants_bit other s b
   pub first : first_grants ≡ grants_bit list s bit
 
--- In a situation whose names are names, one list grants a request and the other denies it.
+-- in a situation whose names are names, one list grants a request and the other denies it
 pub record TellsApart (list other : List Ace) (s : Situation) (request : ℕ) (first_grants : Bool) : Type 0 where
   pub valid : IsSituation s
   pub first : Grant list s request ↔ IsTrue first_grants

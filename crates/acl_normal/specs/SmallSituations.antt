@@ -1,11 +1,8 @@
 -- Situations in which just some given principals match, and everyone (this library's own; what matches is of RFC 8881,
 -- section 6.2.1.5).
-use Rattle.std.specs.Prelude.{⊤, ℕ, Bool, false, if◌then◌else◌, ◌||◌, List, [], ◌∷◌, Option, Some, None, unwrap_or, length, replicate, max}
-use Rattle.std.specs.List.{AllByRecursion}
+use Rattle.std.specs.Prelude.{ℕ, Bool, false, if◌then◌else◌, ◌||◌, List, [], ◌∷◌, Option, Some, None, unwrap_or, replicate}
 use Rattle.acl_perm.specs.Principal.{Principal, owner, user, group, group_named, everyone}
-use Rattle.acl_perm.specs.Situation.{Situation, IsName}
-use Rattle.acl_perm.specs.Order.{principal_name}
-use Rattle.acl_eval.specs.Column.{Column}
+use Rattle.acl_perm.specs.Situation.{Situation}
 use Rattle.acl_normal.specs.Keys.{principal_eq}
 
 -- the first user name among some principals
@@ -53,20 +50,3 @@ small_situation n ps =
       user_name = asking;
       groups = if is_among group ps then names_or (group_names ps) stranger else group_names ps;
     }
-
--- the length of the longest name
-abbrev pub longest_name : Column → ℕ
-longest_name [] = 0
-longest_name ((p, kind) ∷ c) = max (length (principal_name p)) (longest_name c)
-
--- a user name and a group name are names that a situation may have
-abbrev pub HasName : Principal → Type 0
-HasName owner = ⊤
-HasName (user name) = IsName name
-HasName group = ⊤
-HasName (group_named name) = IsName name
-HasName everyone = ⊤
-
--- each principal of the column has such a name
-abbrev pub HaveNames : Column → Type 0
-HaveNames c = AllByRecursion (λ e. HasName e.0) c

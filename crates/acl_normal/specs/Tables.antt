@@ -1,14 +1,11 @@
 -- The table of one bit: the ACEs of a normal form that have it, and where they come from (this library's own; the bits
 -- are those of RFC 8881, section 6.2.1.3.1).
-use Rattle.std.specs.Prelude.{⊤, ◌≡◌, true, ℕ, List, [], ◌∷◌, ◌++◌, filter, Some}
+use Rattle.std.specs.Prelude.{⊤, ◌≡◌, ℕ, List, [], ◌∷◌, filter, Some}
 use Rattle.acl_perm.specs.Bits.{has_bit, identifier_group}
 use Rattle.acl_nfs4.specs.Ace.{Ace}
 use Rattle.acl_nfs4.specs.Who.{principal_of}
-use Rattle.acl_eval.specs.Column.{column, first_kind}
-use Rattle.acl_normal.specs.internal.Alike.{is_either}
 use Rattle.acl_normal.specs.NormalForm.{IsNormalFormOf}
 use Rattle.acl_normal.specs.Places.{first_at}
-use Rattle.acl_normal.specs.Normal.{counts}
 use Rattle.acl_normal.specs.declared.bit_table.Row.{Row}
 
 -- the ACEs that have the bit, in order
@@ -35,15 +32,3 @@ pub record IsTable (bit : ℕ) (source : List Ace) (rows : List Row) : Type 0 wh
   pub form : List Ace
   pub is_form : IsNormalFormOf source form
   pub shown : AreRows bit source (with_bit bit form) rows
-
--- ---- words that only code needs
-
--- where the ACE has the bit, its key is in the list
-abbrev pub HasKey : ℕ → List Ace → Ace → Type 0
-HasKey bit list a =
-    counts bit a ≡ true → first_kind (is_either (principal_of a) (principal_of a)) (column list bit) ≡ Some a.kind
-
--- the row of an ACE was added, where it has the bit
-abbrev pub AddsRow : ℕ → List Ace → Ace → List Row → List Row → Type 0
-AddsRow bit source a old new =
-    (list : List Ace) → AreRows bit source list old → AreRows bit source (list ++ with_bit bit (a ∷ [])) new

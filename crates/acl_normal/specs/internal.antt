@@ -4,20 +4,24 @@
 pub mod Alike
 -- the keys that play a part, without a look at any situation
 pub mod Plain
+-- lists whose columns have each principal once, and in which what takes no part has no bit
+pub mod Tidy
+-- which names a situation may have, and how long names are
+pub mod Names
 -- what is left of a list without bits that play no part
 pub mod Reduced
--- lists that are put into order key by key
+-- lists that are put into order key by key, and how many keys are left of one
 pub mod Emissions
--- how many keys the columns of a list have
-pub mod Counts
 -- the plain way to the normal form, pass by pass
 pub mod Passes
--- what lists of the code's ACEs show
+-- what ACEs and keys in memory show
 pub mod Shown
 -- the two classes of principals
 pub mod Classes
 -- the rights of a mask, one after the other
 pub mod NextRight
+-- what stands at a place of a list, and what blocks it
+pub mod AtPlaces
 -- how the rows of principals are numbered, and where each right of theirs stands
 pub mod Rows
 -- lists of the places that wait
@@ -36,12 +40,20 @@ pub mod Ready
 pub mod Heaped
 -- an ACE of a normal form as it is made
 pub mod Emitted
+-- the table of one bit as it grows, row by row
+pub mod TableRows
 -- which bits are needed, told from masks
 pub mod Needed
 -- the search for the first small set of principals at which two lists grant otherwise
 pub mod SetSearch
--- where two lists first speak of each principal, and what they say there
+-- where a list first speaks of each principal, and what it says there
 pub mod FirstPlaces
+-- whom each ACE of two lists names, by number
+pub mod Whoms
+-- what two lists say first of a principal, and which come in other orders in the two
+pub mod ComparedRows
+-- to whom two lists grant alike, and the first to whom they do not
+pub mod Agreement
 -- tables that tell at once whether a row inverts another
 pub mod PlaceTables
 -- the principals that lists mention, by row and by number

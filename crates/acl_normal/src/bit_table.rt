@@ -5,7 +5,8 @@ ghost use Rattle.acl_nfs4.specs.Who.{principal_of};
 ghost use Rattle.acl_normal.specs.internal.Emitted.{StandInRows, emitted_ace, emitted_aces};
 ghost use Rattle.acl_normal.specs.Left.{IsLowest};
 ghost use Rattle.acl_normal.specs.internal.Rows.{ArePlaces, first_place};
-ghost use Rattle.acl_normal.specs.Tables.{AddsRow, AreRows, HasKey, IsTable, with_bit};
+ghost use Rattle.acl_normal.specs.Tables.{AreRows, IsTable, with_bit};
+ghost use Rattle.acl_normal.specs.internal.TableRows.{AddsRow, HasKey};
 
 use crate::emit::emission::{Emitted, normalize_left};
 use crate::emit::remaining::Remaining;

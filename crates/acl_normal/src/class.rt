@@ -20,14 +20,14 @@ impl Class {
         Class::from_users(p.is_user())
     }
 
-    /// Users, or others.
+    /// The class of users, or that of all others.
     pub(crate) fn from_users(users: bool) -> Class
         ensures { is_users result ≡ users }
     {
         if users { Class::Users } else { Class::Others }
     }
 
-    /// Whether it is that of users.
+    /// Whether it is the class of users.
     pub(crate) fn is_users(self) -> bool
         ensures { result ≡ is_users self }
     {

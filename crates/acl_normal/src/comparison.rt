@@ -47,11 +47,11 @@ pub struct Difference {
 pub fn compare(alloc: Global, first: &Acl, second: &Acl) -> Result<Option<Difference>, AllocError>
     // None exactly if both lists grant the same.
     ensures same { IfOk result (λ r. IsNone r ↔ SameGrants all_rights first.now second.now) }
-    // Else the first small situation in which they don't, the lowest right on which they differ there, and what the
-    // first list grants.
+    // A difference is the first small situation in which they don't, with the lowest right on which they differ there,
+    // and what the first list grants.
     ensures first { IfOk result (λ r. IfSome r (λ d. IsFirstDifference first.now second.now
         (situation_of d) d.bit.bits d.first_grants)) }
-    // Its names are names of an object and a requester, to whom one list grants that right and the other doesn't.
+    // A difference names an object and a requester, to whom one list grants that right and the other doesn't.
     ensures requester { IfOk result (λ r. IfSome r (λ d. TellsApart first.now second.now
         (situation_of d) d.bit.bits d.first_grants)) }
     // Of equal lists nothing takes memory.

@@ -36,7 +36,7 @@ pub struct FiveForms {
 }
 
 impl FiveForms {
-    /// The same five again, with one allocation each.
+    /// A copy of the five forms, with one allocation each.
     pub fn copy(&self, alloc: Global) -> Result<FiveForms, AllocError>
         ensures { IfOk result (λ forms. forms ≡ self.now) }
     {
@@ -131,7 +131,7 @@ fn put_list<K: Sink>(sink: &mut K, done: u64, list: &Acl) -> Result<u64, WriteFa
 /// The five normal forms of a list, by this library's table of inheritance. Two lists have the same five exactly if
 /// they grant the same now, and their children do for ever. It takes time that is nearly linear in the bytes of the
 /// list.
-#[tactic(auto, using(crate::proofs::Inheritance::Paths::further))]
+#[tactic(auto, using(crate::proofs::five_forms::Paths::further))]
 pub fn normalize_inherit(alloc: Global, list: &Acl) -> Result<FiveForms, AllocError>
     ensures object { IfOk result (λ forms. IsNormalFormOf (at list.now here) forms.object) }
     ensures file { IfOk result (λ forms. IsNormalFormOf (at list.now (below 0 File)) forms.file) }
@@ -141,10 +141,10 @@ pub fn normalize_inherit(alloc: Global, list: &Acl) -> Result<FiveForms, AllocEr
         IsNormalFormOf (at list.now (below 1 File)) forms.file_in_directory) }
     ensures directory_in_directory { IfOk result (λ forms.
         IsNormalFormOf (at list.now (below 1 Directory)) forms.directory_in_directory) }
-    // Further below, the lists are those one directory below.
+    // The list at a path further below is that of the same kind one directory below.
     ensures further { (count : ℕ) (kind : Kind) → 1 ≤ count
         → at list.now (below count kind) ≡ at list.now (below 1 kind) }
-    // Under a profile under which the list is accepted, so is each of the five.
+    // Each of the five is accepted under every profile under which the list is.
     ensures accepted { IfOk result (λ forms. (p : Profile) → IsProfile p → IsAccepted p list.now
         → AreAccepted p forms) }
 {

@@ -1,4 +1,4 @@
-//! Laws of normal forms.
+//! Laws of normal forms: what holds of any two lists, and of their forms.
 
 ghost use Rattle.std.specs.Prelude.{◌≡◌, ◌↔◌, ℕ, List, true, false};
 ghost use Rattle.acl_perm.specs.Bits.{all_rights, has_bit};
@@ -10,10 +10,10 @@ ghost use Rattle.acl_nfs4.specs.Within.{IsProfile};
 ghost use Rattle.acl_eval.specs.Column.{column};
 ghost use Rattle.acl_eval.specs.Grant.{SameGrants, grants_bit};
 ghost use Rattle.acl_normal.specs.Keys.{Key, conflicts};
-ghost use Rattle.acl_normal.specs.FiveForms.{AreFormsOf, AreSpelledAlike, five_spellings};
+ghost use Rattle.acl_normal.specs.FiveForms.{AreFormsUnder, AreSpelledAlike, five_spellings};
 ghost use Rattle.acl_normal.specs.Laws.{Has, Precedes};
 ghost use Rattle.acl_normal.specs.Normal.{IsIrreducibleList, IsNormal};
-ghost use Rattle.acl_normal.specs.NormalForm.{IsNormalFormOf};
+ghost use Rattle.acl_normal.specs.NormalForm.{IsFormUnder, IsNormalFormOf};
 ghost use Rattle.acl_normal.specs.Paths.{SameAtEveryPath, SameAtFive};
 ghost use Rattle.acl_normal.specs.SmallSets.{SmallSituationsSuffice};
 ghost use Rattle.acl_normal.specs.declared.five_forms.FiveForms.{FiveForms};
@@ -52,12 +52,12 @@ pub fn nothing_outside_a_profile()
 /// profile under which they are accepted.
 pub fn equal_bytes()
     ensures spelled { (p : Profile) (source other form other_form : List Ace) → IsProfile p
-        → IsAccepted p form → IsNormal form → SameGrants p.masks source form
-        → IsAccepted p other_form → IsNormal other_form → SameGrants p.masks other other_form
+        → IsFormUnder p source form → IsFormUnder p other other_form
         → (spelling form ≡ spelling other_form) ↔ SameGrants p.masks source other }
-    // So the bytes of the normal forms of two accepted lists tell whether these grant the same.
+    // The bytes of the normal forms of two accepted lists tell whether these grant the same.
     ensures forms { (p : Profile) (source other form other_form : List Ace) → IsProfile p
-        → IsAccepted p source → IsNormalFormOf source form → IsAccepted p other → IsNormalFormOf other other_form
+        → IsAccepted p source → IsNormalFormOf source form
+        → IsAccepted p other → IsNormalFormOf other other_form
         → (spelling form ≡ spelling other_form) ↔ SameGrants p.masks source other }
 {}
 
@@ -76,19 +76,16 @@ pub fn five_paths_suffice()
 /// The five normal forms of two lists that are accepted under a profile tell whether the lists grant the same at every
 /// path of creations.
 pub fn five_forms_tell_apart()
-    // They are equal exactly if the lists do.
+    // The fives are equal exactly if the lists grant the same at every path.
     ensures forms { (p : Profile) (list other : List Ace) (five other_five : FiveForms)
-        → IsProfile p
-        → IsAccepted p list → AreFormsOf list five → IsAccepted p other → AreFormsOf other other_five
+        → IsProfile p → AreFormsUnder p list five → AreFormsUnder p other other_five
         → (five ≡ other_five) ↔ SameAtEveryPath p.masks list other }
-    // So are their spellings, pair by pair,
+    // They are spelled alike, form by form, exactly if the lists grant the same at every path.
     ensures spelled { (p : Profile) (list other : List Ace) (five other_five : FiveForms)
-        → IsProfile p
-        → IsAccepted p list → AreFormsOf list five → IsAccepted p other → AreFormsOf other other_five
+        → IsProfile p → AreFormsUnder p list five → AreFormsUnder p other other_five
         → AreSpelledAlike five other_five ↔ SameAtEveryPath p.masks list other }
-    // and all five, one behind the other.
+    // The spellings of all five, one behind the other, are equal exactly if the lists grant the same at every path.
     ensures joined { (p : Profile) (list other : List Ace) (five other_five : FiveForms)
-        → IsProfile p
-        → IsAccepted p list → AreFormsOf list five → IsAccepted p other → AreFormsOf other other_five
+        → IsProfile p → AreFormsUnder p list five → AreFormsUnder p other other_five
         → (five_spellings five ≡ five_spellings other_five) ↔ SameAtEveryPath p.masks list other }
 {}

@@ -55,7 +55,8 @@ pub fn normal_bytes(alloc: Global, bytes: &[u8]) -> Result<Vec<u8>, Fault>
     normal_bytes_with(alloc, bytes, Profile::FULL)
 }
 
-/// The same of a list whose flags and masks the profile has.
+/// The bytes that spell the normal form of the list that the bytes spell, all of them, where its flags and masks are
+/// those of the profile.
 pub fn normal_bytes_with(alloc: Global, bytes: &[u8], profile: Profile) -> Result<Vec<u8>, Fault>
     ensures ok { IfOk result (λ text. Normalises (profile_of profile) bytes.now text.items) }
     ensures fault { IfErr result (λ f. (f ≡ no_memory)

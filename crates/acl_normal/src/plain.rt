@@ -1,5 +1,5 @@
-//! The normal form and the comparison in a plain way, as a measure for tests: each ACE is held against all others, and
-//! all small situations are gone over.
+//! The normal form and the comparison in a plain way, against which tests hold the fast ones: each ACE is held against
+//! all others, and all small situations are gone over.
 
 ghost use Rattle.std.specs.Prelude.{IfOk};
 ghost use Rattle.acl_perm.specs.Profile.{full};
@@ -18,8 +18,8 @@ use reduction::{drop_needless, drop_shadowed};
 pub use small_sets::compare;
 use std::alloc::{AllocError, Global};
 
-/// The normal form of a list, as the call of this name above makes it, but in time that grows with the third power of
-/// the number of ACEs.
+/// The normal form of a list, as [`crate::normalize`] makes it, but in time that grows with the third power of the
+/// number of ACEs.
 pub fn normalize(alloc: Global, source: &Acl) -> Result<Acl, AllocError>
     ensures { IfOk result (λ list. IsNormalFormOf source.now list) }
 {
@@ -27,7 +27,7 @@ pub fn normalize(alloc: Global, source: &Acl) -> Result<Acl, AllocError>
     emit(alloc, needed)
 }
 
-// The ACEs with the bits that play a part.
+// The ACEs with those of their bits that play a part.
 fn reduce(alloc: Global, source: &Acl) -> Result<Vec<AceRef<'_>>, AllocError>
     ensures reduced { IfOk result (λ needed. IsPlainReduction source.now (list_of needed.items)) }
     ensures accepted { IsAccepted full source.now }

@@ -1,4 +1,4 @@
-//! What is left of a list while its normal form is made, by principal and by place.
+//! Rows of principals and places that wait: what is left of a list while its normal form is made.
 
 mod heads;
 pub(crate) mod merged;

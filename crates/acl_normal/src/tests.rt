@@ -1,8 +1,12 @@
 //! Worked rows, and the calls held against the plain bodies.
 
 mod ample;
-mod comparison;
+mod bytes;
+mod differences;
 mod five_forms;
+mod forms;
 mod harness;
-mod normal;
-mod plain;
+mod merged_rows;
+mod plain_forms;
+mod small_situations;
+mod tables;

@@ -12,9 +12,9 @@ use Rattle.acl_nfs4.proofs.Within.{code_profile}
 use Rattle.acl_eval.specs.Grant.{SameGrants}
 use Rattle.acl_eval.proofs.Same.{equivalence}
 use Rattle.acl_normal.specs.Normal.{IsNormal}
-use Rattle.acl_normal.specs.NormalForm.{IsNormalFormOf, Normalises}
-use Rattle.acl_normal.proofs.Unique.Spelled.{IsForm, form_of, forms_tell}
-use Rattle.acl_normal.proofs.Unique.Unique.{unique}
+use Rattle.acl_normal.specs.NormalForm.{IsNormalFormOf, Normalises, IsFormUnder}
+use Rattle.acl_normal.proofs.unique.Spelled.{form_of, forms_tell}
+use Rattle.acl_normal.proofs.unique.Unique.{unique}
 use Rattle.aclck.specs.Answer.{done}
 use Rattle.aclck.specs.Laws.{TellsListsApart}
 use Rattle.aclck.specs.Normalize.{NormalizeAnswer}
@@ -27,8 +27,8 @@ one_of p list other x is h k = (one p list other x x [] [] is h k refl).0
 
 -- the list that was written is a form of the list that was read
 form_is : (p : Profile) (list : List Ace) (x a : List ℕ) → IsProfile p → Xdr p list x → (h : Normalises p x a)
-    → IsForm p list h.form
-form_is p list x a is read h = subst (λ source. IsForm p source h.form) (one_of p h.source list x is h.read read)
+    → IsFormUnder p list h.form
+form_is p list x a is read h = subst (λ source. IsFormUnder p source h.form) (one_of p h.source list x is h.read read)
     (form_of p h.source h.form is h.read.accepted h.is_form)
 
 -- what equal texts tell, other texts that are equal to these tell
@@ -45,7 +45,7 @@ bytes_tell p list other x y a b is read read_other h k =
 pub form_grants : (p : Profile) (list form : List Ace) (x a : List ℕ) → IsProfile p → Xdr p list x → Xdr p form a
     → Normalises p x a → SameGrants p.masks list form
 form_grants p list form x a is read written h = subst (SameGrants p.masks list)
-    (one_of p h.form form a is h.spelled written) (IsForm.grants (form_is p list x a is read h))
+    (one_of p h.form form a is h.spelled written) (IsFormUnder.grants (form_is p list x a is read h))
 
 -- a normal list is its own normal form
 pub own_form : (list : List Ace) → IsNormal list → IsAccepted full list → IsNormalFormOf list list

@@ -13,7 +13,7 @@ use Rattle.acl_normal.specs.FiveForms.{AreFormsOf, five_spellings}
 use Rattle.acl_normal.specs.NormalForm.{IsNormalFormOf, Normalises}
 use Rattle.acl_normal.specs.Paths.{SameAtEveryPath}
 use Rattle.acl_normal.specs.declared.five_forms.FiveForms.{FiveForms}
-use Rattle.acl_normal.proofs.Inheritance.FiveFormLemmas.{all_accepted, joined_tell}
+use Rattle.acl_normal.proofs.five_forms.FiveFormLemmas.{all_accepted, joined_tell}
 use Rattle.aclck.specs.Answer.{done}
 use Rattle.aclck.specs.Headline.{GrantAtPaths}
 use Rattle.aclck.specs.Laws.{TellsListsApart}

@@ -10,7 +10,7 @@ set_of code.Empty = []
 set_of (code.One p) = principal p ∷ []
 set_of (code.Two p q) = principal p ∷ principal q ∷ []
 
--- those of the set that was found, if one was
+-- the principals of the set that was found, if one was
 abbrev pub set_or_none : Option SmallSet → Option (List Principal)
 set_or_none None = None
 set_or_none (Some set) = Some (set_of set)

@@ -1,13 +1,11 @@
 -- Lists that are put into order key by key (this library's own).
-use Rattle.std.specs.Prelude.{⊤, ◌≡◌, ◌≢◌, ℕ, true, false, List, [], ◌∷◌, None}
-use Rattle.std.specs.Ordering.{is_le}
+use Rattle.std.specs.Prelude.{⊤, ◌≡◌, ◌≢◌, ℕ, ◌+◌, zero, suc, true, false, List, [], ◌∷◌, None, length}
 use Rattle.acl_perm.specs.Bits.{has_bit}
 use Rattle.acl_nfs4.specs.Ace.{Ace}
 use Rattle.acl_nfs4.specs.Who.{principal_of}
 use Rattle.acl_eval.specs.Column.{Column, column, first_kind}
-use Rattle.acl_normal.specs.Keys.{Key, ace_key, compare_keys}
 use Rattle.acl_normal.specs.internal.Alike.{is_either, IsAlike}
-use Rattle.acl_normal.specs.Normal.{is_free, IsOrdered, HasNormalFlags, HasNoEmptyMask, flags_for}
+use Rattle.acl_normal.specs.Normal.{HasFreeBits, HasLeastKey, IsOrdered, HasNormalFlags, HasNoEmptyMask, flags_for}
 use Rattle.acl_normal.specs.internal.Plain.{without_principal}
 
 -- no principal twice
@@ -35,8 +33,13 @@ pub record IsEmission (list emitted : List Ace) : Type 0 where
 pub record IsStep (list : List Ace) (a : Ace) (rest : List Ace) : Type 0 where
   pub flags : a.flags ≡ flags_for (principal_of a)
   pub mask : a.mask ≢ 0
-  pub least : (e : Key) (bit : ℕ) → is_free (column list bit) e ≡ true → is_le (compare_keys (ace_key a) e) ≡ true
-  pub all : (bit : ℕ) → has_bit a.mask bit ≡ is_free (column list bit) (ace_key a)
+  pub least : HasLeastKey list a
+  pub all : HasFreeBits list a
   pub taken : (bit : ℕ) → has_bit a.mask bit ≡ true
       → column rest bit ≡ without_principal (principal_of a) (column list bit)
   pub kept : (bit : ℕ) → has_bit a.mask bit ≡ false → column rest bit ≡ column list bit
+
+-- the number of keys of the first n bits together
+abbrev pub count_left : ℕ → List Ace → ℕ
+count_left zero list = 0
+count_left (suc bit) list = count_left bit list + length (column list bit)

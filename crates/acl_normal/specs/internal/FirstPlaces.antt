@@ -1,105 +1,45 @@
--- Where two lists first speak of each principal, and what they say there (this library's own): words that only code
--- needs.
-use Rattle.std.specs.Prelude.{◌≡◌, ℕ, ◌<◌, ◌≤◌, ◌+◌, Bool, true, false, not, ◌&&◌, if◌then◌else◌, nat_lt, ◌==◌, drop, slice_index_or, slice_set, List, [], ◌∷◌, length}
-use Rattle.std.specs.List.{AllByRecursion, AllZip, list_any}
+-- Where two lists first speak of each principal, and what they say there (this library's own).
+use Rattle.std.specs.Prelude.{◌≡◌, ℕ, ◌<◌, ◌+◌, Bool, false, ◌&&◌, if◌then◌else◌, drop, slice_index_or, slice_set, List, [], ◌∷◌, length}
 use Rattle.acl_eval.specs.Column.{takes_part}
 use Rattle.acl_eval.specs.Grant.{is_allow}
 use Rattle.acl_nfs4.specs.Ace.{Ace}
 use Rattle.acl_nfs4.specs.Who.{principal_of}
-use Rattle.acl_normal.specs.internal.Passes.{list_of}
-use Rattle.acl_normal.specs.internal.SetSearch.{AreRightsOf, GrantAlikeTo, differ, is_granted_to, principals}
+use Rattle.acl_normal.specs.internal.SetSearch.{is_granted_to}
 use Rattle.acl_normal.specs.SmallSituations.{is_among}
-use Rattle.acl_normal.specs.declared.comparison.rows.Compared.{Compared}
 use Rattle.acl_normal.specs.declared.comparison.rows.First.{First}
-use Rattle.acl_normal.specs.declared.comparison.rows.Row.{Row}
 use Rattle.acl_normal.specs.declared.comparison.rows.Whom.{Whom}
 use Rattle.acl_normal.specs.declared.comparison.rows.Whom.TheVariants.{Everyone, Nobody, One}
-use Rattle.acl_perm.specs.Bits.{all_rights, has_bit}
-use Rattle.acl_perm.specs.Overlap.{may_overlap}
-use Rattle.acl_perm.specs.Principal.{Principal, everyone, is_user}
+use Rattle.acl_perm.specs.Bits.{has_bit}
+use Rattle.acl_perm.specs.Principal.{Principal, everyone}
 use Rattle.acl_perm.specs.declared.kind.Kind.TheVariants.{Deny}
 
 -- the place of the first ACE that has the bit, takes part, and is of the set or everyone; the length of the list where
 -- there is none
-abbrev pub first_place : List Principal → ℕ → List Ace → ℕ
-first_place set bit [] = 0
-first_place set bit (a ∷ list) =
+abbrev pub deciding_place : List Principal → ℕ → List Ace → ℕ
+deciding_place set bit [] = 0
+deciding_place set bit (a ∷ list) =
     if (has_bit a.mask bit && takes_part a) && is_among (principal_of a) (everyone ∷ set) then 0
-    else first_place set bit list + 1
+    else deciding_place set bit list + 1
 
 -- the first ACE of a principal, or of everyone
 pub record IsFirst (list : List Ace) (bit : ℕ) (p : Principal) (f : First) : Type 0 where
-  pub place : f.place ≡ first_place (p ∷ []) bit list
+  pub place : f.place ≡ deciding_place (p ∷ []) bit list
   pub allows : f.allows ≡ is_granted_to list (p ∷ []) bit
-
--- what both lists say first of a principal
-pub record IsRow (list other : List Ace) (bit : ℕ) (p : Principal) (r : Row) : Type 0 where
-  pub here : IsFirst list bit p r.here
-  pub there : IsFirst other bit p r.there
-  pub user : r.user ≡ is_user p
-
--- of two that may overlap and are of different types, the one comes first in one list, and not in the other
-abbrev pub inverts : Row → Row → Bool
-inverts r s = (not (r.user && s.user) && differ r.here.allows s.here.allows)
-    && differ (nat_lt s.here.place r.here.place) (nat_lt s.there.place r.there.place)
-
--- the row inverts one of the others
-abbrev pub inverts_any : Row → List Row → Bool
-inverts_any r = list_any (inverts r)
-
--- on one bit, the lists grant alike wherever this principal and another that may overlap match
-abbrev pub AgreesAt : List Ace → List Ace → List Principal → ℕ → Principal → Type 0
-AgreesAt list other whole bit p = AllByRecursion (λ q. may_overlap p q ≡ true
-    → is_granted_to list (p ∷ q ∷ []) bit ≡ is_granted_to other (p ∷ q ∷ []) bit) whole
-
--- and on all rights
-abbrev pub Agrees : List Ace → List Ace → List Principal → Principal → Type 0
-Agrees list other whole p =
-    AllByRecursion (λ q. may_overlap p q ≡ true → GrantAlikeTo list other (p ∷ q ∷ [])) whole
-
--- the ACE takes part, and is of the principal or of everyone
-abbrev pub is_of : Ace → Principal → Bool
-is_of a p = takes_part a && is_among (principal_of a) (everyone ∷ p ∷ [])
-
--- the number is one of those that are named
-abbrev pub hits : Whom → ℕ → Bool
-hits Nobody k = false
-hits (One i) k = k == i
-hits Everyone k = true
-
--- a number that is named is less than n
-abbrev pub IsWithin : Whom → ℕ → Type 0
-IsWithin Nobody n = Unit {0}
-IsWithin (One i) n = i < n
-IsWithin Everyone n = Unit {0}
-
--- of the principals, by their numbers, just those are named that the ACE is of
-pub record IsWhom (whole : List Principal) (a : Ace) (w : Whom) : Type 0 where
-  pub within : IsWithin w (length whole)
-  pub hit : (k : ℕ) → k < length whole → is_of a (slice_index_or whole k everyone) ≡ hits w k
-
--- whom each ACE names
-abbrev pub AreWhoms : List Principal → List Ace → List Whom → Type 0
-AreWhoms whole list ws = AllZip (IsWhom whole) list ws
 
 -- what stands for a first ACE behind a list of them
 abbrev pub no_first : First
 no_first = record { place = 0; allows = false }
 
--- what the ACEs from a place on say first
+-- what the ACEs from a place on say first of a principal
 pub record IsFirstFrom (list : List Ace) (bit i : ℕ) (p : Principal) (f : First) : Type 0 where
-  pub place : f.place ≡ first_place (p ∷ []) bit (drop i list) + i
+  pub place : f.place ≡ deciding_place (p ∷ []) bit (drop i list) + i
   pub allows : f.allows ≡ is_granted_to (drop i list) (p ∷ []) bit
 
--- of each principal
+-- what the ACEs from a place on say first of each principal
 pub record AreFirstFrom (whole : List Principal) (list : List Ace) (bit i : ℕ) (firsts : List First) : Type 0 where
   pub count : length firsts ≡ length whole
   pub each : (k : ℕ) → k < length whole
       → IsFirstFrom list bit i (slice_index_or whole k everyone) (slice_index_or firsts k no_first)
-
--- each row tells of its principal
-pub record AreRows (whole : List Principal) (list other : List Ace) (bit : ℕ) (rows : List Row) : Type 0 where
-  pub each : AllZip (IsRow list other bit) whole rows
 
 -- what stands for an ACE behind a list
 abbrev pub no_ace : Ace
@@ -111,7 +51,7 @@ stops bit a Nobody = false
 stops bit a (One i) = false
 stops bit a Everyone = has_bit a.mask bit
 
--- the ACE at a place does
+-- the ACE at a place has the bit, and is of everyone
 abbrev pub stops_at : List Ace → List Whom → ℕ → ℕ → Bool
 stops_at list ws bit k = stops bit (slice_index_or list k no_ace) (slice_index_or ws k Nobody)
 
@@ -121,74 +61,3 @@ put firsts a Nobody place bit = firsts
 put firsts a (One i) place bit =
     if has_bit a.mask bit then slice_set firsts i (record { place = place; allows = is_allow a.kind }) else firsts
 put firsts a Everyone place bit = firsts
-
--- what stands for a row behind a list of them
-abbrev pub no_row : Row
-no_row = record { here = no_first; there = no_first; user = false }
-
--- both lists say the same of the principal alone
-abbrev pub SameAlone : Row → Type 0
-SameAlone r = r.here.allows ≡ r.there.allows
-
--- what is asked of each right
-abbrev pub OnAll : (ℕ → ℕ → Type 0) → ℕ → Type 0
-OnAll Q k = (bit : ℕ) → has_bit all_rights bit ≡ true → Q bit k
-
--- the least number below n of which it doesn't hold, or n
-pub record IsLeast (P : ℕ → Type 0) (n least : ℕ) : Type 0 where
-  pub within : least ≤ n
-  pub before : (k : ℕ) → k < least → P k
-  pub at : least < n → P least → ⊥
-
--- the lists grant alike to one principal alone
-abbrev pub AlikeAlone : List Ace → List Ace → List Principal → ℕ → ℕ → Type 0
-AlikeAlone list other whole bit k =
-    is_granted_to list (slice_index_or whole k everyone ∷ []) bit
-    ≡ is_granted_to other (slice_index_or whole k everyone ∷ []) bit
-
--- to one and each other
-abbrev pub AlikeWithAll : List Ace → List Ace → List Principal → ℕ → ℕ → Type 0
-AlikeWithAll list other whole bit k = AgreesAt list other whole bit (slice_index_or whole k everyone)
-
--- to one and a certain other
-abbrev pub AlikeWith : List Ace → List Ace → Principal → List Principal → ℕ → ℕ → Type 0
-AlikeWith list other p rest bit k = may_overlap p (slice_index_or rest k everyone) ≡ true
-    → is_granted_to list (p ∷ slice_index_or rest k everyone ∷ []) bit
-    ≡ is_granted_to other (p ∷ slice_index_or rest k everyone ∷ []) bit
-
--- of two lists, whom each ACE names is known, and no ACE has a right past those of both
-pub record IsCompared (c : Compared) : Type 0 where
-  pub here : AreWhoms (principals c.whole.now) (list_of c.list.now) c.list_whoms.now
-  pub there : AreWhoms (principals c.whole.now) (list_of c.other.now) c.other_whoms.now
-  pub here_rights : AreRightsOf (list_of c.list.now) c.rights.bits
-  pub there_rights : AreRightsOf (list_of c.other.now) c.rights.bits
-
--- ---- what is asked of two lists that are compared, right by right
-
--- each row tells of its principal
-abbrev pub AreRowsOf : Compared → ℕ → List Row → Type 0
-AreRowsOf c bit rows = AreRows (principals c.whole.now) (list_of c.list.now) (list_of c.other.now) bit rows
-
--- the lists grant alike to each principal alone
-abbrev pub IsAlikeAlone : Compared → Type 0
-IsAlikeAlone c = (k : ℕ) → k < length (principals c.whole.now)
-    → OnAll (AlikeAlone (list_of c.list.now) (list_of c.other.now) (principals c.whole.now)) k
-
--- the number of the first principal to whom alone they don't, or of principals
-abbrev pub IsFirstSingle : Compared → ℕ → Type 0
-IsFirstSingle c least =
-    IsLeast (OnAll (AlikeAlone (list_of c.list.now) (list_of c.other.now) (principals c.whole.now)))
-    (length (principals c.whole.now)) least
-
--- of the first that is one of a pair to whom they don't
-abbrev pub IsFirstMember : Compared → ℕ → Type 0
-IsFirstMember c least =
-    IsLeast (OnAll (AlikeWithAll (list_of c.list.now) (list_of c.other.now) (principals c.whole.now)))
-    (length (principals c.whole.now)) least
-
--- behind one principal, of the first with whom it is such a pair, or of those behind it
-abbrev pub IsFirstPartner : Compared → ℕ → ℕ → Type 0
-IsFirstPartner c at least =
-    IsLeast (OnAll (AlikeWith (list_of c.list.now) (list_of c.other.now)
-    (slice_index_or (principals c.whole.now) at everyone) (drop (at + 1) (principals c.whole.now))))
-    (length (drop (at + 1) (principals c.whole.now))) least

@@ -1,4 +1,4 @@
--- The principals that lists mention, by row and by number (this library's own): words that only code needs.
+-- The principals that lists mention, by row and by number (this library's own).
 use Rattle.std.specs.Prelude.{◌≡◌, ℕ, ◌<◌, true, if◌then◌else◌, List, [], ◌∷◌, ◌++◌, Option, Some, None, length, option_map, slice_index_or, slice_set, take}
 use Rattle.std.specs.Global.{Vec}
 use Rattle.acl_perm.specs.Principal.{Principal, everyone, principal}
@@ -11,7 +11,8 @@ use Rattle.acl_normal.specs.SmallSets.{is_mentioning, mentioned, mentioned_with}
 use Rattle.acl_normal.specs.SmallSituations.{is_among}
 use Rattle.acl_normal.specs.declared.comparison.rows.Whom.{Whom}
 use Rattle.acl_normal.specs.declared.comparison.rows.Whom.TheVariants.{Everyone, Nobody, One}
-use Rattle.acl_normal.specs.internal.FirstPlaces.{AreWhoms, no_ace}
+use Rattle.acl_normal.specs.internal.FirstPlaces.{no_ace}
+use Rattle.acl_normal.specs.internal.Whoms.{AreWhoms}
 use Rattle.acl_normal.specs.internal.Rows.{is_named, row_of}
 use Rattle.acl_normal.specs.internal.SetSearch.{IsRising, principals}
 
@@ -53,7 +54,7 @@ held [] = []
 held (None ∷ table) = held table
 held (Some p ∷ table) = principal p ∷ held table
 
--- those of the first n rows, and how many stand before each of these rows
+-- the principals of the first n rows of a table, and how many stand before each of these rows
 pub record AreNumbers (table : List (Option PrincipalRef)) (n : ℕ) (whole : List Principal) (numbers : List ℕ) :
     Type 0 where
   pub whole_is : whole ≡ held (take n table)

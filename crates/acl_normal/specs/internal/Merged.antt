@@ -7,7 +7,8 @@ use Rattle.acl_perm.specs.Bits.{all_rights, has_bit}
 use Rattle.acl_perm.specs.declared.kind.Kind.{Kind}
 use Rattle.acl_eval.specs.Column.{column}
 use Rattle.acl_normal.specs.internal.Emissions.{HasOnceColumns}
-use Rattle.acl_normal.specs.Places.{waits, slot_of}
+use Rattle.acl_normal.specs.Places.{waits}
+use Rattle.acl_normal.specs.internal.Waiting.{slot_of}
 use Rattle.acl_normal.specs.declared.rows.merged.MergedRows.TheInside.{Inside}
 
 -- the sets of places tell what waits of what is left

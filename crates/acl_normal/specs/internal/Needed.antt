@@ -1,11 +1,11 @@
--- Which bits are needed, told from masks (this library's own): words that only code needs.
+-- Which bits are needed, told from masks (this library's own).
 use Rattle.std.specs.Prelude.{ℕ, Bool, true, false, cond, not, ◌||◌, ◌&&◌, [], ◌∷◌}
 use Rattle.acl_perm.specs.Principal.{everyone, is_user}
 use Rattle.acl_perm.specs.declared.kind.Kind.{Kind}
 use Rattle.acl_perm.specs.declared.kind.Kind.TheVariants.{Deny, Allow}
 use Rattle.acl_perm.specs.Bits.{has_bit}
 use Rattle.acl_eval.specs.Column.{Column}
-use Rattle.acl_normal.specs.Keys.{principal_eq, Key, kind_eq}
+use Rattle.acl_normal.specs.Keys.{Key, kind_eq, principal_eq}
 use Rattle.acl_normal.specs.Places.{same_class}
 use Rattle.acl_perm.specs.Kind.{other_kind}
 use Rattle.acl_normal.specs.declared.reduce.needless.ByClass.{ByClass}

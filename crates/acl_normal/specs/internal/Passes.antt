@@ -1,4 +1,4 @@
--- The plain way to the normal form, pass by pass (this library's own): words that only code needs.
+-- The plain way to the normal form, pass by pass (this library's own).
 use Rattle.std.specs.Prelude.{◌≡◌, ◌≢◌, ℕ, Bool, true, false, ◌||◌, if◌then◌else◌, List, [], ◌∷◌, map, is_some, Option, None, Some}
 use Rattle.std.specs.List.{AllByRecursion}
 use Rattle.std.specs.Ordering.{is_le}
@@ -15,7 +15,7 @@ use Rattle.acl_eval.specs.Column.{Column, column, first_kind}
 use Rattle.acl_normal.specs.internal.Alike.{is_either}
 use Rattle.acl_normal.specs.Keys.{Key, ace_key, compare_keys, conflicts}
 use Rattle.acl_normal.specs.internal.Plain.{reduced}
-use Rattle.acl_normal.specs.Normal.{is_free, flags_for}
+use Rattle.acl_normal.specs.Normal.{HasFreeBits, is_free, flags_for}
 
 -- the list that ACEs in memory show
 abbrev pub list_of : List AceRef → List Ace
@@ -39,9 +39,9 @@ pub record IsPlainReduction (list needed : List Ace) : Type 0 where
   pub profiles : KeepsProfiles list needed
 
 -- a key before the given one conflicts with it
-abbrev pub is_blocked : Column → Key → Bool
-is_blocked [] e = false
-is_blocked (first ∷ c) e = conflicts first e || is_blocked c e
+abbrev pub is_opposed : Column → Key → Bool
+is_opposed [] e = false
+is_opposed (first ∷ c) e = conflicts first e || is_opposed c e
 
 -- at no bit is the key of the ACE free in the list
 abbrev pub IsNowhereFree : List Ace → Ace → Type 0
@@ -51,7 +51,7 @@ IsNowhereFree list a = (bit : ℕ) → is_free (column list bit) (ace_key a) ≡
 pub record IsCandidate (list : List Ace) (a : Ace) : Type 0 where
   pub flags : a.flags ≡ flags_for (principal_of a)
   pub mask : a.mask ≢ 0
-  pub all : (bit : ℕ) → has_bit a.mask bit ≡ is_free (column list bit) (ace_key a)
+  pub all : HasFreeBits list a
 
 -- the key of the first ACE is no greater than that of the second, where the second is free anywhere
 abbrev pub IsBelow : List Ace → Ace → Ace → Type 0
@@ -67,7 +67,7 @@ abbrev pub IsWithinAs : List Ace → Ace → Type 0
 IsWithinAs list a = (p : Profile) → AllByRecursion (IsAce p) list → IsAce p a
 
 -- the ACE is a candidate, and below all of the others that are free
-pub record IsLeast (list aces : List Ace) (a : Ace) : Type 0 where
+pub record IsLeastCandidate (list aces : List Ace) (a : Ace) : Type 0 where
   pub candidate : IsCandidate list a
   pub below : AllByRecursion (IsBelow list a) aces
   pub within : IsWithinAs list a
@@ -80,4 +80,4 @@ lesser (Some a) b = if is_le (compare_keys (ace_key a) (ace_key b)) then a else 
 -- of some ACEs, the least that is free in the list, or none where none is
 abbrev pub Best : List Ace → List Ace → Option Ace → Type 0
 Best list aces None = AreNowhereFree list aces
-Best list aces (Some a) = IsLeast list aces a
+Best list aces (Some a) = IsLeastCandidate list aces a

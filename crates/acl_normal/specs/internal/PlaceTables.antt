@@ -1,6 +1,6 @@
--- Tables that tell at once whether a row inverts another (this library's own): words that only code needs.
+-- Tables that tell at once whether a row inverts another (this library's own).
 use Rattle.std.specs.Prelude.{◌≡◌, ℕ, ◌<◌, ◌≤◌, ◌+◌, Bool, true, false, not, ◌&&◌, ◌||◌, ◌==◌, if◌then◌else◌, nat_lt, List, [], ◌∷◌, max, length, slice_index_or}
-use Rattle.acl_normal.specs.internal.FirstPlaces.{inverts_any, no_row}
+use Rattle.acl_normal.specs.internal.ComparedRows.{no_row, inverts_any}
 use Rattle.acl_normal.specs.internal.SetSearch.{differ}
 use Rattle.acl_normal.specs.declared.comparison.inversions.Sort.{Sort}
 use Rattle.acl_normal.specs.declared.comparison.rows.Row.{Row}
@@ -9,11 +9,11 @@ use Rattle.acl_normal.specs.declared.comparison.rows.Row.{Row}
 abbrev pub is_counted : Sort → Row → Bool
 is_counted sort r = not (sort.user && r.user) && differ sort.allows r.here.allows
 
--- the place in the one list
+-- the place of a row in the one list, which is the second list where they are swapped
 abbrev pub place_of : Bool → Row → ℕ
 place_of swapped r = if swapped then r.there.place else r.here.place
 
--- the place in the other list
+-- the place of a row in the other list
 abbrev pub other_place : Bool → Row → ℕ
 other_place swapped r = if swapped then r.here.place else r.there.place
 
@@ -24,7 +24,7 @@ most_before sort swapped k (r ∷ rows) =
     max (if is_counted sort r && nat_lt (place_of swapped r) k then other_place swapped r + 1 else 0)
     (most_before sort swapped k rows)
 
--- of those that stand just before it
+-- one more than the greatest place, in the other list, of the rows that count and stand just before a place in the one
 abbrev pub most_at : Sort → Bool → ℕ → List Row → ℕ
 most_at sort swapped k [] = 0
 most_at sort swapped k (r ∷ rows) =
@@ -36,12 +36,12 @@ pub record HasPlaces (size : ℕ) (r : Row) : Type 0 where
   pub here : r.here.place ≤ size
   pub there : r.there.place ≤ size
 
--- at each place the greatest of those before it
-pub record IsTable (sort : Sort) (swapped : Bool) (size : ℕ) (rows : List Row) (table : List ℕ) : Type 0 where
+-- the table has at each place the greatest of the rows before it
+pub record HoldsMost (sort : Sort) (swapped : Bool) (size : ℕ) (rows : List Row) (table : List ℕ) : Type 0 where
   pub count : length table ≡ size + 2
   pub each : (k : ℕ) → k < size + 2 → slice_index_or table k 0 ≡ most_before sort swapped k rows
 
--- at each place the greatest of those just before it
+-- the table has at each place the greatest of the rows just before it
 pub record IsScattered (sort : Sort) (swapped : Bool) (size : ℕ) (rows : List Row) (table : List ℕ) : Type 0 where
   pub count : length table ≡ size + 2
   pub each : (k : ℕ) → k < size + 2 → slice_index_or table k 0 ≡ most_at sort swapped k rows

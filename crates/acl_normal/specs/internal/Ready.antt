@@ -7,17 +7,17 @@ use Rattle.acl_perm.specs.Bits.{has_bit}
 use Rattle.acl_nfs4.specs.Ace.{Ace}
 use Rattle.acl_nfs4.specs.Who.{owner_name, group_name, everyone_name}
 use Rattle.acl_eval.specs.Column.{column}
-use Rattle.acl_normal.specs.Keys.{principal_eq, Key, compare_keys, kind_eq}
+use Rattle.acl_normal.specs.Keys.{Key, compare_keys, kind_eq, principal_eq}
 use Rattle.acl_perm.specs.Kind.{other_kind}
-use Rattle.acl_normal.specs.Normal.{is_free, flags_for}
+use Rattle.acl_normal.specs.Normal.{flags_for, is_free}
 use Rattle.acl_normal.specs.Places.{nothing_left}
-use Rattle.acl_normal.specs.internal.Rows.{IsRow, is_named, key_number}
+use Rattle.acl_normal.specs.internal.Rows.{IsRowOf, is_named, key_number}
 
 -- the marked bits of each key of a column
 abbrev pub Marked : Type 0
 Marked = Key → ℕ
 
--- the same key
+-- two keys are the same
 abbrev pub key_eq : Key → Key → Bool
 key_eq k l = principal_eq k.0 l.0 && kind_eq k.1 l.1
 
@@ -52,13 +52,14 @@ pub record Grows (xs : List Ace) (old new : Marked) : Type 0 where
   pub sound : (k : Key) (b : ℕ) → has_bit (new k) b ≡ true
       → (has_bit (old k) b ≡ true) ⊎ (is_free (column xs b) k ≡ true)
 
--- and all of a kind and a class are there
+-- only free bits were added, and all free keys of a type and a class have the bit
 pub record Enters (kind : Kind) (users : Bool) (bit : ℕ) (xs : List Ace) (old new : Marked) : Type 0 where
   pub grows : Grows xs old new
   pub all : (q : Principal) → is_user q ≡ users → is_free (column xs bit) (q, kind) ≡ true
       → has_bit (new (q, kind)) bit ≡ true
 
--- all of the other kind that overlap the key are there, at some bits
+-- only free bits were added, and at each of some bits all free keys of the other type that may overlap the key have
+-- it
 pub record Frees (k : Key) (bits : ℕ) (xs : List Ace) (old new : Marked) : Type 0 where
   pub grows : Grows xs old new
   pub all : (q : Principal) (b : ℕ) → b < 21 → has_bit bits b ≡ true → (is_user k.0 && is_user q) ≡ false
@@ -77,7 +78,7 @@ pub record Popped (old : Marked) (k : Key) (bits : ℕ) (new : Marked) : Type 0 
 
 -- and it is a key of that row
 pub record Takes (xs : List Ace) (old new : List ℕ) (row : ℕ) (k : Key) (bits : ℕ) : Type 0 where
-  pub at_row : IsRow row k.0 xs
+  pub at_row : IsRowOf row k.0 xs
   pub popped : Popped (marks (nothing_left xs) old) k bits (marks (nothing_left xs) new)
   pub fits : FitsKeys (nothing_left xs) new
 

@@ -1,10 +1,11 @@
--- What is left of a list without bits that play no part (this library's own): words that only code needs.
+-- What is left of a list without the bits that no situation needs (this library's own).
 use Rattle.std.specs.Prelude.{◌≡◌, ℕ, ◌<◌, false, List, []}
 use Rattle.acl_perm.specs.Bits.{all_rights, has_bit}
 use Rattle.acl_eval.specs.Column.{column}
 use Rattle.acl_eval.specs.Grant.{SameGrants}
 use Rattle.acl_nfs4.specs.Ace.{Ace}
-use Rattle.acl_normal.specs.Left.{IsTidy, KeepsFirsts, left}
+use Rattle.acl_normal.specs.Left.{KeepsFirsts, left}
+use Rattle.acl_normal.specs.internal.Tidy.{IsTidy}
 use Rattle.acl_normal.specs.Normal.{IsIrreducibleList}
 use Rattle.acl_normal.specs.Places.{nothing_left}
 use Rattle.acl_normal.specs.internal.Plain.{reduced}

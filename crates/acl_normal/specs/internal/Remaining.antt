@@ -9,9 +9,11 @@ use Rattle.acl_perm.specs.Bits.{all_rights, has_bit}
 use Rattle.acl_perm.specs.declared.kind.Kind.{Kind}
 use Rattle.acl_nfs4.specs.Ace.{Ace}
 use Rattle.acl_eval.specs.Column.{column}
-use Rattle.acl_normal.specs.Left.{IsTidy}
+use Rattle.acl_normal.specs.internal.Tidy.{IsTidy}
 use Rattle.acl_normal.specs.internal.Shown.{bits_in, with_masks}
-use Rattle.acl_normal.specs.Places.{mask_here, slot_of, waits}
+use Rattle.acl_normal.specs.Places.{waits}
+use Rattle.acl_normal.specs.internal.Waiting.{slot_of}
+use Rattle.acl_normal.specs.internal.AtPlaces.{mask_here}
 use Rattle.acl_normal.specs.internal.Rows.{AreRowNumbers, IsByPrincipal}
 use Rattle.acl_normal.specs.declared.emit.remaining.Queue.{Queue}
 use Rattle.acl_normal.specs.declared.emit.remaining.Remaining.TheInside.{Inside}

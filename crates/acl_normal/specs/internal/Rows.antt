@@ -1,5 +1,5 @@
--- Rows of principals (this library's own): how they are numbered in a list, and where each of their
--- rights stands. Words that only code needs.
+-- Rows of principals (this library's own). Each principal that a list names has a row, numbered in the order of
+-- principals; what stands at a place belongs to the row of its principal.
 use Rattle.std.specs.Prelude.{◌≡◌, ℕ, ◌+◌, ◌*◌, ◌<◌, ◌≤◌, suc, Bool, true, false, cond, ◌||◌, List, [], ◌∷◌, Option, None, option_map, length, slice_index_or}
 use Rattle.std.specs.Ordering.{is_le, is_lt}
 use Rattle.acl_perm.specs.Order.{principal_cmp, kind_rank}
@@ -7,7 +7,8 @@ use Rattle.acl_perm.specs.Principal.{Principal}
 use Rattle.acl_nfs4.specs.Ace.{Ace}
 use Rattle.acl_nfs4.specs.Who.{principal_of}
 use Rattle.acl_normal.specs.Keys.{Key, principal_eq}
-use Rattle.acl_normal.specs.Places.{first_at, key_here}
+use Rattle.acl_normal.specs.Places.{first_at}
+use Rattle.acl_normal.specs.internal.AtPlaces.{key_here}
 
 -- an ACE of the list names the principal
 abbrev pub is_named : Principal → List Ace → Bool
@@ -28,7 +29,7 @@ abbrev pub IsNumberOf : List Ace → ℕ → Key → Type 0
 IsNumberOf xs number found = (k : Key) → is_named k.0 xs ≡ true → number ≡ key_number k xs → found ≡ k
 
 -- the principal is named, and this is its row
-pub record IsRow (row : ℕ) (p : Principal) (xs : List Ace) : Type 0 where
+pub record IsRowOf (row : ℕ) (p : Principal) (xs : List Ace) : Type 0 where
   pub named : is_named p xs ≡ true
   pub is : row ≡ row_of p xs
 
@@ -57,4 +58,4 @@ first_place b p xs = option_map (λ e. e.1) (first_at b p xs)
 -- by row, the place of the first ACE of the row's principal with the bit
 abbrev pub ArePlaces : ℕ → List Ace → List (Option ℕ) → Type 0
 ArePlaces b xs places =
-    (row : ℕ) (p : Principal) → IsRow row p xs → slice_index_or places row None ≡ first_place b p xs
+    (row : ℕ) (p : Principal) → IsRowOf row p xs → slice_index_or places row None ≡ first_place b p xs

@@ -1,8 +1,11 @@
--- What lists of the code's ACEs show (RFC 8881, section 6.2.1).
+-- What ACEs and keys in memory show (RFC 8881, section 6.2.1).
 use Rattle.std.specs.Prelude.{ℕ, List, [], ◌∷◌, map}
+use Rattle.acl_perm.specs.Principal.{principal}
+use Rattle.acl_perm.specs.declared.key.Key.{Key as CodeKey}
 use Rattle.acl_perm.specs.declared.mask.Mask.{Mask}
 use Rattle.acl_nfs4.specs.Ace.{Ace, ace}
 use Rattle.acl_nfs4.specs.declared.ace.AceRef.{AceRef}
+use Rattle.acl_normal.specs.Keys.{Key}
 
 -- the ACEs that are shown
 abbrev pub aces_in : List AceRef → List Ace
@@ -18,3 +21,7 @@ with_masks [] masks = []
 with_masks (a ∷ aces) [] = []
 with_masks (a ∷ aces) (m ∷ masks) =
     record { kind = a.kind; flags = a.flags.bits; mask = m; who = a.who.now } ∷ with_masks aces masks
+
+-- whom a key of the code names, and whether it denies or allows
+abbrev pub plain_key : CodeKey → Key
+plain_key k = (principal k.principal, k.kind)

@@ -1,5 +1,5 @@
--- Lists of the places that wait (this library's own): words that only code needs.
-use Rattle.std.specs.Prelude.{◌≡◌, ℕ, ◌<◌, Bool, cond, ◌&&◌, List, [], ◌∷◌, ◌++◌, map, slice_index_or, length}
+-- Lists of the places that wait (this library's own).
+use Rattle.std.specs.Prelude.{◌≡◌, ℕ, ◌+◌, ◌*◌, ◌<◌, Bool, true, false, cond, ◌&&◌, List, [], ◌∷◌, ◌++◌, map, slice_index_or, length}
 use Rattle.std.specs.List.{list_any}
 use Rattle.std.specs.List.Sorted.{IsStrictlySortedBy}
 use Rattle.std.specs.BTreeMap.{is_at}
@@ -8,9 +8,17 @@ use Rattle.std.specs.declared.vec.Vec.{Vec}
 use Rattle.std.proofs.Common.{Global}
 use Rattle.acl_perm.specs.Bits.{has_bit}
 use Rattle.acl_perm.specs.declared.kind.Kind.{Kind}
+use Rattle.acl_perm.specs.declared.kind.Kind.TheVariants.{Deny, Allow}
 use Rattle.acl_nfs4.specs.Ace.{Ace}
 use Rattle.acl_normal.specs.Keys.{kind_eq}
-use Rattle.acl_normal.specs.Places.{same_class, slot_of, waits}
+use Rattle.acl_normal.specs.Places.{same_class, waits}
+
+-- the set of a type, a class and a bit
+abbrev pub slot_of : Kind → Bool → ℕ → ℕ
+slot_of Deny false b = 4 * b + 0 + 0
+slot_of Deny true b = 4 * b + 0 + 1
+slot_of Allow false b = 4 * b + 2 + 0
+slot_of Allow true b = 4 * b + 2 + 1
 
 -- the places in the list of a type, a class and a bit
 abbrev pub places_of : List (Vec ℕ Global) → Kind → Bool → ℕ → List ℕ

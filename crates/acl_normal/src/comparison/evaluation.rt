@@ -6,7 +6,7 @@ ghost use Rattle.acl_nfs4.specs.Ace.{ace};
 ghost use Rattle.acl_perm.specs.Bits.{has_bit};
 ghost use Rattle.acl_normal.specs.internal.CodeSets.{set_of};
 ghost use Rattle.acl_normal.specs.internal.Passes.{list_of};
-ghost use Rattle.acl_normal.specs.internal.SetSearch.{AreGranted, AreRightsOf, GrantAlikeTo, HasBitsOf, IsLowest, differ};
+ghost use Rattle.acl_normal.specs.internal.SetSearch.{AreGranted, AreRightsOf, GrantAlikeTo, HasBitsOf, IsLowestBit, differ};
 
 use super::small_set::SmallSet;
 use acl_nfs4::AceRef;
@@ -23,7 +23,7 @@ fn own_rights(item: &AceRef<'_>, set: SmallSet<'_>) -> Mask
     }
 }
 
-/// The rights that the list grants there.
+/// The rights that a list grants where just the principals of a set match, and everyone.
 pub(crate) fn granted(list: &[AceRef<'_>], set: SmallSet<'_>) -> Mask
     ensures { AreGranted (list_of list.now) (set_of set.entry) result.bits }
 {
@@ -48,7 +48,7 @@ pub(crate) fn unlike(here: Mask, there: Mask) -> Mask
     here.difference(there).union(there.difference(here))
 }
 
-/// Whether the lists grant alike there.
+/// Whether two lists grant alike where just the principals of a set match, and everyone.
 pub(crate) fn grant_alike(list: &[AceRef<'_>], other: &[AceRef<'_>], set: SmallSet<'_>) -> bool
     ensures alike { OnTrue result
         (GrantAlikeTo (list_of list.now) (list_of other.now) (set_of set.entry)) }
@@ -70,7 +70,7 @@ fn lowest_bit(bits: u32) -> u32
 pub(crate) fn lowest(rights: Mask) -> Mask
     requires { rights.bits ≢ 0 }
     ensures value { result.bits ≡ 2 ^ trailing_zeros w32 rights.bits }
-    ensures lowest { IsLowest rights.bits (trailing_zeros w32 rights.bits) }
+    ensures lowest { IsLowestBit rights.bits (trailing_zeros w32 rights.bits) }
 {
     Mask {
         bits: lowest_bit(rights.bits()),

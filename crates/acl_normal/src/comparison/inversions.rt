@@ -1,8 +1,8 @@
 //! Which rows invert others, told by tables in place of going over all pairs.
 ghost use Rattle.std.specs.Prelude.{◌≡◌, ◌+◌, ◌<◌, ◌≤◌, ◌^◌, ℕ, IfOk, false, length, slice_index_or, true, vec_len};
 ghost use Rattle.std.specs.List.{AllByRecursion};
-ghost use Rattle.acl_normal.specs.internal.FirstPlaces.{SameAlone, inverts, inverts_any, no_row};
-ghost use Rattle.acl_normal.specs.internal.PlaceTables.{HasPlaces, IsFirstOf, IsScattered, IsTable, Raises, is_counted, is_told, other_place, place_of};
+ghost use Rattle.acl_normal.specs.internal.ComparedRows.{SameAlone, no_row, inverts_any, inverts};
+ghost use Rattle.acl_normal.specs.internal.PlaceTables.{HasPlaces, IsFirstOf, IsScattered, HoldsMost, Raises, is_counted, is_told, other_place, place_of};
 
 use super::rows::Row;
 use std::alloc::{AllocError, Global};
@@ -78,7 +78,7 @@ fn place_of(row: Row, swapped: bool) -> usize
     }
 }
 
-// Its place in the other list.
+// The place of a row's principal in the other list.
 fn other_place(row: Row, swapped: bool) -> usize
     ensures { result ≡ other_place swapped row }
 {
@@ -90,7 +90,7 @@ fn other_place(row: Row, swapped: bool) -> usize
 }
 
 // Raises what stands behind a row's place in the one list to its place in the other, if the row is counted.
-#[tactic(auto, using(crate::proofs::Searching::TableFacts::raising))]
+#[tactic(auto, using(crate::proofs::comparison::TableFacts::raising))]
 fn raise(table: &mut Vec<usize>, row: Row, sort: Sort, swapped: bool)
     requires within { place_of swapped row + 1 < vec_len table.old }
     requires small { other_place swapped row < 2 ^ 63 }
@@ -104,7 +104,7 @@ fn raise(table: &mut Vec<usize>, row: Row, sort: Sort, swapped: bool)
 }
 
 // For each place in one list one more than the greatest place, in the other, of the rows just before it that count.
-#[tactic(auto, using(crate::proofs::Searching::TableFacts::scatter_start))]
+#[tactic(auto, using(crate::proofs::comparison::TableFacts::scatter_start))]
 fn scattered(
     alloc: Global,
     rows: &[Row],
@@ -123,8 +123,8 @@ fn scattered(
     Ok(table)
 }
 
-// The same of all rows before it that count.
-#[tactic(auto, using(crate::proofs::Searching::TableFacts::summed_done))]
+// For each place in one list one more than the greatest place, in the other, of all rows before it that count.
+#[tactic(auto, using(crate::proofs::comparison::TableFacts::summed_done))]
 fn table(
     alloc: Global,
     rows: &[Row],
@@ -134,7 +134,7 @@ fn table(
 ) -> Result<Vec<usize>, AllocError>
     requires places { AllByRecursion (HasPlaces size) rows.now }
     requires size { size < 2 ^ 63 }
-    ensures { IfOk result (λ v. IsTable sort swapped size rows.now v.items) }
+    ensures { IfOk result (λ v. HoldsMost sort swapped size rows.now v.items) }
 {
     let mut table = scattered(alloc, rows, size, sort, swapped)?;
     for k in 1..size + 2 {

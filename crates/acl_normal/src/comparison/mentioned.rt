@@ -4,7 +4,7 @@ ghost use Rattle.acl_perm.specs.Order.{principal_name};
 ghost use Rattle.acl_perm.specs.Principal.{principal};
 ghost use Rattle.acl_nfs4.specs.Ace.{ace};
 ghost use Rattle.acl_normal.specs.SmallSets.{longest};
-ghost use Rattle.acl_normal.specs.internal.FirstPlaces.{AreWhoms};
+ghost use Rattle.acl_normal.specs.internal.Whoms.{AreWhoms};
 ghost use Rattle.acl_normal.specs.internal.MentionedRows.{AreByRow, AreMentioned, AreMentionedRows, AreNumbers, mentioned_by, noted, whom_of, with_found};
 ghost use Rattle.acl_normal.specs.internal.Passes.{list_of};
 ghost use Rattle.acl_normal.specs.internal.Rows.{AreRowNumbers};
@@ -47,7 +47,7 @@ fn note<'a>(table: &mut Vec<Option<Principal<'a>>>, row: usize, found: Option<Pr
 }
 
 // By row, the principals that the ACEs mention.
-#[tactic(auto, using(crate::proofs::Searching::MentionedRows::table_steps))]
+#[tactic(auto, using(crate::proofs::comparison::MentionedRows::table_steps))]
 fn by_row<'a>(
     alloc: Global,
     aces: &[AceRef<'a>],
@@ -101,7 +101,7 @@ fn whom(item: &AceRef<'_>, number: usize) -> Whom
 }
 
 // Whom each ACE names.
-#[tactic(auto, using(crate::proofs::Searching::MentionedRows::whoms_more))]
+#[tactic(auto, using(crate::proofs::comparison::MentionedRows::whoms_more))]
 fn whoms(
     alloc: Global,
     aces: &[AceRef<'_>],
@@ -164,7 +164,7 @@ fn name_length(p: Principal<'_>) -> usize
 }
 
 /// The length of the longest name, and 0 where none is a name.
-#[tactic(auto, using(crate::proofs::Searching::MentionedNames::longest_steps))]
+#[tactic(auto, using(crate::proofs::comparison::MentionedNames::longest_steps))]
 pub(crate) fn longest_of(whole: &[Principal<'_>]) -> usize
     ensures value { result ≡ longest (principals whole.now) }
     ensures small { result < 2 ^ 63 }

@@ -3,7 +3,7 @@ ghost use Rattle.std.specs.Prelude.{◌≡◌, ◌↔◌, IsNone, IfOk, IfSome};
 ghost use Rattle.acl_perm.specs.Bits.{all_rights};
 ghost use Rattle.acl_eval.specs.Grant.{SameGrants};
 ghost use Rattle.acl_normal.specs.Difference.{situation_of};
-ghost use Rattle.acl_normal.specs.Normal.{HasNames};
+ghost use Rattle.acl_normal.specs.internal.Names.{HasNames};
 ghost use Rattle.acl_normal.specs.SmallSets.{IsFirstDifference, TellsApart, mentioned, small_sets};
 ghost use Rattle.acl_normal.specs.SmallSituations.{small_situation};
 ghost use Rattle.acl_normal.specs.internal.CodeSets.{set_of, set_or_none};

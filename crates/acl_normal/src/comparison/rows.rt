@@ -2,7 +2,9 @@
 ghost use Rattle.std.specs.Prelude.{◌≡◌, ◌<◌, ◌≤◌, ℕ, IfOk, false, length, slice_index_or, true, vec_len};
 ghost use Rattle.acl_nfs4.specs.Ace.{ace};
 ghost use Rattle.acl_eval.specs.Grant.{is_allow};
-ghost use Rattle.acl_normal.specs.internal.FirstPlaces.{AreFirstFrom, AreRowsOf, AreWhoms, IsCompared, IsWithin, no_ace, put, stops, stops_at};
+ghost use Rattle.acl_normal.specs.internal.FirstPlaces.{AreFirstFrom, no_ace, put, stops, stops_at};
+ghost use Rattle.acl_normal.specs.internal.Agreement.{AreRowsOf, IsCompared};
+ghost use Rattle.acl_normal.specs.internal.Whoms.{AreWhoms, NamesBelow};
 ghost use Rattle.acl_normal.specs.internal.Passes.{list_of};
 ghost use Rattle.acl_normal.specs.internal.SetSearch.{principals};
 
@@ -83,7 +85,7 @@ fn allows_at(list: &[AceRef<'_>], place: usize) -> bool
 
 // What an ACE of a principal that has the right says comes before what the later ones say.
 fn put_first(out: &mut Vec<First>, item: &AceRef<'_>, whom: Whom, place: usize, right: Right)
-    requires { IsWithin whom (vec_len out.old) }
+    requires { NamesBelow whom (vec_len out.old) }
     ensures { out.new.items ≡ put out.old.items (ace item.now) whom place right.bit }
 {
     if let Whom::One(i) = whom {

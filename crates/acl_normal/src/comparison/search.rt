@@ -1,6 +1,7 @@
 //! The search for the first small set at which two lists grant otherwise, without going over all pairs.
 ghost use Rattle.std.specs.Prelude.{◌++◌, ◌<◌, IfOk, length};
-ghost use Rattle.acl_normal.specs.internal.FirstPlaces.{AreWhoms, IsAlikeAlone, IsCompared, IsFirstMember, IsFirstPartner, IsFirstSingle};
+ghost use Rattle.acl_normal.specs.internal.Agreement.{IsFirstPartner, IsFirstMember, IsFirstSingle, IsAlikeAlone, IsCompared};
+ghost use Rattle.acl_normal.specs.internal.Whoms.{AreWhoms};
 ghost use Rattle.acl_normal.specs.SmallSets.{small_sets};
 ghost use Rattle.acl_normal.specs.internal.CodeSets.{set_or_none};
 ghost use Rattle.acl_normal.specs.internal.Passes.{list_of};
@@ -16,7 +17,7 @@ use std::alloc::{AllocError, Global};
 
 impl Compared<'_, '_> {
     // The first principal at which alone the lists differ, or the number of principals.
-    #[tactic(auto, using(crate::proofs::Searching::RowFacts::least_start))]
+    #[tactic(auto, using(crate::proofs::comparison::RowFacts::least_start))]
     fn least_single(&self, alloc: Global) -> Result<usize, AllocError>
         requires { IsCompared self.now }
         ensures { IfOk result (λ v. IsFirstSingle self.now v) }
@@ -33,7 +34,7 @@ impl Compared<'_, '_> {
     }
 
     // The first principal that is one of a pair at which the lists differ, or the number of principals.
-    #[tactic(auto, using(crate::proofs::Searching::RowFacts::least_start))]
+    #[tactic(auto, using(crate::proofs::comparison::RowFacts::least_start))]
     fn least_member(&self, alloc: Global) -> Result<usize, AllocError>
         requires compared { IsCompared self.now }
         requires alone { IsAlikeAlone self.now }
@@ -52,7 +53,7 @@ impl Compared<'_, '_> {
     }
 
     // The first of the later principals that is a pair with this one at which the lists differ, or their number.
-    #[tactic(auto, using(crate::proofs::Searching::RowFacts::least_start))]
+    #[tactic(auto, using(crate::proofs::comparison::RowFacts::least_start))]
     fn least_partner(&self, alloc: Global, at: usize) -> Result<usize, AllocError>
         requires at { at < length self.now.whole.now }
         requires compared { IsCompared self.now }
@@ -74,7 +75,7 @@ impl Compared<'_, '_> {
 
 /// The first small set at which the lists differ. The first pair has as its lesser member the least principal of any
 /// pair at which they differ, whether the other comes before or behind it, and the least later one as the other.
-#[tactic(auto, using(crate::proofs::Searching::MentionedRows::compared_parts))]
+#[tactic(auto, using(crate::proofs::comparison::MentionedRows::compared_parts))]
 pub(crate) fn find_set<'a, 'b>(
     alloc: Global,
     list: &'b [AceRef<'a>],

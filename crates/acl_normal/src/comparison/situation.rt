@@ -15,7 +15,7 @@ fn strange(alloc: Global, byte: u8, n: usize) -> Result<Vec<u8>, AllocError>
     vec![in alloc; byte; n]
 }
 
-/// The user of the small situation.
+/// The user who requests in the small situation of a set.
 pub(crate) fn user_in(alloc: Global, set: SmallSet<'_>, n: usize) -> Result<Vec<u8>, AllocError>
     ensures { IfOk result (λ v. v.items ≡ (small_situation n (set_of set.entry)).user_name) }
 {
@@ -25,7 +25,7 @@ pub(crate) fn user_in(alloc: Global, set: SmallSet<'_>, n: usize) -> Result<Vec<
     }
 }
 
-/// Its owner.
+/// The owner of the object in the small situation of a set.
 pub(crate) fn owner_in(alloc: Global, set: SmallSet<'_>, n: usize) -> Result<Vec<u8>, AllocError>
     ensures { IfOk result (λ v. v.items ≡ (small_situation n (set_of set.entry)).owner_name) }
 {
@@ -63,7 +63,7 @@ fn groups_of(alloc: Global, set: SmallSet<'_>) -> Result<Vec<Vec<u8>>, AllocErro
     Ok(groups)
 }
 
-/// The group that owns the object.
+/// The group that owns the object in the small situation of a set.
 pub(crate) fn owning_group_in(
     alloc: Global,
     set: SmallSet<'_>,
@@ -80,7 +80,7 @@ pub(crate) fn owning_group_in(
     strange(alloc, b'g', n)
 }
 
-/// The groups of the user.
+/// The groups of the user who requests in the small situation of a set.
 pub(crate) fn groups_in(
     alloc: Global,
     set: SmallSet<'_>,

@@ -16,7 +16,7 @@ pub(crate) enum SmallSet<'a> {
 }
 
 // Whether both are one principal.
-#[tactic(auto, using(crate::proofs::Searching::SameTests::same_test))]
+#[tactic(auto, using(crate::proofs::comparison::SameTests::same_test))]
 pub(crate) fn is_same(p: Principal<'_>, q: Principal<'_>) -> bool
     ensures { result ≡ principal_eq (principal p.entry) (principal q.entry) }
 {

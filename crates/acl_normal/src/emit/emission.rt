@@ -5,14 +5,14 @@ ghost use Rattle.acl_nfs4.specs.Ace.{Ace};
 ghost use Rattle.acl_eval.specs.Grant.{SameGrants};
 ghost use Rattle.acl_perm.specs.Order.{kind_rank};
 ghost use Rattle.acl_normal.specs.internal.Classes.{is_users};
-ghost use Rattle.acl_normal.specs.internal.Emissions.{IsEmission};
+ghost use Rattle.acl_normal.specs.internal.Emissions.{IsEmission, count_left};
 ghost use Rattle.acl_normal.specs.internal.Emitted.{StandInRows, emitted_aces};
-ghost use Rattle.acl_normal.specs.Keys.{plain_key};
+ghost use Rattle.acl_normal.specs.internal.Shown.{plain_key};
 ghost use Rattle.acl_normal.specs.Left.{left};
 ghost use Rattle.acl_normal.specs.Normal.{IsIrreducibleList, IsNormal};
-ghost use Rattle.acl_normal.specs.Places.{key_here, kind_here, nothing_left};
+ghost use Rattle.acl_normal.specs.Places.{nothing_left};
+ghost use Rattle.acl_normal.specs.internal.AtPlaces.{kind_here, key_here};
 ghost use Rattle.acl_normal.specs.internal.Ready.{Adds, Enters, FitsKeys, Frees, HoldsFree, Takes, marks};
-ghost use Rattle.acl_normal.specs.internal.Counts.{count_left};
 
 use crate::bits::next_right;
 use crate::class::Class;

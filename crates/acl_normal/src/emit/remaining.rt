@@ -6,13 +6,15 @@ ghost use Rattle.acl_perm.specs.Principal.{Principal as Who, principal};
 ghost use Rattle.acl_perm.specs.declared.kind.Kind.TheVariants.{Deny, Allow};
 ghost use Rattle.acl_eval.specs.Column.{column};
 ghost use Rattle.acl_normal.specs.internal.Classes.{is_users};
-ghost use Rattle.acl_normal.specs.Keys.{plain_key};
+ghost use Rattle.acl_normal.specs.internal.Shown.{bits_in, plain_key, with_masks};
 ghost use Rattle.acl_normal.specs.Left.{HasFree};
-ghost use Rattle.acl_normal.specs.Normal.{IsQuiet, is_free};
-ghost use Rattle.acl_normal.specs.Places.{first_at, is_blocked, kind_here, mask_here, principal_here, slot_of, take_out, waits, waits_before};
+ghost use Rattle.acl_normal.specs.Normal.{is_free};
+ghost use Rattle.acl_normal.specs.internal.Tidy.{IsQuiet};
+ghost use Rattle.acl_normal.specs.Places.{first_at, take_out, waits};
+ghost use Rattle.acl_normal.specs.internal.Waiting.{slot_of};
+ghost use Rattle.acl_normal.specs.internal.AtPlaces.{is_blocked, waits_before, mask_here, kind_here, principal_here};
 ghost use Rattle.acl_normal.specs.internal.Remaining.{AreQueues, IsQueue, IsNumbered};
-ghost use Rattle.acl_normal.specs.internal.Rows.{IsNumberOf, IsRow, first_place, is_named};
-ghost use Rattle.acl_normal.specs.internal.Shown.{bits_in, with_masks};
+ghost use Rattle.acl_normal.specs.internal.Rows.{IsNumberOf, IsRowOf, first_place, is_named};
 
 use crate::bits::next_right;
 use crate::class::Class;
@@ -75,7 +77,7 @@ fn queues(alloc: Global, aces: &[AceRef<'_>], masks: &[Mask]) -> Result<Vec<Queu
 }
 
 impl<'a> Remaining<'a> {
-    /// All of a list.
+    /// A list of which nothing was emitted yet.
     pub(crate) fn of(alloc: Global, reduced: Reduced<'a>) -> Result<Remaining<'a>, AllocError>
         requires few { vec_len reduced.aces < 2 ^ 32 }
         requires places { vec_len reduced.masks ≡ vec_len reduced.aces }
@@ -113,7 +115,7 @@ impl<'a> Remaining<'a> {
     /// The row of the principal that the ACE at a place names.
     pub(crate) fn row_at(&self, place: usize) -> usize
         requires { place < length self.now }
-        ensures { IsRow result (principal_here self.now place) self.now }
+        ensures { IsRowOf result (principal_here self.now place) self.now }
     {
         self.rows[place]
     }
@@ -138,7 +140,7 @@ impl<'a> Remaining<'a> {
 
     /// The row of a principal, if an ACE names it.
     pub(crate) fn row_named(&self, p: Principal<'_>) -> Option<usize>
-        ensures found { IfSome result (λ row. IsRow row (principal p.entry) self.now) }
+        ensures found { IfSome result (λ row. IsRowOf row (principal p.entry) self.now) }
         ensures missing { IfNone result (is_named (principal p.entry) self.now ≡ false) }
     {
         find_row(&self.aces, &self.rows, &self.order, p)
@@ -157,7 +159,7 @@ impl<'a> Remaining<'a> {
     /// principals.
     pub(crate) fn place_in(&self, row: usize, right: Right) -> Option<usize>
         requires { row < length self.now }
-        ensures { (p : Who) → IsRow row p self.now → result ≡ first_place right.bit p self.now }
+        ensures { (p : Who) → IsRowOf row p self.now → result ≡ first_place right.bit p self.now }
     {
         for at in row..self.len() {
             let place = self.order[at];
@@ -273,7 +275,7 @@ impl<'a> Remaining<'a> {
 
     /// Takes rights of the principal of a row out, which stood in ACEs of that type.
     pub(crate) fn emit(&mut self, row: usize, key: Key<'_>, mask: Mask)
-        requires { IsRow row (principal key.principal) self.old }
+        requires { IsRowOf row (principal key.principal) self.old }
         ensures { self.new ≡ take_out (principal key.entry.principal) mask.bits self.old }
     {
         self.take_out(row, key.principal, mask);
@@ -287,7 +289,7 @@ impl<'a> Remaining<'a> {
 
     /// Takes rights of the principal of a row out of what is left of it.
     fn take_out(&mut self, row: usize, p: Principal<'_>, mask: Mask)
-        requires { IsRow row (principal p) self.old }
+        requires { IsRowOf row (principal p) self.old }
         ensures { self.new ≡ take_out (principal p.entry) mask.bits self.old }
     {
         self.left[row] = self.left[row].difference(mask);

@@ -10,11 +10,10 @@ ghost use Rattle.acl_nfs4.specs.Limits.{most_weight};
 ghost use Rattle.acl_nfs4.specs.Spelling.{IsAce};
 ghost use Rattle.acl_nfs4.specs.Who.{principal_of};
 ghost use Rattle.acl_eval.specs.Column.{column};
-ghost use Rattle.acl_normal.specs.internal.Counts.{count_left};
-ghost use Rattle.acl_normal.specs.internal.Emissions.{HasOnceColumns, IsEmission};
+ghost use Rattle.acl_normal.specs.internal.Emissions.{count_left, HasOnceColumns, IsEmission};
 ghost use Rattle.acl_normal.specs.Keys.{compare_keys, ace_key, kind_eq, principal_eq};
 ghost use Rattle.acl_normal.specs.Normal.{is_free};
-ghost use Rattle.acl_normal.specs.internal.Passes.{Best, is_blocked, IsCandidate, IsNowhereFree, IsWithinAs, KeepsProfiles, lesser, list_of};
+ghost use Rattle.acl_normal.specs.internal.Passes.{Best, is_opposed, IsCandidate, IsNowhereFree, IsWithinAs, KeepsProfiles, lesser, list_of};
 ghost use Rattle.acl_normal.specs.internal.Plain.{without_principal};
 
 use super::reduction::is_same;
@@ -52,10 +51,11 @@ fn has_key(other: &AceRef<'_>, item: &AceRef<'_>) -> bool
 }
 
 // The bits at which the other ACE has the key of the ACE, but for those that are blocked.
-#[tactic(auto, using(crate::proofs::PlainForm::Passes::free_alone))]
+#[tactic(auto, using(crate::proofs::plain::Passes::free_alone))]
 fn own_free(other: &AceRef<'_>, item: &AceRef<'_>, blocked: Mask) -> Mask
     ensures { (bit : ℕ) → has_bit result.bits bit
-        ≡ (is_free (column (ace other.now ∷ []) bit) (ace_key (ace item.now)) && not (has_bit blocked.bits bit)) }
+        ≡ (is_free (column (ace other.now ∷ []) bit) (ace_key (ace item.now))
+        && not (has_bit blocked.bits bit)) }
 {
     if has_key(other, item) {
         active(*other).difference(blocked)
@@ -67,7 +67,7 @@ fn own_free(other: &AceRef<'_>, item: &AceRef<'_>, blocked: Mask) -> Mask
 // The bits at which the other ACE conflicts with the ACE.
 fn own_conflict(other: &AceRef<'_>, item: &AceRef<'_>) -> Mask
     ensures { (bit : ℕ) → has_bit result.bits bit
-        ≡ is_blocked (column (ace other.now ∷ []) bit) (ace_key (ace item.now)) }
+        ≡ is_opposed (column (ace other.now ∷ []) bit) (ace_key (ace item.now)) }
 {
     if other.kind != item.kind && overlaps(other.principal(), item.principal()) {
         active(*other)

@@ -1,4 +1,5 @@
-//! Takes out the bits that play no part, by sets of bits.
+//! Takes the bits that play no part out of masks, in two passes: first those that never decide, and then those that
+//! change nothing.
 
 ghost use Rattle.std.specs.Prelude.{◌≡◌, ℕ, ◌∷◌, [], ◌&&◌, not, IfOk};
 ghost use Rattle.acl_perm.specs.Bits.{has_bit};
@@ -70,7 +71,8 @@ pub(super) fn drop_shadowed<'a>(
 // The bits that the ACE allows everyone, and that were not decided before.
 fn own_allowed(item: &AceRef<'_>, seen: Mask) -> Mask
     ensures { (bit : ℕ) → has_bit result.bits bit
-        ≡ (kind_eq (default (column (ace item.now ∷ []) bit)) Allow && not (has_bit seen.bits bit)) }
+        ≡ (kind_eq (default (column (ace item.now ∷ []) bit)) Allow
+        && not (has_bit seen.bits bit)) }
 {
     match item.kind {
         Kind::Allow => own_shadow(item, Principal::Everyone).difference(seen),
@@ -95,7 +97,8 @@ fn allowed_to_everyone(aces: &[AceRef<'_>]) -> Mask
 // The bits with which the later ACE opposes the one that is given.
 fn own_opposite(item: &AceRef<'_>, later: &AceRef<'_>) -> Mask
     ensures { (bit : ℕ) → has_bit result.bits bit
-        ≡ has_opposite item.now.kind (principal_of (ace item.now)) (column (ace later.now ∷ []) bit) }
+        ≡ has_opposite item.now.kind (principal_of (ace item.now))
+        (column (ace later.now ∷ []) bit) }
 {
     if later.kind != item.kind && overlaps(item.principal(), later.principal()) {
         active(*later)
@@ -107,7 +110,8 @@ fn own_opposite(item: &AceRef<'_>, later: &AceRef<'_>) -> Mask
 // The bits that a later ACE of the other type has whose principal overlaps.
 fn opposite(item: &AceRef<'_>, later: &[AceRef<'_>]) -> Mask
     ensures { (bit : ℕ) → has_bit result.bits bit
-        ≡ has_opposite item.now.kind (principal_of (ace item.now)) (column (list_of later.now) bit) }
+        ≡ has_opposite item.now.kind (principal_of (ace item.now))
+        (column (list_of later.now) bit) }
 {
     let mut bits = Mask::NONE;
     for other in later {

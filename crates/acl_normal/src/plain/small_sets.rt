@@ -1,4 +1,4 @@
-//! The comparison that goes over all small sets: slow, and for tests of the fast one.
+//! The comparison that goes over all small sets of principals, against which tests hold the fast one.
 ghost use Rattle.std.specs.Prelude.{◌≡◌, ◌∷◌, [], IfOk, true};
 ghost use Rattle.std.specs.Bool.{OnFalse, OnTrue};
 ghost use Rattle.acl_perm.specs.Overlap.{may_overlap};
@@ -20,7 +20,7 @@ use acl_perm::{Principal, overlaps};
 use std::alloc::{AllocError, Global};
 
 // The first of the principals at which alone the lists differ.
-#[tactic(auto, using(crate::proofs::Searching::SetSearchLemmas::single_ends))]
+#[tactic(auto, using(crate::proofs::comparison::SetSearchLemmas::single_ends))]
 fn first_single<'a>(
     list: &[AceRef<'_>],
     other: &[AceRef<'_>],
@@ -49,13 +49,14 @@ fn pair_differs(
     ensures differ { OnTrue result (GrantAlikeTo (list_of list.now) (list_of other.now)
         (principal p.entry ∷ principal q.entry ∷ []) → ⊥) }
     ensures agree { OnFalse result (may_overlap (principal p.entry) (principal q.entry) ≡ true
-        → GrantAlikeTo (list_of list.now) (list_of other.now) (principal p.entry ∷ principal q.entry ∷ [])) }
+        → GrantAlikeTo (list_of list.now) (list_of other.now)
+        (principal p.entry ∷ principal q.entry ∷ [])) }
 {
     overlaps(p, q) && !grant_alike(list, other, SmallSet::Two(p, q))
 }
 
 // The first of the rest with which the principal is a pair at which the lists differ.
-#[tactic(auto, using(crate::proofs::Searching::SetSearchLemmas::partner_ends))]
+#[tactic(auto, using(crate::proofs::comparison::SetSearchLemmas::partner_ends))]
 fn first_partner<'a>(
     list: &[AceRef<'_>],
     other: &[AceRef<'_>],
@@ -74,7 +75,7 @@ fn first_partner<'a>(
 }
 
 // The first pair at which the lists differ.
-#[tactic(auto, using(crate::proofs::Searching::SetSearchLemmas::pair_ends))]
+#[tactic(auto, using(crate::proofs::comparison::SetSearchLemmas::pair_ends))]
 fn first_pair<'a>(
     list: &[AceRef<'_>],
     other: &[AceRef<'_>],
@@ -93,7 +94,7 @@ fn first_pair<'a>(
 }
 
 // The first small set at which the lists differ.
-#[tactic(auto, using(crate::proofs::Searching::SetSearchLemmas::empty_differs))]
+#[tactic(auto, using(crate::proofs::comparison::SetSearchLemmas::empty_differs))]
 fn first_set<'a>(
     list: &[AceRef<'_>],
     other: &[AceRef<'_>],
@@ -111,9 +112,10 @@ fn first_set<'a>(
     first_pair(list, other, whole)
 }
 
-/// The same as [`crate::compare`], by going over all small situations: its cost is cubic in the number of principals.
+/// The first difference of two lists, as [`crate::compare`] tells it, by going over all small situations: its cost is
+/// cubic in the number of principals.
 pub fn compare(alloc: Global, first: &Acl, second: &Acl) -> Result<Option<Difference>, AllocError>
-    // The same answer: None exactly if both lists grant the same, else the first difference.
+    // None exactly if both lists grant the same, else the first difference.
     ensures { IfOk result (λ told. IsComparison first.now second.now told) }
 {
     let list = collect(alloc, first)?;

@@ -7,7 +7,7 @@ ghost use Rattle.acl_normal.specs.internal.Passes.{list_of};
 use acl_nfs4::{AceRef, Acl};
 use std::alloc::{AllocError, Global};
 
-/// The ACEs of the list.
+/// All ACEs of a list, in its order.
 pub(crate) fn collect(alloc: Global, source: &Acl) -> Result<Vec<AceRef<'_>>, AllocError>
     ensures aces { IfOk result (λ aces. list_of aces.items ≡ source.now) }
     ensures accepted { IsAccepted full source.now }

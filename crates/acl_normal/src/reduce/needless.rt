@@ -3,8 +3,8 @@ ghost use Rattle.std.specs.Prelude.{◌≡◌, ℕ, ◌<◌, Bool, true, false, 
 ghost use Rattle.acl_perm.specs.Bits.{has_bit};
 ghost use Rattle.acl_perm.specs.declared.kind.Kind.{Kind as Sort};
 ghost use Rattle.acl_eval.specs.Column.{column};
-ghost use Rattle.acl_normal.specs.Left.{IsTidy};
-ghost use Rattle.acl_normal.specs.Keys.{kind_eq, plain_key, principal_eq};
+ghost use Rattle.acl_normal.specs.internal.Tidy.{IsTidy};
+ghost use Rattle.acl_normal.specs.Keys.{kind_eq, principal_eq};
 ghost use Rattle.acl_normal.specs.internal.Classes.{is_users};
 ghost use Rattle.acl_normal.specs.internal.Needed.{class_mask, default_at, is_kept, later_mask, opposes};
 ghost use Rattle.acl_normal.specs.Places.{same_class};
@@ -14,7 +14,7 @@ ghost use Rattle.acl_nfs4.specs.Ace.{ace};
 ghost use Rattle.acl_nfs4.specs.Who.{principal_of};
 ghost use Rattle.acl_normal.specs.internal.Plain.{default, needed_keys};
 ghost use Rattle.acl_normal.specs.internal.Reduced.{IsThinned};
-ghost use Rattle.acl_normal.specs.internal.Shown.{bits_in, with_masks};
+ghost use Rattle.acl_normal.specs.internal.Shown.{bits_in, plain_key, with_masks};
 
 use crate::bits::of_everyone;
 use crate::class::Class;
@@ -34,7 +34,7 @@ impl ByClass {
         others: Mask::NONE,
     };
 
-    /// With more bits of one class.
+    /// These bits with more of one class.
     fn with(self, class: Class, mask: Mask) -> ByClass
         ensures { (users : Bool) (b : ℕ) → has_bit (class_mask result users) b
             ≡ (has_bit (class_mask self users) b || (same_class (is_users class) users && has_bit mask.bits b)) }
@@ -91,7 +91,7 @@ fn opposite(later: Later, at: Key<'_>) -> Mask
     }
 }
 
-/// With the bits of one more ACE.
+/// The bits of later ACEs with those of one more.
 fn noted(later: Later, at: Key<'_>, mask: Mask) -> Later
     ensures { (k : Sort) (users : Bool) (b : ℕ) → has_bit (later_mask result k users) b
         ≡ (has_bit (later_mask later k users) b
@@ -112,7 +112,7 @@ fn noted(later: Later, at: Key<'_>, mask: Mask) -> Later
 }
 
 /// The bits of a mask that its ACE doesn't need.
-#[tactic(auto, using(crate::proofs::Unique::Names::everyone_test))]
+#[tactic(auto, using(crate::proofs::unique::Names::everyone_test))]
 fn needless(at: Key<'_>, mask: Mask, allowed: Mask, opposite: Mask) -> Mask
     ensures { (b : ℕ) → has_bit result.bits b ≡ (has_bit mask.bits b
         && not (is_kept (default_at allowed.bits b) (plain_key at.entry) (has_bit opposite.bits b))) }

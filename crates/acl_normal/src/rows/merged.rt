@@ -9,7 +9,7 @@ ghost use Rattle.acl_normal.specs.internal.Classes.{is_users};
 ghost use Rattle.acl_normal.specs.Left.{HasFree, IsLowest, KeepsFirsts, left};
 ghost use Rattle.acl_normal.specs.Normal.{IsIrreducibleList};
 ghost use Rattle.acl_normal.specs.Places.{nothing_left, take_out, waits};
-ghost use Rattle.acl_normal.specs.internal.Rows.{IsRow};
+ghost use Rattle.acl_normal.specs.internal.Rows.{IsRowOf};
 
 use crate::bits::{alone, next_right};
 use crate::class::Class;
@@ -62,9 +62,9 @@ impl<'a> MergedRows<'a> {
         ensures places { IfOk result (λ rows. nothing_left rows ≡ nothing_left list.now) }
         // What is left of a principal at a bit stands where its first ACE with the bit stands in the given list.
         ensures firsts { IfOk result (λ rows. KeepsFirsts list.now rows) }
-        // It grants the same.
+        // What is left grants the same as the given list.
         ensures grants { IfOk result (λ rows. SameGrants all_rights list.now rows) }
-        // Each bit is needed.
+        // Each bit that is left is needed.
         ensures irreducible { IfOk result (λ rows. IsIrreducibleList (left rows)) }
     {
         let reduced = reduced_list(alloc, list)?;
@@ -117,7 +117,7 @@ impl<'a> MergedRows<'a> {
 
     /// Takes rights of the principal of a row out.
     fn emit_row(&mut self, row: usize, p: Principal<'_>, mask: Mask)
-        requires { IsRow row (principal p) self.old }
+        requires { IsRowOf row (principal p) self.old }
         ensures { self.new ≡ take_out (principal p.entry) mask.bits self.old }
     {
         let mut from = 0;
@@ -129,7 +129,7 @@ impl<'a> MergedRows<'a> {
 
     /// Takes one right of the principal of a row out.
     fn emit_bit(&mut self, row: usize, p: Principal<'_>, right: Right)
-        requires { IsRow row (principal p) self.old }
+        requires { IsRowOf row (principal p) self.old }
         ensures { self.new ≡ take_out (principal p.entry) (2 ^ right.bit) self.old }
     {
         if let Some(place) = self.rest.place_in(row, right) {

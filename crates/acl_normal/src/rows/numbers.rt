@@ -2,9 +2,9 @@
 ghost use Rattle.std.specs.Prelude.{◌≡◌, false, map, IfNone, IfOk, IfSome};
 ghost use Rattle.acl_perm.specs.Order.{principal_cmp};
 ghost use Rattle.acl_perm.specs.Principal.{principal};
-ghost use Rattle.acl_normal.specs.Places.{principal_here};
+ghost use Rattle.acl_normal.specs.internal.AtPlaces.{principal_here};
 ghost use Rattle.acl_normal.specs.internal.RowNumbers.{AreSortedNames, named_from, named_of};
-ghost use Rattle.acl_normal.specs.internal.Rows.{AreRowNumbers, IsByPrincipal, IsRow, is_named};
+ghost use Rattle.acl_normal.specs.internal.Rows.{AreRowNumbers, IsByPrincipal, IsRowOf, is_named};
 ghost use Rattle.acl_normal.specs.internal.Shown.{aces_in};
 
 use super::heads::HeadedPrincipal;
@@ -47,7 +47,7 @@ pub(crate) fn find_row(
 ) -> Option<usize>
     requires rows { AreRowNumbers (aces_in aces.now) rows.now }
     requires order { IsByPrincipal (aces_in aces.now) order.now }
-    ensures found { IfSome result (λ row. IsRow row (principal p.entry) (aces_in aces.now)) }
+    ensures found { IfSome result (λ row. IsRowOf row (principal p.entry) (aces_in aces.now)) }
     ensures missing { IfNone result (is_named (principal p.entry) (aces_in aces.now) ≡ false) }
 {
     match order.binary_search_by(|place| compared(aces, *place, p)) {
@@ -80,7 +80,7 @@ fn named_places<'a>(alloc: Global, aces: &[AceRef<'a>]) -> Result<Vec<NamedPlace
     Ok(named)
 }
 
-// The same in the order of the principals.
+// Whom each ACE names, with its place, in the order of the principals.
 fn by_principal<'a>(alloc: Global, aces: &[AceRef<'a>]) -> Result<Vec<NamedPlace<'a>>, AllocError>
     ensures { IfOk result (λ v. AreSortedNames (aces_in aces.now) (map named_of v.items)) }
 {
@@ -110,7 +110,7 @@ fn rows_of(
     Ok(rows)
 }
 
-// The places alone.
+// The places of ACEs whose principals are known.
 fn places_of(alloc: Global, named: &[NamedPlace<'_>]) -> Result<Vec<usize>, AllocError>
     ensures { IfOk result (λ v. v.items ≡ map (λ n. n.place) named.now) }
 {

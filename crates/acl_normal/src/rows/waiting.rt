@@ -4,11 +4,11 @@ ghost use Rattle.std.specs.BTreeMap.{is_at};
 ghost use Rattle.std.specs.List.{list_any};
 ghost use Rattle.std.specs.Ordering.{nat_cmp};
 ghost use Rattle.acl_perm.specs.declared.kind.Kind.{Kind as Sort};
-ghost use Rattle.acl_normal.specs.Normal.{IsQuiet};
-ghost use Rattle.acl_normal.specs.Places.{slot_of, waits};
+ghost use Rattle.acl_normal.specs.internal.Tidy.{IsQuiet};
+ghost use Rattle.acl_normal.specs.Places.{waits};
+ghost use Rattle.acl_normal.specs.internal.Waiting.{slot_of, HoldWaiting, Notes};
 ghost use Rattle.acl_normal.specs.internal.Classes.{is_users};
 ghost use Rattle.acl_normal.specs.internal.Shown.{bits_in, with_masks};
-ghost use Rattle.acl_normal.specs.internal.Waiting.{HoldWaiting, Notes};
 
 use crate::bits::next_right;
 use crate::class::Class;

@@ -1,4 +1,5 @@
-//! What the tests of this crate share: lists by rows, and how a table takes want of memory.
+//! What the tests of this crate share: lists by rows, some lists that several ask about, and how a table takes want of
+//! memory.
 
 use acl_nfs4::{AceRef, Acl, PushFault};
 use acl_perm::{Flags, Kind, Mask};
@@ -17,9 +18,46 @@ pub const WRITE_DATA: u32 = 2;
 
 pub const EXECUTE: u32 = 0x20;
 
+pub const FILE_INHERIT: u32 = 0x01;
+
 pub const INHERIT_ONLY: u32 = 0x08;
 
 pub const GROUP: u32 = 0x40;
+
+/// Amy may read.
+pub const AMY: AceRow = (ALLOW, 0, READ_DATA, b"amy");
+
+/// All may read.
+pub const EVERYONE: AceRow = (ALLOW, 0, READ_DATA, b"EVERYONE@");
+
+/// The group staff may not read.
+pub const NO_STAFF: AceRow = (DENY, GROUP, READ_DATA, b"staff");
+
+/// The owner may read.
+pub const OWNER: AceRow = (ALLOW, 0, READ_DATA, b"OWNER@");
+
+/// Bob may not write, and the owner may read and write.
+pub const NO_WRITE: [AceRow; 2] = [
+    (DENY, 0, WRITE_DATA, b"bob"),
+    (ALLOW, 0, READ_DATA | WRITE_DATA, b"OWNER@"),
+];
+
+/// The owner may read, bob may not write, and the owner may write.
+pub const NO_WRITE_FORM: [AceRow; 3] = [
+    OWNER,
+    (DENY, 0, WRITE_DATA, b"bob"),
+    (ALLOW, 0, WRITE_DATA, b"OWNER@"),
+];
+
+/// Amy may read and execute, staff may not read, and all may execute.
+pub const STAFF: [AceRow; 3] = [
+    NO_STAFF,
+    (ALLOW, 0, READ_DATA | EXECUTE, b"amy"),
+    (ALLOW, 0, EXECUTE, b"EVERYONE@"),
+];
+
+/// An ACE for new files, and one for the object.
+pub const FOR_FILES: [AceRow; 2] = [(ALLOW, FILE_INHERIT | INHERIT_ONLY, READ_DATA, b"amy"), AMY];
 
 /// An ACE with flags and a mask that are some.
 pub fn ace_of(kind: Kind, flags: u32, mask: u32, who: &[u8]) -> Option<AceRef<'_>> {

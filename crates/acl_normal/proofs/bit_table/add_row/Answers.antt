@@ -1,8 +1,8 @@
 use Rattle.std.proofs.Common.{◌∙◌, ap, refl, sym}
 use Rattle.acl_nfs4.specs.Ace.{ace}
 use Rattle.acl_nfs4.specs.Who.{principal_of}
-use Rattle.acl_normal.proofs.Merging.FirstPlaces.{first_by_none, first_by_place}
-use Rattle.acl_normal.proofs.Tables.{has_place, one_row}
+use Rattle.acl_normal.proofs.rows.FirstPlaces.{first_by_none, first_by_place}
+use Rattle.acl_normal.proofs.bit_table.RowLemmas.{has_place, one_row}
 use Rattle.acl_normal.specs.internal.Emitted.{emitted_ace}
 use Rattle.acl_normal.proofs.bit_table.add_row.Goals as goal
 

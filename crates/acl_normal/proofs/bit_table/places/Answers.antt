@@ -1,5 +1,5 @@
 use Rattle.std.proofs.Common.{arith}
-use Rattle.acl_normal.proofs.Merging.Rows.{row_below}
+use Rattle.acl_normal.proofs.rows.Rows.{row_below}
 use Rattle.acl_normal.proofs.bit_table.places.Goals as goal
 
 pub returns-clause-places : goal.returns-clause-places

@@ -2,7 +2,8 @@ use Rattle.std.specs.Prelude.{All, List, take}
 use Rattle.acl_nfs4.specs.Ace.{Ace}
 use Rattle.acl_normal.specs.internal.Emitted.{StandInRows, emitted_ace, emitted_aces}
 use Rattle.acl_normal.specs.internal.Rows.{ArePlaces}
-use Rattle.acl_normal.specs.Tables.{AreRows, HasKey, with_bit}
+use Rattle.acl_normal.specs.Tables.{AreRows, with_bit}
+use Rattle.acl_normal.specs.internal.TableRows.{HasKey}
 use Rattle.acl_normal.proofs.bit_table.rows_of.Given as goal
 
 -- the rows of the ACEs so far, whatever list has these places

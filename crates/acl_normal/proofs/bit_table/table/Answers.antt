@@ -1,14 +1,14 @@
 use Rattle.std.proofs.Common.{◌∙◌, ap}
 use Rattle.std.specs.Prelude.{unwrap_or}
 use Rattle.acl_normal.specs.internal.Emitted.{emitted_aces}
-use Rattle.acl_normal.proofs.Tables.{key_there, row_there, rows_from, rows_shown}
-use Rattle.acl_normal.proofs.Unique.Forming.{form_from}
-use Rattle.acl_normal.proofs.Unique.Taken.{normal_alike, normal_once, taken}
+use Rattle.acl_normal.proofs.bit_table.RowLemmas.{has_key_there, row_in_list, rows_from, rows_shown}
+use Rattle.acl_normal.proofs.unique.Forming.{form_from}
+use Rattle.acl_normal.proofs.unique.Taken.{normal_alike, normal_once, taken}
 use Rattle.acl_normal.proofs.bit_table.table.Goals as goal
 
 pub rows_of-requires : goal.rows_of-requires
 rows_of-requires c =
-    row_there c.in_ok-rows.rows c.in_ok-form.form.items _ _ c.in_ok-form.ensures.rows c.deref-2.ensures.value
+    row_in_list c.in_ok-rows.rows c.in_ok-form.form.items _ _ c.in_ok-form.ensures.rows c.deref-2.ensures.value
     (c.deref.ensures.len ∙ c.in_ok-places.ensures.count)
 
 pub returns-clause-rows : goal.returns-clause-rows
@@ -30,6 +30,6 @@ returns-clause-rows c b low =
           (rows_from right c.args.list.now c.in_ok-rows.rows _ c.in_ok-table.table.items r.thinned.firsts
           (rows_shown right c.in_ok-rows.rows c.in_ok-places.places.items _ es _ c.in_ok-table.table.items
           c.deref.ensures.value c.deref-2.ensures.value c.in_ok-table.ensures c.in_ok-places.ensures.places f.rows
-          (key_there right c.in_ok-rows.rows es (normal_once ns right whole.normal)
+          (has_key_there right c.in_ok-rows.rows es (normal_once ns right whole.normal)
           (normal_alike c.args.list.now c.in_ok-rows.rows ns right r.irreducible r.grants whole.normal whole.grants))));
     }

@@ -1,7 +1,7 @@
 use Rattle.std.proofs.Common.{ap, ◌∙◌}
 use Rattle.acl_normal.proofs.comparison.compare.Goals as goal
-use Rattle.acl_normal.proofs.Searching.FirstSet.{rising_names, same_list_same, same_of, names_of}
-use Rattle.acl_normal.proofs.Searching.MentionedRows.{whoms_same}
+use Rattle.acl_normal.proofs.comparison.FirstSet.{rising_names, same_list_same, same_of, names_of}
+use Rattle.acl_normal.proofs.comparison.MentionedRows.{whoms_same}
 use Rattle.acl_normal.specs.internal.Passes.{list_of}
 use Rattle.acl_normal.specs.internal.SetSearch.{principals}
 

@@ -1,4 +1,4 @@
-use Rattle.acl_normal.proofs.Inheritance.FiveFormLemmas.{forms_from}
+use Rattle.acl_normal.proofs.five_forms.FiveFormLemmas.{forms_from}
 use Rattle.acl_normal.proofs.five_forms.forms_of.Goals as goal
 
 pub returns : goal.returns

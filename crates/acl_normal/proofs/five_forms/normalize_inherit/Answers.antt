@@ -1,5 +1,5 @@
 use Rattle.std.proofs.lemmas.Result.{IfOk-weaker}
-use Rattle.acl_normal.proofs.Inheritance.FiveFormLemmas.{all_accepted}
+use Rattle.acl_normal.proofs.five_forms.FiveFormLemmas.{all_accepted}
 use Rattle.acl_normal.proofs.five_forms.normalize_inherit.Goals as goal
 
 pub returns-clause-accepted : goal.returns-clause-accepted

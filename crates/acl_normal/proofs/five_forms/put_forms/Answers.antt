@@ -1,5 +1,5 @@
 use Rattle.std.proofs.Common.{rules}
-use Rattle.acl_normal.proofs.Inheritance.FormsOut.{after_directory, after_file, after_inner_file, cut_out, directory_out, file_out, last_out, object_out, one_out}
+use Rattle.acl_normal.proofs.five_forms.FormsOut.{after_directory, after_file, after_inner_file, cut_out, directory_out, file_out, last_out, object_out, one_out}
 use Rattle.acl_normal.proofs.five_forms.put_forms.Goals as goal
 
 pub returns-in_err-file-clause-written : goal.returns-in_err-file-clause-written

@@ -1,4 +1,4 @@
-use Rattle.acl_normal.proofs.Unique.Profiles.{denied_outside, same_within}
+use Rattle.acl_normal.proofs.unique.Profiles.{denied_outside, same_within}
 use Rattle.acl_normal.proofs.laws.nothing_outside_a_profile.Goals as goal
 
 pub returns-clause-denied : goal.returns-clause-denied

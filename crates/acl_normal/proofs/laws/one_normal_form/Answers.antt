@@ -1,4 +1,4 @@
-use Rattle.acl_normal.proofs.Unique.Unique.{unique}
+use Rattle.acl_normal.proofs.unique.Unique.{unique}
 use Rattle.acl_normal.proofs.laws.one_normal_form.Goals as goal
 
 pub returns : goal.returns

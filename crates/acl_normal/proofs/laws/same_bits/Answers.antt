@@ -1,6 +1,6 @@
 use Rattle.acl_perm.specs.Bits.{all_rights}
 use Rattle.acl_eval.proofs.Same.{equivalence}
-use Rattle.acl_normal.proofs.Unique.SameOrder.{same_bits}
+use Rattle.acl_normal.proofs.unique.SameOrder.{same_bits}
 use Rattle.acl_normal.proofs.laws.same_bits.Goals as goal
 
 pub returns : goal.returns

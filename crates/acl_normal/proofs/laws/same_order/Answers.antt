@@ -1,6 +1,6 @@
 use Rattle.acl_perm.specs.Bits.{all_rights}
 use Rattle.acl_eval.proofs.Same.{equivalence}
-use Rattle.acl_normal.proofs.Unique.SameOrder.{same_order}
+use Rattle.acl_normal.proofs.unique.SameOrder.{same_order}
 use Rattle.acl_normal.proofs.laws.same_order.Goals as goal
 
 pub returns : goal.returns

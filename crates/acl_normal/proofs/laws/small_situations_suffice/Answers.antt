@@ -1,4 +1,4 @@
-use Rattle.acl_normal.proofs.Searching.SmallSetLemmas as sets
+use Rattle.acl_normal.proofs.comparison.SmallSetLemmas as sets
 use Rattle.acl_normal.proofs.laws.small_situations_suffice.Goals as goal
 
 pub returns : goal.returns

@@ -1,6 +1,6 @@
 use Rattle.acl_normal.specs.internal.Emitted.{emitted_aces}
-use Rattle.acl_normal.proofs.Unique.Forming.{form_from}
-use Rattle.acl_normal.proofs.Unique.Taken.{taken}
+use Rattle.acl_normal.proofs.unique.Forming.{form_from}
+use Rattle.acl_normal.proofs.unique.Taken.{taken}
 use Rattle.acl_normal.proofs.normal_form.form_of.Goals as goal
 
 pub returns : goal.returns

@@ -1,4 +1,4 @@
-use Rattle.acl_normal.proofs.Unique.Forming.{empty_form}
+use Rattle.acl_normal.proofs.unique.Forming.{empty_form}
 use Rattle.acl_normal.proofs.normal_form.normalize.Goals as goal
 
 pub returns-then-is_empty-clause-form : goal.returns-then-is_empty-clause-form

@@ -1,4 +1,4 @@
-use Rattle.acl_normal.proofs.PlainForm.PlainForm.{emitted_form, reduced_columns, reduced_each, reduced_small}
+use Rattle.acl_normal.proofs.plain.PlainForm.{emitted_form, reduced_columns, reduced_each, reduced_small}
 use Rattle.acl_normal.proofs.plain.normalize.Goals as goal
 
 pub emit-requires-clause-once : goal.emit-requires-clause-once

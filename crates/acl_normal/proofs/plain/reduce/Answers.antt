@@ -1,6 +1,6 @@
 use Rattle.std.proofs.Common.{ap, ◌∙◌}
 use Rattle.acl_normal.specs.internal.Passes.{list_of}
-use Rattle.acl_normal.proofs.PlainForm.PlainForm.{passes_reduce}
+use Rattle.acl_normal.proofs.plain.PlainForm.{passes_reduce}
 use Rattle.acl_normal.proofs.plain.reduce.Goals as goal
 
 pub returns-clause-reduced : goal.returns-clause-reduced

@@ -2,8 +2,8 @@ use Rattle.std.specs.Prelude.{◌≡◌, ◌++◌, drop, length, take}
 use Rattle.std.proofs.Common.{◌∙◌, sym}
 use Rattle.std.proofs.lemmas.List.{take_at}
 use Rattle.acl_normal.specs.internal.Shown.{aces_in, bits_in, with_masks}
-use Rattle.acl_normal.proofs.Reduction.Reducing.{two_passes, reduction_grants, reduction_irreducible, reduction_rights}
-use Rattle.acl_normal.proofs.Reduction.Unneeded.{firsts_through}
+use Rattle.acl_normal.proofs.reduce.Reducing.{reduction_grants, reduction_irreducible, reduction_rights, two_passes}
+use Rattle.acl_normal.proofs.reduce.Unneeded.{firsts_through}
 use Rattle.acl_normal.proofs.reduce.reduced_masks.Goals as goal
 
 pub returns : goal.returns

@@ -1,5 +1,5 @@
 use Rattle.acl_normal.proofs.comparison.evaluation.grant_alike.Goals as goal
-use Rattle.acl_normal.proofs.Searching.SetEvaluation.{differing_are, tells_unlike}
+use Rattle.acl_normal.proofs.comparison.SetEvaluation.{differing_are, tells_unlike}
 
 pub returns-clause-differ : goal.returns-clause-differ
 returns-clause-differ c = rw c.bits.ensures.value (tells_unlike _ _ _ _ c.unlike.result.within

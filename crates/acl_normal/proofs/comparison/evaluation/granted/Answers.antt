@@ -2,7 +2,7 @@ use Rattle.std.specs.Prelude.{refl}
 use Rattle.std.proofs.Common.{arith, ap, subst, sym}
 use Rattle.acl_normal.proofs.comparison.evaluation.granted.Goals as goal
 use Rattle.acl_normal.proofs.comparison.evaluation.granted.Goals.{in-Allow, in-Deny}
-use Rattle.acl_normal.proofs.Searching.SetEvaluation.{loop_allow, loop_deny, loop_ends, loop_starts}
+use Rattle.acl_normal.proofs.comparison.SetEvaluation.{loop_allow, loop_deny, loop_ends, loop_starts}
 use Rattle.acl_perm.specs.Bits.{IsMask}
 
 pub loop-item-init : goal.loop-item-init

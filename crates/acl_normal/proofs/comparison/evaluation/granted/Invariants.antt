@@ -1,5 +1,5 @@
 use Rattle.acl_normal.proofs.comparison.evaluation.granted.Given as goal
-use Rattle.acl_normal.proofs.Searching.SetEvaluation.{DecidesAll}
+use Rattle.acl_normal.proofs.comparison.SetEvaluation.{DecidesAll}
 use Rattle.acl_normal.specs.internal.CodeSets.{set_of}
 use Rattle.acl_perm.specs.Bits.{IsMask}
 

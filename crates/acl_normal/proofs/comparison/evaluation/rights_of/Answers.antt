@@ -1,7 +1,7 @@
 use Rattle.std.specs.Prelude.{refl}
 use Rattle.std.proofs.Common.{arith}
 use Rattle.acl_normal.proofs.comparison.evaluation.rights_of.Goals as goal
-use Rattle.acl_normal.proofs.Searching.SetEvaluation.{covers_all, covers_more}
+use Rattle.acl_normal.proofs.comparison.SetEvaluation.{covers_all, covers_more}
 
 pub loop-item-init : goal.loop-item-init
 loop-item-init c = record { covers = record { columns = λ bit absent. refl }; rights = refl }

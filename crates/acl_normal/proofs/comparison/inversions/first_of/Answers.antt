@@ -1,7 +1,7 @@
 use borrow.Author.Count.{below_more}
 use Rattle.std.proofs.Common.{arith}
 use Rattle.acl_normal.proofs.comparison.inversions.first_of.Goals as goal
-use Rattle.acl_normal.proofs.Searching.TableFacts.{first_of_kind, not_of_kind}
+use Rattle.acl_normal.proofs.comparison.TableFacts.{first_of_kind, not_of_kind}
 
 pub returns-then-is_told : goal.returns-then-is_told
 returns-then-is_told c = first_of_kind _ _ _ _ _ _ _ _ _ _ c.loop-k-test.true c.requires.limit c.loop-k.invariant

@@ -1,6 +1,6 @@
 use Rattle.std.specs.Prelude.{◌≡◌, ℕ, ◌<◌, true, false, slice_index_or}
 use Rattle.acl_normal.proofs.comparison.inversions.first_of.Given as goal
-use Rattle.acl_normal.specs.internal.FirstPlaces.{inverts_any, no_row}
+use Rattle.acl_normal.specs.internal.ComparedRows.{no_row, inverts_any}
 use Rattle.acl_normal.specs.internal.PlaceTables.{is_of_sort}
 
 abbrev pub invariant-loop-k : goal.invariant-loop-k

@@ -1,6 +1,6 @@
 use Rattle.std.proofs.Common.{arith, ap, slice_set}
 use Rattle.acl_normal.proofs.comparison.inversions.table.Goals as goal
-use Rattle.acl_normal.proofs.Searching.TableFacts.{summed_more, summed_start}
+use Rattle.acl_normal.proofs.comparison.TableFacts.{summed_more, summed_start}
 
 pub loop-k-init : goal.loop-k-init
 loop-k-init c = summed_start _ _ _ _ _ c.in_ok-table.ensures

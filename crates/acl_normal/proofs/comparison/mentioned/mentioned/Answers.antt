@@ -1,9 +1,9 @@
 use Rattle.std.proofs.Common.{◌∙◌, ap, subst}
 use Rattle.std.proofs.lemmas.List.{map-append}
 use Rattle.acl_nfs4.specs.Ace.{ace}
-use Rattle.acl_normal.proofs.Searching.MentionedRows.{whole_ready, whoms_ready}
+use Rattle.acl_normal.proofs.comparison.MentionedRows.{whole_ready, whoms_ready}
 use Rattle.acl_normal.proofs.comparison.mentioned.mentioned.Goals as goal
-use Rattle.acl_normal.specs.internal.FirstPlaces.{AreWhoms}
+use Rattle.acl_normal.specs.internal.Whoms.{AreWhoms}
 use Rattle.acl_normal.specs.internal.Passes.{list_of}
 use Rattle.acl_normal.specs.internal.SetSearch.{principals}
 

@@ -1,5 +1,5 @@
 use Rattle.std.proofs.Common.{arith, refl, ◌∙◌}
-use Rattle.acl_normal.proofs.Searching.MentionedRows.{numbers_step}
+use Rattle.acl_normal.proofs.comparison.MentionedRows.{numbers_step}
 use Rattle.acl_normal.proofs.comparison.mentioned.numbers_of.Goals as goal
 
 pub loop-row-preserved : goal.loop-row-preserved

@@ -1,6 +1,6 @@
 use Rattle.std.specs.Prelude.{take}
 use Rattle.acl_normal.proofs.comparison.mentioned.whoms.Given as goal
-use Rattle.acl_normal.specs.internal.FirstPlaces.{AreWhoms}
+use Rattle.acl_normal.specs.internal.Whoms.{AreWhoms}
 use Rattle.acl_normal.specs.internal.Passes.{list_of}
 use Rattle.acl_normal.specs.internal.SetSearch.{principals}
 

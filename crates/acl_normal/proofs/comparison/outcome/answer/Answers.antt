@@ -1,6 +1,6 @@
 use Rattle.std.specs.Prelude.{refl}
 use Rattle.acl_normal.proofs.comparison.outcome.answer.Goals as goal
-use Rattle.acl_normal.proofs.Searching.FirstSet.{differs_there, first_is, found_is, none_same, requester_is, some_not_same}
+use Rattle.acl_normal.proofs.comparison.FirstSet.{differs_there, first_is, found_is, none_same, requester_is, some_not_same}
 use Rattle.acl_normal.specs.internal.Passes.{list_of}
 
 pub returns-in-None-clause-same : goal.returns-in-None-clause-same

@@ -1,5 +1,5 @@
 use Rattle.acl_normal.proofs.comparison.outcome.difference_at.Goals as goal
-use Rattle.acl_normal.proofs.Searching.SetEvaluation.{differing_are, lowest_difference, none_differ}
+use Rattle.acl_normal.proofs.comparison.SetEvaluation.{differing_are, lowest_difference, none_differ}
 
 pub lowest-bit-requires : goal.lowest-bit-requires
 lowest-bit-requires c = λ none. c.requires ((none_differ _ _ _ _ c.unlike.result.within

@@ -2,7 +2,7 @@ use Rattle.std.proofs.Common.{arith, refl, sym}
 use Rattle.std.proofs.lemmas.List.{length-map}
 use Rattle.acl_normal.proofs.comparison.rows.firsts.Goals as goal
 use Rattle.acl_nfs4.specs.Ace.{ace}
-use Rattle.acl_normal.proofs.Searching.FirstPlaceLemmas.{firsts_more, firsts_start, whom_within, whoms_length}
+use Rattle.acl_normal.proofs.comparison.FirstPlaceLemmas.{firsts_more, firsts_start, whom_within, whoms_length}
 use Rattle.acl_normal.specs.internal.SetSearch.{principals}
 use Rattle.acl_perm.specs.Principal.{principal}
 

@@ -1,7 +1,7 @@
 use Rattle.std.proofs.Common.{arith}
 use Rattle.acl_normal.proofs.comparison.search.find_set.Goals as goal
-use Rattle.acl_normal.proofs.Searching.Assembly.{member_within, none_answer, pair_answer, partner_within, single_answer}
-use Rattle.acl_normal.proofs.Searching.MentionedRows.{whoms_cover}
+use Rattle.acl_normal.proofs.comparison.Assembly.{member_within, none_answer, pair_answer, partner_within, single_answer}
+use Rattle.acl_normal.proofs.comparison.MentionedRows.{whoms_cover}
 use Rattle.acl_normal.specs.internal.Passes.{list_of}
 use Rattle.acl_normal.specs.internal.SetSearch.{principals}
 

@@ -1,11 +1,12 @@
 use Rattle.std.proofs.Common.{◌*◌, ◌+◌, ◌<◌, length, ◌∙◌, sym, ap, arith}
 use Rattle.std.proofs.lemmas.Result.{on_ok_weaker}
 use Rattle.acl_perm.specs.Order.{kind_rank}
-use Rattle.acl_normal.specs.Places.{key_here, nothing_left}
-use Rattle.acl_normal.proofs.Emission.Few.{remaining_few}
-use Rattle.acl_normal.proofs.Emission.Marks.{adds, fits_written, number_at}
-use Rattle.acl_normal.proofs.Merging.Rows.{row_below}
-use Rattle.acl_normal.proofs.Unique.Outline.{outline_length}
+use Rattle.acl_normal.specs.Places.{nothing_left}
+use Rattle.acl_normal.specs.internal.AtPlaces.{key_here}
+use Rattle.acl_normal.proofs.emit.Few.{remaining_few}
+use Rattle.acl_normal.proofs.emit.Marks.{adds, fits_written, number_at}
+use Rattle.acl_normal.proofs.rows.Rows.{row_below}
+use Rattle.acl_normal.proofs.unique.Outline.{outline_length}
 use Rattle.acl_normal.proofs.emit.emission.add.Goals as goal
 
 pub overflow_mul-number : goal.overflow_mul-number

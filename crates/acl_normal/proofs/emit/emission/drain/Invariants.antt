@@ -1,8 +1,8 @@
-use Rattle.acl_normal.specs.internal.Counts.{count_left}
+use Rattle.acl_normal.specs.internal.Emissions.{count_left}
 use Rattle.acl_normal.specs.Places.{nothing_left}
 use Rattle.acl_normal.specs.internal.Ready.{FitsKeys, marks}
-use Rattle.acl_normal.proofs.Emission.Drained.{Drains}
-use Rattle.acl_normal.proofs.Emission.InRows.{KeepsRows}
+use Rattle.acl_normal.proofs.emit.Drained.{Drains}
+use Rattle.acl_normal.proofs.emit.InRows.{KeepsRows}
 use Rattle.acl_normal.proofs.emit.emission.drain.Given as goal
 
 abbrev pub invariant-emitted : goal.invariant-emitted

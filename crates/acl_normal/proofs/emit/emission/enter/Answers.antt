@@ -5,9 +5,9 @@ use Rattle.std.proofs.Math.Seq.{drop-cons}
 use Rattle.acl_normal.specs.internal.Classes.{is_users}
 use Rattle.acl_normal.specs.Places.{nothing_left}
 use Rattle.acl_normal.specs.internal.Ready.{marks}
-use Rattle.acl_normal.proofs.Emission.InRemaining.{remaining_once}
-use Rattle.acl_normal.proofs.Emission.Few.{remaining_few}
-use Rattle.acl_normal.proofs.Emission.Walk.{head_kind, head_within, no_places, nothing_waits, walk_done, walk_on, walk_past, walk_starts, walk_stops}
+use Rattle.acl_normal.proofs.emit.InRemaining.{remaining_once}
+use Rattle.acl_normal.proofs.emit.Few.{remaining_few}
+use Rattle.acl_normal.proofs.emit.Walk.{head_kind, head_within, no_places, nothing_waits, walk_done, walk_on, walk_past, walk_starts, walk_stops}
 use Rattle.acl_normal.proofs.emit.emission.enter.Goals as goal
 use Rattle.acl_normal.proofs.emit.emission.enter.Goals.{then-has+in_ok-add, else-has}
 

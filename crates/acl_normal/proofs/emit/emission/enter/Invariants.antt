@@ -2,7 +2,7 @@ use Rattle.std.specs.Prelude.{drop}
 use Rattle.acl_normal.specs.internal.Classes.{is_users}
 use Rattle.acl_normal.specs.Places.{nothing_left}
 use Rattle.acl_normal.specs.internal.Ready.{FitsKeys, marks}
-use Rattle.acl_normal.proofs.Emission.Walk.{Walks}
+use Rattle.acl_normal.proofs.emit.Walk.{Walks}
 use Rattle.acl_normal.proofs.emit.emission.enter.Given as goal
 
 abbrev pub invariant-loop-place : goal.invariant-loop-place

@@ -2,9 +2,9 @@ use Rattle.std.proofs.Common.{◌≡◌, ℕ, ◌*◌, ◌∙◌, length, slice_
 use Rattle.acl_eval.specs.Column.{column}
 use Rattle.acl_normal.specs.Places.{nothing_left}
 use Rattle.acl_normal.specs.internal.Ready.{FitsKeys, marks}
-use Rattle.acl_normal.proofs.Emission.Filled.{fills_nothing, fills_on, fills_all}
-use Rattle.acl_normal.proofs.Emission.Marks.{fits_zeros, nothing_marked, zero_at}
-use Rattle.acl_normal.proofs.Unique.Outline.{outline_length}
+use Rattle.acl_normal.proofs.emit.Filled.{fills_nothing, fills_on, fills_all}
+use Rattle.acl_normal.proofs.emit.Marks.{fits_zeros, nothing_marked, zero_at}
+use Rattle.acl_normal.proofs.unique.Outline.{outline_length}
 use Rattle.acl_normal.proofs.emit.emission.fill.Goals as goal
 
 pub loop-bit-init : goal.loop-bit-init

@@ -1,6 +1,6 @@
 use Rattle.acl_normal.specs.Places.{nothing_left}
 use Rattle.acl_normal.specs.internal.Ready.{FitsKeys, marks}
-use Rattle.acl_normal.proofs.Emission.Filled.{Fills}
+use Rattle.acl_normal.proofs.emit.Filled.{Fills}
 use Rattle.acl_normal.proofs.emit.emission.fill.Given as goal
 
 abbrev pub invariant-loop-bit : goal.invariant-loop-bit

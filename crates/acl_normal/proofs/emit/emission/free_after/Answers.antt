@@ -1,10 +1,10 @@
 use Rattle.std.proofs.Common.{◌∙◌, sym, subst, true, false, arith}
 use Rattle.acl_perm.specs.Kind.{other_kind}
-use Rattle.acl_normal.specs.Keys.{plain_key}
+use Rattle.acl_normal.specs.internal.Shown.{plain_key}
 use Rattle.acl_normal.specs.Places.{nothing_left}
 use Rattle.acl_normal.specs.internal.Ready.{Enters, marks}
-use Rattle.acl_normal.proofs.Emission.NewlyFree.{FreesBelow, frees_nothing, frees_on_absent, frees_on_user, frees_on_other, frees_all}
-use Rattle.acl_normal.proofs.Unique.Bits.{past_absent}
+use Rattle.acl_normal.proofs.emit.NewlyFree.{FreesBelow, frees_nothing, frees_on_absent, frees_on_user, frees_on_other, frees_all}
+use Rattle.acl_normal.proofs.unique.Bits.{past_absent}
 use Rattle.acl_normal.proofs.emit.emission.free_after.Goals as goal
 use Rattle.acl_normal.proofs.emit.emission.free_after.Goals.{then-not-is_user+in_ok-enter-2, else-not-is_user}
 

@@ -1,8 +1,8 @@
 use Rattle.std.specs.Prelude.{◌-◌, ◌≤◌}
-use Rattle.acl_normal.specs.Keys.{plain_key}
+use Rattle.acl_normal.specs.internal.Shown.{plain_key}
 use Rattle.acl_normal.specs.Places.{nothing_left}
 use Rattle.acl_normal.specs.internal.Ready.{FitsKeys, marks}
-use Rattle.acl_normal.proofs.Emission.NewlyFree.{FreesBelow}
+use Rattle.acl_normal.proofs.emit.NewlyFree.{FreesBelow}
 use Rattle.acl_normal.proofs.emit.emission.free_after.Given as goal
 
 abbrev pub invariant-loop-right : goal.invariant-loop-right

@@ -1,5 +1,5 @@
-use Rattle.acl_normal.proofs.Emission.Leaving.{left_normal, left_only, alike_count}
-use Rattle.acl_normal.proofs.Emission.InRemaining.{remaining_once}
+use Rattle.acl_normal.proofs.emit.Leaving.{left_normal, left_only, alike_count}
+use Rattle.acl_normal.proofs.emit.InRemaining.{remaining_once}
 use Rattle.acl_normal.proofs.emit.emission.normalize_left.Goals as goal
 use Rattle.acl_normal.specs.internal.Emitted.{emitted_aces}
 

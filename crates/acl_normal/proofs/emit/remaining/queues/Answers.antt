@@ -1,6 +1,6 @@
 use Rattle.std.proofs.Common.{[], ◌∷◌, ◌++◌, refl, sym, ◌∙◌, ap, subst, append_assoc}
-use Rattle.acl_normal.proofs.Emission.InRemaining.{AreQueuesOf, queues_more, queues_wait}
-use Rattle.acl_normal.proofs.Merging.WaitingPlaces.{all_yielded}
+use Rattle.acl_normal.proofs.emit.InRemaining.{AreQueuesOf, queues_more, queues_wait}
+use Rattle.acl_normal.proofs.rows.WaitingPlaces.{all_yielded}
 use Rattle.acl_normal.proofs.emit.remaining.queues.Goals as goal
 
 pub loop-places-init : goal.loop-places-init

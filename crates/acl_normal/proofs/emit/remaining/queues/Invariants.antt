@@ -1,5 +1,5 @@
 use Rattle.std.proofs.Common.{◌≡◌, ◌++◌}
-use Rattle.acl_normal.proofs.Emission.InRemaining.{AreQueuesOf}
+use Rattle.acl_normal.proofs.emit.InRemaining.{AreQueuesOf}
 use Rattle.acl_normal.proofs.emit.remaining.queues.Given as goal
 
 abbrev pub invariant-loop-places : goal.invariant-loop-places

@@ -1,7 +1,7 @@
 use Rattle.std.proofs.Common.{ap, ◌∙◌, refl}
 use Rattle.acl_nfs4.specs.Ace.{ace}
 use Rattle.acl_normal.specs.Normal.{flags_for}
-use Rattle.acl_normal.proofs.PlainForm.Candidates.{candidate_within}
+use Rattle.acl_normal.proofs.plain.Candidates.{candidate_within}
 use Rattle.acl_normal.proofs.plain.emission.candidate.Goals as goal
 
 pub returns-clause-within : goal.returns-clause-within

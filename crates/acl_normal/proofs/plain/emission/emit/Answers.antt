@@ -1,9 +1,9 @@
 use Rattle.std.proofs.Common.{sym, subst}
 use Rattle.acl_perm.specs.Profile.{full}
 use Rattle.acl_nfs4.specs.Ace.{ace}
-use Rattle.acl_normal.specs.internal.Passes.{AreNowhereFree, IsLeast, list_of}
-use Rattle.acl_normal.proofs.PlainForm.Candidates.{none_free}
-use Rattle.acl_normal.proofs.PlainForm.InTurn.{Emitting, Taken, coming_accepted, emitting_all, emitting_more, emitting_none, fewer_left}
+use Rattle.acl_normal.specs.internal.Passes.{AreNowhereFree, IsLeastCandidate, list_of}
+use Rattle.acl_normal.proofs.plain.Candidates.{nothing_free}
+use Rattle.acl_normal.proofs.plain.InTurn.{Emitting, Taken, coming_accepted, emitting_all, emitting_more, emitting_none, fewer_left}
 use Rattle.acl_normal.proofs.plain.emission.emit.Goals as goal
 
 pub loop-first-init : goal.loop-first-init
@@ -15,7 +15,8 @@ pub push_accepted-requires : goal.push_accepted-requires
 push_accepted-requires c =
     let left = list_of c.loop-first.left.items in
     let a = ace c.in-Some.first in
-    coming_accepted left a (subst (λ v. IsLeast (list_of v) (list_of v) a) c.deref.ensures.value c.in-Some.ensures)
+    coming_accepted left a
+    (subst (λ v. IsLeastCandidate (list_of v) (list_of v) a) c.deref.ensures.value c.in-Some.ensures)
     (list_of c.args.aces.items) c.loop-first.list c.requires.each c.requires.small c.loop-first.invariant
 
 pub loop-first-smaller : goal.loop-first-smaller
@@ -24,7 +25,7 @@ loop-first-smaller c =
     let a = ace c.in-Some.first in
     let rest = list_of c.in_ok-left.left.items in
     fewer_left left rest a
-    (subst (λ v. IsLeast (list_of v) (list_of v) a) c.deref.ensures.value c.in-Some.ensures)
+    (subst (λ v. IsLeastCandidate (list_of v) (list_of v) a) c.deref.ensures.value c.in-Some.ensures)
     (subst (λ v. Taken (list_of v) a rest) c.deref-in-Some.ensures.value (record {
       taken = c.in_ok-left.ensures.taken;
       untouched = c.in_ok-left.ensures.kept;
@@ -40,7 +41,7 @@ loop-first-preserved c =
     let rest = list_of c.in_ok-left.left.items in
     subst (λ v. Emitting whole v rest) (sym c.in_ok-push_accepted.ensures.ok)
     (emitting_more left rest a
-    (subst (λ v. IsLeast (list_of v) (list_of v) a) c.deref.ensures.value c.in-Some.ensures)
+    (subst (λ v. IsLeastCandidate (list_of v) (list_of v) a) c.deref.ensures.value c.in-Some.ensures)
     (subst (λ v. Taken (list_of v) a rest) c.deref-in-Some.ensures.value (record {
       taken = c.in_ok-left.ensures.taken;
       untouched = c.in_ok-left.ensures.kept;
@@ -51,6 +52,6 @@ loop-first-preserved c =
 pub returns-clause-emission : goal.returns-clause-emission
 returns-clause-emission c =
     emitting_all (list_of c.args.aces.items) c.loop-first.list (list_of c.loop-first.left.items)
-    (none_free (list_of c.loop-first.left.items)
+    (nothing_free (list_of c.loop-first.left.items)
     (subst (λ v. AreNowhereFree (list_of v) (list_of v)) c.deref.ensures.value c.in_default.ensures))
     c.loop-first.invariant

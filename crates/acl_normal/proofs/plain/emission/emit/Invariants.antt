@@ -1,6 +1,6 @@
-use Rattle.acl_normal.specs.internal.Counts.{count_left}
+use Rattle.acl_normal.specs.internal.Emissions.{count_left}
 use Rattle.acl_normal.specs.internal.Passes.{list_of}
-use Rattle.acl_normal.proofs.PlainForm.InTurn.{Emitting}
+use Rattle.acl_normal.proofs.plain.InTurn.{Emitting}
 use Rattle.acl_normal.proofs.plain.emission.emit.Given as goal
 
 -- the list so far has come, and the rest is left

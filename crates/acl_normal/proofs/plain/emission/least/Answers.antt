@@ -2,8 +2,8 @@ use Rattle.std.proofs.Common.{sym, subst, arith}
 use Rattle.std.specs.Prelude.{option_map, take}
 use Rattle.acl_nfs4.specs.Ace.{ace}
 use Rattle.acl_normal.specs.internal.Passes.{Best, list_of}
-use Rattle.acl_normal.proofs.Unique.Kept.{ace_at}
-use Rattle.acl_normal.proofs.PlainForm.Passes.{list_of-more}
+use Rattle.acl_normal.proofs.plain.Kept.{within_at}
+use Rattle.acl_normal.proofs.plain.Passes.{list_of-more}
 use Rattle.acl_normal.proofs.plain.emission.least.Goals as goal
 
 pub loop-item-preserved : goal.loop-item-preserved
@@ -13,4 +13,4 @@ loop-item-preserved c =
     subst (λ v. Best (list_of left) v (option_map ace c.better-best.result))
     (sym (list_of-more left c.item-item.result i (omega arith) c.item-item.is))
     (c.better-best.ensures (list_of (take i left)) c.loop-item.invariant
-    (ace_at left c.item-item.result i (omega arith) c.item-item.is))
+    (within_at left c.item-item.result i (omega arith) c.item-item.is))

@@ -3,8 +3,8 @@ use Rattle.acl_nfs4.specs.Ace.{ace}
 use Rattle.acl_nfs4.specs.Who.{principal_of}
 use Rattle.acl_eval.specs.Column.{column}
 use Rattle.acl_normal.specs.internal.Passes.{KeepsProfiles, list_of}
-use Rattle.acl_normal.proofs.PlainForm.Emptied.{emptied_more}
-use Rattle.acl_normal.proofs.Unique.Kept.{ace_at, difference_fewer, fewer_bits, keeps_more}
+use Rattle.acl_normal.proofs.plain.Emptied.{emptied_more}
+use Rattle.acl_normal.proofs.plain.Kept.{within_at, difference_fewer, fewer_bits, keeps_more}
 use Rattle.acl_normal.proofs.plain.emission.without.Goals as goal
 
 pub loop-item-preserved : goal.loop-item-preserved
@@ -17,5 +17,5 @@ loop-item-preserved c = record {
       (keeps_more (list_of c.args.left.now) c.loop-item.rest.items _ c.loop-item.invariant.profiles
       (λ p h. fewer_bits p (ace c.item-item.result) _ refl refl
       (difference_fewer _ _ _ c.difference-mask.ensures.meaning)
-      (ace_at c.args.left.now c.item-item.result c.loop-item.item-index (omega arith) c.item-item.is p h)));
+      (within_at c.args.left.now c.item-item.result c.loop-item.item-index (omega arith) c.item-item.is p h)));
 }

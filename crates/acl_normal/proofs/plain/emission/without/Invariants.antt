@@ -4,7 +4,7 @@ use Rattle.acl_nfs4.specs.Ace.{ace}
 use Rattle.acl_nfs4.specs.Who.{principal_of}
 use Rattle.acl_eval.specs.Column.{column}
 use Rattle.acl_normal.specs.internal.Passes.{KeepsProfiles, list_of}
-use Rattle.acl_normal.proofs.PlainForm.Emptied.{emptied}
+use Rattle.acl_normal.proofs.plain.Emptied.{emptied}
 use Rattle.acl_normal.proofs.plain.emission.without.Given as goal
 
 -- of the ACEs so far, what isn't taken is left

@@ -6,7 +6,7 @@ use Rattle.acl_eval.specs.Column.{column}
 use Rattle.acl_normal.specs.Keys.{kind_eq}
 use Rattle.acl_normal.specs.internal.Passes.{is_shadowed, list_of}
 use Rattle.acl_normal.specs.internal.Plain.{default}
-use Rattle.acl_normal.proofs.PlainForm.Passes.{Marks}
+use Rattle.acl_normal.proofs.plain.Passes.{Marks}
 use Rattle.acl_normal.proofs.plain.reduction.allowed_to_everyone.Given as goal
 
 -- the bits that the ACEs so far decide for everyone, and those that they allow

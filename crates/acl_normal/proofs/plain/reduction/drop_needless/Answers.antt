@@ -6,9 +6,9 @@ use Rattle.acl_nfs4.specs.Who.{principal_of}
 use Rattle.acl_eval.specs.Column.{column}
 use Rattle.acl_normal.specs.internal.Passes.{KeepsProfiles, default_in, list_of}
 use Rattle.acl_normal.specs.internal.Plain.{default, is_needed, needed_keys}
-use Rattle.acl_normal.proofs.PlainForm.Passes.{Marks}
-use Rattle.acl_normal.proofs.Unique.Kept.{ace_at, front_true, fewer_bits, keeps_more}
-use Rattle.acl_normal.proofs.PlainForm.NeededBits.{needed_more}
+use Rattle.acl_normal.proofs.plain.Passes.{Marks}
+use Rattle.acl_normal.proofs.plain.Kept.{within_at, front_true, fewer_bits, keeps_more}
+use Rattle.acl_normal.proofs.plain.NeededBits.{needed_more}
 use Rattle.acl_normal.proofs.plain.reduction.drop_needless.Goals as goal
 
 pub loop-place-preserved : goal.loop-place-preserved
@@ -32,5 +32,5 @@ loop-place-preserved c =
       profiles = subst (λ v. KeepsProfiles (list_of c.args.aces.now) (list_of v)) (sym c.in_ok-push.ensures.items)
           (keeps_more (list_of c.args.aces.now) c.loop-place.kept.items _ c.loop-place.invariant.profiles
           (λ p h. fewer_bits p (ace y) _ refl refl (λ k has. front_true _ _ (sym (mask k) ∙ has))
-          (ace_at c.args.aces.now y c.loop-place.place (omega arith) c.index-aces-place.is p h)));
+          (within_at c.args.aces.now y c.loop-place.place (omega arith) c.index-aces-place.is p h)));
     }

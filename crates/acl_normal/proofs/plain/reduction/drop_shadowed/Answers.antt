@@ -4,9 +4,9 @@ use Rattle.acl_nfs4.specs.Ace.{ace}
 use Rattle.acl_nfs4.specs.Who.{principal_of}
 use Rattle.acl_eval.specs.Column.{column}
 use Rattle.acl_normal.specs.internal.Passes.{KeepsProfiles, is_shadowed, list_of}
-use Rattle.acl_normal.proofs.PlainForm.Passes.{Marks}
-use Rattle.acl_normal.proofs.Unique.Kept.{ace_at, difference_fewer, fewer_bits, keeps_more}
-use Rattle.acl_normal.proofs.PlainForm.Reached.{reached_more}
+use Rattle.acl_normal.proofs.plain.Passes.{Marks}
+use Rattle.acl_normal.proofs.plain.Kept.{within_at, difference_fewer, fewer_bits, keeps_more}
+use Rattle.acl_normal.proofs.plain.Reached.{reached_more}
 use Rattle.acl_normal.proofs.plain.reduction.drop_shadowed.Goals as goal
 
 pub loop-place-preserved : goal.loop-place-preserved
@@ -25,6 +25,6 @@ loop-place-preserved c =
           (keeps_more (list_of c.args.aces.now) c.loop-place.kept.items _ c.loop-place.invariant.profiles
           (λ p h. fewer_bits p (ace c.index-aces-place.result) _ refl refl
           (difference_fewer _ _ _ c.difference-mask.ensures.meaning)
-          (ace_at c.args.aces.now c.index-aces-place.result c.loop-place.place (omega arith)
+          (within_at c.args.aces.now c.index-aces-place.result c.loop-place.place (omega arith)
           c.index-aces-place.is p h)));
     }

@@ -5,7 +5,7 @@ use Rattle.acl_eval.specs.Column.{column}
 use Rattle.acl_normal.specs.internal.Passes.{list_of}
 use Rattle.acl_normal.specs.internal.Plain.{has_opposite}
 use Rattle.acl_perm.specs.Bits.{IsMask}
-use Rattle.acl_normal.proofs.PlainForm.Passes.{Marks}
+use Rattle.acl_normal.proofs.plain.Passes.{Marks}
 use Rattle.acl_normal.proofs.plain.reduction.opposite.Given as goal
 
 -- the bits so far are those of the ACEs so far

@@ -1,7 +1,7 @@
 use Rattle.std.proofs.Common.{arith}
 use Rattle.acl_perm.specs.Principal.{principal}
 use Rattle.acl_normal.specs.internal.Passes.{is_shadowed}
-use Rattle.acl_normal.proofs.PlainForm.Passes.{union_more, shadows_gathered}
+use Rattle.acl_normal.proofs.plain.Passes.{union_more, shadows_gathered}
 use Rattle.acl_normal.proofs.plain.reduction.shadow.Goals as goal
 
 pub loop-item-preserved : goal.loop-item-preserved

@@ -2,7 +2,7 @@ use Rattle.std.specs.Prelude.{take}
 use Rattle.acl_perm.specs.Principal.{principal}
 use Rattle.acl_normal.specs.internal.Passes.{list_of, is_shadowed}
 use Rattle.acl_perm.specs.Bits.{IsMask}
-use Rattle.acl_normal.proofs.PlainForm.Passes.{Marks}
+use Rattle.acl_normal.proofs.plain.Passes.{Marks}
 use Rattle.acl_normal.proofs.plain.reduction.shadow.Given as goal
 
 -- the bits so far are those of the ACEs so far

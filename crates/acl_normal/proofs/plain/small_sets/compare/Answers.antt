@@ -1,6 +1,6 @@
 use Rattle.std.proofs.Common.{ap, ◌∙◌}
 use Rattle.acl_normal.proofs.plain.small_sets.compare.Goals as goal
-use Rattle.acl_normal.proofs.Searching.FirstSet.{comparison_of, names_of}
+use Rattle.acl_normal.proofs.comparison.FirstSet.{comparison_of, names_of}
 use Rattle.acl_normal.specs.internal.Passes.{list_of}
 
 pub answer-requires-clause-names : goal.answer-requires-clause-names

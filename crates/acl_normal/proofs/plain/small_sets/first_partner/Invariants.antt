@@ -1,6 +1,6 @@
 use Rattle.std.specs.Prelude.{drop}
 use Rattle.acl_normal.proofs.plain.small_sets.first_partner.Given as goal
-use Rattle.acl_normal.proofs.Searching.SetSearchLemmas.{GoesOn}
+use Rattle.acl_normal.proofs.comparison.SetSearchLemmas.{GoesOn}
 use Rattle.acl_normal.specs.internal.Passes.{list_of}
 use Rattle.acl_normal.specs.internal.SetSearch.{principals}
 use Rattle.acl_normal.specs.SmallSets.{partners}

@@ -1,5 +1,5 @@
 use Rattle.acl_normal.proofs.plain.small_sets.first_set.Goals as goal
-use Rattle.acl_normal.proofs.Searching.SetSearchLemmas.{pair_decides, single_differs}
+use Rattle.acl_normal.proofs.comparison.SetSearchLemmas.{pair_decides, single_differs}
 
 pub returns-in-Some : goal.returns-in-Some
 returns-in-Some c = single_differs _ _ _ _ c.if-not-grant_alike.ensures.alike c.in-Some.ensures

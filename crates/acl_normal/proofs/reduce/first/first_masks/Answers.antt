@@ -2,8 +2,8 @@ use Rattle.std.specs.Prelude.{◌≡◌, ◌+◌, ◌<◌, ◌||◌, [], ◌∷�
 use Rattle.std.proofs.Common.{◌∙◌, sym, ap, subst, arith}
 use Rattle.acl_perm.specs.Bits.{IsDifference, has_bit}
 use Rattle.acl_normal.specs.internal.Shown.{bits_in}
-use Rattle.acl_normal.proofs.Reduction.FirstMasks.{Reaches, reaches_all, reaches_more, reaches_none, reaches_thinned, row_seen}
-use Rattle.acl_normal.proofs.Unique.Bits.{bits_all, bits_at, bits_length, bits_push, bits_set}
+use Rattle.acl_normal.proofs.reduce.FirstMasks.{Reaches, reaches_all, reaches_more, reaches_none, reaches_thinned, row_seen}
+use Rattle.acl_normal.proofs.unique.Bits.{bits_all, bits_at, bits_length, bits_push, bits_set}
 use Rattle.acl_normal.proofs.reduce.first.first_masks.Goals as goal
 
 pub loop-place-init : goal.loop-place-init

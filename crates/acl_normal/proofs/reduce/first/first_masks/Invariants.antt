@@ -1,6 +1,6 @@
 use Rattle.acl_perm.specs.Bits.{IsMask}
 use Rattle.acl_normal.specs.internal.Shown.{bits_in}
-use Rattle.acl_normal.proofs.Reduction.FirstMasks.{Reaches}
+use Rattle.acl_normal.proofs.reduce.FirstMasks.{Reaches}
 use Rattle.acl_normal.proofs.reduce.first.first_masks.Given as goal
 
 abbrev pub invariant-loop-place : goal.invariant-loop-place

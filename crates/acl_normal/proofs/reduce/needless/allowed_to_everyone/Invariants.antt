@@ -1,6 +1,6 @@
 use Rattle.acl_perm.specs.Bits.{IsMask}
 use Rattle.acl_normal.specs.internal.Shown.{bits_in, with_masks}
-use Rattle.acl_normal.proofs.Reduction.LaterBits.{AllowsTo}
+use Rattle.acl_normal.proofs.reduce.LaterBits.{AllowsTo}
 use Rattle.acl_normal.proofs.reduce.needless.allowed_to_everyone.Given as goal
 
 abbrev pub invariant-loop-place : goal.invariant-loop-place

@@ -6,17 +6,18 @@ use Rattle.acl_nfs4.specs.Ace.{ace}
 use Rattle.acl_nfs4.specs.Who.{principal_of}
 use Rattle.acl_eval.specs.Scan.{without}
 use Rattle.acl_normal.specs.Keys.{ace_key}
-use Rattle.acl_normal.specs.Keys.{plain_key}
-use Rattle.acl_normal.specs.Left.{IsTidy, KeepsFirsts}
+use Rattle.acl_normal.specs.internal.Shown.{bits_in, plain_key, with_masks}
+use Rattle.acl_normal.specs.internal.Tidy.{IsTidy}
+use Rattle.acl_normal.specs.Left.{KeepsFirsts}
 use Rattle.acl_normal.specs.internal.Needed.{default_at, is_kept, opposes}
 use Rattle.acl_normal.specs.Places.{take_out}
-use Rattle.acl_normal.specs.internal.Shown.{bits_in, with_masks}
-use Rattle.acl_normal.proofs.Merging.Quiet.{tidy_taken}
-use Rattle.acl_normal.proofs.Reduction.FirstMasks.{masked}
-use Rattle.acl_normal.proofs.Reduction.FirstRows.{key_at_index}
-use Rattle.acl_normal.proofs.Reduction.LaterBits.{length_masks, mask_there, masked_at}
-use Rattle.acl_normal.proofs.Reduction.Unneeded.{cleared_there, taken_firsts, firsts_through, drops_start, drops_on, drops_outline, drops_end}
-use Rattle.acl_normal.proofs.Unique.Bits.{bits_at, bits_length, bits_set, difference_is}
+use Rattle.acl_normal.proofs.rows.Quiet.{tidy_taken}
+use Rattle.acl_normal.proofs.reduce.FirstMasks.{masked}
+use Rattle.acl_normal.proofs.reduce.FirstRows.{key_at_index}
+use Rattle.acl_normal.proofs.reduce.LaterBits.{mask_there, masked_at}
+use Rattle.acl_normal.proofs.reduce.Unneeded.{cleared_there, drops_end, drops_on, drops_outline, drops_start, firsts_through, taken_firsts}
+use Rattle.acl_normal.proofs.unique.Bits.{bits_at, bits_length, bits_set, difference_is}
+use Rattle.acl_normal.proofs.unique.Outline.{length_shown}
 use Rattle.acl_normal.proofs.reduce.needless.drop_needless.Goals as goal
 
 pub loop-done-init : goal.loop-done-init
@@ -40,12 +41,12 @@ loop-done-preserved c =
     let places : length c.loop-done.masks ≡ length c.args.aces.now = c.loop-done.auto.masks ∙ c.requires.places in
     let count : length masks ≡ length c.args.aces.now = bits_length c.loop-done.masks ∙ places in
     let here : place < length c.args.aces.now = omega (arith, c.loop-done-test.true) in
-    let within : place < length shown = omega (arith, here, length_masks c.args.aces.now masks count) in
+    let within : place < length shown = omega (arith, here, length_shown c.args.aces.now masks count) in
     let last : place + suc c.loop-done.done ≡ length whole =
     omega (
       arith,
       c.loop-done-test.true,
-      length_masks c.args.aces.now (bits_in c.args.masks.now) (bits_length c.args.masks.now ∙ c.requires.places),
+      length_shown c.args.aces.now (bits_in c.args.masks.now) (bits_length c.args.masks.now ∙ c.requires.places),
     ) in
     let item = masked (ace c.index-aces-place.result) mask in
     let is : slice_index_or shown place item ≡ item =
@@ -98,6 +99,6 @@ returns c = record {
       (omega (
         arith,
         c.loop-done-test.false,
-        length_masks c.args.aces.now (bits_in c.args.masks.now) (bits_length c.args.masks.now ∙ c.requires.places),
+        length_shown c.args.aces.now (bits_in c.args.masks.now) (bits_length c.args.masks.now ∙ c.requires.places),
       ));
 }

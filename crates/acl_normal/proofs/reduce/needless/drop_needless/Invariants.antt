@@ -1,5 +1,5 @@
 use Rattle.acl_normal.specs.internal.Shown.{bits_in, with_masks}
-use Rattle.acl_normal.proofs.Reduction.Unneeded.{Dropping}
+use Rattle.acl_normal.proofs.reduce.Unneeded.{Dropping}
 use Rattle.acl_normal.proofs.reduce.needless.drop_needless.Given as goal
 
 abbrev pub invariant-loop-done : goal.invariant-loop-done

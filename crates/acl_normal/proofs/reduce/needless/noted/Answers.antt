@@ -1,6 +1,6 @@
 use Rattle.std.specs.Prelude.{refl}
 use Rattle.acl_perm.specs.declared.kind.Kind.TheVariants.{Deny, Allow}
-use Rattle.acl_normal.proofs.Reduction.LaterBits.{noted_other}
+use Rattle.acl_normal.proofs.reduce.LaterBits.{noted_other}
 use Rattle.acl_normal.proofs.reduce.needless.noted.Goals as goal
 
 pub returns-in-Deny : goal.returns-in-Deny

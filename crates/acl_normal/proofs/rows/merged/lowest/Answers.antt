@@ -1,4 +1,4 @@
-use Rattle.acl_normal.proofs.Merging.Publics.{lowest_is, no_lowest}
+use Rattle.acl_normal.proofs.rows.Publics.{lowest_is, no_lowest}
 use Rattle.acl_normal.proofs.rows.merged.lowest.Goals as goal
 
 pub returns-clause-some : goal.returns-clause-some

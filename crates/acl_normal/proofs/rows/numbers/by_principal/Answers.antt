@@ -4,7 +4,7 @@ use Rattle.std.proofs.lemmas.Fn.{always_returns_same}
 use Rattle.std.proofs.lemmas.List.Sorted.{ranks_by}
 use Rattle.acl_perm.specs.Order.{principal_cmp, principal_total}
 use Rattle.acl_perm.specs.Principal.{principal}
-use Rattle.acl_normal.proofs.Merging.RowNumbers.{sorted_names}
+use Rattle.acl_normal.proofs.rows.RowNumbers.{sorted_names}
 use Rattle.acl_normal.proofs.rows.numbers.by_principal.Goals as goal
 use Rattle.acl_normal.specs.internal.Shown.{aces_in}
 

@@ -1,5 +1,5 @@
 use Rattle.std.proofs.Common.{ap, sym, ◌∙◌}
-use Rattle.acl_normal.proofs.Merging.RowNumbers.{named_after, named_in}
+use Rattle.acl_normal.proofs.rows.RowNumbers.{named_after, named_in}
 use Rattle.acl_normal.proofs.rows.numbers.compared.Goals as goal
 use Rattle.acl_perm.specs.Order.{principal_cmp}
 use Rattle.acl_perm.specs.Principal.{principal}

@@ -1,8 +1,8 @@
 use Rattle.std.proofs.Common.{◌≡◌, rules}
 use Rattle.std.proofs.lemmas.Fn.{always_returns_same}
-use Rattle.acl_normal.proofs.Merging.RowNumbers.{found_row, missing_row}
+use Rattle.acl_normal.proofs.rows.RowNumbers.{found_row, missing_row}
 use Rattle.acl_normal.proofs.rows.numbers.find_row.Goals as goal
-use Rattle.acl_normal.specs.Places.{key_here}
+use Rattle.acl_normal.specs.internal.AtPlaces.{key_here}
 use Rattle.acl_normal.specs.internal.Shown.{aces_in}
 use Rattle.acl_perm.specs.Order.{principal_cmp}
 use Rattle.acl_perm.specs.Principal.{principal}

@@ -1,6 +1,6 @@
 use Rattle.std.proofs.Common.{ap, ◌∙◌, refl}
 use Rattle.acl_perm.specs.Principal.{principal}
-use Rattle.acl_normal.proofs.Merging.RowNumbers.{named_more}
+use Rattle.acl_normal.proofs.rows.RowNumbers.{named_more}
 use Rattle.acl_normal.proofs.rows.numbers.named_places.Goals as goal
 
 pub loop-place-preserved : goal.loop-place-preserved

@@ -1,5 +1,5 @@
 use Rattle.std.proofs.Common.{◌∙◌, ap, map, subst, sym}
-use Rattle.acl_normal.proofs.Merging.RowNumbers.{places_by_principal}
+use Rattle.acl_normal.proofs.rows.RowNumbers.{places_by_principal}
 use Rattle.acl_normal.proofs.rows.numbers.row_numbers.Goals as goal
 use Rattle.acl_normal.specs.internal.Rows.{IsByPrincipal}
 use Rattle.acl_normal.specs.internal.Shown.{aces_in}

@@ -1,7 +1,7 @@
 use Rattle.std.proofs.Common.{arith, map}
 use Rattle.std.proofs.lemmas.List.{length-map}
 use Rattle.acl_nfs4.specs.Ace.{ace}
-use Rattle.acl_normal.proofs.Merging.RowNumbers.{numbered_all, numbered_like, numbered_none, numbered_unlike, place_within}
+use Rattle.acl_normal.proofs.rows.RowNumbers.{numbered_all, numbered_like, numbered_none, numbered_unlike, place_within}
 use Rattle.acl_normal.proofs.rows.numbers.rows_of.Goals as goal
 use Rattle.acl_normal.proofs.rows.numbers.rows_of.Goals.{then-not-is_same, else-not-is_same}
 use Rattle.acl_normal.specs.internal.RowNumbers.{named_of}

@@ -1,5 +1,5 @@
 use Rattle.std.specs.Prelude.{map}
-use Rattle.acl_normal.proofs.Merging.RowNumbers.{AreNumberedTo}
+use Rattle.acl_normal.proofs.rows.RowNumbers.{AreNumberedTo}
 use Rattle.acl_normal.proofs.rows.numbers.rows_of.Given as goal
 use Rattle.acl_normal.specs.internal.RowNumbers.{named_of}
 use Rattle.acl_normal.specs.internal.Shown.{aces_in}

@@ -1,5 +1,5 @@
 use Rattle.std.proofs.Common.{refl, subst, sym, arith}
-use Rattle.acl_normal.proofs.Merging.WaitingPlaces.{AreNoPlaces, no_places_more, no_places_hold}
+use Rattle.acl_normal.proofs.rows.WaitingPlaces.{AreNoPlaces, no_places_more, no_places_hold}
 use Rattle.acl_normal.proofs.rows.waiting.no_places.Goals as goal
 
 pub loop-made-init : goal.loop-made-init

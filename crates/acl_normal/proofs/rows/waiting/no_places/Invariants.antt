@@ -1,4 +1,4 @@
-use Rattle.acl_normal.proofs.Merging.WaitingPlaces.{AreNoPlaces}
+use Rattle.acl_normal.proofs.rows.WaitingPlaces.{AreNoPlaces}
 use Rattle.acl_normal.proofs.rows.waiting.no_places.Given as goal
 
 abbrev pub invariant-loop-made : goal.invariant-loop-made

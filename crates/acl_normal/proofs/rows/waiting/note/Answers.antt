@@ -1,8 +1,9 @@
 use Rattle.std.proofs.Common.{◌<◌, ◌∷◌, ◌++◌, [], length, ◌∙◌, ap, arith}
 use Rattle.acl_normal.specs.internal.Classes.{is_users}
-use Rattle.acl_normal.proofs.Merging.BitTaken.{slot_below}
-use Rattle.acl_normal.proofs.Merging.WaitingPlaces.{NotesBelow, notes_start, notes_skip, notes_on, notes_all, places_there}
-use Rattle.acl_normal.proofs.Unique.Bits.{past_absent}
+use Rattle.acl_normal.proofs.rows.BitTaken.{slot_below}
+use Rattle.acl_normal.proofs.rows.WaitingPlaces.{NotesBelow, notes_all, notes_on, notes_skip, notes_start}
+use Rattle.acl_normal.proofs.emit.InRemaining.{places_there}
+use Rattle.acl_normal.proofs.unique.Bits.{past_absent}
 use Rattle.acl_normal.proofs.rows.waiting.note.Goals as goal
 
 pub loop-right-init : goal.loop-right-init

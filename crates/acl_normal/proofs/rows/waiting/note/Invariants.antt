@@ -1,6 +1,6 @@
 use Rattle.std.specs.Prelude.{◌-◌, ◌≤◌}
 use Rattle.acl_normal.specs.internal.Classes.{is_users}
-use Rattle.acl_normal.proofs.Merging.WaitingPlaces.{NotesBelow}
+use Rattle.acl_normal.proofs.rows.WaitingPlaces.{NotesBelow}
 use Rattle.acl_normal.proofs.rows.waiting.note.Given as goal
 
 abbrev pub invariant-loop-right : goal.invariant-loop-right

@@ -4,9 +4,9 @@ use Rattle.acl_perm.specs.Principal.{is_user}
 use Rattle.acl_normal.specs.internal.Classes.{is_users}
 use Rattle.acl_normal.specs.internal.Shown.{bits_in, with_masks}
 use Rattle.acl_normal.specs.internal.Waiting.{HoldWaiting}
-use Rattle.acl_normal.proofs.Merging.WaitingPlaces.{holds_more}
-use Rattle.acl_normal.proofs.Unique.Bits.{bits_at, bits_length}
-use Rattle.acl_normal.proofs.Unique.Outline.{length_shown}
+use Rattle.acl_normal.proofs.rows.WaitingPlaces.{holds_more}
+use Rattle.acl_normal.proofs.unique.Bits.{bits_at, bits_length}
+use Rattle.acl_normal.proofs.unique.Outline.{length_shown}
 use Rattle.acl_normal.proofs.rows.waiting.waiting_places.Goals as goal
 
 pub loop-place-init : goal.loop-place-init

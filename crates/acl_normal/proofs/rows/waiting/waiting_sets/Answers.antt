@@ -1,5 +1,5 @@
 use Rattle.std.proofs.Common.{[], ◌∷◌, ◌++◌, refl, length, sym, ◌∙◌, ap, subst, arith, append_assoc}
-use Rattle.acl_normal.proofs.Merging.WaitingPlaces.{AreSetsOf, sets_more, sets_wait, all_yielded}
+use Rattle.acl_normal.proofs.rows.WaitingPlaces.{AreSetsOf, sets_more, sets_wait, all_yielded}
 use Rattle.acl_normal.proofs.rows.waiting.waiting_sets.Goals as goal
 
 pub loop-places-init : goal.loop-places-init

@@ -1,5 +1,5 @@
 use Rattle.std.proofs.Common.{◌≡◌, ◌++◌}
-use Rattle.acl_normal.proofs.Merging.WaitingPlaces.{AreSetsOf}
+use Rattle.acl_normal.proofs.rows.WaitingPlaces.{AreSetsOf}
 use Rattle.acl_normal.proofs.rows.waiting.waiting_sets.Given as goal
 
 abbrev pub invariant-loop-places : goal.invariant-loop-places

@@ -1,9 +1,10 @@
 use Rattle.std.proofs.Common.{arith, sym, subst, ◌∙◌, length, ◌+◌}
 use Rattle.acl_normal.proofs.comparison.rows.Compared.least_member.Goals as goal
 use Rattle.acl_normal.proofs.comparison.rows.Compared.least_member.Goals.{then-has+in_ok-rows+in_ok-least, else-has}
-use Rattle.acl_normal.proofs.Searching.RowFacts.{Least, least_done, least_skip, member_step, rows_limit, unused_agree}
-use Rattle.acl_normal.proofs.Searching.TableFacts.{slice_within}
-use Rattle.acl_normal.specs.internal.FirstPlaces.{AlikeWithAll, AreRows}
+use Rattle.acl_normal.proofs.comparison.RowFacts.{Least, least_done, least_skip, member_step, rows_limit, unused_agree}
+use Rattle.acl_normal.proofs.comparison.TableFacts.{slice_within}
+use Rattle.acl_normal.specs.internal.Agreement.{AlikeWithAll}
+use Rattle.acl_normal.specs.internal.ComparedRows.{AreComparedRows}
 use Rattle.acl_normal.specs.internal.Passes.{list_of}
 use Rattle.acl_normal.specs.internal.SetSearch.{principals}
 use Rattle.acl_perm.proofs.Sets.{bits_from_mask}
@@ -25,7 +26,7 @@ loop-bit-preserved c = elim c.if-has.branch [
       (principals c.args.self.now.whole.now)) (length (principals c.args.self.now.whole.now)) (c.loop-bit.bit + 1) v)
       (sym w.least-is)
       (member_step _ _ _ _ _ _ _ (subst
-      (λ v. AreRows (principals c.args.self.now.whole.now) (list_of c.args.self.now.list.now)
+      (λ v. AreComparedRows (principals c.args.self.now.whole.now) (list_of c.args.self.now.list.now)
       (list_of c.args.self.now.other.now) c.loop-bit.bit v) (sym w.deref.ensures.value) w.in_ok-rows.ensures)
       c.requires.alone (bits_from_mask _ _ c.args.self.now.rights.within
       (sym c.has.ensures ∙ w.if-has.true)) w.in_ok-least.ensures.within w.in_ok-least.ensures.before

@@ -1,7 +1,7 @@
 use Rattle.std.specs.Prelude.{length}
 use Rattle.acl_normal.proofs.comparison.rows.Compared.least_member.Given as goal
-use Rattle.acl_normal.proofs.Searching.RowFacts.{Least}
-use Rattle.acl_normal.specs.internal.FirstPlaces.{AlikeWithAll}
+use Rattle.acl_normal.proofs.comparison.RowFacts.{Least}
+use Rattle.acl_normal.specs.internal.Agreement.{AlikeWithAll}
 use Rattle.acl_normal.specs.internal.Passes.{list_of}
 use Rattle.acl_normal.specs.internal.SetSearch.{principals}
 

@@ -2,8 +2,8 @@ use Rattle.std.proofs.Common.{arith, sym, ap, subst, ◌∙◌, length, ◌+◌,
 use Rattle.std.proofs.lemmas.List.{length-map}
 use Rattle.acl_normal.proofs.comparison.rows.Compared.least_partner.Goals as goal
 use Rattle.acl_normal.proofs.comparison.rows.Compared.least_partner.Goals.{then-has+in_ok-rows, else-has}
-use Rattle.acl_normal.proofs.Searching.RowFacts.{Least, least_done, least_skip, others_length, partner_loop, rows_length, unused_with}
-use Rattle.acl_normal.specs.internal.FirstPlaces.{AlikeWith}
+use Rattle.acl_normal.proofs.comparison.RowFacts.{Least, least_done, least_skip, others_length, partner_loop, rows_length, unused_with}
+use Rattle.acl_normal.specs.internal.Agreement.{AlikeWith}
 use Rattle.acl_normal.specs.internal.Passes.{list_of}
 use Rattle.acl_normal.specs.internal.SetSearch.{principals}
 use Rattle.acl_perm.proofs.Sets.{bits_from_mask}

@@ -1,7 +1,7 @@
 use Rattle.std.specs.Prelude.{length, drop, slice_index_or, ◌+◌}
 use Rattle.acl_normal.proofs.comparison.rows.Compared.least_partner.Given as goal
-use Rattle.acl_normal.proofs.Searching.RowFacts.{Least}
-use Rattle.acl_normal.specs.internal.FirstPlaces.{AlikeWith}
+use Rattle.acl_normal.proofs.comparison.RowFacts.{Least}
+use Rattle.acl_normal.specs.internal.Agreement.{AlikeWith}
 use Rattle.acl_normal.specs.internal.Passes.{list_of}
 use Rattle.acl_normal.specs.internal.SetSearch.{principals}
 use Rattle.acl_perm.specs.Principal.{everyone}

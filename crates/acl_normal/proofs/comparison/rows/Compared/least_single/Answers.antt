@@ -1,8 +1,9 @@
 use Rattle.std.proofs.Common.{sym, subst, ◌∙◌, length, ◌+◌}
 use Rattle.acl_normal.proofs.comparison.rows.Compared.least_single.Goals as goal
 use Rattle.acl_normal.proofs.comparison.rows.Compared.least_single.Goals.{then-has+in_ok-rows, else-has}
-use Rattle.acl_normal.proofs.Searching.RowFacts.{Least, least_done, least_skip, rows_limit, single_step, unused_alone}
-use Rattle.acl_normal.specs.internal.FirstPlaces.{AlikeAlone, AreRows}
+use Rattle.acl_normal.proofs.comparison.RowFacts.{Least, least_done, least_skip, rows_limit, single_step, unused_alone}
+use Rattle.acl_normal.specs.internal.Agreement.{AlikeAlone}
+use Rattle.acl_normal.specs.internal.ComparedRows.{AreComparedRows}
 use Rattle.acl_normal.specs.internal.Passes.{list_of}
 use Rattle.acl_normal.specs.internal.SetSearch.{principals}
 use Rattle.acl_perm.proofs.Sets.{bits_from_mask}
@@ -19,7 +20,7 @@ loop-bit-preserved c = elim c.if-has.branch [
       (principals c.args.self.now.whole.now)) (length (principals c.args.self.now.whole.now)) (c.loop-bit.bit + 1) v)
       (sym w.least-is)
       (single_step _ _ _ _ _ _ _ (subst
-      (λ v. AreRows (principals c.args.self.now.whole.now) (list_of c.args.self.now.list.now)
+      (λ v. AreComparedRows (principals c.args.self.now.whole.now) (list_of c.args.self.now.list.now)
       (list_of c.args.self.now.other.now) c.loop-bit.bit v) (sym w.deref.ensures.value) w.in_ok-rows.ensures)
       (bits_from_mask _ _ c.args.self.now.rights.within (sym c.has.ensures ∙ w.if-has.true))
       w.first_unlike-least.ensures.within w.first_unlike-least.ensures.before w.first_unlike-least.ensures.at

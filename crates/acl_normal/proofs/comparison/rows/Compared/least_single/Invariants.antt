@@ -1,7 +1,7 @@
 use Rattle.std.specs.Prelude.{length}
 use Rattle.acl_normal.proofs.comparison.rows.Compared.least_single.Given as goal
-use Rattle.acl_normal.proofs.Searching.RowFacts.{Least}
-use Rattle.acl_normal.specs.internal.FirstPlaces.{AlikeAlone}
+use Rattle.acl_normal.proofs.comparison.RowFacts.{Least}
+use Rattle.acl_normal.specs.internal.Agreement.{AlikeAlone}
 use Rattle.acl_normal.specs.internal.Passes.{list_of}
 use Rattle.acl_normal.specs.internal.SetSearch.{principals}
 

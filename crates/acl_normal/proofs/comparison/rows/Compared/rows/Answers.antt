@@ -1,5 +1,5 @@
 use Rattle.acl_normal.proofs.comparison.rows.Compared.rows.Goals as goal
-use Rattle.acl_normal.proofs.Searching.RowFacts.{rows_more}
+use Rattle.acl_normal.proofs.comparison.RowFacts.{rows_more}
 
 pub loop-i-preserved : goal.loop-i-preserved
 loop-i-preserved c = rows_more _ _ _ _ _ _ _ _ _ _ _ _ _ c.loop-i-test.true c.index.ensures c.index-in-loop-i.ensures

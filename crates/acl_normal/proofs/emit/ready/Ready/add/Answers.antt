@@ -1,7 +1,7 @@
 use Rattle.std.proofs.Common.{◌≡◌, ◌≢◌, ◌<◌, length, heap_items, slice_index_or, ◌∙◌, sym, subst, refl}
 use Rattle.std.proofs.lemmas.Grind.{get_or_default_zero}
-use Rattle.acl_normal.proofs.Emission.Heaped.{heap_marked, heap_pushed}
-use Rattle.acl_normal.proofs.Emission.Marks.{added_some}
+use Rattle.acl_normal.proofs.emit.Heaped.{heap_marked, heap_pushed}
+use Rattle.acl_normal.proofs.emit.Marks.{added_some}
 use Rattle.acl_normal.proofs.emit.ready.Ready.add.Goals as goal
 use Rattle.acl_normal.proofs.emit.ready.Ready.add.Goals.{then-bits-eq0+in_ok-push, else-bits-eq0}
 

@@ -2,8 +2,8 @@ use Rattle.std.proofs.Common.{subst, sym, ◌∙◌}
 use Rattle.std.proofs.lemmas.List.{drop_all}
 use Rattle.acl_normal.specs.internal.Classes.{is_users}
 use Rattle.acl_normal.specs.internal.Remaining.{IsQueue}
-use Rattle.acl_normal.proofs.Emission.Remaining.{next_place, queue_before, queue_empty, queue_first, queue_on, queue_within}
-use Rattle.acl_normal.proofs.Merging.Waits.{before_some}
+use Rattle.acl_normal.proofs.emit.RemainingLemmas.{next_place, queue_before, queue_empty, queue_first, queue_on, queue_within}
+use Rattle.acl_normal.proofs.rows.Waits.{before_some}
 use Rattle.acl_normal.proofs.emit.remaining.Remaining.first_waiting.Goals as goal
 
 pub loop-place-init : goal.loop-place-init

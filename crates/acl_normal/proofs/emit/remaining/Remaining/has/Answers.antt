@@ -1,10 +1,10 @@
 use Rattle.std.proofs.Common.{◌≡◌, ◌<◌, ◌∙◌, ap, sym, subst, arith, bit_and, length, slice_index_or}
 use Rattle.acl_perm.specs.Bits.{has_bit}
-use Rattle.acl_normal.specs.Places.{mask_here}
+use Rattle.acl_normal.specs.internal.AtPlaces.{mask_here}
 use Rattle.acl_normal.specs.internal.Remaining.{remaining_of}
 use Rattle.acl_normal.specs.internal.Shown.{bits_in}
-use Rattle.acl_normal.proofs.Emission.InRemaining.{length_remaining, mask_remaining, row_of_place, row_there}
-use Rattle.acl_normal.proofs.Unique.Bits.{bits_at}
+use Rattle.acl_normal.proofs.emit.InRemaining.{length_remaining, mask_remaining, row_of_place, row_read}
+use Rattle.acl_normal.proofs.unique.Bits.{bits_at}
 use Rattle.acl_normal.proofs.emit.remaining.Remaining.has.Goals as goal
 
 pub index-requires : goal.index-requires
@@ -19,7 +19,7 @@ index-requires-3 c =
     let s = c.self.inside in
     let within : c.args.place < length (remaining_of s) =
     subst (λ v. c.args.place < length v) (sym c.self.view_is) c.requires in
-    let row = c.index-2.ensures ∙ row_there s _ _ c.self.invariant within in
+    let row = c.index-2.ensures ∙ row_read s _ _ c.self.invariant within in
     omega (arith, row, row_of_place s c.args.place c.self.invariant within, s.left.ok)
 
 pub returns : goal.returns
@@ -29,7 +29,7 @@ returns c =
     subst (λ v. c.args.place < length v) (sym c.self.view_is) c.requires in
     let within_masks : c.args.place < length s.masks.items =
     omega (arith, within, length_remaining s c.self.invariant, c.self.invariant.masks, s.masks.ok) in
-    let row = c.index-2.ensures ∙ row_there s _ _ c.self.invariant within in
+    let row = c.index-2.ensures ∙ row_read s _ _ c.self.invariant within in
     let mask : slice_index_or (bits_in s.masks.items) c.args.place 0 ≡ c.index.result.now.bits =
     bits_at s.masks.items c.args.place 0 _ within_masks c.index.ensures in
     let left_below : c.index-2.result.now < length s.left.items =

@@ -1,7 +1,7 @@
 use Rattle.std.proofs.Common.{arith, sym, ◌∙◌}
 use Rattle.acl_perm.specs.Principal.{principal}
-use Rattle.acl_normal.proofs.Merging.Publics.{NoneFree, none_free_yet, none_free_absent, none_free_more, free_there, free_nowhere}
-use Rattle.acl_normal.proofs.Unique.Bits.{past_absent}
+use Rattle.acl_normal.proofs.rows.Publics.{NoneFree, none_free_yet, none_free_absent, none_free_more, free_there, free_nowhere}
+use Rattle.acl_normal.proofs.unique.Bits.{past_absent}
 use Rattle.acl_normal.proofs.emit.remaining.Remaining.is_free.Goals as goal
 
 pub loop-right-init : goal.loop-right-init

@@ -1,6 +1,6 @@
 use Rattle.std.specs.Prelude.{◌-◌, ◌≤◌}
 use Rattle.acl_perm.specs.Principal.{principal}
-use Rattle.acl_normal.proofs.Merging.Publics.{NoneFree}
+use Rattle.acl_normal.proofs.rows.Publics.{NoneFree}
 use Rattle.acl_normal.proofs.emit.remaining.Remaining.is_free.Given as goal
 
 -- none of the rights below the next is free

@@ -1,8 +1,8 @@
 use Rattle.std.proofs.Common.{◌∙◌, arith, sym}
 use Rattle.std.proofs.lemmas.Bool.{leb-true, leb-false}
 use Rattle.acl_perm.specs.Principal.{principal}
-use Rattle.acl_normal.proofs.Emission.InRemaining.{remaining_once}
-use Rattle.acl_normal.proofs.Merging.FreeBits.{free_none, free_some, not_from}
+use Rattle.acl_normal.proofs.emit.InRemaining.{remaining_once}
+use Rattle.acl_normal.proofs.rows.FreeBits.{free_none, free_some, not_from}
 use Rattle.acl_normal.proofs.emit.remaining.Remaining.is_free_at.Goals as goal
 
 pub returns-in-None : goal.returns-in-None

@@ -7,12 +7,12 @@ use Rattle.acl_nfs4.specs.Who.{principal_of}
 use Rattle.acl_nfs4.specs.Ace.{ace}
 use Rattle.acl_nfs4.specs.declared.ace.AceRef.{AceRef}
 use Rattle.acl_normal.specs.Keys.{Key}
-use Rattle.acl_normal.specs.Places.{key_here}
+use Rattle.acl_normal.specs.internal.AtPlaces.{key_here}
 use Rattle.acl_normal.specs.internal.Remaining.{remaining_of}
 use Rattle.acl_normal.specs.internal.Rows.{is_named, row_of}
-use Rattle.acl_normal.proofs.Emission.InRemaining.{length_remaining, order_there}
-use Rattle.acl_normal.proofs.Emission.Marks.{number_rank}
-use Rattle.acl_normal.proofs.Merging.BitsTaken.{key_there}
+use Rattle.acl_normal.proofs.emit.InRemaining.{length_remaining, order_there}
+use Rattle.acl_normal.proofs.emit.Marks.{number_rank}
+use Rattle.acl_normal.proofs.rows.BitsTaken.{key_there}
 use Rattle.acl_normal.proofs.emit.remaining.Remaining.key_of.Goals as goal
 use Rattle.acl_normal.proofs.emit.remaining.Remaining.key_of.Goals.{then-number-eq0, else-number-eq0}
 

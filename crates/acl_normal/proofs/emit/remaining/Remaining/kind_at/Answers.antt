@@ -3,7 +3,7 @@ use Rattle.acl_nfs4.specs.declared.ace.AceRef.{AceRef}
 use Rattle.acl_normal.specs.Keys.{Key}
 use Rattle.acl_normal.specs.internal.Remaining.{masks_left}
 use Rattle.acl_normal.specs.internal.Shown.{bits_in}
-use Rattle.acl_normal.proofs.Merging.BitsTaken.{key_of_left, place_of_left}
+use Rattle.acl_normal.proofs.rows.BitsTaken.{key_of_left, place_of_left}
 use Rattle.acl_normal.proofs.emit.remaining.Remaining.kind_at.Goals as goal
 
 pub index-requires : goal.index-requires

@@ -1,5 +1,5 @@
 use Rattle.std.proofs.Common.{◌∙◌, sym, ap, length}
-use Rattle.acl_normal.proofs.Emission.InRemaining.{length_remaining}
+use Rattle.acl_normal.proofs.emit.InRemaining.{length_remaining}
 use Rattle.acl_normal.proofs.emit.remaining.Remaining.len.Goals as goal
 
 pub returns : goal.returns

@@ -1,9 +1,9 @@
 use Rattle.std.proofs.Common.{◌≡◌, ◌<◌, ◌∙◌, ap, arith, length, slice_index_or, subst, sym}
 use Rattle.acl_normal.specs.internal.Classes.{is_users}
 use Rattle.acl_normal.specs.internal.Remaining.{IsQueue, first_in, places_in, remaining_of}
-use Rattle.acl_normal.proofs.Emission.InRemaining.{first_there, moved_right, places_there, queue_at, slot_there}
-use Rattle.acl_normal.proofs.Emission.Remaining.{next_place, queue_from, queue_within}
-use Rattle.acl_normal.proofs.Merging.BitTaken.{same_default}
+use Rattle.acl_normal.proofs.emit.InRemaining.{first_there, moved_right, places_there, queue_at, slot_there}
+use Rattle.acl_normal.proofs.emit.RemainingLemmas.{next_place, queue_from, queue_within}
+use Rattle.acl_normal.proofs.rows.BitTaken.{default_unread}
 use Rattle.acl_normal.proofs.emit.remaining.Remaining.move_on.Goals as goal
 
 pub loop-place-init : goal.loop-place-init
@@ -31,7 +31,7 @@ here c =
     ∙ places_there s.queues.items c.slot-at.result _ there in
     let lookup = c.in-Some.ensures.lookup in
     let below : c.loop-place.first < length c.deref.result.now = lookup.3.0 in (
-      lookup.1 ∙ same_default c.deref.result.now c.loop-place.first _ 0 below
+      lookup.1 ∙ default_unread c.deref.result.now c.loop-place.first _ 0 below
           ∙ ap (λ v. slice_index_or v c.loop-place.first 0) places,
       subst (λ v. c.loop-place.first < length v) places below,
     )

@@ -1,6 +1,6 @@
 use Rattle.std.specs.Prelude.{◌≡◌, ℕ, ◌-◌, ◌<◌, false, length, slice_index_or}
 use Rattle.acl_perm.specs.Bits.{has_bit}
-use Rattle.acl_normal.specs.Places.{mask_here}
+use Rattle.acl_normal.specs.internal.AtPlaces.{mask_here}
 use Rattle.acl_normal.specs.internal.Remaining.{places_in, remaining_of}
 use Rattle.acl_normal.proofs.emit.remaining.Remaining.move_on.Given as goal
 

@@ -2,8 +2,8 @@ use Rattle.std.proofs.Common.{◌≡◌, ◌∙◌, ap, arith, length, slice_ind
 use Rattle.std.proofs.lemmas.List.{get_or-replicate}
 use Rattle.acl_normal.specs.internal.Remaining.{AreQueues, masks_left}
 use Rattle.acl_normal.specs.internal.Shown.{bits_in, with_masks}
-use Rattle.acl_normal.proofs.Emission.InRemaining.{all_remains, begins_right}
-use Rattle.acl_normal.proofs.Unique.Bits.{bits_all, bits_length}
+use Rattle.acl_normal.proofs.emit.InRemaining.{all_remains, begins_right}
+use Rattle.acl_normal.proofs.unique.Bits.{bits_all, bits_length}
 use Rattle.acl_normal.proofs.emit.remaining.Remaining.of.Goals as goal
 
 -- all is left of the masks

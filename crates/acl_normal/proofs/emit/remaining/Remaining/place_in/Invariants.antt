@@ -1,6 +1,6 @@
 use Rattle.std.specs.Prelude.{◌≤◌}
 use Rattle.acl_normal.specs.internal.Remaining.{remaining_of}
-use Rattle.acl_normal.proofs.Merging.FirstPlaces.{ArePassed}
+use Rattle.acl_normal.proofs.rows.FirstPlaces.{ArePassed}
 use Rattle.acl_normal.proofs.emit.remaining.Remaining.place_in.Given as goal
 
 -- none of the places so far has the right

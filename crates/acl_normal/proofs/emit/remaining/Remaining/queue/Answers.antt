@@ -1,9 +1,9 @@
 use Rattle.std.proofs.Common.{◌≡◌, ◌∙◌, ap, drop, refl, subst, sym}
 use Rattle.acl_normal.specs.internal.Classes.{is_users}
 use Rattle.acl_normal.specs.internal.Remaining.{IsQueue, first_in, places_in}
-use Rattle.acl_normal.specs.Places.{slot_of}
-use Rattle.acl_normal.proofs.Emission.InRemaining.{first_there, places_there, slot_there}
-use Rattle.acl_normal.proofs.Emission.Remaining.{queue_from, queue_part}
+use Rattle.acl_normal.specs.internal.Waiting.{slot_of}
+use Rattle.acl_normal.proofs.emit.InRemaining.{first_there, places_there, slot_there}
+use Rattle.acl_normal.proofs.emit.RemainingLemmas.{queue_from, queue_part}
 use Rattle.acl_normal.proofs.emit.remaining.Remaining.queue.Goals as goal
 
 pub returns : goal.returns

@@ -1,9 +1,9 @@
 use Rattle.std.proofs.Common.{◌<◌, ◌∙◌, sym, subst, length}
-use Rattle.acl_normal.specs.Places.{key_here}
+use Rattle.acl_normal.specs.internal.AtPlaces.{key_here}
 use Rattle.acl_normal.specs.internal.Remaining.{remaining_of}
-use Rattle.acl_normal.specs.internal.Rows.{IsRow}
-use Rattle.acl_normal.proofs.Emission.InRemaining.{row_there}
-use Rattle.acl_normal.proofs.Merging.Rows.{named_here}
+use Rattle.acl_normal.specs.internal.Rows.{IsRowOf}
+use Rattle.acl_normal.proofs.emit.InRemaining.{row_read}
+use Rattle.acl_normal.proofs.rows.Rows.{named_here}
 use Rattle.acl_normal.proofs.emit.remaining.Remaining.row_at.Goals as goal
 
 pub returns : goal.returns
@@ -11,9 +11,9 @@ returns c =
     let s = c.self.inside in
     let within : c.args.place < length (remaining_of s) =
     subst (λ v. c.args.place < length v) (sym c.self.view_is) c.requires in
-    subst (λ v. IsRow c.index.result.now (key_here v c.args.place).0 v) c.self.view_is
+    subst (λ v. IsRowOf c.index.result.now (key_here v c.args.place).0 v) c.self.view_is
     (record {
       named = named_here (remaining_of s) c.args.place within;
-      is = c.index.ensures ∙ row_there s _ _ c.self.invariant within
+      is = c.index.ensures ∙ row_read s _ _ c.self.invariant within
           ∙ c.self.invariant.list.rows.at c.args.place within;
     })

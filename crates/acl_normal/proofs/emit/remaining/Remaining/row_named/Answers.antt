@@ -5,8 +5,8 @@ use Rattle.acl_normal.specs.declared.emit.remaining.Remaining.TheInside.{Inside}
 use Rattle.acl_normal.specs.Places.{nothing_left}
 use Rattle.acl_normal.specs.internal.Remaining.{IsRemaining, remaining_of}
 use Rattle.acl_normal.specs.internal.Shown.{aces_in}
-use Rattle.acl_normal.proofs.Emission.InRemaining.{outline_of}
-use Rattle.acl_normal.proofs.Merging.Rows.{found_row, missed_row, order_alike, rows_alike}
+use Rattle.acl_normal.proofs.emit.InRemaining.{outline_of}
+use Rattle.acl_normal.proofs.rows.Rows.{found_row_alike, missed_row, order_alike, rows_alike}
 use Rattle.acl_normal.proofs.emit.remaining.Remaining.row_named.Goals as goal
 
 pub find_row-requires-clause-rows : goal.find_row-requires-clause-rows
@@ -29,7 +29,7 @@ outline_seen s aces list right e is =
 
 pub returns-clause-found : goal.returns-clause-found
 returns-clause-found c =
-    found_row _ _ c.args.self.now c.find_row.result
+    found_row_alike _ _ c.args.self.now c.find_row.result
     (outline_seen c.self.inside _ _ c.self.invariant c.deref.ensures.value c.self.view_is)
     c.find_row.ensures.found
 

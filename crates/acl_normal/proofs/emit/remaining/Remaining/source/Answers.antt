@@ -1,7 +1,7 @@
 use Rattle.std.proofs.Common.{Some, ◌∙◌, sym, ap, arith}
 use Rattle.acl_perm.specs.Principal.{principal}
-use Rattle.acl_normal.proofs.Merging.FirstPlaces.{first_by_none, first_by_place, first_in}
-use Rattle.acl_normal.proofs.Merging.Rows.{row_below, unnamed_first}
+use Rattle.acl_normal.proofs.rows.FirstPlaces.{first_by_none, first_by_place, first_in_list}
+use Rattle.acl_normal.proofs.rows.Rows.{row_below, unnamed_first}
 use Rattle.acl_normal.proofs.emit.remaining.Remaining.source.Goals as goal
 
 pub returns-in_err-row : goal.returns-in_err-row
@@ -19,7 +19,7 @@ kind_at-requires c =
     let first =
     first_by_place c.args.right.bit (principal c.args.p) c.args.self.now c.in_ok-place.place
     (sym (c.in_ok-place.ensures (principal c.args.p) c.in_ok-row.ensures.found)) in
-    first_in c.args.right.bit (principal c.args.p) c.args.self.now _ first
+    first_in_list c.args.right.bit (principal c.args.p) c.args.self.now _ first
 
 pub returns-in_err-place : goal.returns-in_err-place
 returns-in_err-place c =

@@ -1,5 +1,5 @@
 use Rattle.std.specs.Prelude.{true, false}
-use Rattle.acl_normal.proofs.Reduction.LaterBits.{noted_other}
+use Rattle.acl_normal.proofs.reduce.LaterBits.{noted_other}
 use Rattle.acl_normal.proofs.reduce.needless.ByClass.with.Goals as goal
 
 pub returns-in-Users : goal.returns-in-Users

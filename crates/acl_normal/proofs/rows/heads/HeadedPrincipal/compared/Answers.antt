@@ -1,4 +1,4 @@
-use Rattle.acl_normal.proofs.Merging.Heads.{compared_as}
+use Rattle.acl_normal.proofs.rows.HeadOrder.{compared_as}
 use Rattle.acl_normal.proofs.rows.heads.HeadedPrincipal.compared.Goals as goal
 
 pub returns-then-self-other : goal.returns-then-self-other

@@ -1,7 +1,7 @@
 use Rattle.std.proofs.Common.{◌≡◌, false, subst, sym}
 use Rattle.acl_perm.specs.Principal.{principal}
 use Rattle.acl_normal.specs.internal.Rows.{is_named}
-use Rattle.acl_normal.proofs.Merging.Rows.{unnamed_taken}
+use Rattle.acl_normal.proofs.rows.Rows.{unnamed_taken}
 use Rattle.acl_normal.proofs.rows.merged.MergedRows.emit.Goals as goal
 
 pub returns-in_default : goal.returns-in_default

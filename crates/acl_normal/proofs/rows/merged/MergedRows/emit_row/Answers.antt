@@ -3,10 +3,10 @@ use Rattle.std.proofs.lemmas.Bool.{cases_lt}
 use Rattle.acl_perm.specs.Principal.{principal}
 use Rattle.acl_normal.specs.Places.{nothing_left, take_out}
 use Rattle.acl_normal.specs.internal.Ready.{low_bits}
-use Rattle.acl_normal.proofs.Merging.BitsTaken.{take_zero, emit_more, emit_same, low_all}
-use Rattle.acl_normal.proofs.Merging.Publics.{no_right_above}
-use Rattle.acl_normal.proofs.Merging.Rows.{is_row_alike, outline_taken}
-use Rattle.acl_normal.proofs.Unique.Bits.{past_absent}
+use Rattle.acl_normal.proofs.rows.BitsTaken.{take_zero, emit_more, emit_same, low_all}
+use Rattle.acl_normal.proofs.rows.Publics.{no_right_above}
+use Rattle.acl_normal.proofs.rows.Rows.{is_row_alike, outline_taken}
+use Rattle.acl_normal.proofs.unique.Bits.{past_absent}
 use Rattle.acl_normal.proofs.rows.merged.MergedRows.emit_row.Goals as goal
 
 pub loop-right-init : goal.loop-right-init

@@ -1,7 +1,7 @@
 use Rattle.std.proofs.Common.{◌≡◌, [], refl, ◌∙◌, subst}
 use Rattle.acl_eval.specs.Column.{column}
 use Rattle.acl_normal.specs.internal.Classes.{is_users}
-use Rattle.acl_normal.proofs.Merging.Waits.{waits_nowhere}
+use Rattle.acl_normal.proofs.rows.Waits.{waits_nowhere}
 use Rattle.acl_normal.proofs.rows.merged.MergedRows.waiting.Goals as goal
 
 pub returns-in-None-clause-none : goal.returns-in-None-clause-none

@@ -1,9 +1,0 @@
-pub mod Reduced
-pub mod Passes
-pub mod Reached
-pub mod NeededBits
-pub mod Emptied
-pub mod Candidates
-pub mod InTurn
-pub mod Shorter
-pub mod PlainForm

@@ -1,0 +1,15 @@
+pub mod MentionedPrincipals
+pub mod SmallSetLemmas
+pub mod SetEvaluation
+pub mod SameTests
+pub mod SetSearchLemmas
+pub mod MentionedNames
+pub mod Ordered
+pub mod FirstSet
+pub mod Numbers
+pub mod MentionedRows
+pub mod FirstPlaceLemmas
+pub mod PairGrants
+pub mod RowFacts
+pub mod TableFacts
+pub mod Assembly

@@ -1,0 +1,299 @@
+-- The first small set, by least numbers.
+use Rattle.std.specs.Prelude.{◌≡◌, ℕ, ◌<◌, ◌≤◌, ◌+◌, ◌-◌, Bool, true, false, ◌&&◌, ◌||◌, cond, nat_lt, List, [], ◌∷◌, ◌++◌, Some, None, refl, length, take, drop, slice_index_or, ◌⊎◌}
+use Rattle.std.specs.List.{AllByRecursion}
+use Rattle.std.proofs.Common.{sym, ◌∙◌, ap, subst, arith, suc, zero, inl, inr}
+use Rattle.std.proofs.lemmas.List.{drop_more, take-append-drop, get_or-take, get_or-drop, length-take, length-drop, length-map}
+use Rattle.std.proofs.lemmas.Bool.{cases_order, cases_lt}
+use Rattle.acl_perm.specs.declared.principal.Principal.{Principal as PrincipalRef}
+use Rattle.acl_eval.specs.Column.{takes_part}
+use Rattle.acl_eval.specs.Grant.{is_allow}
+use Rattle.acl_nfs4.specs.Ace.{Ace}
+use Rattle.acl_nfs4.specs.Who.{principal_of}
+use Rattle.acl_normal.proofs.unique.Names.{overlaps_back}
+use Rattle.acl_normal.proofs.comparison.Numbers.{principal_at}
+use Rattle.acl_normal.proofs.comparison.PairGrants.{no_pairs, pair_granted, pairs_after}
+use Rattle.acl_normal.proofs.comparison.SetEvaluation.{granted_to-cons}
+use Rattle.acl_normal.proofs.comparison.SetSearchLemmas.{found_left, found_right}
+use Rattle.acl_normal.specs.Keys.{principal_eq}
+use Rattle.acl_normal.specs.internal.FirstPlaces.{deciding_place}
+use Rattle.acl_normal.specs.internal.Agreement.{AlikeWith, AlikeWithAll, AlikeAlone, IsLeast, OnAll, AgreesOnAll, AgreesAt}
+use Rattle.acl_normal.specs.internal.SetSearch.{Finds, FindsFirst, GrantAlikeTo, is_granted_to, principals}
+use Rattle.acl_normal.specs.SmallSets.{pairs, partners, singles, small_sets}
+use Rattle.acl_perm.specs.Bits.{all_rights, has_bit}
+use Rattle.acl_perm.specs.Overlap.{may_overlap}
+use Rattle.acl_perm.specs.Principal.{Principal, everyone, principal}
+
+-- what holds at each number holds of all
+pub all_from_each : (P : Principal → Type 0) (ps : List Principal)
+    → ((k : ℕ) → k < length ps → P (slice_index_or ps k everyone)) → AllByRecursion P ps
+all_from_each P [] h = tt
+all_from_each P (p ∷ ps) h = (h 0 (omega arith), all_from_each P ps (λ k lt. h (suc k) (omega arith)))
+
+-- what holds of all holds at each number
+pub each_from_all : (P : Principal → Type 0) (ps : List Principal) (k : ℕ) → k < length ps → AllByRecursion P ps
+    → P (slice_index_or ps k everyone)
+each_from_all P [] k lt h = absurd (omega arith)
+each_from_all P (p ∷ ps) zero lt h = h.0
+each_from_all P (p ∷ ps) (suc k) lt h = each_from_all P ps k (omega arith) h.1
+
+-- the first single principal at which the lists grant otherwise
+pub singles_first : (xs ys : List Ace) (ps : List Principal) (v : ℕ) → v < length ps
+    → ((k : ℕ) → k < v → GrantAlikeTo xs ys (slice_index_or ps k everyone ∷ []))
+    → (GrantAlikeTo xs ys (slice_index_or ps v everyone ∷ []) → ⊥)
+    → FindsFirst xs ys (singles ps) (Some (slice_index_or ps v everyone ∷ []))
+singles_first xs ys [] v lt before at = absurd (omega arith)
+singles_first xs ys (p ∷ ps) zero lt before at = inr (at, refl)
+singles_first xs ys (p ∷ ps) (suc v) lt before at =
+    inl (before 0 (omega arith), singles_first xs ys ps v (omega arith) (λ k l. before (suc k) (omega arith)) at)
+
+-- or none
+pub singles_none : (xs ys : List Ace) (ps : List Principal)
+    → ((k : ℕ) → k < length ps → GrantAlikeTo xs ys (slice_index_or ps k everyone ∷ []))
+    → FindsFirst xs ys (singles ps) None
+singles_none xs ys [] h = refl
+singles_none xs ys (p ∷ ps) h = inl (h 0 (omega arith), singles_none xs ys ps (λ k l. h (suc k) (omega arith)))
+
+-- the first partner with which they do
+pub partners_first : (xs ys : List Ace) (p : Principal) (ps : List Principal) (v : ℕ) → v < length ps
+    → ((k : ℕ) → k < v → OnAll (AlikeWith xs ys p ps) k) → (OnAll (AlikeWith xs ys p ps) v → ⊥)
+    → FindsFirst xs ys (partners p ps) (Some (p ∷ slice_index_or ps v everyone ∷ []))
+partners_first xs ys p [] v lt before at = absurd (omega arith)
+partners_first xs ys p (q ∷ ps) zero lt before at = go (may_overlap p q) refl
+  where
+    go : (t : Bool) → may_overlap p q ≡ t → FindsFirst xs ys (partners p (q ∷ ps)) (Some (p ∷ q ∷ []))
+    go true e = rw e (inr ((λ alike. at (λ b has o. alike b has)), refl))
+    go false e = absurd (at (λ b has o. absurd (clash o e)))
+      where
+        clash : {t : Bool} → t ≡ true → t ≡ false → ⊥
+        clash h i = cc
+partners_first xs ys p (q ∷ ps) (suc v) lt before at =
+    go (may_overlap p q) refl (partners_first xs ys p ps v (omega arith) (λ k l. before (suc k) (omega arith)) at)
+  where
+    go : (t : Bool) → may_overlap p q ≡ t
+        → FindsFirst xs ys (partners p ps) (Some (p ∷ slice_index_or ps v everyone ∷ []))
+        → FindsFirst xs ys (partners p (q ∷ ps)) (Some (p ∷ slice_index_or ps v everyone ∷ []))
+    go true e ih = rw e (inl ((λ b has. before 0 (omega arith) b has e), ih))
+    go false e ih = rw e ih
+
+-- what holds of each bit for all, holds for all of each bit
+pub on_each : (xs ys : List Ace) (p : Principal) (ps : List Principal)
+    → ((b : ℕ) → has_bit all_rights b ≡ true → AgreesAt xs ys ps b p) → AgreesOnAll xs ys ps p
+on_each xs ys p [] h = tt
+on_each xs ys p (q ∷ ps) h = ((λ o b has. (h b has).0 o), on_each xs ys p ps (λ b has. (h b has).1))
+
+-- those before the least member of a pair agree with all
+pub front_agrees : (xs ys : List Ace) (ps : List Principal) (z : ℕ) → z ≤ length ps
+    → ((k : ℕ) → k < z → OnAll (AlikeWithAll xs ys ps) k) → AllByRecursion (AgreesOnAll xs ys ps) (take z ps)
+front_agrees xs ys ps z le before = all_from_each (AgreesOnAll xs ys ps) (take z ps)
+    (λ k lt. let l : k < z = omega (arith, length-take z ps) in
+    subst (λ v. AgreesOnAll xs ys ps v) (sym (get_or-take z ps k everyone l))
+    (on_each xs ys (slice_index_or ps k everyone) ps (before k l)))
+
+-- those before a number, the one there, and those behind it
+pub split_at_place : (ps : List Principal) (z : ℕ) → z < length ps
+    → ps ≡ take z ps ++ slice_index_or ps z everyone ∷ drop (z + 1) ps
+split_at_place ps z lt = sym (take-append-drop z ps) ∙ ap (λ v. take z ps ++ v) (drop_more ps z everyone lt)
+
+-- the first pair has the least member and its first partner
+pub pairs_at : (xs ys : List Ace) (ps set : List Principal) (z : ℕ) → z < length ps
+    → ((k : ℕ) → k < z → OnAll (AlikeWithAll xs ys ps) k)
+    → FindsFirst xs ys (partners (slice_index_or ps z everyone) (drop (z + 1) ps)) (Some set)
+    → FindsFirst xs ys (pairs ps) (Some set)
+pairs_at xs ys ps set z lt before f =
+    let s : Principal = slice_index_or ps z everyone in
+    let rest : List Principal = drop (z + 1) ps in
+    subst (λ v. FindsFirst xs ys (pairs v) (Some set)) (sym (split_at_place ps z lt))
+    (pairs_after xs ys ps (take z ps) (s ∷ rest) [] (Some set) (split_at_place ps z lt)
+    (front_agrees xs ys ps z (omega arith) before) (found_left xs ys (partners s rest) (pairs rest) set f))
+
+-- where all agree with all, no pair is found
+pub pairs_none : (xs ys : List Ace) (ps : List Principal) (z : ℕ) → length ps ≤ z
+    → ((k : ℕ) → k < z → OnAll (AlikeWithAll xs ys ps) k) → FindsFirst xs ys (pairs ps) None
+pairs_none xs ys ps z le before =
+    no_pairs xs ys ps ps [] refl (all_from_each (AgreesOnAll xs ys ps) ps
+    (λ k lt. on_each xs ys (slice_index_or ps k everyone) ps (before k (omega arith))))
+
+-- two principals in either order, at one ACE
+swapped : (t e x y k g h : Bool) → g ≡ h
+    → cond (t && (e || (x || (y || false)))) k g ≡ cond (t && (e || (y || (x || false)))) k h
+swapped false e x y k g h i = i
+swapped true true x y k g h i = refl
+swapped true false true true k g h i = refl
+swapped true false true false k g h i = refl
+swapped true false false true k g h i = refl
+swapped true false false false k g h i = i
+
+-- what is granted to two is granted in either order of them
+pub pair_swapped : (xs : List Ace) (p q : Principal) (b : ℕ)
+    → is_granted_to xs (p ∷ q ∷ []) b ≡ is_granted_to xs (q ∷ p ∷ []) b
+pair_swapped [] p q b = refl
+pair_swapped (a ∷ xs) p q b =
+    granted_to-cons a xs (p ∷ q ∷ []) b
+    ∙ swapped (has_bit a.mask b && takes_part a) (principal_eq (principal_of a) everyone)
+    (principal_eq (principal_of a) p) (principal_eq (principal_of a) q) (is_allow a.kind) _ _
+    (pair_swapped xs p q b)
+    ∙ sym (granted_to-cons a xs (q ∷ p ∷ []) b)
+
+-- one principal twice is that one alone
+pub pair_alone : (xs : List Ace) (p : Principal) (b : ℕ) → is_granted_to xs (p ∷ p ∷ []) b ≡ is_granted_to xs (p ∷ []) b
+pair_alone xs p b = pair_granted xs p p b
+    ∙ one_value (nat_lt (deciding_place (p ∷ []) b xs) (deciding_place (p ∷ []) b xs)) (is_granted_to xs (p ∷ []) b)
+  where
+    one_value : (t v : Bool) → cond t v v ≡ v
+    one_value true v = refl
+    one_value false v = refl
+
+-- a principal that doesn't agree with all, where all before it do, doesn't agree with one of the later ones
+pub has_partner : (xs ys : List Ace) (ps : List Principal) (z : ℕ) → z < length ps
+    → ((k : ℕ) → k < length ps → OnAll (AlikeAlone xs ys ps) k) → ((k : ℕ) → k < z → OnAll (AlikeWithAll xs ys ps) k)
+    → (OnAll (AlikeWithAll xs ys ps) z → ⊥)
+    → ((k : ℕ) → k < length (drop (z + 1) ps)
+    → OnAll (AlikeWith xs ys (slice_index_or ps z everyone) (drop (z + 1) ps)) k) → ⊥
+has_partner xs ys ps z lt alone before at later =
+    at (λ b has. all_from_each _ ps (λ j lj. here b has j lj (cases_order j z)))
+  where
+    s : Principal
+    s = slice_index_or ps z everyone
+
+    Wanted : ℕ → Principal → Type 0
+    Wanted b q = may_overlap (slice_index_or ps z everyone) q ≡ true
+        → is_granted_to xs (slice_index_or ps z everyone ∷ q ∷ []) b
+        ≡ is_granted_to ys (slice_index_or ps z everyone ∷ q ∷ []) b
+
+    here : (b : ℕ) → has_bit all_rights b ≡ true → (j : ℕ) → j < length ps → (j ≡ z) ⊎ ((j < z) ⊎ (z < j))
+        → may_overlap (slice_index_or ps z everyone) (slice_index_or ps j everyone) ≡ true
+        → is_granted_to xs (slice_index_or ps z everyone ∷ slice_index_or ps j everyone ∷ []) b
+        ≡ is_granted_to ys (slice_index_or ps z everyone ∷ slice_index_or ps j everyone ∷ []) b
+    here b has j lj (inl e) o = subst
+        (λ v. is_granted_to xs (slice_index_or ps z everyone ∷ slice_index_or ps v everyone ∷ []) b
+        ≡ is_granted_to ys (slice_index_or ps z everyone ∷ slice_index_or ps v everyone ∷ []) b) (sym e)
+        (pair_alone xs (slice_index_or ps z everyone) b ∙ alone z lt b has
+        ∙ sym (pair_alone ys (slice_index_or ps z everyone) b))
+    here b has j lj (inr (inl less)) o =
+        pair_swapped xs (slice_index_or ps z everyone) (slice_index_or ps j everyone) b
+        ∙ each_from_all (λ q. may_overlap (slice_index_or ps j everyone) q ≡ true
+        → is_granted_to xs (slice_index_or ps j everyone ∷ q ∷ []) b
+        ≡ is_granted_to ys (slice_index_or ps j everyone ∷ q ∷ []) b) ps z lt (before j less b has)
+        (overlaps_back (slice_index_or ps z everyone) (slice_index_or ps j everyone) o)
+        ∙ pair_swapped ys (slice_index_or ps j everyone) (slice_index_or ps z everyone) b
+    here b has j lj (inr (inr more)) o =
+        let k : ℕ = j - (z + 1) in
+        let place : z + 1 + k ≡ j = omega arith in
+        let same : slice_index_or (drop (z + 1) ps) k everyone ≡ slice_index_or ps j everyone =
+        get_or-drop (z + 1) ps k everyone ∙ ap (λ v. slice_index_or ps v everyone) place in
+        subst (λ v. Wanted b v) same (later k (omega (arith, length-drop (z + 1) ps)) b has) o
+
+-- the answers of the fast search
+pub fast_single : (xs ys : List Ace) (ps : List Principal) (v : ℕ) → GrantAlikeTo xs ys []
+    → IsLeast (OnAll (AlikeAlone xs ys ps)) (length ps) v → v < length ps
+    → Finds xs ys (small_sets ps) (Some (slice_index_or ps v everyone ∷ []))
+fast_single xs ys ps v empty l lt =
+    record {
+      first = inl (
+        empty,
+        found_left xs ys (singles ps) (pairs ps) (slice_index_or ps v everyone ∷ [])
+            (singles_first xs ys ps v lt l.before (l.at lt)),
+      );
+    }
+
+-- and that none is
+pub fast_none : (xs ys : List Ace) (ps : List Principal) (v z : ℕ) → GrantAlikeTo xs ys []
+    → IsLeast (OnAll (AlikeAlone xs ys ps)) (length ps) v → length ps ≤ v
+    → IsLeast (OnAll (AlikeWithAll xs ys ps)) (length ps) z → length ps ≤ z → Finds xs ys (small_sets ps) None
+fast_none xs ys ps v z empty l le m me =
+    record {
+      first = inl (
+        empty,
+        found_right xs ys (singles ps) (pairs ps) None
+            (singles_none xs ys ps (λ k lt. l.before k (omega arith))) (pairs_none xs ys ps z me m.before),
+      );
+    }
+
+-- and that two are
+pub fast_pair : (xs ys : List Ace) (ps : List Principal) (v z w : ℕ) → GrantAlikeTo xs ys []
+    → IsLeast (OnAll (AlikeAlone xs ys ps)) (length ps) v → length ps ≤ v
+    → IsLeast (OnAll (AlikeWithAll xs ys ps)) (length ps) z → z < length ps
+    → IsLeast (OnAll (AlikeWith xs ys (slice_index_or ps z everyone) (drop (z + 1) ps))) (length (drop (z + 1) ps)) w
+    → w < length (drop (z + 1) ps)
+    → Finds xs ys (small_sets ps) (Some
+    (slice_index_or ps z everyone ∷ slice_index_or (drop (z + 1) ps) w everyone ∷ []))
+fast_pair xs ys ps v z w empty l le m lt n lw =
+    record {
+      first = inl (
+        empty,
+        found_right xs ys (singles ps) (pairs ps) _
+            (singles_none xs ys ps (λ k lk. l.before k (omega arith)))
+            (pairs_at xs ys ps _ z lt m.before
+            (partners_first xs ys (slice_index_or ps z everyone) (drop (z + 1) ps) w lw n.before (n.at lw))),
+      );
+    }
+
+-- a least member has a partner
+pub fast_partner : (xs ys : List Ace) (ps : List Principal) (v z w : ℕ)
+    → IsLeast (OnAll (AlikeAlone xs ys ps)) (length ps) v → length ps ≤ v
+    → IsLeast (OnAll (AlikeWithAll xs ys ps)) (length ps) z → z < length ps
+    → IsLeast (OnAll (AlikeWith xs ys (slice_index_or ps z everyone) (drop (z + 1) ps))) (length (drop (z + 1) ps)) w
+    → length (drop (z + 1) ps) ≤ w → ⊥
+fast_partner xs ys ps v z w l le m lt n lw =
+    has_partner xs ys ps z lt (λ k lk. l.before k (omega arith)) m.before (m.at lt) (λ k lk. n.before k (omega arith))
+
+-- the same, over the principals of the code
+pub single_answer : (xs ys : List Ace) (names : List PrincipalRef) (d : PrincipalRef) (v : ℕ) → GrantAlikeTo xs ys []
+    → IsLeast (OnAll (AlikeAlone xs ys (principals names))) (length (principals names)) v → v < length names
+    → Finds xs ys (small_sets (principals names)) (Some (principal (slice_index_or names v d) ∷ []))
+single_answer xs ys names d v empty l lt =
+    subst (λ s. Finds xs ys (small_sets (principals names)) (Some (s ∷ []))) (principal_at names d v lt)
+    (fast_single xs ys (principals names) v empty l (omega (arith, length-map names principal)))
+
+-- that none is found
+pub none_answer : (xs ys : List Ace) (names : List PrincipalRef) (v z : ℕ) → GrantAlikeTo xs ys []
+    → IsLeast (OnAll (AlikeAlone xs ys (principals names))) (length (principals names)) v → length names ≤ v
+    → IsLeast (OnAll (AlikeWithAll xs ys (principals names))) (length (principals names)) z → z ≡ length names
+    → Finds xs ys (small_sets (principals names)) None
+none_answer xs ys names v z empty l le m e =
+    fast_none xs ys (principals names) v z empty l (omega (arith, length-map names principal)) m
+    (omega (arith, length-map names principal))
+
+-- the least member is one of the principals
+pub member_within : (xs ys : List Ace) (names : List PrincipalRef) (z : ℕ)
+    → IsLeast (OnAll (AlikeWithAll xs ys (principals names))) (length (principals names)) z → (z ≡ length names → ⊥)
+    → z < length names
+member_within xs ys names z m n = omega (arith, m.within, length-map names principal)
+
+-- and so is its partner
+pub partner_within : (xs ys : List Ace) (names : List PrincipalRef) (v z w : ℕ)
+    → IsLeast (OnAll (AlikeAlone xs ys (principals names))) (length (principals names)) v → length names ≤ v
+    → IsLeast (OnAll (AlikeWithAll xs ys (principals names))) (length (principals names)) z → z < length names
+    → IsLeast (OnAll (AlikeWith xs ys (slice_index_or (principals names) z everyone)
+    (drop (z + 1) (principals names)))) (length (drop (z + 1) (principals names))) w → z + 1 + w < length names
+partner_within xs ys names v z w l le m lt n = go (cases_lt w (length (drop (z + 1) (principals names))))
+  where
+    go : (w < length (drop (z + 1) (principals names))) ⊎ (length (drop (z + 1) (principals names)) ≤ w)
+        → z + 1 + w < length names
+    go (inl lw) = omega (arith, length-drop (z + 1) (principals names), length-map names principal)
+    go (inr past) = absurd (fast_partner xs ys (principals names) v z w l (omega (arith, length-map names principal))
+        m (omega (arith, length-map names principal)) n past)
+
+-- that two are found
+pub pair_answer : (xs ys : List Ace) (names : List PrincipalRef) (d e : PrincipalRef) (v z w i : ℕ)
+    → GrantAlikeTo xs ys [] → IsLeast (OnAll (AlikeAlone xs ys (principals names))) (length (principals names)) v
+    → length names ≤ v → IsLeast (OnAll (AlikeWithAll xs ys (principals names))) (length (principals names)) z
+    → z < length names → IsLeast (OnAll
+    (AlikeWith xs ys (slice_index_or (principals names) z everyone) (drop (z + 1) (principals names))))
+    (length (drop (z + 1) (principals names))) w → i ≡ z + 1 + w
+    → Finds xs ys (small_sets (principals names))
+    (Some (principal (slice_index_or names z d) ∷ principal (slice_index_or names i e) ∷ []))
+pair_answer xs ys names d e v z w i empty l le m lt n is =
+    let inside : z + 1 + w < length names = partner_within xs ys names v z w l le m lt n in
+    let first : slice_index_or (principals names) z everyone ≡ principal (slice_index_or names z d) =
+    principal_at names d z lt in
+    let second : slice_index_or (drop (z + 1) (principals names)) w everyone ≡ principal (slice_index_or names i e) =
+    get_or-drop (z + 1) (principals names) w everyone
+    ∙ ap (λ k. slice_index_or (principals names) k everyone) (sym is) ∙ principal_at names e i (omega arith) in
+    subst (λ s. Finds xs ys (small_sets (principals names)) (Some (s ∷ principal (slice_index_or names i e) ∷ [])))
+    first
+    (subst (λ s. Finds xs ys (small_sets (principals names))
+    (Some (slice_index_or (principals names) z everyone ∷ s ∷ []))) second
+    (fast_pair xs ys (principals names) v z w empty l (omega (arith, length-map names principal)) m
+    (omega (arith, length-map names principal)) n
+    (omega (arith, length-drop (z + 1) (principals names), length-map names principal))))

@@ -1,0 +1,202 @@
+-- Where a list first speaks of each principal.
+use Rattle.std.specs.Prelude.{◌≡◌, ℕ, ◌<◌, ◌≤◌, ◌+◌, Bool, true, false, ◌&&◌, cond, List, [], ◌∷◌, refl, length, drop, replicate, slice_index_or, slice_set, ◌⊎◌}
+use Rattle.std.specs.List.{AllZip}
+use Rattle.std.proofs.Common.{sym, ◌∙◌, ap, subst, arith, suc, zero, inl, inr}
+use Rattle.std.proofs.lemmas.List.{get_or-map, drop_more, drop_all, length-map, length-set, length-replicate, get_or-replicate, get_or-set_same, get_or-set_other, get_or_past}
+use Rattle.std.proofs.lemmas.Bool.{cases_lt, cases_eq, ne_eqb, eq-eqb}
+use Rattle.acl_eval.specs.Column.{takes_part}
+use Rattle.acl_eval.specs.Grant.{is_allow}
+use Rattle.acl_nfs4.specs.Ace.{Ace, ace}
+use Rattle.acl_nfs4.specs.Who.{principal_of}
+use Rattle.acl_nfs4.specs.declared.ace.AceRef.{AceRef}
+use Rattle.acl_normal.proofs.comparison.SetEvaluation.{granted_to-cons}
+use Rattle.acl_normal.specs.internal.FirstPlaces.{AreFirstFrom, IsFirstFrom, deciding_place, no_ace, no_first, put, stops, stops_at}
+use Rattle.acl_normal.specs.internal.Whoms.{AreWhoms, IsWhom, NamesBelow, is_of}
+use Rattle.acl_normal.specs.internal.Passes.{list_of}
+use Rattle.acl_normal.specs.internal.SetSearch.{is_granted_to}
+use Rattle.acl_normal.specs.SmallSituations.{is_among}
+use Rattle.acl_normal.specs.declared.comparison.rows.First.{First}
+use Rattle.acl_normal.specs.declared.comparison.rows.Whom.{Whom}
+use Rattle.acl_normal.specs.declared.comparison.rows.Whom.TheVariants.{Everyone, Nobody, One}
+use Rattle.acl_perm.specs.Bits.{has_bit}
+use Rattle.acl_perm.specs.Principal.{Principal, everyone}
+
+-- both sides are equally long
+pub zip_length : {A B : Type 0} (R : A → B → Type 0) (xs : List A) (ys : List B) → AllZip R xs ys
+    → length ys ≡ length xs
+zip_length R [] [] z = refl
+zip_length R (x ∷ xs) (y ∷ ys) z = ap suc (zip_length R xs ys z.1)
+zip_length R _ _ z = absurd z
+
+-- as many are named as there are ACEs
+pub whoms_length : (ps : List Principal) (aces : List AceRef) (ws : List Whom) → AreWhoms ps (list_of aces) ws
+    → length ws ≡ length aces
+whoms_length ps aces ws z = zip_length (IsWhom ps) (list_of aces) ws z ∙ length-map aces ace
+
+-- whom the ACE of a place names
+pub whom_at : (ps : List Principal) (xs : List Ace) (ws : List Whom) (i : ℕ) → i < length xs → AreWhoms ps xs ws
+    → IsWhom ps (slice_index_or xs i no_ace) (slice_index_or ws i Nobody)
+whom_at ps [] [] i lt z = absurd (omega arith)
+whom_at ps (x ∷ xs) (w ∷ ws) zero lt z = z.0
+whom_at ps (x ∷ xs) (w ∷ ws) (suc i) lt z = whom_at ps xs ws i (omega arith) z.1
+whom_at ps _ _ i lt z = absurd z
+
+-- three tests in either grouping
+regroup : (x y z : Bool) → ((x && y) && z) ≡ (x && (y && z))
+regroup true y z = refl
+regroup false y z = refl
+
+-- the first key of the rest decides, or none of it
+pub first_taken : (xs : List Ace) (a : Ace) (b i : ℕ) (p : Principal) → drop i xs ≡ a ∷ drop (i + 1) xs
+    → (has_bit a.mask b && is_of a p) ≡ true → IsFirstFrom xs b i p (record { place = i; allows = is_allow a.kind })
+first_taken xs a b i p is h =
+    let head : ((has_bit a.mask b && takes_part a) && is_among (principal_of a) (everyone ∷ p ∷ [])) ≡ true =
+    regroup (has_bit a.mask b) (takes_part a) (is_among (principal_of a) (everyone ∷ p ∷ [])) ∙ h in
+    let place : deciding_place (p ∷ []) b (drop i xs) ≡ 0 =
+    ap (deciding_place (p ∷ []) b) is ∙ ap (λ t. cond t 0 (deciding_place (p ∷ []) b (drop (i + 1) xs) + 1)) head in
+    record {
+      place = omega arith;
+      allows =
+          sym (ap (λ v. is_granted_to v (p ∷ []) b) is ∙ granted_to-cons a (drop (i + 1) xs) (p ∷ []) b
+          ∙ ap (λ t. cond t (is_allow a.kind) (is_granted_to (drop (i + 1) xs) (p ∷ []) b)) head);
+    }
+
+-- an ACE that is not of the principal leaves what the later ones say
+pub speaks_later : (xs : List Ace) (a : Ace) (b i : ℕ) (p : Principal) (f : First) → drop i xs ≡ a ∷ drop (i + 1) xs
+    → (has_bit a.mask b && is_of a p) ≡ false → IsFirstFrom xs b (i + 1) p f → IsFirstFrom xs b i p f
+speaks_later xs a b i p f is h later =
+    let head : ((has_bit a.mask b && takes_part a) && is_among (principal_of a) (everyone ∷ p ∷ [])) ≡ false =
+    regroup (has_bit a.mask b) (takes_part a) (is_among (principal_of a) (everyone ∷ p ∷ [])) ∙ h in
+    let place : deciding_place (p ∷ []) b (drop i xs) ≡ deciding_place (p ∷ []) b (drop (i + 1) xs) + 1 =
+    ap (deciding_place (p ∷ []) b) is ∙ ap (λ t. cond t 0 (deciding_place (p ∷ []) b (drop (i + 1) xs) + 1)) head in
+    let old = later.place in
+    record {
+      place = omega arith;
+      allows =
+          later.allows ∙ sym (ap (λ v. is_granted_to v (p ∷ []) b) is ∙ granted_to-cons a (drop (i + 1) xs) (p ∷ []) b
+          ∙ ap (λ t. cond t (is_allow a.kind) (is_granted_to (drop (i + 1) xs) (p ∷ []) b)) head);
+    }
+
+-- behind the last place that is_counted
+pub first_end : (ps : List Principal) (xs : List Ace) (ws : List Whom) (b e k : ℕ) → k < length ps → e ≤ length xs
+    → (e < length xs → stops_at xs ws b e ≡ true) → AreWhoms ps xs ws
+    → IsFirstFrom xs b e (slice_index_or ps k everyone)
+    (record { place = e; allows = is_allow (slice_index_or xs e no_ace).kind })
+first_end ps xs ws b e k lk le stop all = go (cases_lt e (length xs))
+  where
+    at : (a : Ace) (w : Whom) → stops b a w ≡ true → IsWhom ps a w
+        → (has_bit a.mask b && is_of a (slice_index_or ps k everyone)) ≡ true
+    at a Everyone s h = rw (s, h.hit k lk) refl
+    at a _ s h = cc
+
+    go : (e < length xs) ⊎ (length xs ≤ e)
+        → IsFirstFrom xs b e (slice_index_or ps k everyone)
+        (record { place = e; allows = is_allow (slice_index_or xs e no_ace).kind })
+    go (inl lt) = first_taken xs (slice_index_or xs e no_ace) b e (slice_index_or ps k everyone)
+        (drop_more xs e no_ace lt) (at _ _ (stop lt) (whom_at ps xs ws e lt all))
+    go (inr past) =
+        let none : deciding_place (slice_index_or ps k everyone ∷ []) b (drop e xs) ≡ 0 =
+        ap (deciding_place (slice_index_or ps k everyone ∷ []) b) (drop_all e xs past) in
+        record {
+          place = omega arith;
+          allows = ap (λ a. is_allow a.kind) (get_or_past xs e no_ace past)
+              ∙ sym (ap (λ v. is_granted_to v (slice_index_or ps k everyone ∷ []) b) (drop_all e xs past));
+        }
+
+-- all begin with what stands at the end
+pub firsts_start : (ps : List Principal) (xs : List Ace) (ws : List Whom) (b e : ℕ) (firsts : List First) (f : First)
+    (n : ℕ) → firsts ≡ replicate n f → n ≡ length ps → f.place ≡ e
+    → f.allows ≡ is_allow (slice_index_or xs e no_ace).kind → e ≤ length xs
+    → (e < length xs → stops_at xs ws b e ≡ true) → AreWhoms ps xs ws → AreFirstFrom ps xs b e firsts
+firsts_start ps xs ws b e firsts f n is count fp fa le stop all = record {
+  count = ap length is ∙ length-replicate n f ∙ count;
+  each = λ k lt. let h = first_end ps xs ws b e k lt le stop all in at k lt h.place h.allows;
+}
+  where
+    value : (k : ℕ) → k < length ps → slice_index_or firsts k no_first ≡ f
+    value k lt = ap (λ v. slice_index_or v k no_first) is ∙ get_or-replicate n k f no_first (omega arith)
+
+    at : (k : ℕ) → k < length ps → e ≡ deciding_place (slice_index_or ps k everyone ∷ []) b (drop e xs) + e
+        → is_allow (slice_index_or xs e no_ace).kind ≡ is_granted_to (drop e xs) (slice_index_or ps k everyone ∷ []) b
+        → IsFirstFrom xs b e (slice_index_or ps k everyone) (slice_index_or firsts k no_first)
+    at k lt p a = record {
+      place = ap (λ v. v.place) (value k lt) ∙ fp ∙ p;
+      allows =
+          ap (λ v. v.allows) (value k lt) ∙ fa ∙ a;
+    }
+
+-- one key earlier
+pub firsts_step : (ps : List Principal) (xs : List Ace) (a : Ace) (w : Whom) (b i : ℕ) (old : List First)
+    → drop i xs ≡ a ∷ drop (i + 1) xs → stops b a w ≡ false → IsWhom ps a w → AreFirstFrom ps xs b (i + 1) old
+    → AreFirstFrom ps xs b i (put old a w i b)
+firsts_step ps xs a Nobody b i old is s h later =
+    record {
+      count = later.count;
+      each =
+          λ k lt. speaks_later xs a b i (slice_index_or ps k everyone) (slice_index_or old k no_first) is
+          (rw (h.hit k lt) (none (has_bit a.mask b))) (later.each k lt);
+    }
+  where
+    none : (x : Bool) → (x && false) ≡ false
+    none true = refl
+    none false = refl
+firsts_step ps xs a Everyone b i old is s h later =
+    record {
+      count = later.count;
+      each =
+          λ k lt. speaks_later xs a b i (slice_index_or ps k everyone) (slice_index_or old k no_first) is (rw s refl)
+          (later.each k lt);
+    }
+firsts_step ps xs a (One j) b i old is s h later = go (has_bit a.mask b) refl
+  where
+    new : First
+    new = record { place = i; allows = is_allow a.kind }
+
+    at : has_bit a.mask b ≡ true → (k : ℕ) → k < length ps → (k ≡ j) ⊎ (k ≡ j → ⊥)
+        → IsFirstFrom xs b i (slice_index_or ps k everyone) (slice_index_or (slice_set old j new) k no_first)
+    at e k lt (inl same) =
+        let inside : j < length old = omega (arith, later.count) in
+        let value : slice_index_or (slice_set old j new) k no_first ≡ new =
+        ap (λ v. slice_index_or (slice_set old j new) v no_first) same
+        ∙ get_or-set_same old j new no_first inside in
+        subst (λ v. IsFirstFrom xs b i (slice_index_or ps k everyone) v) (sym value)
+        (first_taken xs a b i (slice_index_or ps k everyone) is (rw (e, h.hit k lt) (eq-eqb k j same)))
+    at e k lt (inr other) =
+        subst (λ v. IsFirstFrom xs b i (slice_index_or ps k everyone) v)
+        (sym (get_or-set_other old j k new no_first other))
+        (speaks_later xs a b i (slice_index_or ps k everyone) (slice_index_or old k no_first) is
+        (rw (e, h.hit k lt) (ne_eqb k j other)) (later.each k lt))
+
+    go : (t : Bool) → has_bit a.mask b ≡ t → AreFirstFrom ps xs b i (put old a (One j) i b)
+    go true e = rw e (record { count = length-set old j new ∙ later.count; each = λ k lt. at e k lt (cases_eq k j) })
+    go false e = rw e (record {
+      count = later.count;
+      each =
+          λ k lt. speaks_later xs a b i (slice_index_or ps k everyone) (slice_index_or old k no_first) is (rw e refl)
+          (later.each k lt);
+    })
+
+-- the loop's step, from place n to the one before
+pub firsts_more : (ps : List Principal) (aces : List AceRef) (d : AceRef) (ws : List Whom) (b e n i : ℕ)
+    (old new : List First) → n ≡ i + 1 → n ≤ e → e ≤ length aces
+    → ((k : ℕ) → k < e → stops_at (list_of aces) ws b k ≡ false) → AreWhoms ps (list_of aces) ws
+    → d ≡ slice_index_or aces i d → new ≡ put old (ace d) (slice_index_or ws i Nobody) i b
+    → AreFirstFrom ps (list_of aces) b n old → AreFirstFrom ps (list_of aces) b i new
+firsts_more ps aces d ws b e n i old new next le within stops all at given later =
+    let is : new ≡ put old (ace (slice_index_or aces i d)) (slice_index_or ws i Nobody) i b =
+    subst (λ v. new ≡ put old (ace v) (slice_index_or ws i Nobody) i b) at given in
+    let lt : i < length (list_of aces) = omega (arith, length-map aces ace) in
+    let same : slice_index_or (list_of aces) i no_ace ≡ ace (slice_index_or aces i d) =
+    get_or-map ace aces i d no_ace (omega arith) in
+    subst (λ v. AreFirstFrom ps (list_of aces) b i v)
+    (sym (is ∙ ap (λ v. put old v (slice_index_or ws i Nobody) i b) (sym same)))
+    (firsts_step ps (list_of aces) (slice_index_or (list_of aces) i no_ace) (slice_index_or ws i Nobody) b i old
+    (drop_more (list_of aces) i no_ace lt) (stops i (omega arith)) (whom_at ps (list_of aces) ws i lt all)
+    (subst (λ v. AreFirstFrom ps (list_of aces) b v old) next later))
+
+-- the number that an ACE names is one of a principal
+pub whom_within : (ps : List Principal) (aces : List AceRef) (ws : List Whom) (i n : ℕ) → i < length aces
+    → n ≡ length ps → AreWhoms ps (list_of aces) ws → NamesBelow (slice_index_or ws i Nobody) n
+whom_within ps aces ws i n lt e all =
+    subst (λ v. NamesBelow (slice_index_or ws i Nobody) v) (sym e)
+    (whom_at ps (list_of aces) ws i (omega (arith, length-map aces ace)) all).within

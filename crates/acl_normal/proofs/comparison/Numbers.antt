@@ -1,0 +1,78 @@
+-- The numbers of principals that stand in order.
+use Rattle.std.proofs.Math.Bool.{or-false}
+use Rattle.std.specs.Prelude.{◌≡◌, ℕ, ◌<◌, Bool, true, false, List, [], ◌∷◌, ◌++◌, refl, length, slice_index_or}
+use Rattle.std.specs.List.{AllByRecursion, AllZip}
+use Rattle.std.specs.declared.cmp.Ordering.TheVariants.{Less}
+use Rattle.std.proofs.Common.{sym, ◌∙◌, ap, subst, arith, suc, zero}
+use Rattle.std.proofs.lemmas.List.{get_or-map}
+use Rattle.std.proofs.lemmas.Bool.{eq-eqb, eqb-true}
+use Rattle.acl_perm.specs.declared.principal.Principal.{Principal as PrincipalRef}
+use Rattle.acl_eval.specs.Column.{takes_part}
+use Rattle.acl_nfs4.specs.Ace.{Ace}
+use Rattle.acl_nfs4.specs.Who.{principal_of}
+use Rattle.acl_normal.proofs.unique.Names.{principal_eq_itself, principal_eq_same}
+use Rattle.acl_normal.proofs.unique.Realised.{same_answers}
+use Rattle.acl_normal.proofs.comparison.SmallSetLemmas.{not_below_itself}
+use Rattle.acl_normal.specs.Keys.{principal_eq}
+use Rattle.acl_normal.specs.internal.Whoms.{IsWhom, is_of}
+use Rattle.acl_normal.specs.internal.SetSearch.{IsRising, principals}
+use Rattle.acl_perm.specs.Order.{principal_cmp}
+use Rattle.acl_perm.specs.Principal.{Principal, everyone, principal}
+use Rattle.acl_normal.specs.SmallSets.{is_mentioning}
+use Rattle.acl_normal.specs.internal.MentionedRows.{HasNumber, whom_of}
+
+-- the principal of a number
+pub principal_at : (names : List PrincipalRef) (q : PrincipalRef) (i : ℕ) → i < length names
+    → slice_index_or (principals names) i everyone ≡ principal (slice_index_or names i q)
+principal_at names q i lt = get_or-map principal names i q everyone lt
+
+-- one below all others
+pub below_at : (p : Principal) (ps : List Principal) (k : ℕ) → k < length ps
+    → AllByRecursion (λ q. principal_cmp p q ≡ Less) ps → principal_cmp p (slice_index_or ps k everyone) ≡ Less
+below_at p [] k lt h = absurd (omega arith)
+below_at p (q ∷ ps) zero lt h = h.0
+below_at p (q ∷ ps) (suc k) lt h = below_at p ps k (omega arith) h.1
+
+-- no two of a rising list are the same
+pub apart : (ps : List Principal) (i k : ℕ) → IsRising ps → i < length ps → k < length ps
+    → slice_index_or ps i everyone ≡ slice_index_or ps k everyone → k ≡ i
+apart [] i k r li lk e = absurd (omega arith)
+apart (p ∷ ps) zero zero r li lk e = refl
+apart (p ∷ ps) zero (suc k) r li lk e =
+    absurd (not_below_itself p (subst (λ v. principal_cmp p v ≡ Less) (sym e) (below_at p ps k (omega arith) r.0)))
+apart (p ∷ ps) (suc i) zero r li lk e =
+    absurd (not_below_itself p (subst (λ v. principal_cmp p v ≡ Less) e (below_at p ps i (omega arith) r.0)))
+apart (p ∷ ps) (suc i) (suc k) r li lk e = ap suc (apart ps i k r.1 (omega arith) (omega arith) e)
+
+-- a key that takes part and isn't of everyone is of a principal just where that is its own
+pub is_of_own : (a : Ace) (p : Principal) → takes_part a ≡ true → principal_eq (principal_of a) everyone ≡ false
+    → is_of a p ≡ principal_eq (principal_of a) p
+is_of_own a p h e = rw (h, e) (or-false (principal_eq (principal_of a) p))
+
+-- whom an ACE names, by a number that is its principal's where it mentions that
+pub whom_is : (ps : List Principal) (a : Ace) (n : ℕ) → IsRising ps
+    → (is_mentioning a ≡ true → HasNumber ps (principal_of a) n) → IsWhom ps a (whom_of a n)
+whom_is ps a n r h = go (takes_part a) refl (principal_eq (principal_of a) everyone) refl
+  where
+    go : (t : Bool) → takes_part a ≡ t → (e : Bool) → principal_eq (principal_of a) everyone ≡ e
+        → IsWhom ps a (whom_of a n)
+    go false t e f = rw t (record { within = tt; hit = λ k lt. rw t refl })
+    go true t true f = rw (t, f) (record { within = tt; hit = λ k lt. rw (t, f) refl })
+    go true t false f =
+        let at = h (rw (t, f) refl) in
+        rw (t, f)
+        (record {
+          within = at.within;
+          hit = λ k lt. is_of_own a (slice_index_or ps k everyone) t f
+              ∙ ap (λ v. principal_eq v (slice_index_or ps k everyone)) at.is
+              ∙ same_answers _ _ (λ g. eq-eqb k n (apart ps n k r at.within lt (principal_eq_same _ _ g)))
+              (λ g. subst (λ v. principal_eq (slice_index_or ps n everyone) (slice_index_or ps v everyone) ≡ true)
+              (sym (eqb-true k n g)) (principal_eq_itself (slice_index_or ps n everyone)));
+        })
+
+-- one more on both sides
+pub zip_push : {A B : Type 0} (R : A → B → Type 0) (xs : List A) (ys : List B) (x : A) (y : B) → AllZip R xs ys
+    → R x y → AllZip R (xs ++ x ∷ []) (ys ++ y ∷ [])
+zip_push R [] [] x y z h = (h, tt)
+zip_push R (v ∷ xs) (w ∷ ys) x y z h = (z.0, zip_push R xs ys x y z.1 h)
+zip_push R _ _ x y z h = absurd z

@@ -1,0 +1,240 @@
+-- What two principals are granted, by what each is granted alone and which comes first.
+use Rattle.std.specs.Prelude.{◌≡◌, ◌≢◌, ℕ, ◌+◌, Bool, true, false, not, ◌&&◌, ◌||◌, cond, nat_lt, List, [], ◌∷◌, ◌++◌, Option, None, refl, ◌⊎◌}
+use Rattle.std.specs.List.{AllByRecursion, AllZip}
+use Rattle.std.proofs.Common.{sym, ◌∙◌, ap, subst, arith, append_assoc, inl, inr}
+use Rattle.std.proofs.lemmas.Bool.{or_cases, or_parts, and_parts, and_from, lt-ltb, le-ltb}
+use Rattle.std.proofs.lemmas.Bool.Decides.{nat_tests}
+use Rattle.acl_eval.specs.Column.{takes_part}
+use Rattle.acl_eval.specs.Grant.{is_allow}
+use Rattle.acl_nfs4.specs.Ace.{Ace}
+use Rattle.acl_nfs4.specs.Who.{principal_of}
+use Rattle.acl_nfs4.proofs.SetFields.{same_bytes}
+use Rattle.acl_normal.proofs.comparison.SetEvaluation.{granted_to-cons}
+use Rattle.acl_normal.proofs.comparison.SetSearchLemmas.{found_right}
+use Rattle.acl_normal.specs.Keys.{principal_eq}
+use Rattle.acl_normal.specs.internal.FirstPlaces.{deciding_place}
+use Rattle.acl_normal.specs.internal.Agreement.{AgreesOnAll, AgreesAt}
+use Rattle.acl_normal.specs.internal.ComparedRows.{SameAlone, inverts_any, inverts, IsComparedRow}
+use Rattle.acl_normal.specs.internal.SetSearch.{FindsFirst, differ, is_granted_to}
+use Rattle.acl_normal.specs.SmallSets.{pairs, partners}
+use Rattle.acl_normal.specs.declared.comparison.rows.Row.{Row}
+use Rattle.acl_perm.specs.Bits.{has_bit}
+use Rattle.acl_perm.specs.Overlap.{may_overlap}
+use Rattle.acl_perm.specs.Principal.{Principal, everyone, user, is_user}
+
+-- one more on both sides leaves the order
+shift : (x y : ℕ) → nat_lt (x + 1) (y + 1) ≡ nat_lt x y
+shift x y = grind (arith, nat_tests)
+
+-- a choice among the same is the same
+cond_same : (l x v y w : Bool) → x ≡ v → y ≡ w → cond l x y ≡ cond l v w
+cond_same true x v y w h i = h
+cond_same false x v y w h i = i
+
+-- nothing is below zero
+not_below_zero : (x : ℕ) → nat_lt x 0 ≡ false
+not_below_zero x = le-ltb x 0 (omega arith)
+
+-- zero is below all others
+zero_below : (x : ℕ) → nat_lt 0 (x + 1) ≡ true
+zero_below x = lt-ltb 0 (x + 1) (omega arith)
+
+-- one ACE before a list of which the claim on pairs holds
+joined : (t e x y k g gp gq : Bool) (hp hq : ℕ) → g ≡ cond (nat_lt hq hp) gq gp
+    → cond (t && (e || (x || (y || false)))) k g
+    ≡ cond (nat_lt (cond (t && (e || (y || false))) 0 (hq + 1)) (cond (t && (e || (x || false))) 0 (hp + 1)))
+    (cond (t && (e || (y || false))) k gq) (cond (t && (e || (x || false))) k gp)
+joined false e x y k g gp gq hp hq h = h ∙ ap (λ l. cond l gq gp) (sym (shift hq hp))
+joined true true x y k g gp gq hp hq h = sym (ap (λ l. cond l k k) (not_below_zero 0))
+joined true false true true k g gp gq hp hq h = sym (ap (λ l. cond l k k) (not_below_zero 0))
+joined true false true false k g gp gq hp hq h = sym (ap (λ l. cond l gq k) (not_below_zero (hq + 1)))
+joined true false false true k g gp gq hp hq h = sym (ap (λ l. cond l k gp) (zero_below hp))
+joined true false false false k g gp gq hp hq h = h ∙ ap (λ l. cond l gq gp) (sym (shift hq hp))
+
+-- what is granted to two is what is granted to the one that comes first
+pub pair_granted : (xs : List Ace) (p q : Principal) (b : ℕ)
+    → is_granted_to xs (p ∷ q ∷ []) b ≡ cond (nat_lt (deciding_place (q ∷ []) b xs) (deciding_place (p ∷ []) b xs))
+    (is_granted_to xs (q ∷ []) b) (is_granted_to xs (p ∷ []) b)
+pair_granted [] p q b = refl
+pair_granted (a ∷ xs) p q b =
+    granted_to-cons a xs (p ∷ q ∷ []) b
+    ∙ joined (has_bit a.mask b && takes_part a) (principal_eq (principal_of a) everyone)
+    (principal_eq (principal_of a) p) (principal_eq (principal_of a) q) (is_allow a.kind)
+    (is_granted_to xs (p ∷ q ∷ []) b) (is_granted_to xs (p ∷ []) b) (is_granted_to xs (q ∷ []) b)
+    (deciding_place (p ∷ []) b xs) (deciding_place (q ∷ []) b xs) (pair_granted xs p q b)
+    ∙ sym (cond_same (nat_lt (deciding_place (q ∷ []) b (a ∷ xs)) (deciding_place (p ∷ []) b (a ∷ xs))) _ _ _ _
+    (granted_to-cons a xs (q ∷ []) b) (granted_to-cons a xs (p ∷ []) b))
+
+-- two users that may overlap are one
+both_users : (p q : Principal) → is_user p ≡ true → is_user q ≡ true → may_overlap p q ≡ true → p ≡ q
+both_users (user a) (user b) h i o = ap user (same_bytes a b o)
+both_users (user a) _ h i o = cc
+both_users _ q h i o = cc
+
+-- of two that may not, both are users
+not_both_users : (p q : Principal) → (is_user p && is_user q) ≡ false → may_overlap p q ≡ true
+not_both_users (user a) (user b) h = cc
+not_both_users (user a) _ h = refl
+not_both_users _ q h = refl
+
+-- four values, of which two agree, and the orders
+same_choice : (l m vp vq : Bool) → (differ vp vq && differ l m) ≡ false → cond l vq vp ≡ cond m vq vp
+same_choice true true vp vq h = refl
+same_choice false false vp vq h = refl
+same_choice true false true true h = refl
+same_choice true false false false h = refl
+same_choice true false true false h = cc
+same_choice true false false true h = cc
+same_choice false true true true h = refl
+same_choice false true false false h = refl
+same_choice false true true false h = cc
+same_choice false true false true h = cc
+
+-- and where they don't agree
+other_choice : (l m vp vq : Bool) → (differ vp vq && differ l m) ≡ true → cond l vq vp ≡ cond m vq vp → ⊥
+other_choice true true true true h e = cc
+other_choice true true true false h e = cc
+other_choice true true false true h e = cc
+other_choice true true false false h e = cc
+other_choice false false true true h e = cc
+other_choice false false true false h e = cc
+other_choice false false false true h e = cc
+other_choice false false false false h e = cc
+other_choice true false true true h e = cc
+other_choice true false false false h e = cc
+other_choice true false true false h e = cc
+other_choice true false false true h e = cc
+other_choice false true true true h e = cc
+other_choice false true false false h e = cc
+other_choice false true true false h e = cc
+other_choice false true false true h e = cc
+
+-- what the rows say of a pair, in both lists
+pub here_is : (xs ys : List Ace) (b : ℕ) (p q : Principal) (r s : Row) → IsComparedRow xs ys b p r
+    → IsComparedRow xs ys b q s
+    → is_granted_to xs (p ∷ q ∷ []) b ≡ cond (nat_lt s.here.place r.here.place) s.here.allows r.here.allows
+here_is xs ys b p q r s h i = pair_granted xs p q b
+    ∙ rw (← h.here.place, ← i.here.place, ← h.here.allows, ← i.here.allows) refl
+
+-- and in the second list
+pub there_is : (xs ys : List Ace) (b : ℕ) (p q : Principal) (r s : Row) → IsComparedRow xs ys b p r
+    → IsComparedRow xs ys b q s
+    → SameAlone r → SameAlone s → is_granted_to ys (p ∷ q ∷ []) b
+    ≡ cond (nat_lt s.there.place r.there.place) s.here.allows r.here.allows
+there_is xs ys b p q r s h i u v =
+    pair_granted ys p q b ∙ rw (← h.there.place, ← i.there.place, ← h.there.allows, ← i.there.allows, ← u, ← v) refl
+
+-- a pair that is not inverted is granted alike
+pub not_inverted : (xs ys : List Ace) (b : ℕ) (p q : Principal) (r s : Row) → IsComparedRow xs ys b p r
+    → IsComparedRow xs ys b q s
+    → SameAlone r → SameAlone s → inverts r s ≡ false → may_overlap p q ≡ true
+    → is_granted_to xs (p ∷ q ∷ []) b ≡ is_granted_to ys (p ∷ q ∷ []) b
+not_inverted xs ys b p q r s h i u v e o = here_is xs ys b p q r s h i ∙ go (r.user && s.user) refl
+    ∙ sym (there_is xs ys b p q r s h i u v)
+  where
+    one_value : (l m x y : Bool) → x ≡ y → cond l x y ≡ cond m x y
+    one_value true true x y k = refl
+    one_value true false x y k = k
+    one_value false true x y k = sym k
+    one_value false false x y k = refl
+
+    go : (t : Bool) → (r.user && s.user) ≡ t
+        → cond (nat_lt s.here.place r.here.place) s.here.allows r.here.allows
+        ≡ cond (nat_lt s.there.place r.there.place) s.here.allows r.here.allows
+    go true k =
+        let users = and_parts r.user s.user k in
+        let same : p ≡ q = both_users p q (sym h.user ∙ users.0) (sym i.user ∙ users.1) o in
+        one_value _ _ _ _ (i.here.allows ∙ ap (λ x. is_granted_to xs (x ∷ []) b) (sym same) ∙ sym h.here.allows)
+    go false k = same_choice (nat_lt s.here.place r.here.place) (nat_lt s.there.place r.there.place) r.here.allows
+        s.here.allows (sym (ap (λ t. (not t && differ r.here.allows s.here.allows) && differ
+        (nat_lt s.here.place r.here.place) (nat_lt s.there.place r.there.place)) k) ∙ e)
+
+-- one that is inverted may overlap, and is not
+pub inverted : (xs ys : List Ace) (b : ℕ) (p q : Principal) (r s : Row) → IsComparedRow xs ys b p r
+    → IsComparedRow xs ys b q s
+    → SameAlone r → SameAlone s → inverts r s ≡ true
+    → (may_overlap p q ≡ true) × (is_granted_to xs (p ∷ q ∷ []) b ≢ is_granted_to ys (p ∷ q ∷ []) b)
+inverted xs ys b p q r s h i u v e =
+    let outer = and_parts (not (r.user && s.user) && differ r.here.allows s.here.allows)
+    (differ (nat_lt s.here.place r.here.place) (nat_lt s.there.place r.there.place)) e in
+    let inner = and_parts (not (r.user && s.user)) (differ r.here.allows s.here.allows) outer.0 in (
+      not_both_users p q (ap2_and (sym h.user) (sym i.user) ∙ not_true (r.user && s.user) inner.0),
+      λ same. other_choice (nat_lt s.here.place r.here.place) (nat_lt s.there.place r.there.place) r.here.allows
+          s.here.allows (and_from (differ r.here.allows s.here.allows)
+          (differ (nat_lt s.here.place r.here.place) (nat_lt s.there.place r.there.place)) inner.1 outer.1)
+          (sym (here_is xs ys b p q r s h i) ∙ same ∙ there_is xs ys b p q r s h i u v),
+    )
+  where
+    ap2_and : {x y z w : Bool} → x ≡ z → y ≡ w → (x && y) ≡ (z && w)
+    ap2_and {x} {y} {z} {w} k l = rw (k, l) refl
+
+    not_true : (t : Bool) → not t ≡ true → t ≡ false
+    not_true true k = cc
+    not_true false k = refl
+
+-- a principal agrees with all the others on the bit just where its row inverts none
+pub agrees_from_rows : (xs ys : List Ace) (b : ℕ) (p : Principal) (r : Row) (ps : List Principal) (rows : List Row)
+    → IsComparedRow xs ys b p r → SameAlone r → AllZip (IsComparedRow xs ys b) ps rows → AllByRecursion SameAlone rows
+    → inverts_any r rows ≡ false → AgreesAt xs ys ps b p
+agrees_from_rows xs ys b p r [] [] h u z all e = tt
+agrees_from_rows xs ys b p r (q ∷ ps) (s ∷ rows) h u z all e =
+    let parts = or_parts (inverts r s) (inverts_any r rows) e in
+    (not_inverted xs ys b p q r s h z.0 u all.0 parts.0, agrees_from_rows xs ys b p r ps rows h u z.1 all.1 parts.1)
+agrees_from_rows xs ys b p r _ _ h u z all e = absurd z
+
+-- and doesn't where it inverts one
+pub not_agrees_from_rows : (xs ys : List Ace) (b : ℕ) (p : Principal) (r : Row) (ps : List Principal)
+    (rows : List Row) → IsComparedRow xs ys b p r → SameAlone r → AllZip (IsComparedRow xs ys b) ps rows
+    → AllByRecursion SameAlone rows → inverts_any r rows ≡ true → AgreesAt xs ys ps b p → ⊥
+not_agrees_from_rows xs ys b p r [] [] h u z all e a = cc
+not_agrees_from_rows xs ys b p r (q ∷ ps) (s ∷ rows) h u z all e a =
+    go (or_cases (inverts r s) (inverts_any r rows) e)
+    (λ k. not_agrees_from_rows xs ys b p r ps rows h u z.1 all.1 k a.1)
+  where
+    go : (inverts r s ≡ true) ⊎ (inverts_any r rows ≡ true) → (inverts_any r rows ≡ true → ⊥) → ⊥
+    go (inl k) later = let d = inverted xs ys b p q r s h z.0 u all.0 k in d.1 (a.0 d.0)
+    go (inr k) later = later k
+not_agrees_from_rows xs ys b p r _ _ h u z all e a = absurd z
+
+-- all pairs agree where each principal agrees with all
+pub partners_agree : (xs ys : List Ace) (p : Principal) (ps : List Principal) → AgreesOnAll xs ys ps p
+    → FindsFirst xs ys (partners p ps) None
+partners_agree xs ys p [] h = refl
+partners_agree xs ys p (q ∷ ps) h = go (may_overlap p q) refl (partners_agree xs ys p ps h.1)
+  where
+    go : (t : Bool) → may_overlap p q ≡ t → FindsFirst xs ys (partners p ps) None
+        → FindsFirst xs ys (partners p (q ∷ ps)) None
+    go true e ih = rw e (inl (h.0 e, ih))
+    go false e ih = rw e ih
+
+-- who agrees with all agrees with the rest
+pub agrees_rest : (xs ys : List Ace) (ps rest : List Principal) (p : Principal) → AgreesOnAll xs ys (ps ++ rest) p
+    → AgreesOnAll xs ys rest p
+agrees_rest xs ys [] rest p h = h
+agrees_rest xs ys (q ∷ ps) rest p h = agrees_rest xs ys ps rest p h.1
+
+-- if each of the first principals agrees with all, the pairs of the rest decide
+pub pairs_after : (xs ys : List Ace) (whole before rest done : List Principal) (r : Option (List Principal))
+    → whole ≡ done ++ (before ++ rest) → AllByRecursion (AgreesOnAll xs ys whole) before
+    → FindsFirst xs ys (pairs rest) r
+    → FindsFirst xs ys (pairs (before ++ rest)) r
+pairs_after xs ys whole [] rest done r is h f = f
+pairs_after xs ys whole (p ∷ before) rest done r is h f =
+    let longer : whole ≡ (done ++ p ∷ []) ++ (before ++ rest) =
+    is ∙ sym (append_assoc done (p ∷ []) (before ++ rest)) in
+    let tail : AgreesOnAll xs ys (before ++ rest) p =
+    agrees_rest xs ys (done ++ p ∷ []) (before ++ rest) p (subst (λ v. AgreesOnAll xs ys v p) longer h.0) in
+    found_right xs ys (partners p (before ++ rest)) (pairs (before ++ rest)) r
+    (partners_agree xs ys p (before ++ rest) tail)
+    (pairs_after xs ys whole before rest (done ++ p ∷ []) r longer h.1 f)
+
+-- where all agree with all, no pair differs
+pub no_pairs : (xs ys : List Ace) (whole rest done : List Principal) → whole ≡ done ++ rest
+    → AllByRecursion (AgreesOnAll xs ys whole) rest → FindsFirst xs ys (pairs rest) None
+no_pairs xs ys whole [] done is h = refl
+no_pairs xs ys whole (p ∷ rest) done is h =
+    let longer : whole ≡ (done ++ p ∷ []) ++ rest = is ∙ sym (append_assoc done (p ∷ []) rest) in
+    let tail : AgreesOnAll xs ys rest p =
+    agrees_rest xs ys (done ++ p ∷ []) rest p (subst (λ v. AgreesOnAll xs ys v p) longer h.0) in
+    found_right xs ys (partners p rest) (pairs rest) None (partners_agree xs ys p rest tail)
+    (no_pairs xs ys whole rest (done ++ p ∷ []) longer h.1)

@@ -1,0 +1,276 @@
+-- The least number of a principal at which two lists grant otherwise, bit by bit.
+use Rattle.std.specs.Prelude.{◌≡◌, ℕ, ◌<◌, ◌≤◌, ◌+◌, Bool, true, false, List, [], ◌∷◌, ◌++◌, length, take, drop, slice_index_or, ◌⊎◌}
+use Rattle.std.specs.List.{AllByRecursion, AllZip}
+use Rattle.std.proofs.Common.{sym, ◌∙◌, ap, subst, arith, suc, zero, inl, inr, lit<, eqb}
+use Rattle.std.proofs.lemmas.List.{take_more, map-append, get_or_read, length-map}
+use Rattle.std.proofs.lemmas.Bool.{cases_lt, cases_eq, false≢true}
+use Rattle.std.proofs.lemmas.Nat.Bits.{bit_at_above}
+use Rattle.acl_perm.specs.declared.principal.Principal.{Principal as PrincipalRef}
+use Rattle.acl_nfs4.specs.Ace.{Ace}
+use Rattle.acl_nfs4.specs.internal.Reading.{read}
+use Rattle.acl_normal.proofs.comparison.FirstPlaceLemmas.{zip_length}
+use Rattle.acl_normal.proofs.comparison.Numbers.{principal_at, zip_push}
+use Rattle.acl_normal.proofs.comparison.PairGrants.{agrees_from_rows, inverted, not_agrees_from_rows, not_inverted}
+use Rattle.acl_normal.proofs.comparison.SetEvaluation.{unused_denied}
+use Rattle.acl_normal.specs.internal.FirstPlaces.{AreFirstFrom, IsFirst, IsFirstFrom, no_first}
+use Rattle.acl_normal.specs.internal.Agreement.{AlikeWith, AlikeWithAll, AlikeAlone, IsLeast, OnAll, AgreesAt}
+use Rattle.acl_normal.specs.internal.ComparedRows.{SameAlone, no_row, inverts_any, inverts, AreComparedRows, IsComparedRow}
+use Rattle.acl_normal.specs.internal.SetSearch.{AreRightsOf, is_granted_to, principals}
+use Rattle.acl_normal.specs.declared.comparison.rows.First.{First}
+use Rattle.acl_normal.specs.declared.comparison.rows.Row.{Row}
+use Rattle.acl_perm.specs.Bits.{all_rights, has_bit}
+use Rattle.acl_perm.specs.Principal.{Principal, everyone, principal, is_user}
+use Rattle.acl_normal.proofs.reduce.Reducing.{rights_below}
+
+-- what all ACEs say first
+pub first_of_all : (xs : List Ace) (b : ℕ) (p : Principal) (f : First) → IsFirstFrom xs b 0 p f → IsFirst xs b p f
+first_of_all xs b p f h = let place = h.place in record { place = omega arith; allows = h.allows }
+
+-- one more row
+pub rows_more : (names : List PrincipalRef) (q : PrincipalRef) (xs ys : List Ace) (b i : ℕ)
+    (heres theres : List First) (h t : First) (u : Bool) (old new : List Row) → i < length names
+    → h ≡ slice_index_or heres i h → t ≡ slice_index_or theres i t
+    → u ≡ is_user (principal (slice_index_or names i q)) → AreFirstFrom (principals names) xs b 0 heres
+    → AreFirstFrom (principals names) ys b 0 theres → new ≡ old ++ record { here = h; there = t; user = u } ∷ []
+    → AreComparedRows (principals (take i names)) xs ys b old
+    → AreComparedRows (principals (take (i + 1) names)) xs ys b new
+rows_more names q xs ys b i heres theres h t u old new lt hi ti ui hs ts is all =
+    let inside : i < length (principals names) = omega (arith, length-map names principal) in
+    let s : Principal = slice_index_or (principals names) i everyone in
+    let here : h ≡ slice_index_or heres i no_first = get_or_read heres i h (omega (arith, hs.count)) hi no_first in
+    let there : t ≡ slice_index_or theres i no_first = get_or_read theres i t (omega (arith, ts.count)) ti no_first in
+    let row : IsComparedRow xs ys b s (record { here = h; there = t; user = u }) = record {
+      here = subst (λ v. IsFirst xs b s v) (sym here)
+          (first_of_all xs b s (slice_index_or heres i no_first) (hs.each i inside));
+      there = subst (λ v. IsFirst ys b s v) (sym there)
+          (first_of_all ys b s (slice_index_or theres i no_first) (ts.each i inside));
+      user = ui ∙ ap is_user (sym (principal_at names q i lt));
+    } in
+    let longer : principals (take (i + 1) names) ≡ principals (take i names) ++ s ∷ [] =
+    ap principals (take_more names i q lt) ∙ map-append principal (take i names) (slice_index_or names i q ∷ [])
+    ∙ ap (λ v. principals (take i names) ++ v ∷ []) (sym (principal_at names q i lt)) in
+    record {
+      each = subst (λ v. AllZip (IsComparedRow xs ys b) v new) (sym longer)
+          (subst (λ v. AllZip (IsComparedRow xs ys b) (principals (take i names) ++ s ∷ []) v) (sym is)
+          (zip_push (IsComparedRow xs ys b) (principals (take i names)) old s (record { here = h; there = t; user = u })
+          all.each row));
+    }
+
+-- the row of a number
+pub row_at : (ps : List Principal) (xs ys : List Ace) (b k : ℕ) (rows : List Row) → k < length ps
+    → AllZip (IsComparedRow xs ys b) ps rows
+    → IsComparedRow xs ys b (slice_index_or ps k everyone) (slice_index_or rows k no_row)
+row_at [] xs ys b k [] lt z = absurd (omega arith)
+row_at (p ∷ ps) xs ys b zero (r ∷ rows) lt z = z.0
+row_at (p ∷ ps) xs ys b (suc k) (r ∷ rows) lt z = row_at ps xs ys b k rows (omega arith) z.1
+row_at _ xs ys b k _ lt z = absurd z
+
+-- there are as many rows as principals
+pub rows_length : (ps : List Principal) (xs ys : List Ace) (b : ℕ) (rows : List Row) → AreComparedRows ps xs ys b rows
+    → length rows ≡ length ps
+rows_length ps xs ys b rows h = zip_length (IsComparedRow xs ys b) ps rows h.each
+
+-- a limit within the principals is within their rows
+pub rows_limit : (ps : List Principal) (xs ys : List Ace) (b : ℕ) (rows shown : List Row) (limit : ℕ)
+    → AreComparedRows ps xs ys b rows → shown ≡ rows → limit ≤ length ps → limit ≤ length shown
+rows_limit ps xs ys b rows shown limit h is within =
+    omega (arith, rows_length ps xs ys b rows h, ap length is, within)
+
+-- the least number so far, after some bits
+pub record Least (Q : ℕ → ℕ → Type 0) (n bit least : ℕ) : Type 0 where
+  pub within : least ≤ n
+  pub before : (k : ℕ) → k < least → (b : ℕ) → b < bit → has_bit all_rights b ≡ true → Q b k
+  pub at : least < n → OnAll Q least → ⊥
+
+-- before the first bit nothing is excluded
+pub least_start : (Q : ℕ → ℕ → Type 0) (n least : ℕ) → least ≡ n → Least Q n 0 least
+least_start Q n least e = record
+    { within = omega arith; before = λ k l b below has. absurd (omega arith); at = λ l h. absurd (omega arith) }
+
+-- one more bit, at which the least number may fall
+pub least_step : (Q : ℕ → ℕ → Type 0) (n bit old new : ℕ) → has_bit all_rights bit ≡ true → new ≤ old
+    → ((k : ℕ) → k < new → Q bit k) → (new < old → Q bit new → ⊥) → Least Q n bit old → Least Q n (bit + 1) new
+least_step Q n bit old new has le each stop h = record {
+  within = omega (arith, h.within);
+  before = λ k l b below has_b. at_bit k l b has_b below (cases_eq b bit);
+  at = λ l all. at_end l all (cases_lt new old);
+}
+  where
+    at_bit : (k : ℕ) → k < new → (b : ℕ) → has_bit all_rights b ≡ true → b < bit + 1 → (b ≡ bit) ⊎ (b ≡ bit → ⊥) → Q b k
+    at_bit k l b has_b below (inl e) = subst (λ v. Q v k) (sym e) (each k l)
+    at_bit k l b has_b below (inr n) = h.before k (omega arith) b (omega arith) has_b
+
+    at_end : new < n → OnAll Q new → (new < old) ⊎ (old ≤ new) → ⊥
+    at_end l all (inl less) = stop less (all bit has)
+    at_end l all (inr same) = let e : new ≡ old = omega arith in h.at (omega arith) (subst (λ v. OnAll Q v) e all)
+
+-- a bit of which Q holds below the least changes nothing
+pub least_skip : (Q : ℕ → ℕ → Type 0) (n bit least : ℕ) → ((k : ℕ) → Q bit k) → Least Q n bit least
+    → Least Q n (bit + 1) least
+least_skip Q n bit least all h =
+    record { within = h.within; before = λ k l b below has_b. at_bit k l b has_b below (cases_eq b bit); at = h.at }
+  where
+    at_bit : (k : ℕ) → k < least → (b : ℕ) → has_bit all_rights b ≡ true → b < bit + 1 → (b ≡ bit) ⊎ (b ≡ bit → ⊥)
+        → Q b k
+    at_bit k l b has_b below (inl e) = subst (λ v. Q v k) (sym e) (all k)
+    at_bit k l b has_b below (inr n) = h.before k l b (omega arith) has_b
+
+-- after the last bit the least number is known
+pub least_done : (Q : ℕ → ℕ → Type 0) (n bit least : ℕ) → 21 ≤ bit → Least Q n bit least → IsLeast (OnAll Q) n least
+least_done Q n bit least le h =
+    record {
+      within = h.within;
+      before = λ k l b has. h.before k l b (omega (arith, rights_below b has)) has;
+      at = h.at;
+    }
+
+-- single principals
+pub alone_from_row : (ps : List Principal) (xs ys : List Ace) (b k : ℕ) (rows : List Row) → k < length ps
+    → AreComparedRows ps xs ys b rows → SameAlone (slice_index_or rows k no_row) → AlikeAlone xs ys ps b k
+alone_from_row ps xs ys b k rows lt h e = let r = row_at ps xs ys b k rows lt h.each in
+    sym r.here.allows ∙ e ∙ r.there.allows
+
+-- and where they say otherwise, not
+pub not_alone_from_row : (ps : List Principal) (xs ys : List Ace) (b k : ℕ) (rows : List Row) → k < length ps
+    → AreComparedRows ps xs ys b rows → (SameAlone (slice_index_or rows k no_row) → ⊥) → AlikeAlone xs ys ps b k → ⊥
+not_alone_from_row ps xs ys b k rows lt h n e = let r = row_at ps xs ys b k rows lt h.each in
+    n (r.here.allows ∙ e ∙ sym r.there.allows)
+
+-- one more bit of the search among single principals
+pub single_step : (ps : List Principal) (xs ys : List Ace) (bit old new : ℕ) (rows : List Row)
+    → AreComparedRows ps xs ys bit rows → has_bit all_rights bit ≡ true → new ≤ old
+    → ((k : ℕ) → k < new → SameAlone (slice_index_or rows k no_row))
+    → (new < old → SameAlone (slice_index_or rows new no_row) → ⊥) → Least (AlikeAlone xs ys ps) (length ps) bit old
+    → Least (AlikeAlone xs ys ps) (length ps) (bit + 1) new
+single_step ps xs ys bit old new rows h has le each stop l =
+    least_step (AlikeAlone xs ys ps) (length ps) bit old new has le
+    (λ k lt. alone_from_row ps xs ys bit k rows (omega (arith, l.within)) h (each k lt))
+    (λ lt e. not_alone_from_row ps xs ys bit new rows (omega (arith, l.within)) h (stop lt) e) l
+
+-- a principal and all others
+pub all_alone : (ps : List Principal) (xs ys : List Ace) (b : ℕ) (rows : List Row)
+    → AllZip (IsComparedRow xs ys b) ps rows
+    → ((k : ℕ) → k < length ps → AlikeAlone xs ys ps b k) → AllByRecursion SameAlone rows
+all_alone [] xs ys b [] z h = tt
+all_alone (p ∷ ps) xs ys b (r ∷ rows) z h = (
+  z.0.here.allows ∙ h 0 (omega arith)
+      ∙ sym z.0.there.allows,
+  all_alone ps xs ys b rows z.1 (λ k lt. h (suc k) (omega arith)),
+)
+all_alone _ xs ys b _ z h = absurd z
+
+-- what holds of all rows holds of one
+pub same_at : (rows : List Row) (k : ℕ) → k < length rows → AllByRecursion SameAlone rows
+    → SameAlone (slice_index_or rows k no_row)
+same_at [] k lt h = absurd (omega arith)
+same_at (r ∷ rows) zero lt h = h.0
+same_at (r ∷ rows) (suc k) lt h = same_at rows k (omega arith) h.1
+
+-- one more bit of the search for the lesser member of a pair
+pub member_step : (ps : List Principal) (xs ys : List Ace) (bit old new : ℕ) (rows : List Row)
+    → AreComparedRows ps xs ys bit rows → ((k : ℕ) → k < length ps → OnAll (AlikeAlone xs ys ps) k)
+    → has_bit all_rights bit ≡ true → new ≤ old
+    → ((k : ℕ) → k < new → inverts_any (slice_index_or rows k no_row) rows ≡ false)
+    → (new < old → inverts_any (slice_index_or rows new no_row) rows ≡ true)
+    → Least (AlikeWithAll xs ys ps) (length ps) bit old → Least (AlikeWithAll xs ys ps) (length ps) (bit + 1) new
+member_step ps xs ys bit old new rows h alone has le each stop l =
+    let same : AllByRecursion SameAlone rows = all_alone ps xs ys bit rows h.each (λ k lt. alone k lt bit has) in
+    let count : length rows ≡ length ps = rows_length ps xs ys bit rows h in
+    least_step (AlikeWithAll xs ys ps) (length ps) bit old new has le
+    (λ k lt. agrees_from_rows xs ys bit (slice_index_or ps k everyone) (slice_index_or rows k no_row) ps rows
+    (row_at ps xs ys bit k rows (omega (arith, l.within)) h.each) (same_at rows k (omega (arith, l.within)) same)
+    h.each same (each k lt))
+    (λ lt e. not_agrees_from_rows xs ys bit (slice_index_or ps new everyone) (slice_index_or rows new no_row) ps rows
+    (row_at ps xs ys bit new rows (omega (arith, l.within)) h.each)
+    (same_at rows new (omega (arith, l.within)) same) h.each same (stop lt) e) l
+
+-- a principal and one of the others
+pub zip_drop : {A B : Type 0} (R : A → B → Type 0) (n : ℕ) (xs : List A) (ys : List B) → AllZip R xs ys
+    → AllZip R (drop n xs) (drop n ys)
+zip_drop R zero xs ys z = z
+zip_drop R (suc n) [] [] z = z
+zip_drop R (suc n) (x ∷ xs) (y ∷ ys) z = zip_drop R n xs ys z.1
+zip_drop R (suc n) _ _ z = absurd z
+
+-- one more bit of the search for its partner
+pub partner_step : (p : Principal) (r : Row) (ps : List Principal) (xs ys : List Ace) (bit old new : ℕ)
+    (rows : List Row) → IsComparedRow xs ys bit p r → SameAlone r → AreComparedRows ps xs ys bit rows
+    → AllByRecursion SameAlone rows
+    → has_bit all_rights bit ≡ true → new ≤ old
+    → ((k : ℕ) → k < new → inverts r (slice_index_or rows k no_row) ≡ false)
+    → (new < old → inverts r (slice_index_or rows new no_row) ≡ true)
+    → Least (AlikeWith xs ys p ps) (length ps) bit old → Least (AlikeWith xs ys p ps) (length ps) (bit + 1) new
+partner_step p r ps xs ys bit old new rows hp sp h same has le each stop l =
+    let count : length rows ≡ length ps = rows_length ps xs ys bit rows h in
+    least_step (AlikeWith xs ys p ps) (length ps) bit old new has le
+    (λ k lt o. not_inverted xs ys bit p (slice_index_or ps k everyone) r (slice_index_or rows k no_row) hp
+    (row_at ps xs ys bit k rows (omega (arith, l.within)) h.each) sp
+    (same_at rows k (omega (arith, l.within)) same) (each k lt) o)
+    (λ lt e. let d = inverted xs ys bit p (slice_index_or ps new everyone) r (slice_index_or rows new no_row) hp
+    (row_at ps xs ys bit new rows (omega (arith, l.within)) h.each) sp
+    (same_at rows new (omega (arith, l.within)) same) (stop lt) in d.1 (e d.0)) l
+
+-- what holds of all holds of the rest
+pub all_drop : {X : Type 0} (P : X → Type 0) (n : ℕ) (xs : List X) → AllByRecursion P xs → AllByRecursion P (drop n xs)
+all_drop P zero xs h = h
+all_drop P (suc n) [] h = h
+all_drop P (suc n) (x ∷ xs) h = all_drop P n xs h.1
+
+-- there are as many later rows as later principals
+pub others_length : (ps : List Principal) (xs ys : List Ace) (b at : ℕ) (items slice others : List Row)
+    → AreComparedRows ps xs ys b items → slice ≡ items → others ≡ drop (at + 1) slice
+    → length others ≡ length (drop (at + 1) ps)
+others_length ps xs ys b at items slice others h is split = ap length (split ∙ ap (drop (at + 1)) is)
+    ∙ zip_length (IsComparedRow xs ys b) (drop (at + 1) ps) (drop (at + 1) items)
+    (zip_drop (IsComparedRow xs ys b) (at + 1) ps items h.each)
+
+-- the same, as the code holds the rows
+pub partner_loop : (ps : List Principal) (xs ys : List Ace) (bit at old new : ℕ) (row : Row)
+    (items slice others : List Row) → at < length ps → AreComparedRows ps xs ys bit items → slice ≡ items
+    → others ≡ drop (at + 1) slice → row ≡ slice_index_or items at row
+    → ((k : ℕ) → k < length ps → OnAll (AlikeAlone xs ys ps) k) → has_bit all_rights bit ≡ true → new ≤ old
+    → ((k : ℕ) → k < new → inverts row (slice_index_or others k no_row) ≡ false)
+    → (new < old → inverts row (slice_index_or others new no_row) ≡ true)
+    → Least (AlikeWith xs ys (slice_index_or ps at everyone) (drop (at + 1) ps)) (length (drop (at + 1) ps)) bit old
+    → Least (AlikeWith xs ys (slice_index_or ps at everyone) (drop (at + 1) ps)) (length (drop (at + 1) ps))
+    (bit + 1) new
+partner_loop ps xs ys bit at old new row items slice others lt h is split read alone has le each stop l =
+    let count : length items ≡ length ps = rows_length ps xs ys bit items h in
+    let same : AllByRecursion SameAlone items = all_alone ps xs ys bit items h.each (λ k lk. alone k lk bit has) in
+    let own : row ≡ slice_index_or items at no_row = get_or_read items at row (omega arith) read no_row in
+    let rest : others ≡ drop (at + 1) items = split ∙ ap (drop (at + 1)) is in
+    partner_step (slice_index_or ps at everyone) row (drop (at + 1) ps) xs ys bit old new others
+    (subst (λ v. IsComparedRow xs ys bit (slice_index_or ps at everyone) v) (sym own)
+    (row_at ps xs ys bit at items lt h.each))
+    (subst (λ v. SameAlone v) (sym own) (same_at items at (omega arith) same))
+    (record {
+      each = subst (λ v. AllZip (IsComparedRow xs ys bit) (drop (at + 1) ps) v) (sym rest)
+          (zip_drop (IsComparedRow xs ys bit) (at + 1) ps items h.each);
+    })
+    (subst (λ v. AllByRecursion SameAlone v) (sym rest) (all_drop SameAlone (at + 1) items same))
+    has le each stop l
+
+-- what no ACE of either list has is denied by both
+pub unused_alike : (xs ys : List Ace) (rights bit : ℕ) (set : List Principal) → AreRightsOf xs rights
+    → AreRightsOf ys rights → has_bit rights bit ≡ false → is_granted_to xs set bit ≡ is_granted_to ys set bit
+unused_alike xs ys rights bit set h i absent = unused_denied xs set rights bit h absent
+    ∙ sym (unused_denied ys set rights bit i absent)
+
+-- and so the lists agree for each principal with all
+pub unused_agree : (xs ys : List Ace) (rights bit : ℕ) (p : Principal) (ps : List Principal) → AreRightsOf xs rights
+    → AreRightsOf ys rights → has_bit rights bit ≡ false → AgreesAt xs ys ps bit p
+unused_agree xs ys rights bit p [] h i absent = tt
+unused_agree xs ys rights bit p (q ∷ ps) h i absent =
+    (λ _. unused_alike xs ys rights bit (p ∷ q ∷ []) h i absent, unused_agree xs ys rights bit p ps h i absent)
+
+-- so the lists grant alike to each principal alone
+pub unused_alone : (xs ys : List Ace) (ps : List Principal) (rights bit : ℕ) → AreRightsOf xs rights
+    → AreRightsOf ys rights → has_bit rights bit ≡ false → (k : ℕ) → AlikeAlone xs ys ps bit k
+unused_alone xs ys ps rights bit h i absent k =
+    unused_alike xs ys rights bit (slice_index_or ps k everyone ∷ []) h i absent
+
+-- and to each with another
+pub unused_with : (xs ys : List Ace) (p : Principal) (ps : List Principal) (rights bit : ℕ) → AreRightsOf xs rights
+    → AreRightsOf ys rights → has_bit rights bit ≡ false → (k : ℕ) → AlikeWith xs ys p ps bit k
+unused_with xs ys p ps rights bit h i absent k _ =
+    unused_alike xs ys rights bit (p ∷ slice_index_or ps k everyone ∷ []) h i absent

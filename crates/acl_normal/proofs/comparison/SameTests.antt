@@ -1,0 +1,13 @@
+-- The test whether two principals are the same.
+use Rattle.std.specs.Prelude.{◌≡◌, ◌↔◌, Bool, true, IsTrue}
+use Rattle.std.proofs.Common.{subst}
+use Rattle.acl_normal.proofs.unique.Names.{principal_eq_itself, principal_eq_same}
+use Rattle.acl_normal.proofs.unique.Realised.{same_answers}
+use Rattle.acl_normal.specs.Keys.{principal_eq}
+use Rattle.acl_perm.specs.Principal.{Principal}
+
+-- an answer that is true exactly at the same principals is the test of them
+pub same_test : (p q : Principal) (answer : Bool) → IsTrue answer ↔ (p ≡ q) → answer ≡ principal_eq p q
+same_test p q answer h = same_answers answer (principal_eq p q)
+    (λ e. subst (λ v. principal_eq p v ≡ true) (h.0 e) (principal_eq_itself p))
+    (λ e. h.1 (principal_eq_same p q e))

@@ -1,0 +1,289 @@
+-- What a list grants to a small set of principals, as the code finds it: for all rights at once.
+use Rattle.std.specs.Prelude.{◌==◌, ◌≡◌, ◌≢◌, ◌↔◌, ℕ, ◌<◌, ◌≤◌, ◌+◌, ◌^◌, Bool, true, false, not, ◌&&◌, ◌||◌, cond, IsTrue, List, ◌∷◌, refl, drop, length, slice_index_or}
+use Rattle.std.specs.Bool.{OnFalse}
+use Rattle.std.specs.Int.{bit_at, trailing_zeros, w32}
+use Rattle.std.proofs.Common.{sym, ◌∙◌, ap, subst, arith}
+use Rattle.std.proofs.lemmas.Nat.Bits.{bit_at-trailing_zeros}
+use Rattle.std.proofs.lemmas.Bool.{eq-eqb, false≢true, false_from_ne_true, ne_eqb, or_parts}
+use Rattle.std.proofs.lemmas.List.{at_drop_more, drop_all}
+use Rattle.acl_eval.specs.Column.{column, takes_part, verdict}
+use Rattle.acl_eval.specs.Grant.{is_allow}
+use Rattle.acl_nfs4.specs.Ace.{Ace, ace}
+use Rattle.acl_nfs4.specs.Who.{principal_of}
+use Rattle.acl_nfs4.specs.declared.ace.AceRef.{AceRef}
+use Rattle.acl_normal.proofs.unique.Bits.{has_power}
+use Rattle.acl_eval.proofs.Same.{only_bit}
+use Rattle.acl_normal.proofs.unique.Realised.{same_answers}
+use Rattle.acl_normal.proofs.unique.SameKeys.{alike}
+use Rattle.acl_normal.specs.internal.Passes.{list_of}
+use Rattle.acl_normal.specs.internal.SetSearch.{AreDiffering, AreGranted, AreRightsOf, GrantAlikeTo, HasBitsOf, IsLowestBit, IsLowestDifference, differ, is_granted_to}
+use Rattle.acl_normal.specs.SmallSituations.{is_among}
+use Rattle.acl_perm.proofs.Sets.{IsMask-lt, bits_from_mask, mask_from_bits, no_bit, same_set}
+use Rattle.acl_perm.specs.Bits.{IsDifference, IsMask, IsSubset, IsUnion, all_rights, has_bit}
+use Rattle.acl_perm.specs.Principal.{Principal, everyone}
+use Rattle.acl_perm.specs.declared.kind.Kind.TheVariants.{Allow, Deny}
+
+-- an ACE that has the bit, takes part and is of the set or everyone decides, and else the rest of the list does
+pub granted_to-cons : (a : Ace) (rest : List Ace) (set : List Principal) (bit : ℕ)
+    → is_granted_to (a ∷ rest) set bit
+    ≡ cond ((has_bit a.mask bit && takes_part a) && is_among (principal_of a) (everyone ∷ set)) (is_allow a.kind)
+    (is_granted_to rest set bit)
+granted_to-cons a rest set bit =
+    go (has_bit a.mask bit && takes_part a) refl (is_among (principal_of a) (everyone ∷ set)) refl
+  where
+    go : (t : Bool) → (has_bit a.mask bit && takes_part a) ≡ t → (u : Bool)
+        → is_among (principal_of a) (everyone ∷ set) ≡ u
+        → is_granted_to (a ∷ rest) set bit
+        ≡ cond ((has_bit a.mask bit && takes_part a) && is_among (principal_of a) (everyone ∷ set)) (is_allow a.kind)
+        (is_granted_to rest set bit)
+    go false h u i = rw h refl
+    go true h true i = rw (h, i) refl
+    go true h false i = rw (h, i) refl
+
+-- what is granted already, and what the rest of the list grants of what is not decided
+abbrev pub decides : ℕ → ℕ → List Ace → List Principal → ℕ → Bool
+decides granted decided rest set bit = has_bit granted bit || (not (has_bit decided bit) && is_granted_to rest set bit)
+
+-- the four cases of a bit that an ACE allows
+allow_bits : (g d t r : Bool) → ((g || (t && not d)) || (not (d || t) && r)) ≡ (g || (not d && cond t true r))
+allow_bits true d t r = refl
+allow_bits false true true r = refl
+allow_bits false true false r = refl
+allow_bits false false true r = refl
+allow_bits false false false r = refl
+
+-- and of one that it denies
+deny_bits : (g d t r : Bool) → (g || (not (d || t) && r)) ≡ (g || (not d && cond t false r))
+deny_bits true d t r = refl
+deny_bits false true true r = refl
+deny_bits false true false r = refl
+deny_bits false false true r = refl
+deny_bits false false false r = refl
+
+-- an ACE that allows grants its bits that were not decided before
+step_allow : (a : Ace) (rest : List Ace) (set : List Principal) (granted decided own less new more bit : ℕ)
+    → IsDifference own decided less → IsUnion granted less new → IsUnion decided own more → HasBitsOf a set own
+    → a.kind ≡ Allow → decides new more rest set bit ≡ decides granted decided (a ∷ rest) set bit
+step_allow a rest set granted decided own less new more bit d u v h k =
+    let t : Bool = (has_bit a.mask bit && takes_part a) && is_among (principal_of a) (everyone ∷ set) in
+    let first : has_bit new bit ≡ (has_bit granted bit || (t && not (has_bit decided bit))) =
+    u bit ∙ ap (λ x. has_bit granted bit || x) (d bit ∙ ap (λ x. x && not (has_bit decided bit)) (h.bits bit)) in
+    let second : has_bit more bit ≡ (has_bit decided bit || t) =
+    v bit ∙ ap (λ x. has_bit decided bit || x) (h.bits bit) in
+    let whole : is_granted_to (a ∷ rest) set bit ≡ cond t true (is_granted_to rest set bit) =
+    granted_to-cons a rest set bit ∙ ap (λ x. cond t (is_allow x) (is_granted_to rest set bit)) k in
+    ap (λ x. x || (not (has_bit more bit) && is_granted_to rest set bit)) first
+    ∙ ap (λ x. (has_bit granted bit || (t && not (has_bit decided bit))) || (not x && is_granted_to rest set bit))
+    second
+    ∙ allow_bits (has_bit granted bit) (has_bit decided bit) t (is_granted_to rest set bit)
+    ∙ ap (λ x. has_bit granted bit || (not (has_bit decided bit) && x)) (sym whole)
+
+-- one that denies only decides them
+step_deny : (a : Ace) (rest : List Ace) (set : List Principal) (granted decided own more bit : ℕ)
+    → IsUnion decided own more → HasBitsOf a set own → a.kind ≡ Deny
+    → decides granted more rest set bit ≡ decides granted decided (a ∷ rest) set bit
+step_deny a rest set granted decided own more bit v h k =
+    let t : Bool = (has_bit a.mask bit && takes_part a) && is_among (principal_of a) (everyone ∷ set) in
+    let second : has_bit more bit ≡ (has_bit decided bit || t) =
+    v bit ∙ ap (λ x. has_bit decided bit || x) (h.bits bit) in
+    let whole : is_granted_to (a ∷ rest) set bit ≡ cond t false (is_granted_to rest set bit) =
+    granted_to-cons a rest set bit ∙ ap (λ x. cond t (is_allow x) (is_granted_to rest set bit)) k in
+    ap (λ x. has_bit granted bit || (not x && is_granted_to rest set bit)) second
+    ∙ deny_bits (has_bit granted bit) (has_bit decided bit) t (is_granted_to rest set bit)
+    ∙ ap (λ x. has_bit granted bit || (not (has_bit decided bit) && x)) (sym whole)
+
+-- after the first i ACEs, what is granted and decided, with the rest, decides as the whole list
+pub record DecidesAll (refs : List AceRef) (set : List Principal) (i granted decided : ℕ) : Type 0 where
+  pub bits : (bit : ℕ) → decides granted decided (list_of (drop i refs)) set bit ≡ is_granted_to (list_of refs) set bit
+
+-- the step at an ACE that allows
+pub loop_allow : (refs : List AceRef) (x : AceRef) (set : List Principal)
+    (granted decided was own less new now more i : ℕ) → i < length refs → x ≡ slice_index_or refs i x → was ≡ decided
+    → now ≡ new → IsDifference own decided less → IsUnion granted less new → IsUnion was own more
+    → HasBitsOf (ace x) set own → x.kind ≡ Allow
+    → DecidesAll refs set i granted decided → DecidesAll refs set (i + 1) now more
+loop_allow refs x set granted decided was own less new now more i lt at old later d u v h k inv = record {
+  bits = λ bit.
+      ap (λ m. decides m more (list_of (drop (i + 1) refs)) set bit) later
+      ∙ step_allow (ace (slice_index_or refs i x)) (list_of (drop (i + 1) refs)) set granted decided own less new more
+      bit
+      d u (subst (λ m. IsUnion m own more) old v) (subst (λ a. HasBitsOf (ace a) set own) at h)
+      (sym (ap (λ (a : AceRef). a.kind) at) ∙ k)
+      ∙ sym (at_drop_more (λ r. decides granted decided (list_of r) set bit) refs i x lt) ∙ inv.bits bit;
+}
+
+-- the step at one that denies
+pub loop_deny : (refs : List AceRef) (x : AceRef) (set : List Principal) (granted decided was own now more i : ℕ)
+    → i < length refs → x ≡ slice_index_or refs i x → was ≡ decided → now ≡ granted → IsUnion was own more
+    → HasBitsOf (ace x) set own → x.kind ≡ Deny
+    → DecidesAll refs set i granted decided → DecidesAll refs set (i + 1) now more
+loop_deny refs x set granted decided was own now more i lt at old later v h k inv = record {
+  bits = λ bit.
+      ap (λ m. decides m more (list_of (drop (i + 1) refs)) set bit) later
+      ∙ step_deny (ace (slice_index_or refs i x)) (list_of (drop (i + 1) refs)) set granted decided own more bit
+      (subst (λ m. IsUnion m own more) old v) (subst (λ a. HasBitsOf (ace a) set own) at h)
+      (sym (ap (λ (a : AceRef). a.kind) at) ∙ k)
+      ∙ sym (at_drop_more (λ r. decides granted decided (list_of r) set bit) refs i x lt) ∙ inv.bits bit;
+}
+
+-- before the first ACE nothing is granted or decided
+pub loop_starts : (refs : List AceRef) (set : List Principal) → DecidesAll refs set 0 0 0
+loop_starts refs set = record { bits = λ bit. rw (no_bit bit) refl }
+
+-- after the last the list is decided
+pub loop_ends : (refs : List AceRef) (set : List Principal) (granted decided i : ℕ) → length refs ≤ i
+    → DecidesAll refs set i granted decided → AreGranted (list_of refs) set granted
+loop_ends refs set granted decided i le inv = record {
+  bits = λ bit.
+      sym (nothing (has_bit granted bit) (not (has_bit decided bit)))
+      ∙ sym (ap (λ r. decides granted decided (list_of r) set bit) (drop_all i refs le)) ∙ inv.bits bit;
+}
+  where
+    nothing : (x y : Bool) → (x || (y && false)) ≡ x
+    nothing true y = refl
+    nothing false true = refl
+    nothing false false = refl
+
+-- answers that don't differ are the same
+differ_same : (x y : Bool) → differ x y ≡ false → x ≡ y
+differ_same true true h = refl
+differ_same false false h = refl
+differ_same true false h = absurd cc
+differ_same false true h = absurd cc
+
+-- an answer does not differ from itself
+differ_itself : (x : Bool) → differ x x ≡ false
+differ_itself true = refl
+differ_itself false = refl
+
+-- one answer is true and the other not, either way round
+both_ways : (x y : Bool) → ((x && not y) || (y && not x)) ≡ differ x y
+both_ways true true = refl
+both_ways true false = refl
+both_ways false true = refl
+both_ways false false = refl
+
+-- what one mask has and the other doesn't, either way round
+pub unlike_is : (m n less more result : ℕ) → IsDifference m n less → IsDifference n m more → IsUnion less more result
+    → (bit : ℕ) → has_bit result bit ≡ differ (has_bit m bit) (has_bit n bit)
+unlike_is m n less more result d e u bit =
+    u bit ∙ rw (d bit, e bit) (both_ways (has_bit m bit) (has_bit n bit))
+
+-- what one list grants and the other doesn't is what they differ on
+pub differing_are : (list other : List Ace) (set : List Principal) (m n result : ℕ)
+    → AreGranted list set m → AreGranted other set n
+    → ((bit : ℕ) → has_bit result bit ≡ differ (has_bit m bit) (has_bit n bit)) → AreDiffering list other set result
+differing_are list other set m n result h i is = record {
+  bits = λ bit. is bit ∙ rw (h.bits bit, i.bits bit) refl;
+}
+
+-- no right differs exactly if the lists grant alike
+pub none_differ : (list other : List Ace) (set : List Principal) (rights : ℕ) → IsMask rights
+    → AreDiffering list other set rights → (rights ≡ 0) ↔ GrantAlikeTo list other set
+none_differ list other set rights within h = (
+  λ e bit i. differ_same _ _ (sym (h.bits bit) ∙ ap (λ v. has_bit v bit) e ∙ no_bit bit),
+  λ alike. same_set rights 0 (λ bit. false_from_ne_true (has_bit rights bit) (λ has. absurd (never alike bit has))
+      ∙ sym (no_bit bit)),
+)
+  where
+    never : GrantAlikeTo list other set → (bit : ℕ) → has_bit rights bit ≡ true → ⊥
+    never alike bit has =
+        let same = alike bit (bits_from_mask rights bit within has) in
+        false≢true (sym (differ_itself (is_granted_to other set bit))
+        ∙ ap (λ v. differ v (is_granted_to other set bit)) (sym same) ∙ sym (h.bits bit) ∙ has)
+
+-- the same of the test for zero
+pub tells_unlike : (list other : List Ace) (set : List Principal) (rights : ℕ) → IsMask rights
+    → AreDiffering list other set rights → OnFalse (rights == 0) (GrantAlikeTo list other set → ⊥)
+tells_unlike list other set rights within h = go (rights == 0) refl
+  where
+    go : (t : Bool) → (rights == 0) ≡ t → OnFalse t (GrantAlikeTo list other set → ⊥)
+    go true e = tt
+    go false e = λ alike. false≢true (sym e ∙ eq-eqb rights 0 ((none_differ list other set rights within h).1 alike))
+
+-- the number of zeros at the end of a set that isn't empty is its lowest bit
+pub lowest_zeros : (rights : ℕ) → rights ≢ 0 → IsMask rights → IsLowestBit rights (trailing_zeros w32 rights)
+lowest_zeros rights ne within =
+    let t = bit_at-trailing_zeros w32 rights (omega arith) (IsMask-lt rights within) in
+    record {
+      has = ap (λ (d : ℕ). d == 1) t.1;
+      below = λ b l. ne_eqb (bit_at rights b) 1 (λ e. absurd (omega (arith, t.2 b l)));
+    }
+
+-- a bit of a set of rights is one right
+pub one_right : (rights mask k : ℕ) → IsMask rights → has_bit rights k ≡ true → mask ≡ 2 ^ k → IsMask mask
+one_right rights mask k within has is = mask_from_bits mask (λ b h.
+    let same : b ≡ k = only_bit k b (subst (λ m. has_bit m b ≡ true) is h) in
+    subst (λ v. has_bit all_rights v ≡ true) (sym same) (bits_from_mask rights k within has))
+
+-- a set has one right as a part exactly if it has the bit
+has_part : (mask granted k : ℕ) (part : Bool) → mask ≡ 2 ^ k → IsTrue part ↔ IsSubset mask granted
+    → part ≡ has_bit granted k
+has_part mask granted k part is h = same_answers part (has_bit granted k)
+    (λ e. h.0 e k (subst (λ m. has_bit m k ≡ true) (sym is) (has_power k)))
+    (λ has. h.1 (λ b i.
+    let same : b ≡ k = only_bit k b (subst (λ m. has_bit m b ≡ true) is i) in
+    subst (λ v. has_bit granted v ≡ true) (sym same) has))
+
+-- the lowest of the rights on which the lists differ
+pub lowest_difference : (list other : List Ace) (set : List Principal) (rights mask granted k : ℕ) (first : Bool)
+    → IsMask rights → AreDiffering list other set rights → IsLowestBit rights k → mask ≡ 2 ^ k
+    → AreGranted list set granted → IsTrue first ↔ IsSubset mask granted
+    → IsLowestDifference list other set mask first
+lowest_difference list other set rights mask granted k first within d l is g f = record {
+  bit = k;
+  one_bit = is;
+  of_rights = bits_from_mask rights k within l.has;
+  differs = λ e. false≢true (sym (differ_itself (is_granted_to other set k))
+      ∙ ap (λ v. differ v (is_granted_to other set k)) (sym e) ∙ sym (d.bits k) ∙ l.has);
+  lowest = λ b lt i. differ_same _ _ (sym (d.bits b) ∙ l.below b lt);
+  first = has_part mask granted k first is f ∙ g.bits k;
+}
+
+-- without the rights so far, the rest of the list has the columns of the whole
+pub record CoversColumns (refs : List AceRef) (i rights : ℕ) : Type 0 where
+  pub columns : (bit : ℕ) → has_bit rights bit ≡ false
+      → column (list_of (drop i refs)) bit ≡ column (list_of refs) bit
+
+-- the step at an ACE
+pub covers_more : (refs : List AceRef) (x : AceRef) (i rights more : ℕ) → i < length refs
+    → x ≡ slice_index_or refs i x → IsUnion rights x.mask.bits more → CoversColumns refs i rights
+    → CoversColumns refs (i + 1) more
+covers_more refs x i rights more lt at u h = record {
+  columns = λ bit absent.
+      let parts = or_parts (has_bit rights bit) (has_bit x.mask.bits bit) (sym (u bit) ∙ absent) in
+      sym (first_lacks (ace (slice_index_or refs i x)) (list_of (drop (i + 1) refs)) bit
+      (ap (λ (a : AceRef). has_bit a.mask.bits bit) (sym at) ∙ parts.1))
+      ∙ sym (at_drop_more (λ r. column (list_of r) bit) refs i x lt) ∙ h.columns bit parts.0;
+}
+  where
+    first_lacks : (a : Ace) (rest : List Ace) (bit : ℕ) → has_bit a.mask bit ≡ false
+        → column (a ∷ rest) bit ≡ column rest bit
+    first_lacks a rest bit e = rw e refl
+
+-- after the last ACE no right is left out
+pub covers_all : (refs : List AceRef) (i rights : ℕ) → length refs ≤ i → CoversColumns refs i rights
+    → AreRightsOf (list_of refs) rights
+covers_all refs i rights le h = record {
+  unused = λ bit absent. sym (h.columns bit absent) ∙ ap (λ r. column (list_of r) bit) (drop_all i refs le);
+}
+
+-- rights of more are rights of the list
+pub rights_of_both : (list : List Ace) (here there more : ℕ) → AreRightsOf list here → IsUnion here there more
+    → AreRightsOf list more
+rights_of_both list here there more h u = record {
+  unused = λ bit absent. h.unused bit (or_parts (has_bit here bit) (has_bit there bit) (sym (u bit) ∙ absent)).0;
+}
+
+-- the same, of the second list
+pub rights_of_second : (list : List Ace) (here there more : ℕ) → AreRightsOf list there → IsUnion here there more
+    → AreRightsOf list more
+rights_of_second list here there more h u = record {
+  unused = λ bit absent. h.unused bit (or_parts (has_bit here bit) (has_bit there bit) (sym (u bit) ∙ absent)).1;
+}
+
+-- a right that no ACE has is denied
+pub unused_denied : (list : List Ace) (set : List Principal) (rights bit : ℕ) → AreRightsOf list rights
+    → has_bit rights bit ≡ false → is_granted_to list set bit ≡ false
+unused_denied list set rights bit h absent =
+    ap (λ c. is_allow (verdict (λ r. is_among r (everyone ∷ set)) c)) (h.unused bit absent)

@@ -1,0 +1,407 @@
+-- The small situations of two lists decide whether the lists grant the same.
+use Rattle.std.specs.Prelude.{not, IsTrue, IsFalse, ◌≡◌, ◌≢◌, ◌↔◌, ℕ, ◌<◌, ◌+◌, ◌^◌, Bool, true, false, ◌||◌, List, [], ◌∷◌, ◌++◌, Some, None, refl, length, map, ◌⊎◌, unwrap_or}
+use Rattle.std.specs.List.{AllByRecursion}
+use Rattle.std.specs.declared.cmp.Ordering.TheVariants.{Less}
+use Rattle.std.proofs.Common.{sym, ◌∙◌, ap, subst, arith, ⊎_elim, inl, inr}
+use Rattle.std.proofs.lemmas.List.{map-append}
+use Rattle.std.proofs.lemmas.Bool.{or_cases, or_left, false≢true}
+use Rattle.acl_eval.specs.Column.{column}
+use Rattle.acl_eval.specs.Grant.{Grant, SameGrants, grants_bit, is_allow}
+use Rattle.acl_nfs4.specs.Ace.{Ace}
+use Rattle.acl_normal.proofs.unique.Bits.{has_power}
+use Rattle.acl_eval.proofs.Same.{only_bit}
+use Rattle.acl_normal.proofs.unique.ListColumns.{same_grants_from_columns, same_verdicts}
+use Rattle.acl_normal.proofs.comparison.MentionedPrincipals.{IsOneOf, column_is_short, first_has, mentioned_named, mentioned_others, mentioned_rising, one_is_short, second_has}
+use Rattle.acl_normal.proofs.unique.Names.{overlaps_itself, principal_eq_same}
+use Rattle.acl_normal.proofs.unique.Realised.{AllNamed, AreShort, HasOneUser, first_kind_alike, two_names, small_is_situation, small_matches}
+use Rattle.acl_normal.proofs.unique.Small.{IsSmallSet, none, one, small_suffice, two}
+use Rattle.acl_normal.specs.Keys.{principal_eq}
+use Rattle.acl_normal.specs.internal.Names.{HasNames, HasName, longest_name}
+use Rattle.acl_normal.specs.internal.SetSearch.{FindsFirst, GrantAlikeTo, IsRising, is_granted_to}
+use Rattle.acl_normal.specs.SmallSets.{GrantAlike, IsFirstDifference, SmallSituationsSuffice, TellsApart, longest, mentioned, pairs, partners, singles, small_sets, strange_length}
+use Rattle.acl_normal.specs.SmallSituations.{is_among, small_situation}
+use Rattle.acl_perm.specs.Bits.{all_rights, has_bit}
+use Rattle.acl_perm.specs.Order.{principal_cmp, principal_name, principal_total}
+use Rattle.acl_perm.specs.Overlap.{may_overlap}
+use Rattle.acl_perm.specs.Principal.{Principal, everyone, user}
+use Rattle.acl_perm.specs.Situation.{IsSituation, Situation, matches}
+use Rattle.acl_perm.specs.declared.kind.Kind.{Kind}
+use Rattle.acl_perm.specs.declared.kind.Kind.TheVariants.{Allow, Deny}
+
+-- what holds of two parts holds of both together
+pub all_append : {X : Type 0} (P : X → Type 0) (xs ys : List X) → AllByRecursion P xs → AllByRecursion P ys
+    → AllByRecursion P (xs ++ ys)
+all_append P [] ys h i = i
+all_append P (x ∷ xs) ys h i = (h.0, all_append P xs ys h.1 i)
+
+-- what holds of all holds of the first part
+pub all_left : {X : Type 0} (P : X → Type 0) (xs ys : List X) → AllByRecursion P (xs ++ ys) → AllByRecursion P xs
+all_left P [] ys h = tt
+all_left P (x ∷ xs) ys h = (h.0, all_left P xs ys h.1)
+
+-- and of the second
+pub all_right : {X : Type 0} (P : X → Type 0) (xs ys : List X) → AllByRecursion P (xs ++ ys) → AllByRecursion P ys
+all_right P [] ys h = h
+all_right P (x ∷ xs) ys h = all_right P xs ys h.1
+
+-- what holds of mapped elements holds of the elements by their map
+pub all_mapped : {X Y : Type 0} (P : Y → Type 0) (f : X → Y) (xs : List X) → AllByRecursion P (map f xs)
+    → AllByRecursion (λ x. P (f x)) xs
+all_mapped P f [] h = tt
+all_mapped P f (x ∷ xs) h = (h.0, all_mapped P f xs h.1)
+
+-- along two facts of each element, to the mapped list
+pub all_map_by : {X Y : Type 0} (S Q : X → Type 0) (P : Y → Type 0) (f : X → Y) (xs : List X)
+    → ((x : X) → S x → Q x → P (f x)) → AllByRecursion S xs → AllByRecursion Q xs → AllByRecursion P (map f xs)
+all_map_by S Q P f [] g h i = tt
+all_map_by S Q P f (x ∷ xs) g h i = (g x h.0 i.0, all_map_by S Q P f xs g h.1 i.1)
+
+-- each set of the enumeration is small
+
+-- the sets of one principal are small
+pub all_singles : (P : Principal → Type 0) (ps : List Principal) → AllByRecursion P ps
+    → AllByRecursion (λ p. principal_eq p everyone ≡ false) ps → AllByRecursion (IsSmallSet P) (singles ps)
+all_singles P [] h o = tt
+all_singles P (p ∷ ps) h o = (one p h.0 o.0, all_singles P ps h.1 o.1)
+
+-- those of one and a later one that may overlap are
+pub all_partners : (P : Principal → Type 0) (p : Principal) (ps : List Principal) → P p
+    → principal_eq p everyone ≡ false → AllByRecursion P ps → AllByRecursion (λ q. principal_eq q everyone ≡ false) ps
+    → AllByRecursion (λ q. principal_cmp p q ≡ Less) ps → AllByRecursion (IsSmallSet P) (partners p ps)
+all_partners P p [] hp op h o below = tt
+all_partners P p (q ∷ ps) hp op h o below = go (may_overlap p q) refl (all_partners P p ps hp op h.1 o.1 below.1)
+  where
+    go : (b : Bool) → may_overlap p q ≡ b → AllByRecursion (IsSmallSet P) (partners p ps)
+        → AllByRecursion (IsSmallSet P) (partners p (q ∷ ps))
+    go true e ih = rw e (two p q hp h.0 op o.0 e below.0, ih)
+    go false e ih = rw e ih
+
+-- all sets of two are
+pub all_pairs : (P : Principal → Type 0) (ps : List Principal) → AllByRecursion P ps
+    → AllByRecursion (λ p. principal_eq p everyone ≡ false) ps → IsRising ps → AllByRecursion (IsSmallSet P) (pairs ps)
+all_pairs P [] h o r = tt
+all_pairs P (p ∷ ps) h o r = all_append (IsSmallSet P) (partners p ps) (pairs ps)
+    (all_partners P p ps h.0 o.0 h.1 o.1 r.0) (all_pairs P ps h.1 o.1 r.1)
+
+-- all sets of the list are
+pub all_small : (P : Principal → Type 0) (ps : List Principal) → AllByRecursion P ps
+    → AllByRecursion (λ p. principal_eq p everyone ≡ false) ps → IsRising ps
+    → AllByRecursion (IsSmallSet P) (small_sets ps)
+all_small P ps h o r = (
+  none,
+  all_append (IsSmallSet P) (singles ps) (pairs ps) (all_singles P ps h o)
+      (all_pairs P ps h o r),
+)
+
+-- each small set stands in the enumeration
+
+-- what holds of each set of one holds at each principal
+pub at_single : (Q : List Principal → Type 0) (ps : List Principal) (p : Principal) → AllByRecursion Q (singles ps)
+    → is_among p ps ≡ true → Q (p ∷ [])
+at_single Q [] p h i = cc
+at_single Q (x ∷ ps) p h i = ⊎_elim
+    (λ e. subst (λ v. Q (v ∷ [])) (sym (principal_eq_same p x e)) h.0)
+    (λ j. at_single Q ps p h.1 j)
+    (or_cases (principal_eq p x) (is_among p ps) i)
+
+-- what holds of each set of one and a later one holds at each later one that may overlap
+pub at_partner : (Q : List Principal → Type 0) (p q : Principal) (ps : List Principal)
+    → AllByRecursion Q (partners p ps) → is_among q ps ≡ true → may_overlap p q ≡ true → Q (p ∷ q ∷ [])
+at_partner Q p q [] h i o = cc
+at_partner Q p q (x ∷ ps) h i o =
+    go (may_overlap p x) refl (at_partner Q p q ps) (or_cases (principal_eq q x) (is_among q ps) i)
+  where
+    go : (b : Bool) → may_overlap p x ≡ b
+        → (AllByRecursion Q (partners p ps) → is_among q ps ≡ true → may_overlap p q ≡ true → Q (p ∷ q ∷ []))
+        → (principal_eq q x ≡ true) ⊎ (is_among q ps ≡ true) → Q (p ∷ q ∷ [])
+    go true e ih (inl s) = let here = rw e at h in subst (λ v. Q (p ∷ v ∷ [])) (sym (principal_eq_same q x s)) here.0
+    go true e ih (inr j) = let here = rw e at h in ih here.1 j o
+    go false e ih (inl s) = let apart : may_overlap p q ≡ false =
+        subst (λ v. may_overlap p v ≡ false) (sym (principal_eq_same q x s)) e in cc
+    go false e ih (inr j) = let here = rw e at h in ih here j o
+
+-- what holds of all principals holds of one among them
+pub below_one : (P : Principal → Type 0) (ps : List Principal) (p : Principal) → AllByRecursion P ps
+    → is_among p ps ≡ true → P p
+below_one P [] p h i = cc
+below_one P (x ∷ ps) p h i = ⊎_elim
+    (λ e. subst P (sym (principal_eq_same p x e)) h.0)
+    (λ j. below_one P ps p h.1 j)
+    (or_cases (principal_eq p x) (is_among p ps) i)
+
+-- nothing is below itself
+pub not_below_itself : (p : Principal) → principal_cmp p p ≡ Less → ⊥
+not_below_itself p h = let back = principal_total.antisymm p p in cc
+
+-- of two only one is below the other
+pub not_both_below : (p q : Principal) → principal_cmp p q ≡ Less → principal_cmp q p ≡ Less → ⊥
+not_both_below p q h i = not_below_itself p (principal_total.trans p q p h i)
+
+-- what holds of each set of two holds at each two that may overlap
+pub at_pair : (Q : List Principal → Type 0) (p q : Principal) (ps : List Principal) → IsRising ps
+    → AllByRecursion Q (pairs ps) → is_among p ps ≡ true → is_among q ps ≡ true → may_overlap p q ≡ true
+    → principal_cmp p q ≡ Less → Q (p ∷ q ∷ [])
+at_pair Q p q [] r h i j o l = cc
+at_pair Q p q (x ∷ ps) r h i j o l =
+    go (or_cases (principal_eq p x) (is_among p ps) i) (or_cases (principal_eq q x) (is_among q ps) j)
+    (at_pair Q p q ps r.1 (all_right Q (partners x ps) (pairs ps) h))
+  where
+    go : (principal_eq p x ≡ true) ⊎ (is_among p ps ≡ true) → (principal_eq q x ≡ true) ⊎ (is_among q ps ≡ true)
+        → (is_among p ps ≡ true → is_among q ps ≡ true → may_overlap p q ≡ true → principal_cmp p q ≡ Less
+        → Q (p ∷ q ∷ [])) → Q (p ∷ q ∷ [])
+    go (inl e) (inl f) ih = absurd
+        (not_below_itself p (subst (λ v. principal_cmp p v ≡ Less)
+        (principal_eq_same q x f ∙ sym (principal_eq_same p x e)) l))
+    go (inl e) (inr f) ih =
+        let same : p ≡ x = principal_eq_same p x e in
+        let here : Q (x ∷ q ∷ []) = at_partner Q x q ps (all_left Q (partners x ps) (pairs ps) h) f
+        (subst (λ v. may_overlap v q ≡ true) same o) in
+        subst (λ v. Q (v ∷ q ∷ [])) (sym same) here
+    go (inr e) (inl f) ih = absurd
+        (not_both_below p q l (subst (λ v. principal_cmp v p ≡ Less) (sym (principal_eq_same q x f))
+        (below_one (λ v. principal_cmp x v ≡ Less) ps p r.0 e)))
+    go (inr e) (inr f) ih = ih e f o l
+
+-- who is everyone or one of these, and not everyone, is one of these
+pub among_others : (ps : List Principal) (p : Principal) → IsOneOf ps p → principal_eq p everyone ≡ false
+    → is_among p ps ≡ true
+among_others ps p h e = subst (λ t. (t || is_among p ps) ≡ true) e h
+
+-- what holds of each set of the list holds at each small set
+pub at_small : (Q : List Principal → Type 0) (ps set : List Principal) → IsRising ps
+    → AllByRecursion Q (small_sets ps) → IsSmallSet (IsOneOf ps) set → Q set
+at_small Q ps _ r h none = h.0
+at_small Q ps _ r h (one p m e) = at_single Q ps p (all_left Q (singles ps) (pairs ps) h.1) (among_others ps p m e)
+at_small Q ps _ r h (two p q m n e f o l) =
+    at_pair Q p q ps r (all_right Q (singles ps) (pairs ps) h.1) (among_others ps p m e) (among_others ps q n f) o l
+
+-- what a small set is
+
+-- the names of a small set of short names are short
+pub small_short : (n : ℕ) (set : List Principal) → IsSmallSet (λ p. length (principal_name p) < n) set → AreShort n set
+small_short n _ none = tt
+small_short n _ (one p m e) = (m, tt)
+small_short n _ (two p q m k e f o l) = (m, (k, tt))
+
+-- those of a small set of names are names
+pub small_named : (set : List Principal) → IsSmallSet HasName set → AllNamed set
+small_named _ none = tt
+small_named _ (one p m e) = (m, tt)
+small_named _ (two p q m k e f o l) = (m, (k, tt))
+
+-- a small set has at most one user name
+pub small_one_user : (P : Principal → Type 0) (set : List Principal) → IsSmallSet P set → HasOneUser set
+small_one_user P _ none a b h i = cc
+small_one_user P _ (one p m e) a b h i =
+    two_names p p (overlaps_itself p) a b (or_left _ _ (one_of (user a) h)) (or_left _ _ (one_of (user b) i))
+  where
+    one_of : (r : Principal) → is_among r (p ∷ []) ≡ true → principal_eq r p ≡ true
+    one_of r h = ⊎_elim (λ e. e) (λ e. absurd (false≢true e)) (or_cases (principal_eq r p) false h)
+small_one_user P _ (two p q m k e f o l) a b h i = two_names p q o a b h i
+
+-- names are shorter than more than the longest
+pub all_short : (ps : List Principal) (n : ℕ) → longest ps < n → AllByRecursion (λ p. length (principal_name p) < n) ps
+all_short [] n h = tt
+all_short (p ∷ ps) n h = (omega arith, all_short ps n (omega arith))
+
+-- in the small situation the list grants what it grants to the set
+pub situation_is_set : (n : ℕ) (set : List Principal) (xs : List Ace) (b : ℕ) → 0 < n
+    → IsSmallSet (λ p. length (principal_name p) < n) set → longest_name (column xs b) < n
+    → grants_bit xs (small_situation n set) b ≡ is_granted_to xs set b
+situation_is_set n set xs b pos small short =
+    ap (λ o. is_allow (unwrap_or o Deny))
+    (first_kind_alike (matches (small_situation n set)) (λ r. is_among r (everyone ∷ set)) (column xs b) n
+    (λ r l. small_matches n set (small_short n set small) (small_one_user _ set small) pos r l) short)
+
+-- types that both allow, or both don't, are the same
+pub kinds_from_allow : (j k : Kind) → is_allow j ≡ is_allow k → j ≡ k
+kinds_from_allow Deny Deny h = refl
+kinds_from_allow Allow Allow h = refl
+kinds_from_allow Deny Allow h = cc
+kinds_from_allow Allow Deny h = cc
+
+-- lists that grant alike in each small situation grant the same
+pub small_situations_suffice : SmallSituationsSuffice
+small_situations_suffice xs ys all =
+    let ms = mentioned xs ys in
+    let n : ℕ = longest ms + 1 in
+    let each : AllByRecursion (λ set. GrantAlike xs ys (small_situation n set)) (small_sets ms) =
+    all_mapped (GrantAlike xs ys) (small_situation n) (small_sets ms) all in
+    same_grants_from_columns xs ys (λ b is_bit.
+    small_suffice (IsOneOf ms) n (column xs b) (column ys b) (first_has b xs ys) (second_has b xs ys) (omega arith)
+    (column_is_short ms (column xs b) (first_has b xs ys)) (column_is_short ms (column ys b) (second_has b xs ys))
+    (λ p h. one_is_short ms p h)
+    (λ set small. kinds_from_allow _ _
+    (at_small (λ v. GrantAlike xs ys (small_situation n v)) ms set (mentioned_rising xs ys) each small b is_bit)))
+
+-- the lists agree in the small situation just where they agree at the set
+pub alike_in_situation : (xs ys : List Ace) (set : List Principal)
+    → IsSmallSet (λ p. length (principal_name p) < strange_length xs ys) set
+    → (GrantAlike xs ys (small_situation (strange_length xs ys) set)) ↔ (GrantAlikeTo xs ys set)
+alike_in_situation xs ys set small =
+    let ms = mentioned xs ys in
+    let n : ℕ = longest ms + 1 in
+    let left : (b : ℕ) → grants_bit xs (small_situation n set) b ≡ is_granted_to xs set b =
+    λ b. situation_is_set n set xs b (omega arith) small (column_is_short ms (column xs b) (first_has b xs ys)) in
+    let right : (b : ℕ) → grants_bit ys (small_situation n set) b ≡ is_granted_to ys set b =
+    λ b. situation_is_set n set ys b (omega arith) small (column_is_short ms (column ys b) (second_has b xs ys)) in
+    ((λ h b i. sym (left b) ∙ h b i ∙ right b), (λ h b i. left b ∙ h b i ∙ sym (right b)))
+
+-- the sets of mentioned principals have names shorter than the strange ones
+pub sets_short : (xs ys : List Ace)
+    → AllByRecursion (IsSmallSet (λ p. length (principal_name p) < strange_length xs ys)) (small_sets (mentioned xs ys))
+sets_short xs ys = all_small _ (mentioned xs ys) (all_short (mentioned xs ys) (strange_length xs ys) (omega arith))
+    (mentioned_others xs ys) (mentioned_rising xs ys)
+
+-- and names, if those of the lists are
+pub sets_named : (xs ys : List Ace) → HasNames xs → HasNames ys
+    → AllByRecursion (IsSmallSet HasName) (small_sets (mentioned xs ys))
+sets_named xs ys h i = all_small HasName (mentioned xs ys) (mentioned_named xs ys h i) (mentioned_others xs ys)
+    (mentioned_rising xs ys)
+
+-- the first set at which the lists differ, with those before it
+pub record FirstSet (xs ys : List Ace) (sets : List (List Principal)) (set : List Principal) : Type 0 where
+  pub before : List (List Principal)
+  pub after : List (List Principal)
+  pub is : sets ≡ before ++ set ∷ after
+  pub alike : AllByRecursion (GrantAlikeTo xs ys) before
+  pub differs : GrantAlikeTo xs ys set → ⊥
+
+-- the set that is found stands in the list, and the lists grant alike at those before it
+pub first_set : (xs ys : List Ace) (sets : List (List Principal)) (set : List Principal)
+    → FindsFirst xs ys sets (Some set) → FirstSet xs ys sets set
+first_set xs ys [] set h = cc
+first_set xs ys (ps ∷ sets) set (inl h) =
+    let s = first_set xs ys sets set h.1 in
+    record {
+      before = ps ∷ s.before;
+      after = s.after;
+      is = ap (λ v. ps ∷ v) s.is;
+      alike = (h.0, s.alike);
+      differs =
+          s.differs;
+    }
+first_set xs ys (ps ∷ sets) set (inr h) =
+    let same : ps ≡ set = cc in
+    record {
+      before = [];
+      after = sets;
+      is = ap (λ v. v ∷ sets) same;
+      alike = tt;
+      differs =
+          subst (λ v. GrantAlikeTo xs ys v → ⊥) same h.0;
+    }
+
+-- where none is found, the lists grant alike at all
+pub none_differs : (xs ys : List Ace) (sets : List (List Principal)) → FindsFirst xs ys sets None
+    → AllByRecursion (GrantAlikeTo xs ys) sets
+none_differs xs ys [] h = tt
+none_differs xs ys (ps ∷ sets) (inl h) = (h.0, none_differs xs ys sets h.1)
+none_differs xs ys (ps ∷ sets) (inr h) = absurd (cc)
+
+-- and so grant the same
+pub none_then_same : (xs ys : List Ace) → FindsFirst xs ys (small_sets (mentioned xs ys)) None
+    → SameGrants all_rights xs ys
+none_then_same xs ys h =
+    small_situations_suffice xs ys
+    (all_map_by (IsSmallSet (λ p. length (principal_name p) < strange_length xs ys)) (GrantAlikeTo xs ys)
+    (GrantAlike xs ys) (small_situation (strange_length xs ys)) (small_sets (mentioned xs ys))
+    (λ set small alike. (alike_in_situation xs ys set small).1 alike) (sets_short xs ys)
+    (none_differs xs ys (small_sets (mentioned xs ys)) h))
+
+-- an element of a list of which something holds
+pub at_split : {X : Type 0} (P : X → Type 0) (whole before : List X) (x : X) (after : List X)
+    → whole ≡ before ++ x ∷ after → AllByRecursion P whole → P x
+at_split P whole before x after is h = let i : AllByRecursion P (before ++ x ∷ after) =
+    subst (λ v. AllByRecursion P v) is h in (all_right P before (x ∷ after) i).0
+
+-- the small situation of the set that is found first is one of names, if those of the lists are
+pub found_is_situation : (xs ys : List Ace) (set : List Principal) → HasNames xs → HasNames ys
+    → FindsFirst xs ys (small_sets (mentioned xs ys)) (Some set)
+    → IsSituation (small_situation (strange_length xs ys) set)
+found_is_situation xs ys set nx ny h =
+    let s = first_set xs ys (small_sets (mentioned xs ys)) set h in
+    let named = at_split (IsSmallSet HasName) (small_sets (mentioned xs ys)) s.before set s.after s.is
+    (sets_named xs ys nx ny) in
+    small_is_situation (strange_length xs ys) set (omega arith) (small_named set named)
+
+-- lists that differ at a small set grant otherwise
+pub some_then_differ : (xs ys : List Ace) (set : List Principal) → HasNames xs → HasNames ys
+    → FindsFirst xs ys (small_sets (mentioned xs ys)) (Some set) → SameGrants all_rights xs ys → ⊥
+some_then_differ xs ys set nx ny h same =
+    let s = first_set xs ys (small_sets (mentioned xs ys)) set h in
+    let small = at_split (IsSmallSet (λ p. length (principal_name p) < strange_length xs ys))
+    (small_sets (mentioned xs ys)) s.before set s.after s.is (sets_short xs ys) in
+    let valid = found_is_situation xs ys set nx ny h in
+    s.differs ((alike_in_situation xs ys set small).0
+    (λ b i. ap is_allow (same_verdicts xs ys same b i (small_situation (strange_length xs ys) set) valid)))
+
+-- from the first set, and the lowest bit on which the lists differ at it
+pub first_difference : (xs ys : List Ace) (set : List Principal) (bit mask : ℕ) (first : Bool)
+    → FindsFirst xs ys (small_sets (mentioned xs ys)) (Some set) → mask ≡ 2 ^ bit → has_bit all_rights bit ≡ true
+    → is_granted_to xs set bit ≢ is_granted_to ys set bit
+    → ((b : ℕ) → b < bit → has_bit all_rights b ≡ true → is_granted_to xs set b ≡ is_granted_to ys set b)
+    → first ≡ is_granted_to xs set bit → IsFirstDifference xs ys (small_situation (strange_length xs ys) set) mask first
+first_difference xs ys set bit mask first h is_power sixteen differs lowest grants =
+    let sets = small_sets (mentioned xs ys) in
+    let n = strange_length xs ys in
+    let s = first_set xs ys sets set h in
+    let small = at_split (IsSmallSet (λ p. length (principal_name p) < n)) sets s.before set s.after s.is
+    (sets_short xs ys) in
+    let earlier : AllByRecursion (IsSmallSet (λ p. length (principal_name p) < n)) s.before =
+    all_left _ s.before (set ∷ s.after)
+    (subst (λ v. AllByRecursion (IsSmallSet (λ p. length (principal_name p) < n)) v) s.is (sets_short xs ys)) in
+    let ms = mentioned xs ys in
+    let left : (b : ℕ) → grants_bit xs (small_situation n set) b ≡ is_granted_to xs set b =
+    λ b. situation_is_set n set xs b (omega arith) small (column_is_short ms (column xs b) (first_has b xs ys)) in
+    let right : (b : ℕ) → grants_bit ys (small_situation n set) b ≡ is_granted_to ys set b =
+    λ b. situation_is_set n set ys b (omega arith) small (column_is_short ms (column ys b) (second_has b xs ys)) in
+    record {
+      before = map (small_situation n) s.before;
+      after = map (small_situation n) s.after;
+      place = ap (map (small_situation n)) s.is ∙ map-append (small_situation n) s.before (set ∷ s.after);
+      alike_before = all_map_by (IsSmallSet (λ p. length (principal_name p) < n)) (GrantAlikeTo xs ys)
+          (GrantAlike xs ys) (small_situation n) s.before (λ v k alike. (alike_in_situation xs ys v k).1 alike)
+          earlier s.alike;
+      bit = bit;
+      one_bit = is_power;
+      of_rights = sixteen;
+      differs = λ e. differs (sym (left bit) ∙ e ∙ right bit);
+      lowest = λ b l i. left b ∙ lowest b l i ∙ sym (right b);
+      first = grants ∙ sym (left bit);
+    }
+
+-- a request of one bit is granted just as the bit is
+one_bit_granted : (xs : List Ace) (s : Situation) (bit mask : ℕ) (first : Bool) → mask ≡ 2 ^ bit
+    → first ≡ grants_bit xs s bit → Grant xs s mask ↔ IsTrue first
+one_bit_granted xs s bit mask first is h = (
+  λ g. h ∙ g bit (subst (λ m. has_bit m bit ≡ true) (sym is) (has_power bit)),
+  λ e b i.
+      let same : b ≡ bit = only_bit bit b (subst (λ m. has_bit m b ≡ true) is i) in
+      subst (λ v. grants_bit xs s v ≡ true) (sym same) (sym h ∙ e),
+)
+
+-- the other of two answers that differ
+other_answer : (x y : Bool) → (x ≡ y → ⊥) → not x ≡ y
+other_answer true true h = absurd (h refl)
+other_answer true false h = refl
+other_answer false true h = refl
+other_answer false false h = absurd (h refl)
+
+-- what is not true is false
+false_by_not : (x : Bool) → IsTrue (not x) ↔ IsFalse x
+false_by_not true = (λ e. sym e, λ e. sym e)
+false_by_not false = (λ _. refl, λ _. refl)
+
+-- the requester of a first difference tells the lists apart
+pub tells_apart : (xs ys : List Ace) (s : Situation) (mask : ℕ) (first : Bool) → IsSituation s
+    → IsFirstDifference xs ys s mask first → TellsApart xs ys s mask first
+tells_apart xs ys s mask first valid d =
+    let second : not first ≡ grants_bit ys s d.bit = ap not d.first ∙ other_answer _ _ d.differs in
+    let granted = one_bit_granted ys s d.bit mask (not first) d.one_bit second in
+    let turned = false_by_not first in
+    record {
+      valid = valid;
+      first = one_bit_granted xs s d.bit mask first d.one_bit d.first;
+      second = (λ g. turned.0 (granted.0 g), λ e. granted.1 (turned.1 e));
+    }

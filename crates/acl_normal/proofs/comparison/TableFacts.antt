@@ -1,0 +1,368 @@
+-- Tables tell which rows invert another.
+use Rattle.std.specs.Prelude.{◌≡◌, ℕ, ◌<◌, ◌≤◌, ◌+◌, ◌-◌, Bool, true, false, not, ◌&&◌, ◌||◌, ◌==◌, cond, nat_lt, List, [], ◌∷◌, ◌++◌, max, refl, length, take, slice_index_or, slice_set, replicate, ◌⊎◌}
+use Rattle.std.proofs.Common.{sym, ◌∙◌, ap, subst, arith, suc, zero, inl, inr}
+use Rattle.std.proofs.lemmas.List.{take_more, take_all, get_or_read, get_or-set_same, get_or-set_other, get_or-replicate, length-set, length-replicate, length-map}
+use Rattle.std.proofs.lemmas.Bool.{cases_eq, cases_order, eq-eqb, ne_eqb, lt-ltb, le-ltb, and_parts}
+use Rattle.std.proofs.lemmas.Bool.Decides.{nat_tests}
+use Rattle.std.specs.List.{AllZip, AllByRecursion}
+use Rattle.acl_eval.specs.Column.{takes_part}
+use Rattle.acl_nfs4.specs.Ace.{Ace, ace}
+use Rattle.acl_nfs4.specs.Who.{principal_of}
+use Rattle.acl_nfs4.specs.declared.ace.AceRef.{AceRef}
+use Rattle.acl_normal.specs.internal.FirstPlaces.{deciding_place}
+use Rattle.acl_normal.specs.internal.ComparedRows.{no_row, inverts_any, inverts, AreComparedRows, IsComparedRow}
+use Rattle.acl_normal.specs.internal.Passes.{list_of}
+use Rattle.acl_normal.specs.internal.PlaceTables.{HasPlaces, IsFirstOf, IsScattered, HoldsMost, Raises, is_counted, is_of_sort, is_told, most_at, most_before, other_place, place_of}
+use Rattle.acl_normal.specs.internal.SetSearch.{differ}
+use Rattle.acl_normal.specs.SmallSituations.{is_among}
+use Rattle.acl_normal.specs.declared.comparison.inversions.Sort.{Sort}
+use Rattle.acl_normal.specs.declared.comparison.rows.Row.{Row}
+use Rattle.acl_perm.specs.Bits.{has_bit}
+use Rattle.acl_perm.specs.Principal.{Principal, everyone}
+
+-- the sort of a row
+abbrev pub sort_of : Row → Sort
+sort_of r = record { allows = r.here.allows; user = r.user }
+
+-- the greatest of two parts is the greater of theirs
+pub most_at-append : (q : Sort) (w : Bool) (k : ℕ) (xs ys : List Row)
+    → most_at q w k (xs ++ ys) ≡ max (most_at q w k xs) (most_at q w k ys)
+most_at-append q w k [] ys = omega arith
+most_at-append q w k (r ∷ xs) ys = let ih = most_at-append q w k xs ys in omega arith
+
+-- nothing stands just before place 0
+pub at_zero : (q : Sort) (w : Bool) (rows : List Row) → most_at q w 0 rows ≡ 0
+at_zero q w [] = refl
+at_zero q w (r ∷ rows) = rw (ne_eqb (place_of w r + 1) 0 (λ e. absurd (omega arith)), at_zero q w rows)
+    (none (is_counted q r))
+  where
+    none : (t : Bool) → max (cond (t && false) (other_place w r + 1) 0) 0 ≡ 0
+    none true = refl
+    none false = refl
+
+-- nothing stands before place 0
+pub before_zero : (q : Sort) (w : Bool) (rows : List Row) → most_before q w 0 rows ≡ 0
+before_zero q w [] = refl
+before_zero q w (r ∷ rows) =
+    rw (le-ltb (place_of w r) 0 (omega arith), before_zero q w rows) (none (is_counted q r))
+  where
+    none : (t : Bool) → max (cond (t && false) (other_place w r + 1) 0) 0 ≡ 0
+    none true = refl
+    none false = refl
+
+-- the head's share, one place on
+one_place_on : (t : Bool) (k j v : ℕ)
+    → cond (t && nat_lt j (k + 1)) v 0 ≡ max (cond (t && (j + 1 == k + 1)) v 0) (cond (t && nat_lt j k) v 0)
+one_place_on false k j v = refl
+one_place_on true k j v = go (cases_order j k)
+  where
+    go : (j ≡ k) ⊎ ((j < k) ⊎ (k < j))
+        → cond (nat_lt j (k + 1)) v 0 ≡ max (cond (j + 1 == k + 1) v 0) (cond (nat_lt j k) v 0)
+    go (inl e) = rw (lt-ltb j (k + 1) (omega arith), eq-eqb (j + 1) (k + 1) (omega arith), le-ltb j k (omega arith))
+        (omega arith)
+    go (inr (inl l)) = rw (
+      lt-ltb j (k + 1) (omega arith),
+      ne_eqb (j + 1) (k + 1)
+          (λ e. absurd (omega arith)),
+      lt-ltb j k l,
+    ) (omega arith)
+    go (inr (inr l)) = rw (
+      le-ltb j (k + 1) (omega arith),
+      ne_eqb (j + 1) (k + 1)
+          (λ e. absurd (omega arith)),
+      le-ltb j k (omega arith),
+    ) refl
+
+-- one place on, those just before it are added
+pub before_more : (q : Sort) (w : Bool) (k : ℕ) (rows : List Row)
+    → most_before q w (k + 1) rows ≡ max (most_at q w (k + 1) rows) (most_before q w k rows)
+before_more q w k [] = refl
+before_more q w k (r ∷ rows) =
+    let head = one_place_on (is_counted q r) k (place_of w r) (other_place w r + 1) in
+    let ih = before_more q w k rows in
+    omega arith
+
+-- some row is_counted, stands before k, and isn't before v in the other list
+abbrev pub any_over : Sort → Bool → ℕ → ℕ → List Row → Bool
+any_over q w k v [] = false
+any_over q w k v (r ∷ rows) =
+    (is_counted q r && (nat_lt (place_of w r) k && not (nat_lt (other_place w r) v))) || any_over q w k v rows
+
+-- one row, and the others
+over_head : (t l : Bool) (v x m : ℕ)
+    → nat_lt v (max (cond (t && l) (x + 1) 0) m) ≡ ((t && (l && not (nat_lt x v))) || nat_lt v m)
+over_head true true v x m = grind (arith, nat_tests)
+over_head true false v x m = grind (arith, nat_tests)
+over_head false l v x m = grind (arith, nat_tests)
+
+-- the greatest is over a number exactly if some row is
+pub over_is : (q : Sort) (w : Bool) (k v : ℕ) (rows : List Row)
+    → nat_lt v (most_before q w k rows) ≡ any_over q w k v rows
+over_is q w k v [] = le-ltb v 0 (omega arith)
+over_is q w k v (r ∷ rows) =
+    over_head (is_counted q r) (nat_lt (place_of w r) k) v (other_place w r) (most_before q w k rows)
+    ∙ ap (λ t. (is_counted q r && (nat_lt (place_of w r) k && not (nat_lt (other_place w r) v))) || t)
+    (over_is q w k v rows)
+
+-- one order in one list and the other in the other, either way round
+either_order : (c l m x y : Bool)
+    → ((c && differ l m) || (x || y)) ≡ (((c && (l && not m)) || x) || ((c && (m && not l)) || y))
+either_order true true true x y = refl
+either_order true true false x y = refl
+either_order true false true true y = refl
+either_order true false true false y = refl
+either_order true false false x y = refl
+either_order false l m x y = refl
+
+-- a row inverts another just where the tables, in one direction or in the other, say so
+pub inverts_is : (r : Row) (rows : List Row)
+    → inverts_any r rows ≡ (any_over (sort_of r) false r.here.place r.there.place rows || any_over
+    (sort_of r) true r.there.place r.here.place rows)
+inverts_is r [] = refl
+inverts_is r (s ∷ rows) =
+    ap (λ t. inverts r s || t) (inverts_is r rows)
+    ∙ either_order (is_counted (sort_of r) s) (nat_lt s.here.place r.here.place)
+    (nat_lt s.there.place r.there.place) (any_over (sort_of r) false r.here.place r.there.place rows)
+    (any_over (sort_of r) true r.there.place r.here.place rows)
+
+-- the same, by what the tables hold
+pub inverts_by_tables : (r : Row) (rows : List Row) (f s : ℕ)
+    → f ≡ most_before (sort_of r) false r.here.place rows
+    → s ≡ most_before (sort_of r) true r.there.place rows
+    → inverts_any r rows ≡ (nat_lt r.there.place f || nat_lt r.here.place s)
+inverts_by_tables r rows f s h i =
+    inverts_is r rows ∙ rw (
+      h,
+      i,
+      over_is (sort_of r) false r.here.place r.there.place rows,
+      over_is
+          (sort_of r) true r.there.place r.here.place rows,
+    ) refl
+
+-- a row that counts raises what stands behind its place
+pub raises_set : (q : Sort) (w : Bool) (r : Row) (old new : List ℕ) (j v : ℕ) → j < length old → is_counted q r ≡ true
+    → j ≡ place_of w r + 1 → v ≡ other_place w r + 1 → new ≡ slice_set old j (max (slice_index_or old j 0) v)
+    → Raises q w r old new
+raises_set q w r old new j v lt c jk vk is =
+    record {
+      count = ap length is ∙ length-set old j (max (slice_index_or old j 0) v);
+      each =
+          λ k lk. ap (λ l. slice_index_or l k 0) is ∙ at k (cases_eq k j);
+    }
+  where
+    at : (k : ℕ) → (k ≡ j) ⊎ (k ≡ j → ⊥)
+        → slice_index_or (slice_set old j (max (slice_index_or old j 0) v)) k 0
+        ≡ max (slice_index_or old k 0) (cond (is_counted q r && (place_of w r + 1 == k)) (other_place w r + 1) 0)
+    at k (inl e) = ap (λ i. slice_index_or (slice_set old j (max (slice_index_or old j 0) v)) i 0) e
+        ∙ get_or-set_same old j (max (slice_index_or old j 0) v) 0 lt
+        ∙ rw (c, eq-eqb (place_of w r + 1) k (sym jk ∙ sym e))
+        (ap (λ i. max (slice_index_or old i 0) v) (sym e) ∙ ap (λ x. max (slice_index_or old k 0) x) vk)
+    at k (inr n) = get_or-set_other old j k (max (slice_index_or old j 0) v) 0 n
+        ∙ rw (c, ne_eqb (place_of w r + 1) k (λ e. n (sym e ∙ sym jk))) (omega arith)
+
+-- one that doesn't leaves it
+pub raises_none : (q : Sort) (w : Bool) (r : Row) (old : List ℕ) → is_counted q r ≡ false → Raises q w r old old
+raises_none q w r old c = record { count = refl; each = λ k lk. rw c (omega arith) }
+
+-- before the first row all is zero
+pub scatter_start : (q : Sort) (w : Bool) (size n : ℕ) (table : List ℕ) → table ≡ replicate n 0 → n ≡ size + 2
+    → IsScattered q w size [] table
+scatter_start q w size n table is e =
+    record {
+      count = ap length is ∙ length-replicate n 0 ∙ e;
+      each = λ k lt. ap (λ l. slice_index_or l k 0) is
+          ∙ get_or-replicate n k 0 0 (omega arith);
+    }
+
+-- one more row
+pub scatter_more : (q : Sort) (w : Bool) (size i : ℕ) (rows : List Row) (d : Row) (old new : List ℕ) → i < length rows
+    → Raises q w (slice_index_or rows i d) old new → IsScattered q w size (take i rows) old
+    → IsScattered q w size (take (i + 1) rows) new
+scatter_more q w size i rows d old new lt up h = record {
+  count = up.count ∙ h.count;
+  each = λ k lk. up.each k (omega (arith, h.count)) ∙ whole k (h.each k lk)
+      ∙ sym (ap (most_at q w k) (take_more rows i d lt)
+      ∙ most_at-append q w k (take i rows) (slice_index_or rows i d ∷ []));
+}
+  where
+    whole : (k : ℕ) → slice_index_or old k 0 ≡ most_at q w k (take i rows)
+        → max (slice_index_or old k 0)
+        (cond (is_counted q (slice_index_or rows i d) && (place_of w (slice_index_or rows i d) + 1 == k))
+        (other_place w (slice_index_or rows i d) + 1) 0)
+        ≡ max (most_at q w k (take i rows))
+        (max (cond (is_counted q (slice_index_or rows i d) && (place_of w (slice_index_or rows i d) + 1 == k))
+        (other_place w (slice_index_or rows i d) + 1) 0) 0)
+    whole k e = omega arith
+
+-- the places below k are finished
+pub record IsSummed (q : Sort) (w : Bool) (size k : ℕ) (rows : List Row) (table : List ℕ) : Type 0 where
+  pub count : length table ≡ size + 2
+  pub done : (j : ℕ) → j < k → slice_index_or table j 0 ≡ most_before q w j rows
+  pub left : (j : ℕ) → k ≤ j → j < size + 2 → slice_index_or table j 0 ≡ most_at q w j rows
+
+-- after all rows
+pub scatter_all : (q : Sort) (w : Bool) (size i : ℕ) (rows : List Row) (table : List ℕ) → length rows ≤ i
+    → IsScattered q w size (take i rows) table → IsScattered q w size rows table
+scatter_all q w size i rows table le h =
+    record { count = h.count; each = λ k lt. h.each k lt ∙ ap (most_at q w k) (take_all i rows le) }
+
+-- nothing stands before place 0
+pub summed_start : (q : Sort) (w : Bool) (size : ℕ) (rows : List Row) (table : List ℕ) → IsScattered q w size rows table
+    → IsSummed q w size 1 rows table
+summed_start q w size rows table h = record {
+  count = h.count;
+  done = λ j lt. let e : j ≡ 0 = omega arith in
+      subst (λ v. slice_index_or table v 0 ≡ most_before q w v rows) (sym e)
+      (h.each 0 (omega arith) ∙ at_zero q w rows ∙ sym (before_zero q w rows));
+  left = λ j lo lt. h.each j lt;
+}
+
+-- one more place
+pub summed_more : (q : Sort) (w : Bool) (size k x y : ℕ) (rows : List Row) (old new : List ℕ) → 0 < k → k < size + 2
+    → x ≡ slice_index_or old k x → y ≡ slice_index_or old (k - 1) y → new ≡ slice_set old k (max x y)
+    → IsSummed q w size k rows old → IsSummed q w size (k + 1) rows new
+summed_more q w size k x y rows old new pos lt xi yi is h = record {
+  count = ap length is ∙ length-set old k (max x y) ∙ h.count;
+  done = λ j l. ap (λ v. slice_index_or v j 0) is ∙ at j l (cases_eq j k);
+  left = λ j lo l. ap (λ v. slice_index_or v j 0) is
+      ∙ get_or-set_other old k j (max x y) 0 (λ e. absurd (omega arith)) ∙ h.left j (omega arith) l;
+}
+  where
+    value : max x y ≡ most_before q w k rows
+    value =
+        let i : ℕ = k - 1 in
+        let next : k ≡ i + 1 = omega arith in
+        let here : x ≡ most_at q w k rows = get_or_read old k x (omega (arith, h.count)) xi 0
+        ∙ h.left k (omega arith) lt in
+        let before : y ≡ most_before q w i rows = get_or_read old (k - 1) y (omega (arith, h.count)) yi 0
+        ∙ h.done i (omega arith) in
+        let whole : most_before q w k rows ≡ max (most_at q w k rows) (most_before q w i rows) =
+        subst (λ v. most_before q w v rows ≡ max (most_at q w v rows) (most_before q w i rows)) (sym next)
+        (before_more q w i rows) in
+        omega arith
+
+    at : (j : ℕ) → j < k + 1 → (j ≡ k) ⊎ (j ≡ k → ⊥)
+        → slice_index_or (slice_set old k (max x y)) j 0 ≡ most_before q w j rows
+    at j l (inl e) = subst (λ v. slice_index_or (slice_set old k (max x y)) v 0 ≡ most_before q w v rows) (sym e)
+        (get_or-set_same old k (max x y) 0 (omega (arith, h.count)) ∙ value)
+    at j l (inr n) = get_or-set_other old k j (max x y) 0 n ∙ h.done j (omega arith)
+
+-- after the last place the table is done
+pub summed_done : (q : Sort) (w : Bool) (size k : ℕ) (rows : List Row) (table : List ℕ) → size + 2 ≤ k
+    → IsSummed q w size k rows table → HoldsMost q w size rows table
+summed_done q w size k rows table le h = record { count = h.count; each = λ j lt. h.done j (omega arith) }
+
+-- the places of one of the rows
+pub places_at : (size i : ℕ) (rows : List Row) (d : Row) → i < length rows → AllByRecursion (HasPlaces size) rows
+    → HasPlaces size (slice_index_or rows i d)
+places_at size i [] d lt h = absurd (omega arith)
+places_at size zero (r ∷ rows) d lt h = h.0
+places_at size (suc i) (r ∷ rows) d lt h = places_at size i rows d (omega arith) h.1
+
+-- answers that don't differ are the same
+not_differ : (x y : Bool) → not (differ x y) ≡ true → x ≡ y
+not_differ true true h = refl
+not_differ false false h = refl
+not_differ true false h = cc
+not_differ false true h = cc
+
+-- a row of a sort has that sort
+pub kind_is : (q : Sort) (r : Row) → is_of_sort q r ≡ true → q ≡ sort_of r
+kind_is q r h = let p = and_parts (not (differ q.allows r.here.allows)) (not (differ q.user r.user)) h in
+    ap (λ v. record { allows = v; user = q.user }) (not_differ q.allows r.here.allows p.0)
+    ∙ ap (λ v. record { allows = r.here.allows; user = v }) (not_differ q.user r.user p.1)
+
+-- what the two tables say of a row of their sort
+pub by_kind : (q : Sort) (size : ℕ) (rows : List Row) (r : Row) (forward back : List ℕ) → is_of_sort q r ≡ true
+    → HasPlaces size r → HoldsMost q false size rows forward → HoldsMost q true size rows back
+    → inverts_any r rows ≡ (nat_lt r.there.place (slice_index_or forward r.here.place 0) || nat_lt r.here.place
+    (slice_index_or back r.there.place 0))
+by_kind q size rows r forward back k p f b =
+    let own = kind_is q r k in
+    let here_in = p.here in
+    let there_in = p.there in
+    inverts_by_tables r rows (slice_index_or forward r.here.place 0) (slice_index_or back r.there.place 0)
+    (f.each r.here.place (omega arith) ∙ ap (λ v. most_before v false r.here.place rows) own)
+    (b.each r.there.place (omega arith) ∙ ap (λ v. most_before v true r.there.place rows) own)
+
+-- a row that is told inverts another
+pub found_true : (q : Sort) (size : ℕ) (rows : List Row) (r : Row) (forward back : List ℕ) (t : Bool)
+    → t ≡ is_told q r forward back → t ≡ true → HasPlaces size r → HoldsMost q false size rows forward
+    → HoldsMost q true size rows back → inverts_any r rows ≡ true
+found_true q size rows r forward back t h e p f b =
+    let parts = and_parts (is_of_sort q r)
+    (nat_lt r.there.place (slice_index_or forward r.here.place 0) || nat_lt r.here.place
+    (slice_index_or back r.there.place 0)) (sym h ∙ e) in
+    by_kind q size rows r forward back parts.0 p f b ∙ parts.1
+
+-- one of the sort that is not told inverts none
+pub found_false : (q : Sort) (size : ℕ) (rows : List Row) (r : Row) (forward back : List ℕ) (t : Bool)
+    → t ≡ is_told q r forward back → t ≡ false → HasPlaces size r → HoldsMost q false size rows forward
+    → HoldsMost q true size rows back → is_of_sort q r ≡ true → inverts_any r rows ≡ false
+found_false q size rows r forward back t h e p f b k =
+    by_kind q size rows r forward back k p f b
+    ∙ sym (ap (λ v. v && (nat_lt r.there.place (slice_index_or forward r.here.place 0) || nat_lt r.here.place
+    (slice_index_or back r.there.place 0))) k)
+    ∙ sym h ∙ e
+
+-- places of rows are within the lists
+pub first_place_within : (ps : List Principal) (b : ℕ) (xs : List Ace) → deciding_place ps b xs ≤ length xs
+first_place_within ps b [] = omega arith
+first_place_within ps b (a ∷ xs) =
+    go ((has_bit a.mask b && takes_part a) && is_among (principal_of a) (everyone ∷ ps)) (first_place_within ps b xs)
+  where
+    go : (t : Bool) → deciding_place ps b xs ≤ length xs → cond t 0 (deciding_place ps b xs + 1) ≤ length (a ∷ xs)
+    go true h = omega arith
+    go false h = omega arith
+
+-- the places of rows are within the lists
+pub rows_within : (ps : List Principal) (xs ys : List Ace) (b size : ℕ) (rows : List Row) → length xs ≤ size
+    → length ys ≤ size → AllZip (IsComparedRow xs ys b) ps rows → AllByRecursion (HasPlaces size) rows
+rows_within [] xs ys b size [] lx ly z = tt
+rows_within (p ∷ ps) xs ys b size (r ∷ rows) lx ly z = (
+  record {
+    here = omega (arith, z.0.here.place, first_place_within (p ∷ []) b xs);
+    there =
+        omega (arith, z.0.there.place, first_place_within (p ∷ []) b ys);
+  },
+  rows_within ps xs ys b size rows lx ly z.1,
+)
+rows_within _ xs ys b size _ lx ly z = absurd z
+
+-- the same, as the code holds the rows
+pub slice_within : (ps : List Principal) (first second : List AceRef) (b size : ℕ) (items slice : List Row)
+    → slice ≡ items → length first ≤ size → length second ≤ size
+    → AreComparedRows ps (list_of first) (list_of second) b items
+    → AllByRecursion (HasPlaces size) slice
+slice_within ps first second b size items slice is lx ly h =
+    subst (λ v. AllByRecursion (HasPlaces size) v) (sym is)
+    (rows_within ps (list_of first) (list_of second) b size items (omega (arith, length-map first ace))
+    (omega (arith, length-map second ace)) h.each)
+
+-- the first row of a sort that is told
+pub first_of_kind : (q : Sort) (size limit k : ℕ) (rows : List Row) (forward back fs bs : List ℕ) (t : Bool)
+    → k < limit → limit ≤ length rows
+    → ((j : ℕ) → j < k → is_of_sort q (slice_index_or rows j no_row) ≡ true
+    → inverts_any (slice_index_or rows j no_row) rows ≡ false) → AllByRecursion (HasPlaces size) rows
+    → HoldsMost q false size rows forward → HoldsMost q true size rows back → fs ≡ forward → bs ≡ back
+    → t ≡ is_told q (slice_index_or rows k no_row) fs bs → t ≡ true → IsFirstOf q rows limit k
+first_of_kind q size limit k rows forward back fs bs t lt le before places f b fe be h e = record {
+  within = omega arith;
+  before = before;
+  at = λ _. found_true q size rows (slice_index_or rows k no_row) fs bs t h e
+      (places_at size k rows no_row (omega arith) places) (subst (λ v. HoldsMost q false size rows v) (sym fe) f)
+      (subst (λ v. HoldsMost q true size rows v) (sym be) b);
+}
+
+-- one more row of which none is told
+pub not_of_kind : (q : Sort) (size k : ℕ) (rows : List Row) (forward back fs bs : List ℕ) (t : Bool)
+    → k < length rows → AllByRecursion (HasPlaces size) rows → HoldsMost q false size rows forward
+    → HoldsMost q true size rows back → fs ≡ forward → bs ≡ back
+    → t ≡ is_told q (slice_index_or rows k no_row) fs bs → t ≡ false
+    → is_of_sort q (slice_index_or rows k no_row) ≡ true → inverts_any (slice_index_or rows k no_row) rows ≡ false
+not_of_kind q size k rows forward back fs bs t lt places f b fe be h e =
+    found_false q size rows (slice_index_or rows k no_row) fs bs t h e (places_at size k rows no_row lt places)
+    (subst (λ v. HoldsMost q false size rows v) (sym fe) f) (subst (λ v. HoldsMost q true size rows v) (sym be) b)
+
+-- a row raises the table, or leaves it
+pub ruleset raising = (raises_set, raises_none)

@@ -1,0 +1,12 @@
+pub mod SoFar
+pub mod Marks
+pub mod Heaped
+pub mod Few
+pub mod Walk
+pub mod NewlyFree
+pub mod Filled
+pub mod Leaving
+pub mod Drained
+pub mod InRows
+pub mod RemainingLemmas
+pub mod InRemaining

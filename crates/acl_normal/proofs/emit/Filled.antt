@@ -1,0 +1,75 @@
+-- All that is free, bit by bit.
+use Rattle.std.specs.Prelude.{◌≡◌, ℕ, ◌+◌, ◌<◌, ◌≤◌, Bool, true, false, ◌⊎◌, ◌==◌, List, [], refl}
+use Rattle.std.proofs.Common.{sym, ◌∙◌, ap, subst, arith, inl, inr, ⊎_elim}
+use Rattle.std.proofs.lemmas.Bool.{cases_eq, cases_lt}
+use Rattle.std.proofs.lemmas.Nat.Bits.{bit_at-zero}
+use Rattle.acl_perm.specs.Principal.{Principal, is_user}
+use Rattle.acl_perm.specs.declared.kind.Kind.{Kind}
+use Rattle.acl_perm.specs.declared.kind.Kind.TheVariants.{Deny, Allow}
+use Rattle.acl_perm.specs.Bits.{has_bit}
+use Rattle.acl_nfs4.specs.Ace.{Ace}
+use Rattle.acl_eval.specs.Column.{column}
+use Rattle.acl_normal.specs.Keys.{Key}
+use Rattle.acl_normal.specs.Normal.{is_free}
+use Rattle.acl_normal.specs.internal.Ready.{Marked, Grows, Enters, HoldsFree}
+use Rattle.acl_normal.proofs.unique.Realised.{same_answers}
+use Rattle.acl_normal.proofs.emit.NewlyFree.{grows_nothing, grows_on}
+
+-- what is free at the bits below a place is marked
+pub record Fills (xs : List Ace) (old new : Marked) (n : ℕ) : Type 0 where
+  pub grows : Grows xs old new
+  pub all : (k : Key) (b : ℕ) → b < n → is_free (column xs b) k ≡ true → has_bit (new k) b ≡ true
+
+-- below the first bit
+pub fills_nothing : (xs : List Ace) (old : Marked) → Fills xs old old 0
+fills_nothing xs old = record { grows = grows_nothing xs old; all = λ k b l. absurd (omega (arith, l)) }
+
+-- one bit more
+pub fills_on : (xs : List Ace) (old new v w x y : Marked) (n : ℕ) → Fills xs old new n → Enters Deny false n xs new v
+    → Enters Deny true n xs v w → Enters Allow false n xs w x → Enters Allow true n xs x y → Fills xs old y (n + 1)
+fills_on xs old new v w x y n f a b c d = record {
+  grows = grows_on xs old new y f.grows all;
+  all = λ k i l free. go k i l free (cases_eq i n);
+}
+  where
+    tail : Grows xs v y
+    tail = grows_on xs v w y b.grows (grows_on xs w x y c.grows d.grows)
+
+    all : Grows xs new y
+    all = grows_on xs new v y a.grows tail
+
+    here : (q : Principal) (j : Kind) (u : Bool) → is_user q ≡ u → is_free (column xs n) (q, j) ≡ true
+        → has_bit (y (q, j)) n ≡ true
+    here q Deny false e free = tail.kept (q, Deny) n (a.all q e free)
+    here q Deny true e free = d.grows.kept (q, Deny) n (c.grows.kept (q, Deny) n (b.all q e free))
+    here q Allow false e free = d.grows.kept (q, Allow) n (c.all q e free)
+    here q Allow true e free = d.all q e free
+
+    go : (k : Key) (i : ℕ) → i < n + 1 → is_free (column xs i) k ≡ true → (i ≡ n) ⊎ (i ≡ n → ⊥)
+        → has_bit (y k) i ≡ true
+    go (q, j) i l free (inl e) =
+        rw e (here q j (is_user q) refl (subst (λ v. is_free (column xs v) (q, j) ≡ true) e free))
+    go k i l free (inr d) =
+        all.kept k i (f.all k i (⊎_elim (λ g. g) (λ g. absurd (d (omega (arith, g, l)))) (cases_lt i n)) free)
+
+-- all bits
+pub fills_all : (xs : List Ace) (old new : Marked) (n : ℕ) → Fills xs old new n → ((k : Key) → old k ≡ 0) → n ≡ 21
+    → ((b : ℕ) → 21 ≤ b → column xs b ≡ []) → HoldsFree new xs
+fills_all xs old new n f empty end low k b =
+    same_answers (has_bit (new k) b) (is_free (column xs b) k) (λ h. sound k b (f.grows.sound k b h))
+    (λ h. complete k b h (cases_lt b 21))
+  where
+    sound : (k : Key) (b : ℕ) → (has_bit (old k) b ≡ true) ⊎ (is_free (column xs b) k ≡ true)
+        → is_free (column xs b) k ≡ true
+    sound k b (inl h) =
+        let none : has_bit (old k) b ≡ false =
+        ap (λ v. has_bit v b) (empty k) ∙ ap (λ v. v == 1) (bit_at-zero b) in
+        cc
+    sound k b (inr h) = h
+
+    complete : (k : Key) (b : ℕ) → is_free (column xs b) k ≡ true → (b < 21) ⊎ (21 ≤ b)
+        → has_bit (new k) b ≡ true
+    complete k b h (inl l) = f.all k b (subst (λ v. b < v) (sym end) l) h
+    complete k b h (inr l) =
+        let none : is_free (column xs b) k ≡ false = ap (λ c. is_free c k) (low b l) in
+        cc

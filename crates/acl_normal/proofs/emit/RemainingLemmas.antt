@@ -1,0 +1,287 @@
+-- What remains of a list while it is emitted: masks by place of which masks by row leave a part, and queues of places.
+use Rattle.std.specs.Prelude.{◌≡◌, ◌⊎◌, ℕ, ◌+◌, ◌<◌, ◌≤◌, zero, suc, Bool, true, false, not, ◌&&◌, List, [], ◌∷◌, ◌++◌, Option, None, Some, length, drop, bit_and, slice_index_or, slice_set, refl}
+use Rattle.std.specs.Ordering.{nat_cmp}
+use Rattle.std.specs.BTreeMap.{is_at}
+use Rattle.std.specs.List.{list_any, slice_range, PartBy}
+use Rattle.std.specs.Option.{unwrap_or}
+use Rattle.std.proofs.Common.{sym, ◌∙◌, ap, subst, arith, ⊎_elim, inl, inr, Bor}
+use Rattle.std.proofs.lemmas.Bool.{and_parts, cases_eq, or_cases, or_right, false_from_ne_true}
+use Rattle.std.proofs.lemmas.List.{append-nil, drop_all, get_or-set_same, get_or-set_other}
+use Rattle.std.proofs.lemmas.List.Folds.{drop_split}
+use Rattle.std.proofs.Math.Seq.{drop-cons}
+use Rattle.std.proofs.lemmas.Map.Keys.{sorted_head, sorted_tail}
+use Rattle.acl_perm.specs.Bits.{has_bit}
+use Rattle.acl_perm.specs.Principal.{Principal}
+use Rattle.acl_perm.specs.declared.kind.Kind.{Kind}
+use Rattle.acl_nfs4.specs.Ace.{Ace}
+use Rattle.acl_nfs4.specs.Who.{principal_of}
+use Rattle.acl_nfs4.specs.declared.ace.AceRef.{AceRef}
+use Rattle.acl_eval.specs.Scan.{without}
+use Rattle.acl_eval.proofs.Scans.{has_bit-without}
+use Rattle.acl_normal.specs.Keys.{principal_eq}
+use Rattle.acl_normal.specs.Normal.{counts, is_inherit_only}
+use Rattle.acl_normal.specs.internal.Tidy.{IsQuiet}
+use Rattle.acl_normal.specs.Places.{is_waiting, take_out, waits, without_bits}
+use Rattle.acl_normal.specs.internal.AtPlaces.{waits_before, mask_here, key_here}
+use Rattle.acl_normal.specs.internal.Remaining.{IsQueue, IsQueueFrom, masks_left}
+use Rattle.acl_normal.specs.internal.Shown.{with_masks}
+use Rattle.acl_normal.proofs.emit.Walk.{head_in, later_than}
+use Rattle.acl_normal.proofs.rows.BitTaken.{is_eq_same}
+use Rattle.acl_normal.proofs.rows.Rows.{outline_taken}
+use Rattle.acl_normal.proofs.rows.TakeOut.{waiting_left}
+use Rattle.acl_normal.proofs.rows.Waits.{before_none}
+use Rattle.acl_normal.proofs.rows.WaitingPlaces.{shown_with}
+use Rattle.acl_perm.proofs.Sets.{has_bit-and, no_bit}
+use Rattle.acl_normal.proofs.unique.Bits.{masks_same}
+use Rattle.acl_normal.proofs.unique.Names.{principal_eq_same, principal_eq_itself}
+use Rattle.acl_normal.proofs.unique.Outline.{length_alike}
+
+-- ---- masks
+
+-- a mask is left at each place
+pub length_left : (masks rows left : List ℕ) → length (masks_left masks rows left) ≡ length masks
+length_left [] rows left = refl
+length_left (m ∷ masks) [] left = refl
+length_left (m ∷ masks) (r ∷ rows) left = ap suc (length_left masks rows left)
+
+-- that of the place without what has left its row
+pub left_at : (masks rows left : List ℕ) (i : ℕ) → length rows ≡ length masks → i < length masks
+    → slice_index_or (masks_left masks rows left) i 0
+    ≡ bit_and (slice_index_or masks i 0) (slice_index_or left (slice_index_or rows i 0) 0)
+left_at [] rows left i e l = absurd (omega (arith, l))
+left_at (m ∷ masks) [] left i e l = absurd (omega (arith, e))
+left_at (m ∷ masks) (r ∷ rows) left zero e l = refl
+left_at (m ∷ masks) (r ∷ rows) left (suc i) e l = left_at masks rows left i (omega (arith, e)) (omega (arith, l))
+
+-- the mask that is shown at a place
+pub mask_shown : (aces : List AceRef) (masks : List ℕ) (i : ℕ) → length masks ≡ length aces
+    → mask_here (with_masks aces masks) i ≡ slice_index_or masks i 0
+mask_shown [] [] i e = refl
+mask_shown [] (m ∷ masks) i e = absurd (omega (arith, e))
+mask_shown (a ∷ aces) [] i e = absurd (omega (arith, e))
+mask_shown (a ∷ aces) (m ∷ masks) zero e = refl
+mask_shown (a ∷ aces) (m ∷ masks) (suc i) e = mask_shown aces masks i (omega (arith, e))
+
+-- where each row has its numbers, all that has the bits of the masks is left
+pub whole_left : (masks rows left : List ℕ) → length rows ≡ length masks
+    → ((i : ℕ) → i < length masks → bit_and (slice_index_or masks i 0) (slice_index_or left (slice_index_or rows i 0) 0)
+    ≡ slice_index_or masks i 0)
+    → masks_left masks rows left ≡ masks
+whole_left [] rows left e h = refl
+whole_left (m ∷ masks) [] left e h = absurd (omega (arith, e))
+whole_left (m ∷ masks) (r ∷ rows) left e h =
+    ap (λ v. v ∷ masks_left masks rows left) (h 0 (omega arith))
+    ∙ ap (λ v. m ∷ v) (whole_left masks rows left (omega (arith, e)) (λ i l. h (suc i) (omega (arith, l))))
+
+-- bits leave a mask and its row alike
+and_without : (m l n : ℕ) → bit_and m (without l n) ≡ without (bit_and m l) n
+and_without m l n =
+    masks_same _ _ (λ b. has_bit-and m (without l n) b ∙ ap (λ t. has_bit m b && t) (has_bit-without l n b)
+    ∙ bools (has_bit m b) (has_bit l b) (has_bit n b)
+    ∙ ap (λ t. t && not (has_bit n b)) (sym (has_bit-and m l b))
+    ∙ sym (has_bit-without (bit_and m l) n b))
+  where
+    bools : (s t u : Bool) → (s && (t && not u)) ≡ ((s && t) && not u)
+    bools true t u = refl
+    bools false t u = refl
+
+nothing_without : (n : ℕ) → without 0 n ≡ 0
+nothing_without n =
+    masks_same _ _ (λ b. has_bit-without 0 n b ∙ rw (no_bit b) refl)
+
+-- without bits of a row, the list is without bits of its principal
+pub row_taken : (p : Principal) (m row : ℕ) (aces : List AceRef) (masks rows left : List ℕ) → row < length left
+    → length rows ≡ length masks → IsQuiet (with_masks aces (masks_left masks rows left))
+    → ((i : ℕ) → i < length (with_masks aces (masks_left masks rows left)) → slice_index_or rows i 0 ≡ row
+    → (key_here (with_masks aces (masks_left masks rows left)) i).0 ≡ p)
+    → ((i : ℕ) → i < length (with_masks aces (masks_left masks rows left))
+    → (key_here (with_masks aces (masks_left masks rows left)) i).0 ≡ p → slice_index_or rows i 0 ≡ row)
+    → with_masks aces (masks_left masks rows (slice_set left row (without (slice_index_or left row 0) m)))
+    ≡ take_out p m (with_masks aces (masks_left masks rows left))
+row_taken p m row [] masks rows left l e quiet there back = refl
+row_taken p m row (x ∷ aces) [] rows left l e quiet there back = refl
+row_taken p m row (x ∷ aces) (n ∷ masks) [] left l e quiet there back = absurd (omega (arith, e))
+row_taken p m row (x ∷ aces) (n ∷ masks) (r ∷ rows) left l e quiet there back =
+    ap (λ v. v ∷ with_masks aces (masks_left masks rows new)) (here (cases_eq r row))
+    ∙ ap (λ v. without_bits p m head ∷ v)
+    (row_taken p m row aces masks rows left l (omega (arith, e)) quiet.1
+    (λ i h. there (suc i) (omega (arith, h))) (λ i h. back (suc i) (omega (arith, h))))
+  where
+    new : List ℕ
+    new = slice_set left row (without (slice_index_or left row 0) m)
+
+    head : Ace
+    head = shown_with x (bit_and n (slice_index_or left r 0))
+
+    here : (r ≡ row) ⊎ (r ≡ row → ⊥) → shown_with x (bit_and n (slice_index_or new r 0)) ≡ without_bits p m head
+    here (inr d) =
+        ap (λ v. shown_with x (bit_and n v)) (get_or-set_other left row r _ 0 d) ∙ rw apart refl
+      where
+        apart : principal_eq (principal_of head) p ≡ false
+        apart = false_from_ne_true _ (λ t. d (back 0 (omega arith) (principal_eq_same (principal_of head) p t)))
+    here (inl s) = ap (shown_with x) mask ∙ go (is_inherit_only head) refl
+      where
+        mask : bit_and n (slice_index_or new r 0) ≡ without (bit_and n (slice_index_or left r 0)) m
+        mask =
+            ap (λ v. bit_and n (slice_index_or new v 0)) s
+            ∙ ap (bit_and n) (get_or-set_same left row (without (slice_index_or left row 0) m) 0 l)
+            ∙ ap (λ v. bit_and n (without (slice_index_or left v 0) m)) (sym s)
+            ∙ and_without n (slice_index_or left r 0) m
+
+        named : principal_eq (principal_of head) p ≡ true
+        named = ap (λ v. principal_eq v p) (there 0 (omega arith) s) ∙ principal_eq_itself p
+
+        go : (t : Bool) → is_inherit_only head ≡ t → shown_with x (without head.mask m) ≡ without_bits p m head
+        go false f = rw (named, f) refl
+        go true f =
+            rw (named, f) (ap (shown_with x)
+            (ap (λ v. without v m) (quiet.0 f) ∙ nothing_without m ∙ sym (quiet.0 f)))
+
+-- ---- queues
+
+-- what waits has the bit
+pub waits_has : (k : Kind) (u : Bool) (b : ℕ) (xs : List Ace) (i : ℕ) → waits k u b xs i ≡ true
+    → has_bit (mask_here xs i) b ≡ true
+waits_has k u b [] i h = cc
+waits_has k u b (a ∷ xs) zero h =
+    let parts = and_parts (counts b a) _ h in
+    let both = and_parts (has_bit a.mask b) (not (is_inherit_only a)) parts.0 in
+    both.0
+waits_has k u b (a ∷ xs) (suc i) h = waits_has k u b xs i h
+
+-- what does not have a bit has it no more when bits leave
+pub mask_taken : (p : Principal) (m : ℕ) (xs : List Ace) (i b : ℕ) → has_bit (mask_here xs i) b ≡ false
+    → has_bit (mask_here (take_out p m xs) i) b ≡ false
+mask_taken p m [] i b h = h
+mask_taken p m (a ∷ xs) zero b h = go (principal_eq (principal_of a) p && not (is_inherit_only a)) refl
+  where
+    go : (t : Bool) → (principal_eq (principal_of a) p && not (is_inherit_only a)) ≡ t
+        → has_bit (without_bits p m a).mask b ≡ false
+    go true e = rw e (has_bit-without a.mask m b ∙ rw h refl)
+    go false e = rw e h
+mask_taken p m (a ∷ xs) (suc i) b h = mask_taken p m xs i b h
+
+-- what waits when bits left has waited before
+pub waited : (k : Kind) (u : Bool) (b : ℕ) (p : Principal) (m : ℕ) (xs : List Ace) (i : ℕ)
+    → waits k u b (take_out p m xs) i ≡ true → waits k u b xs i ≡ true
+waited k u b p m [] i h = h
+waited k u b p m (a ∷ xs) zero h =
+    let parts = and_parts (is_waiting k u b a) _ (sym (waiting_left k u b p m a) ∙ h) in
+    parts.0
+waited k u b p m (a ∷ xs) (suc i) h = waited k u b p m xs i h
+
+-- where just what has the bit waits, it does so when bits left
+pub listed_taken : (k : Kind) (u : Bool) (b : ℕ) (p : Principal) (m : ℕ) (xs : List Ace) (i : ℕ)
+    → waits k u b xs i ≡ has_bit (mask_here xs i) b
+    → waits k u b (take_out p m xs) i ≡ has_bit (mask_here (take_out p m xs) i) b
+listed_taken k u b p m [] i h = h
+listed_taken k u b p m (a ∷ xs) zero h = go (principal_eq (principal_of a) p) refl (is_inherit_only a) refl
+  where
+    go : (s : Bool) → principal_eq (principal_of a) p ≡ s → (t : Bool) → is_inherit_only a ≡ t
+        → is_waiting k u b (without_bits p m a) ≡ has_bit (without_bits p m a).mask b
+    go true e false f =
+        waiting_left k u b p m a ∙ ap (λ t. t && not (principal_eq (principal_of a) p && has_bit m b)) h
+        ∙ rw (e, f) (sym (has_bit-without a.mask m b))
+    go true e true f =
+        let same : without_bits p m a ≡ a = rw (e, f) refl in
+        subst (λ v. is_waiting k u b v ≡ has_bit v.mask b) (sym same) h
+    go false e t f = rw e h
+listed_taken k u b p m (a ∷ xs) (suc i) h = listed_taken k u b p m xs i h
+
+-- a queue is one when bits left
+pub queue_taken : (k : Kind) (u : Bool) (b : ℕ) (p : Principal) (m : ℕ) (xs : List Ace) (places : List ℕ) (first : ℕ)
+    → IsQueueFrom k u b xs places first → IsQueueFrom k u b (take_out p m xs) places first
+queue_taken k u b p m xs places first q = record {
+  queue = record {
+    sorted = q.queue.sorted;
+    within = λ i h. omega (arith, q.queue.within i h, length_alike (take_out p m xs) xs (outline_taken p m xs));
+    listed = λ i h. listed_taken k u b p m xs i (q.queue.listed i h);
+    all = λ i h. q.queue.all i (waited k u b p m xs i h);
+  };
+  passed = λ j l h. mask_taken p m xs (slice_index_or places j 0) b (q.passed j l h);
+}
+
+-- a queue whose first place waits no more goes on behind it
+pub queue_on : (k : Kind) (u : Bool) (b : ℕ) (xs : List Ace) (place : ℕ) (places : List ℕ)
+    → IsQueue k u b xs (place ∷ places) → has_bit (mask_here xs place) b ≡ false → IsQueue k u b xs places
+queue_on k u b xs place places q none = record {
+  sorted = sorted_tail nat_cmp place places q.sorted;
+  within = λ i h. q.within i (or_right (is_at (nat_cmp i) place) (list_any (is_at (nat_cmp i)) places) h);
+  listed = λ i h. q.listed i (or_right (is_at (nat_cmp i) place) (list_any (is_at (nat_cmp i)) places) h);
+  all = λ i h. ⊎_elim (λ e. absurd (clash i h (is_eq_same i place e))) (λ e. e)
+      (or_cases (is_at (nat_cmp i) place) (list_any (is_at (nat_cmp i)) places) (q.all i h));
+}
+  where
+    clash : (i : ℕ) → waits k u b xs i ≡ true → i ≡ place → ⊥
+    clash i h e =
+        let has = waits_has k u b xs i h in
+        let lacks : has_bit (mask_here xs i) b ≡ false = ap (λ v. has_bit (mask_here xs v) b) e ∙ none in
+        cc
+
+-- a queue from a place on
+pub queue_from : (k : Kind) (u : Bool) (b : ℕ) (xs : List Ace) (places : List ℕ) (first : ℕ)
+    → IsQueue k u b xs places
+    → ((j : ℕ) → j < first → j < length places → has_bit (mask_here xs (slice_index_or places j 0)) b ≡ false)
+    → IsQueue k u b xs (drop first places)
+queue_from k u b xs places zero q passed = q
+queue_from k u b xs [] (suc first) q passed = q
+queue_from k u b xs (place ∷ places) (suc first) q passed =
+    queue_from k u b xs places first (queue_on k u b xs place places q (passed 0 (omega arith) (omega arith)))
+    (λ j l h. passed (suc j) (omega (arith, l)) (omega (arith, h)))
+
+-- of an empty queue none waits
+pub queue_empty : (k : Kind) (u : Bool) (b : ℕ) (xs : List Ace) (i : ℕ) → IsQueue k u b xs []
+    → waits_before k u b xs i ≡ false
+queue_empty k u b xs i q = before_none k u b xs i (λ j l. false_from_ne_true _ (λ t. clash (q.all j t)))
+  where
+    clash : false ≡ true → ⊥
+    clash e = cc
+
+-- none that waits stands before the first of a queue
+pub queue_before : (k : Kind) (u : Bool) (b : ℕ) (xs : List Ace) (place : ℕ) (places : List ℕ) (i : ℕ)
+    → IsQueue k u b xs (place ∷ places) → i ≤ place → waits_before k u b xs i ≡ false
+queue_before k u b xs place places i q up =
+    before_none k u b xs i (λ j l. false_from_ne_true _ (λ t. ⊎_elim (λ e. same j l (is_eq_same j place e))
+    (λ e. later j l (later_than place j places (sorted_head nat_cmp place places q.sorted) e))
+    (or_cases (is_at (nat_cmp j) place) (list_any (is_at (nat_cmp j)) places) (q.all j t))))
+  where
+    same : (j : ℕ) → j < i → j ≡ place → ⊥
+    same j l e = omega (arith, l, e, up)
+
+    later : (j : ℕ) → j < i → place ≤ j → ⊥
+    later j l h = omega (arith, l, h, up)
+
+-- and the first waits, if it has the bit
+pub queue_first : (k : Kind) (u : Bool) (b : ℕ) (xs : List Ace) (place : ℕ) (places : List ℕ)
+    → IsQueue k u b xs (place ∷ places) → has_bit (mask_here xs place) b ≡ true → waits k u b xs place ≡ true
+queue_first k u b xs place places q has =
+    q.listed place (head_in place places)
+    ∙ has
+
+-- a part of the queue from its first on, or nothing where there is no such part
+pub queue_part : (k : Kind) (u : Bool) (b : ℕ) (xs : List Ace) (places : List ℕ) (first : ℕ) (o : Option (Bor (List ℕ)))
+    (d : Bor (List ℕ)) → d.now ≡ [] → PartBy (λ x. x.now) places first (length places) o
+    → IsQueue k u b xs (drop first places) → IsQueue k u b xs (unwrap_or o d).now
+queue_part k u b xs places first None d none part q =
+    subst (IsQueue k u b xs) (drop_all first places (beyond part.0) ∙ sym none) q
+  where
+    beyond : (length places < first) ⊎ (length places < length places) → length places ≤ first
+    beyond (inl l) = omega (arith, l)
+    beyond (inr l) = absurd (omega (arith, l))
+queue_part k u b xs places first (Some x) d none part q =
+    subst (IsQueue k u b xs) (drop_split places first (length places) part.0.0
+    ∙ ap (λ v. slice_range places first (length places) ++ v) (drop_all (length places) places (omega arith))
+    ∙ append-nil (slice_range places first (length places)) ∙ sym part.0.2) q
+
+-- the places from one on are that place and those from the next on
+pub next_place : (places : List ℕ) (i : ℕ) → i < length places
+    → drop i places ≡ slice_index_or places i 0 ∷ drop (i + 1) places
+next_place places i l =
+    let next : suc i ≡ i + 1 = omega arith in
+    subst (λ n. drop i places ≡ slice_index_or places i 0 ∷ drop n places) next (drop-cons places i 0 l)
+
+-- the places of a queue are of the list
+pub queue_within : (k : Kind) (u : Bool) (b : ℕ) (xs : List Ace) (place : ℕ) (places : List ℕ)
+    → IsQueue k u b xs (place ∷ places) → place < length xs
+queue_within k u b xs place places q =
+    q.within place (head_in place places)

@@ -1,0 +1,40 @@
+-- What was emitted so far, and what completes it.
+use Rattle.std.specs.Prelude.{◌≡◌, List, [], ◌∷◌, ◌++◌, refl}
+use Rattle.std.proofs.Common.{sym, ◌∙◌, ap, subst, append_assoc}
+use Rattle.std.proofs.lemmas.List.{append-nil, map-append}
+use Rattle.acl_nfs4.specs.Ace.{Ace}
+use Rattle.acl_normal.specs.declared.emit.emission.Emitted.{Emitted}
+use Rattle.acl_normal.specs.internal.Emissions.{IsStep, IsEmission, HasEmptyColumns, HasOnceColumns}
+use Rattle.acl_normal.proofs.unique.FirstAndRest.{emission_step}
+use Rattle.acl_normal.specs.internal.Emitted.{emitted_ace, emitted_aces}
+
+-- every completion of what is left completes the whole
+abbrev pub Completes : List Ace → List Emitted → List Ace → Type 0
+Completes whole out left = (ns : List Ace) → IsEmission left ns → IsEmission whole (emitted_aces out ++ ns)
+
+-- one ACE more
+pub completes_more : (whole : List Ace) (out new : List Emitted) (left rest : List Ace) (a : Emitted)
+    → new ≡ out ++ a ∷ [] → HasOnceColumns left → IsStep left (emitted_ace a) rest → Completes whole out left
+    → Completes whole new rest
+completes_more whole out new left rest a is once step h ns e =
+    let more = h (emitted_ace a ∷ ns) (emission_step left rest ns (emitted_ace a) once step e) in
+    let same : emitted_aces new ++ ns ≡ emitted_aces out ++ emitted_ace a ∷ ns =
+    ap (λ v. emitted_aces v ++ ns) is ∙ ap (λ v. v ++ ns) (map-append emitted_ace out (a ∷ []))
+    ∙ append_assoc (emitted_aces out) (emitted_ace a ∷ []) ns in
+    subst (λ v. IsEmission whole v) (sym same) more
+
+-- of an empty list nothing is emitted
+pub nothing_completes : (left : List Ace) → HasEmptyColumns left → IsEmission left []
+nothing_completes left h = record {
+  alike = λ b p q o. rw (h b) refl;
+  once = λ b. tt;
+  ordered = tt;
+  flags = tt;
+  masks = tt;
+}
+
+-- at the end all is emitted
+pub completes_all : (whole : List Ace) (out : List Emitted) (left : List Ace) → Completes whole out left
+    → HasEmptyColumns left → IsEmission whole (emitted_aces out)
+completes_all whole out left h empty =
+    subst (λ v. IsEmission whole v) (append-nil (emitted_aces out)) (h [] (nothing_completes left empty))

@@ -1,0 +1,84 @@
+-- Lists that go out one behind the other.
+use Rattle.std.proofs.Common.{ℕ, List, [], ◌∷◌, Option, Result, Ok, Err, refl}
+use Rattle.std.specs.List.{flat_map}
+use Rattle.acl_perm.specs.Pieces.{WritesFrom}
+use Rattle.acl_perm.specs.declared.whole.WriteFault.{WriteFault}
+use Rattle.acl_perm.proofs.PieceLemmas.{IsOut, out_all, out_cut, out_more, out_none}
+use Rattle.acl_nfs4.specs.Ace.{Ace}
+use Rattle.acl_nfs4.specs.Spelling.{spelling}
+use Rattle.acl_normal.specs.FiveForms.{five_lists, five_spellings}
+use Rattle.acl_normal.specs.declared.five_forms.FiveForms.{FiveForms}
+
+-- the bytes of some lists
+abbrev pub spellings : List (List Ace) → List ℕ
+spellings lists = flat_map spelling lists
+
+-- of some bytes so many are out, and the lists that are left follow them
+abbrev pub AreLeft : Option (List ℕ) → Option (List ℕ) → ℕ → List ℕ → List (List Ace) → Type 0
+AreLeft held holds done whole lists = IsOut 0 done held holds whole (spellings lists)
+
+-- at first all are left
+pub all_to_write : (held : Option (List ℕ)) (lists : List (List Ace)) → AreLeft held held 0 (spellings lists) lists
+all_to_write held lists = out_none 0 held (spellings lists) (spellings lists) refl
+
+-- one more list is out
+pub one_out : (a b c : Option (List ℕ)) (done count : ℕ) (whole : List ℕ) (list : List Ace) (lists : List (List Ace))
+    → AreLeft a b done whole (list ∷ lists) → WritesFrom b c done (spelling list) (Ok count)
+    → AreLeft a c count whole lists
+one_out a b c done count whole list lists h said =
+    out_more 0 done count a b c whole (spellings (list ∷ lists)) (spelling list) (spellings lists) h refl said.0 said.1
+
+-- a list was cut
+pub cut_out : (a b c : Option (List ℕ)) (done : ℕ) (fault : WriteFault) (whole : List ℕ) (list : List Ace)
+    (lists : List (List Ace)) → AreLeft a b done whole (list ∷ lists)
+    → WritesFrom b c done (spelling list) (Err fault) → WritesFrom a c 0 whole (Err fault)
+cut_out a b c done fault whole list lists h said =
+    out_cut 0 done fault.written a b c whole (spellings (list ∷ lists)) (spelling list) (spellings lists) h refl said.0
+    said.1 said.2
+
+-- the last list is out, or was cut
+pub last_out : (a b c : Option (List ℕ)) (done : ℕ) (whole : List ℕ) (list : List Ace) (r : Result ℕ WriteFault)
+    → AreLeft a b done whole (list ∷ []) → WritesFrom b c done (spelling list) r → WritesFrom a c 0 whole r
+last_out a b c done whole list (Ok count) h said =
+    out_all 0 count a c whole [] (one_out a b c done count whole list [] h said) refl
+last_out a b c done whole list (Err fault) h said = cut_out a b c done fault whole list [] h said
+
+-- ---- the five normal forms
+
+-- the list behind the fourth
+abbrev pub after_inner_file : FiveForms → List (List Ace)
+after_inner_file f = f.directory_in_directory ∷ []
+
+-- those behind the third
+abbrev pub after_directory : FiveForms → List (List Ace)
+after_directory f = f.file_in_directory ∷ after_inner_file f
+
+-- those behind the second
+abbrev pub after_file : FiveForms → List (List Ace)
+after_file f = f.directory ∷ after_directory f
+
+-- those behind the first
+abbrev pub after_object : FiveForms → List (List Ace)
+after_object f = f.file ∷ after_file f
+
+-- the first is out
+pub object_out : (f : FiveForms) (a b : Option (List ℕ)) (count : ℕ) → WritesFrom a b 0 (spelling f.object) (Ok count)
+    → AreLeft a b count (five_spellings f) (after_object f)
+object_out f a b count said =
+    one_out a a b 0 count (five_spellings f) f.object (after_object f) (all_to_write a (five_lists f)) said
+
+-- then the second
+pub file_out : (f : FiveForms) (a b c : Option (List ℕ)) (first count : ℕ)
+    → WritesFrom a b 0 (spelling f.object) (Ok first) → WritesFrom b c first (spelling f.file) (Ok count)
+    → AreLeft a c count (five_spellings f) (after_file f)
+file_out f a b c first count object said =
+    one_out a b c first count (five_spellings f) f.file (after_file f) (object_out f a b first object) said
+
+-- then the third
+pub directory_out : (f : FiveForms) (a b c d : Option (List ℕ)) (first second count : ℕ)
+    → WritesFrom a b 0 (spelling f.object) (Ok first) → WritesFrom b c first (spelling f.file) (Ok second)
+    → WritesFrom c d second (spelling f.directory) (Ok count)
+    → AreLeft a d count (five_spellings f) (after_directory f)
+directory_out f a b c d first second count object file said =
+    one_out a c d second count (five_spellings f) f.directory (after_directory f)
+    (file_out f a b c first second object file) said

@@ -1,0 +1,164 @@
+-- ACEs that come first one after the other: what has come and what is left.
+use Rattle.acl_normal.proofs.unique.Shorter.{without_shorter}
+use Rattle.std.proofs.Common.{◌≡◌, ◌≢◌, ℕ, ◌+◌, ◌<◌, ◌≤◌, Bool, true, false, List, [], ◌∷◌, ◌++◌, length, refl, sym, ap, subst, ◌∙◌, arith, inl, inr, append_assoc, append-nil}
+use Rattle.std.specs.List.{AllByRecursion}
+use Rattle.std.proofs.lemmas.Bool.{cases_lt, false≢true}
+use Rattle.std.proofs.lemmas.List.{length-append}
+use Rattle.acl_perm.specs.Bits.{has_bit}
+use Rattle.acl_perm.specs.Profile.{full}
+use Rattle.acl_perm.proofs.Sets.{some_bit, IsMask-lt}
+use Rattle.acl_nfs4.specs.Ace.{Ace}
+use Rattle.acl_nfs4.specs.Limits.{most_weight}
+use Rattle.acl_nfs4.specs.Spelling.{IsAce, IsAccepted}
+use Rattle.acl_nfs4.specs.Who.{principal_of}
+use Rattle.acl_nfs4.proofs.Push.{each_push}
+use Rattle.acl_eval.specs.Column.{Column, column}
+use Rattle.acl_normal.specs.internal.Emissions.{count_left, IsEmission, IsStep, HasEmptyColumns, HasOnceColumns}
+use Rattle.acl_normal.specs.Keys.{ace_key}
+use Rattle.acl_normal.specs.Normal.{HasNoEmptyMask, HasNormalFlags, flags_for, is_free}
+use Rattle.acl_normal.specs.internal.Passes.{IsLeastCandidate, KeepsProfiles}
+use Rattle.acl_normal.specs.internal.Plain.{without_principal}
+use Rattle.acl_normal.proofs.unique.Names.{overlaps_itself}
+use Rattle.acl_normal.proofs.unique.Free.{ahead_from_free}
+use Rattle.acl_normal.proofs.unique.ListColumns.{column-append}
+use Rattle.acl_normal.proofs.unique.Unique.{column_with, column_lacking}
+use Rattle.acl_normal.proofs.unique.Normal.{quiet_flags}
+use Rattle.acl_normal.proofs.unique.FirstAndRest.{emission_step, once_left}
+use Rattle.acl_normal.proofs.unique.Accepted.{each_mask}
+use Rattle.acl_normal.proofs.unique.Weights.{column_above, count_less, length_under, weight_under}
+use Rattle.acl_normal.proofs.plain.Candidates.{each_more, least_free}
+
+-- of a list, what has come and what is left
+pub record Emitting (whole out left : List Ace) : Type 0 where
+  pub once : HasOnceColumns left
+  pub completes : (more : List Ace) → IsEmission left more → IsEmission whole (out ++ more)
+  pub shorter : (bit : ℕ) → length (column out bit) + length (column left bit) ≤ length (column whole bit)
+  pub taken : KeepsProfiles whole out
+  pub kept : KeepsProfiles whole left
+  pub full : HasNoEmptyMask out
+  pub flags : HasNormalFlags out
+
+-- nothing has come, and all is left
+pub emitting_none : (whole : List Ace) → HasOnceColumns whole → Emitting whole [] whole
+emitting_none whole once = record {
+  once = once;
+  completes = λ more h. h;
+  shorter = λ bit. omega arith;
+  taken = λ p h. tt;
+  kept = λ p h. h;
+  full = tt;
+  flags = tt;
+}
+
+-- ---- one step
+
+-- what of one list is left when an ACE has come
+pub record Taken (left : List Ace) (a : Ace) (rest : List Ace) : Type 0 where
+  pub taken : (bit : ℕ) → has_bit a.mask bit ≡ true
+      → column rest bit ≡ without_principal (principal_of a) (column left bit)
+  pub untouched : (bit : ℕ) → has_bit a.mask bit ≡ false → column rest bit ≡ column left bit
+  pub profiles : KeepsProfiles left rest
+
+module _ (left rest : List Ace) (a : Ace) (least : IsLeastCandidate left left a) (t : Taken left a rest) where
+  step : IsStep left a rest
+  step = record {
+    flags = least.candidate.flags;
+    mask = least.candidate.mask;
+    least = least_free left a least.below;
+    all = least.candidate.all;
+    taken = t.taken;
+    kept = t.untouched;
+  }
+
+  fewer_at : (bit : ℕ) → has_bit a.mask bit ≡ true → length (column rest bit) < length (column left bit)
+  fewer_at bit has =
+      let free : is_free (column left bit) (ace_key a) ≡ true = sym (least.candidate.all bit) ∙ has in
+      let p = principal_of a in
+      let less = without_shorter p (column left bit) a.kind
+      (ahead_from_free (column left bit) p a.kind free p (overlaps_itself p)) in
+      omega (arith, less, ap length (t.taken bit has))
+
+  one_more : (bit : ℕ) → length (column (a ∷ []) bit) + length (column rest bit) ≤ length (column left bit)
+  one_more bit = go (has_bit a.mask bit) refl
+    where
+      go : (b : Bool) → has_bit a.mask bit ≡ b
+          → length (column (a ∷ []) bit) + length (column rest bit) ≤ length (column left bit)
+      go true e = omega (arith, fewer_at bit e, ap length (column_with bit a [] least.candidate.flags e))
+      go false e =
+          omega (arith, ap length (t.untouched bit e), ap length (column_lacking bit a [] least.candidate.flags e))
+
+  -- fewer entries are left
+  pub fewer_left : AllByRecursion (IsAce full) left → count_left 32 rest < count_left 32 left
+  fewer_left each =
+      let within = least.within full each in
+      let some = some_bit a.mask (IsMask-lt a.mask within.mask) least.candidate.mask in
+      count_less 32 some.0 left rest (below some.0 some.1) (λ bit. omega (arith, one_more bit)) (fewer_at some.0 some.1)
+    where
+      below : (k : ℕ) → has_bit a.mask k ≡ true → k < 32
+      below k has = elim (cases_lt k 32) [
+        | inl lt ↦ lt
+        | inr le ↦
+            let none = column_above left k (each_mask left each) le in
+            absurd (false≢true (sym (ap (λ c. is_free c (ace_key a)) none) ∙ (sym (least.candidate.all k) ∙ has)))
+      ]
+
+  -- one more ACE has come, and the rest is left
+  pub emitting_more : (whole out : List Ace) → Emitting whole out left → Emitting whole (out ++ a ∷ []) rest
+  emitting_more whole out h = record {
+    once = once_left left rest a h.once step;
+    completes = λ more e. subst (IsEmission whole) (sym (append_assoc out (a ∷ []) more))
+        (h.completes (a ∷ more) (emission_step left rest more a h.once step e));
+    shorter = λ bit. omega (
+      arith,
+      h.shorter bit,
+      one_more bit,
+      ap length (column-append bit out (a ∷ [])) ∙ length-append (column out bit) (column (a ∷ []) bit),
+    );
+    taken = λ p each. each_push p out a (h.taken p each) (least.within p (h.kept p each));
+    kept = λ p each. t.profiles p (h.kept p each);
+    full = each_more (λ a. a.mask ≢ 0) out a h.full least.candidate.mask;
+    flags = each_more (λ a. a.flags ≡ flags_for (principal_of a)) out a h.flags least.candidate.flags;
+  }
+
+-- where nothing is left, what has come is all
+pub emitting_all : (whole out left : List Ace) → HasEmptyColumns left → Emitting whole out left → IsEmission whole out
+emitting_all whole out left empty h =
+    subst (IsEmission whole) (append-nil out) (h.completes [] (record {
+      alike = λ b p q o. rw (empty b) refl;
+      once = λ b. tt;
+      ordered = tt;
+      flags = tt;
+      masks = tt;
+    }))
+
+-- what has come of a list that is small enough is accepted with the ACE that comes next
+pub coming_accepted : (left : List Ace) (a : Ace) → IsLeastCandidate left left a → (whole out : List Ace)
+    → AllByRecursion (IsAce full) whole → count_left 32 whole ≤ most_weight → Emitting whole out left
+    → IsAccepted full (out ++ a ∷ [])
+coming_accepted left a least whole out each small h =
+    let out_full = each_more (λ a. a.mask ≢ 0) out a h.full least.candidate.mask in
+    let out_flags = each_more (λ a. a.flags ≡ flags_for (principal_of a)) out a h.flags least.candidate.flags in
+    let out_each = each_push full out a (h.taken full each) (least.within full (h.kept full each)) in
+    let heavy = weight_under whole (out ++ a ∷ []) (quiet_flags (out ++ a ∷ []) out_flags)
+    (each_mask (out ++ a ∷ []) out_each)
+    (λ bit. omega (
+      arith,
+      h.shorter bit,
+      no_more bit,
+      ap length (column-append bit out (a ∷ [])) ∙ length-append (column out bit) (column (a ∷ []) bit),
+    )) in record {
+      count = omega (arith, length_under (out ++ a ∷ []) out_full, heavy, small);
+      weight = omega (arith, heavy, small);
+      each = out_each;
+    }
+  where
+    no_more : (bit : ℕ) → length (column (a ∷ []) bit) ≤ length (column left bit)
+    no_more bit = go (has_bit a.mask bit) refl (column left bit) refl
+      where
+        go : (b : Bool) → has_bit a.mask bit ≡ b → (c : Column) → column left bit ≡ c
+            → length (column (a ∷ []) bit) ≤ length (column left bit)
+        go true e [] f =
+            absurd (false≢true (sym (ap (λ c. is_free c (ace_key a)) f) ∙ (sym (least.candidate.all bit) ∙ e)))
+        go true e (x ∷ c) f =
+            omega (arith, ap length f, ap length (column_with bit a [] least.candidate.flags e))
+        go false e c f = omega (arith, ap length (column_lacking bit a [] least.candidate.flags e))

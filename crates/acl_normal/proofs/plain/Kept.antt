@@ -1,0 +1,66 @@
+-- ACEs with fewer bits stay within what the list is within.
+use Rattle.std.proofs.Common.{◌≡◌, ℕ, ◌<◌, Bool, true, false, List, [], ◌∷◌, ◌++◌, length, zero, suc, refl, sym, ap, subst, ◌∙◌, arith}
+use Rattle.std.specs.Prelude.{◌&&◌, not, slice_index_or}
+use Rattle.std.specs.List.{AllByRecursion}
+use Rattle.acl_perm.specs.Bits.{has_bit, IsDifference}
+use Rattle.acl_perm.specs.Profile.{Profile}
+use Rattle.acl_perm.proofs.Sets.{has_bit-and, same_set}
+use Rattle.acl_nfs4.specs.Ace.{Ace, ace}
+use Rattle.acl_nfs4.specs.Spelling.{IsAce}
+use Rattle.acl_nfs4.specs.Within.{IsWithin}
+use Rattle.acl_nfs4.specs.declared.ace.AceRef.{AceRef}
+use Rattle.acl_nfs4.proofs.Push.{each_push}
+use Rattle.acl_normal.specs.internal.Passes.{KeepsProfiles, IsWithinAs, list_of}
+use Rattle.acl_normal.proofs.plain.Passes.{list_of-append}
+
+-- a set whose bits are bits of another is within that other
+pub within_from : (set m : ℕ) → ((k : ℕ) → has_bit m k ≡ true → has_bit set k ≡ true) → IsWithin set m
+within_from set m inside = same_set _ _ (λ k. has_bit-and m set k ∙ go k (has_bit m k) refl)
+  where
+    go : (k : ℕ) (t : Bool) → has_bit m k ≡ t → (has_bit m k && has_bit set k) ≡ has_bit m k
+    go k false e = rw e refl
+    go k true e = rw (e, inside k e) refl
+
+second_true : (a b : Bool) → a ≡ true → (a && b) ≡ a → b ≡ true
+second_true true b e h = h
+second_true false b e h = absurd cc
+
+-- so is a set with fewer bits than one that is within the other
+pub within_fewer : (set m n : ℕ) → IsWithin set n → ((k : ℕ) → has_bit m k ≡ true → has_bit n k ≡ true) → IsWithin set m
+within_fewer set m n is fewer = within_from set m (λ k h.
+    second_true (has_bit n k) (has_bit set k) (fewer k h) (sym (has_bit-and n set k) ∙ ap (λ (v : ℕ). has_bit v k) is))
+
+-- the first of two that hold together
+pub front_true : (a b : Bool) → (a && b) ≡ true → a ≡ true
+front_true true b e = refl
+front_true false b e = absurd cc
+
+-- a difference has no other bits
+pub difference_fewer : (m n d : ℕ) → IsDifference m n d → (k : ℕ) → has_bit d k ≡ true → has_bit m k ≡ true
+difference_fewer m n d is k h = front_true (has_bit m k) (not (has_bit n k)) (sym (is k) ∙ h)
+
+-- an ACE with fewer bits
+pub fewer_bits : (p : Profile) (a r : Ace) → r.flags ≡ a.flags → r.who ≡ a.who
+    → ((k : ℕ) → has_bit r.mask k ≡ true → has_bit a.mask k ≡ true) → IsAce p a → IsAce p r
+fewer_bits p a r flags who fewer h = record {
+  flags = rw flags h.flags;
+  mask = within_fewer p.masks r.mask a.mask h.mask fewer;
+  who = rw who h.who;
+}
+
+-- what holds of each ACE of a list holds of that at a place
+pub within_at : (xs : List AceRef) (x : AceRef) (i : ℕ) → i < length xs → x ≡ slice_index_or xs i x
+    → IsWithinAs (list_of xs) (ace x)
+within_at xs x i lt is = λ q h. go q xs i lt is h
+  where
+    go : (q : Profile) (xs : List AceRef) (i : ℕ) → i < length xs → x ≡ slice_index_or xs i x
+        → AllByRecursion (IsAce q) (list_of xs) → IsAce q (ace x)
+    go q [] i lt is h = absurd (omega (arith, lt))
+    go q (y ∷ xs) zero lt is h = subst (λ v. IsAce q (ace v)) (sym is) h.0
+    go q (y ∷ xs) (suc i) lt is h = go q xs i (omega (arith, lt)) is h.1
+
+-- one more ACE that is within what the list is within
+pub keeps_more : (whole : List Ace) (kept : List AceRef) (x : AceRef) → KeepsProfiles whole (list_of kept)
+    → IsWithinAs whole (ace x) → KeepsProfiles whole (list_of (kept ++ x ∷ []))
+keeps_more whole kept x keeps within p h =
+    rw (list_of-append kept (x ∷ [])) (each_push p (list_of kept) (ace x) (keeps p h) (within p h))

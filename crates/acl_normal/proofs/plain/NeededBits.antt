@@ -1,0 +1,87 @@
+-- The second pass of the plain reduction: bits that aren't needed go.
+use Rattle.std.proofs.Common.{◌≡◌, ℕ, ◌+◌, ◌<◌, Bool, true, false, List, [], ◌∷◌, ◌++◌, length, drop, refl, sym, ap, ◌∙◌, append_assoc}
+use Rattle.std.specs.Prelude.{◌&&◌, slice_index_or}
+use Rattle.std.proofs.lemmas.List.{drop_more}
+use Rattle.acl_perm.specs.Bits.{has_bit}
+use Rattle.acl_perm.specs.declared.kind.Kind.{Kind}
+use Rattle.acl_perm.specs.declared.kind.Kind.TheVariants.{Deny, Allow}
+use Rattle.acl_perm.proofs.Bools.{and_false_right}
+use Rattle.acl_nfs4.specs.Ace.{Ace, ace}
+use Rattle.acl_nfs4.specs.Who.{principal_of}
+use Rattle.acl_nfs4.specs.declared.ace.AceRef.{AceRef}
+use Rattle.acl_eval.specs.Column.{Column, column}
+use Rattle.acl_normal.specs.Keys.{ace_key, kind_eq}
+use Rattle.acl_normal.specs.Normal.{is_inherit_only}
+use Rattle.acl_normal.specs.internal.Passes.{list_of, default_in}
+use Rattle.acl_normal.specs.internal.Plain.{default, is_needed, needed_keys}
+use Rattle.acl_normal.proofs.unique.Columns.{column_lacks}
+use Rattle.acl_normal.proofs.unique.ListColumns.{column-append}
+use Rattle.acl_normal.proofs.plain.Passes.{Marks, list_of-append}
+
+-- the default, by the set of the bits that it allows
+pub default_in_is : (allowed bit : ℕ) (c : Column) → has_bit allowed bit ≡ kind_eq (default c) Allow
+    → default_in allowed bit ≡ default c
+default_in_is allowed bit c is = go (has_bit allowed bit) refl (default c) refl
+  where
+    go : (t : Bool) → has_bit allowed bit ≡ t → (k : Kind) → default c ≡ k → default_in allowed bit ≡ default c
+    go true e Allow f = rw (e, f) refl
+    go true e Deny f = absurd (cc (rw (e, f) at is))
+    go false e Allow f = absurd (cc (rw (e, f) at is))
+    go false e Deny f = rw (e, f) refl
+
+-- an ACE with its bits that are needed before a column
+one_needed : (y r : Ace) (d : Kind) (c : Column) (bit : ℕ) → ace_key r ≡ ace_key y
+    → is_inherit_only r ≡ is_inherit_only y
+    → has_bit r.mask bit ≡ (has_bit y.mask bit && is_needed d (principal_of y) y.kind c)
+    → column (r ∷ []) bit ++ needed_keys d c ≡ needed_keys d (column (y ∷ []) bit ++ c)
+one_needed y r d c bit entry part bits =
+    go (has_bit y.mask bit) refl (is_inherit_only y) refl (is_needed d (principal_of y) y.kind c) refl
+  where
+    go : (h : Bool) → has_bit y.mask bit ≡ h → (q : Bool) → is_inherit_only y ≡ q → (n : Bool)
+        → is_needed d (principal_of y) y.kind c ≡ n
+        → column (r ∷ []) bit ++ needed_keys d c ≡ needed_keys d (column (y ∷ []) bit ++ c)
+    go false e q f n g =
+        let none : has_bit r.mask bit ≡ false = rw e at bits in
+        rw (e, none) refl
+    go true e true f n g =
+        rw (e, f) (ap (λ v. v ++ needed_keys d c)
+        (column_lacks bit r [] (rw (part ∙ f) (and_false_right (has_bit r.mask bit)))))
+    go true e false f true g =
+        let has : has_bit r.mask bit ≡ true = rw (e, g) at bits in
+        let active : is_inherit_only r ≡ false = part ∙ f in
+        rw (e, f, has, active) (rw g (ap (λ v. v ∷ needed_keys d c) entry))
+    go true e false f false g =
+        let none : has_bit r.mask bit ≡ false = rw (e, g) at bits in
+        rw (e, f, none) (rw g refl)
+
+-- the list of the ACEs from a place on
+pub list_of-from : (xs : List AceRef) (x : AceRef) (i : ℕ) → i < length xs → x ≡ slice_index_or xs i x
+    → list_of (drop i xs) ≡ ace x ∷ list_of (drop (i + 1) xs)
+list_of-from xs x i lt is =
+    ap list_of (drop_more xs i x lt) ∙ ap (λ y. ace y ∷ list_of (drop (i + 1) xs)) (sym is)
+
+-- one more ACE
+pub needed_more : (xs : List AceRef) (y : AceRef) (kept : List AceRef) (r : AceRef) (i allowed : ℕ) → i < length xs
+    → y ≡ slice_index_or xs i y → ace_key (ace r) ≡ ace_key (ace y)
+    → is_inherit_only (ace r) ≡ is_inherit_only (ace y)
+    → Marks allowed (λ bit. kind_eq (default (column (list_of xs) bit)) Allow)
+    → Marks r.mask.bits (λ bit. has_bit y.mask.bits bit
+    && is_needed (default_in allowed bit) (principal_of (ace y)) y.kind (column (list_of (drop (i + 1) xs)) bit))
+    → (bit : ℕ) (whole : Column)
+    → column (list_of kept) bit ++ needed_keys (default (column (list_of xs) bit)) (column (list_of (drop i xs)) bit)
+    ≡ whole
+    → column (list_of (kept ++ r ∷ [])) bit
+    ++ needed_keys (default (column (list_of xs) bit)) (column (list_of (drop (i + 1) xs)) bit) ≡ whole
+needed_more xs y kept r i allowed lt is entry part marks mask bit whole so_far =
+    let d = default (column (list_of xs) bit) in
+    let rest = column (list_of (drop (i + 1) xs)) bit in
+    let known = default_in_is allowed bit (column (list_of xs) bit) (marks bit) in
+    ap (λ v. column v bit ++ needed_keys d rest) (list_of-append kept (r ∷ []))
+    ∙ ap (λ v. v ++ needed_keys d rest) (column-append bit (list_of kept) (ace r ∷ []))
+    ∙ append_assoc (column (list_of kept) bit) (column (ace r ∷ []) bit) (needed_keys d rest)
+    ∙ ap (λ v. column (list_of kept) bit ++ v) (one_needed (ace y) (ace r) d rest bit entry part
+    (mask bit ∙ ap (λ k. has_bit y.mask.bits bit && is_needed k (principal_of (ace y)) y.kind rest) known))
+    ∙ ap (λ v. column (list_of kept) bit ++ needed_keys d v)
+    (sym (column-append bit (ace y ∷ []) (list_of (drop (i + 1) xs)))
+    ∙ ap (λ v. column v bit) (sym (list_of-from xs y i lt is)))
+    ∙ so_far

@@ -1,0 +1,159 @@
+-- Loops over ACEs in memory, and what they gather bit by bit.
+use Rattle.std.proofs.Common.{◌≡◌, ℕ, ◌+◌, ◌<◌, Bool, true, false, List, [], ◌∷◌, ◌++◌, length, take, refl, sym, ap, ◌∙◌}
+use Rattle.std.specs.Prelude.{◌||◌, ◌&&◌, not, is_some, slice_index_or}
+use Rattle.std.proofs.lemmas.List.{take_more}
+use Rattle.std.proofs.Math.Bool.{or_assoc}
+use Rattle.acl_perm.specs.Bits.{has_bit, IsUnion}
+use Rattle.acl_perm.specs.Principal.{Principal, everyone}
+use Rattle.acl_perm.specs.Overlap.{may_overlap}
+use Rattle.acl_perm.specs.declared.kind.Kind.{Kind}
+use Rattle.acl_nfs4.specs.Ace.{Ace, ace}
+use Rattle.acl_nfs4.specs.Who.{principal_of}
+use Rattle.acl_nfs4.specs.declared.ace.AceRef.{AceRef}
+use Rattle.acl_perm.specs.declared.kind.Kind.TheVariants.{Deny, Allow}
+use Rattle.acl_perm.proofs.Bools.{and_true_right, and_false_right}
+use Rattle.acl_eval.specs.Column.{Column, column, first_kind, verdict}
+use Rattle.acl_normal.specs.internal.Alike.{is_either}
+use Rattle.acl_normal.specs.Keys.{Key, principal_eq, kind_eq, conflicts}
+use Rattle.acl_normal.specs.Normal.{is_free, counts}
+use Rattle.acl_normal.specs.internal.Passes.{list_of, is_shadowed, is_opposed}
+use Rattle.acl_normal.specs.internal.Plain.{default, has_opposite}
+use Rattle.acl_normal.proofs.unique.ListColumns.{column-append}
+
+-- the list of ACEs and one more
+pub list_of-append : (xs ys : List AceRef) → list_of (xs ++ ys) ≡ list_of xs ++ list_of ys
+list_of-append [] ys = refl
+list_of-append (x ∷ xs) ys = ap (λ v. ace x ∷ v) (list_of-append xs ys)
+
+-- the list of the ACEs before a place, and of that at the place
+pub list_of-more : (xs : List AceRef) (x : AceRef) (i : ℕ) → i < length xs → x ≡ slice_index_or xs i x
+    → list_of (take (i + 1) xs) ≡ list_of (take i xs) ++ ace x ∷ []
+list_of-more xs x i lt is =
+    ap list_of (take_more xs i x lt)
+    ∙ list_of-append (take i xs) (slice_index_or xs i x ∷ [])
+    ∙ ap (λ y. list_of (take i xs) ++ ace y ∷ []) (sym is)
+
+-- the set has the bits at which the test holds
+abbrev pub Marks : ℕ → (ℕ → Bool) → Type 0
+Marks m test = (bit : ℕ) → has_bit m bit ≡ test bit
+
+-- what holds of two lists together if it holds of either
+abbrev pub IsGathered : (List Ace → ℕ → Bool) → Type 0
+IsGathered test = (xs ys : List Ace) (bit : ℕ) → test (xs ++ ys) bit ≡ (test xs bit || test ys bit)
+
+-- one more ACE adds its bits
+pub union_more : (test : List Ace → ℕ → Bool) → IsGathered test → (xs : List AceRef) (x : AceRef) (i m n u : ℕ)
+    → i < length xs → x ≡ slice_index_or xs i x → Marks m (test (list_of (take i xs))) → Marks n (test (ace x ∷ []))
+    → IsUnion m n u → Marks u (test (list_of (take (i + 1) xs)))
+union_more test gathered xs x i m n u lt is before here both bit =
+    both bit
+    ∙ rw (before bit, here bit) (sym (gathered (list_of (take i xs)) (ace x ∷ []) bit))
+    ∙ ap (λ v. test v bit) (sym (list_of-more xs x i lt is))
+
+is_some-append : (m : Principal → Bool) (l r : Column)
+    → is_some (first_kind m (l ++ r)) ≡ (is_some (first_kind m l) || is_some (first_kind m r))
+is_some-append m [] r = refl
+is_some-append m ((p, k) ∷ l) r = go (m p) refl (is_some-append m l r)
+  where
+    go : (b : Bool) → m p ≡ b
+        → is_some (first_kind m (l ++ r)) ≡ (is_some (first_kind m l) || is_some (first_kind m r))
+        → is_some (first_kind m ((p, k) ∷ (l ++ r)))
+        ≡ (is_some (first_kind m ((p, k) ∷ l)) || is_some (first_kind m r))
+    go true e ih = rw e refl
+    go false e ih = rw e ih
+
+-- shadows are gathered
+pub shadows_gathered : (p : Principal) → IsGathered (is_shadowed p)
+shadows_gathered p xs ys bit =
+    ap (λ c. is_some (first_kind (is_either p everyone) c)) (column-append bit xs ys)
+    ∙ is_some-append (is_either p everyone) (column xs bit) (column ys bit)
+
+opposite-append : (d : Kind) (p : Principal) (l r : Column)
+    → has_opposite d p (l ++ r) ≡ (has_opposite d p l || has_opposite d p r)
+opposite-append d p [] r = refl
+opposite-append d p ((q, j) ∷ l) r =
+    ap (λ b. (may_overlap p q && not (kind_eq j d)) || b) (opposite-append d p l r)
+    ∙ sym (or_assoc (may_overlap p q && not (kind_eq j d)) (has_opposite d p l) (has_opposite d p r))
+
+-- and so are opposites
+pub opposites_gathered : (d : Kind) (p : Principal) → IsGathered (λ list bit. has_opposite d p (column list bit))
+opposites_gathered d p xs ys bit =
+    ap (has_opposite d p) (column-append bit xs ys) ∙ opposite-append d p (column xs bit) (column ys bit)
+
+blocked-append : (e : Key) (l r : Column) → is_opposed (l ++ r) e ≡ (is_opposed l e || is_opposed r e)
+blocked-append e [] r = refl
+blocked-append e (f ∷ l) r =
+    ap (λ b. conflicts f e || b) (blocked-append e l r)
+    ∙ sym (or_assoc (conflicts f e) (is_opposed l e) (is_opposed r e))
+
+-- and the bits at which a key is kept from coming first
+pub blocks_gathered : (e : Key) → IsGathered (λ list bit. is_opposed (column list bit) e)
+blocks_gathered e xs ys bit =
+    ap (λ c. is_opposed c e) (column-append bit xs ys) ∙ blocked-append e (column xs bit) (column ys bit)
+
+-- ---- what everyone is allowed
+
+decided-append : (m : Principal → Bool) (l r : Column) → kind_eq (verdict m (l ++ r)) Allow
+    ≡ (kind_eq (verdict m l) Allow || (kind_eq (verdict m r) Allow && not (is_some (first_kind m l))))
+decided-append m [] r = sym (and_true_right (kind_eq (verdict m r) Allow))
+decided-append m ((p, k) ∷ l) r = go (m p) refl k (decided-append m l r)
+  where
+    go : (b : Bool) → m p ≡ b → (k : Kind) → kind_eq (verdict m (l ++ r)) Allow
+        ≡ (kind_eq (verdict m l) Allow || (kind_eq (verdict m r) Allow && not (is_some (first_kind m l))))
+        → kind_eq (verdict m ((p, k) ∷ (l ++ r))) Allow
+        ≡ (kind_eq (verdict m ((p, k) ∷ l)) Allow
+        || (kind_eq (verdict m r) Allow && not (is_some (first_kind m ((p, k) ∷ l)))))
+    go true e Allow ih = rw e refl
+    go true e Deny ih = rw e (sym (and_false_right (kind_eq (verdict m r) Allow)))
+    go false e k ih = rw e ih
+
+-- one more ACE adds what it allows everyone, where none before it decides
+pub allowed_more : (xs : List AceRef) (x : AceRef) (i m n s u : ℕ) → i < length xs → x ≡ slice_index_or xs i x
+    → Marks m (λ bit. kind_eq (default (column (list_of (take i xs)) bit)) Allow)
+    → Marks s (is_shadowed everyone (list_of (take i xs)))
+    → Marks n (λ bit. kind_eq (default (column (ace x ∷ []) bit)) Allow && not (has_bit s bit))
+    → IsUnion m n u → Marks u (λ bit. kind_eq (default (column (list_of (take (i + 1) xs)) bit)) Allow)
+allowed_more xs x i m n s u lt is before seen here both bit =
+    both bit
+    ∙ rw (before bit, here bit, seen bit)
+    (sym (decided-append (is_either everyone everyone) (column (list_of (take i xs)) bit) (column (ace x ∷ []) bit)))
+    ∙ ap (λ c. kind_eq (default c) Allow) (sym (column-append bit (list_of (take i xs)) (ace x ∷ [])))
+    ∙ ap (λ v. kind_eq (default (column v bit)) Allow) (sym (list_of-more xs x i lt is))
+
+-- ---- where a key is free
+
+free_parts : (s k f b g : Bool) → (s || (not k && (f || (g && not b))))
+    ≡ ((s || (not k && f)) || (g && not (k || b)))
+free_parts true k f b g = refl
+free_parts false true f b g = sym (and_false_right g)
+free_parts false false f b g = refl
+
+free-append : (e : Key) (l r : Column) → is_free (l ++ r) e ≡ (is_free l e || (is_free r e && not (is_opposed l e)))
+free-append e [] r = sym (and_true_right (is_free r e))
+free-append e (f ∷ l) r =
+    ap (λ b. (principal_eq f.0 e.0 && kind_eq f.1 e.1) || (not (conflicts f e) && b)) (free-append e l r)
+    ∙ free_parts (principal_eq f.0 e.0 && kind_eq f.1 e.1) (conflicts f e) (is_free l e) (is_opposed l e) (is_free r e)
+
+-- one more ACE adds its bits of that key, where none before it conflicts
+pub free_more : (e : Key) (xs : List AceRef) (x : AceRef) (i m n s u : ℕ) → i < length xs
+    → x ≡ slice_index_or xs i x → Marks m (λ bit. is_free (column (list_of (take i xs)) bit) e)
+    → Marks s (λ bit. is_opposed (column (list_of (take i xs)) bit) e)
+    → Marks n (λ bit. is_free (column (ace x ∷ []) bit) e && not (has_bit s bit))
+    → IsUnion m n u → Marks u (λ bit. is_free (column (list_of (take (i + 1) xs)) bit) e)
+free_more e xs x i m n s u lt is before blocked here both bit =
+    both bit
+    ∙ rw (before bit, here bit, blocked bit)
+    (sym (free-append e (column (list_of (take i xs)) bit) (column (ace x ∷ []) bit)))
+    ∙ ap (λ c. is_free c e) (sym (column-append bit (list_of (take i xs)) (ace x ∷ [])))
+    ∙ ap (λ v. is_free (column v bit) e) (sym (list_of-more xs x i lt is))
+
+-- in the column of one ACE, just its own key is free
+pub free_alone : (y : Ace) (e : Key) (bit : ℕ) → is_free (column (y ∷ []) bit) e
+    ≡ (counts bit y && (principal_eq (principal_of y) e.0 && kind_eq y.kind e.1))
+free_alone y e bit = go (counts bit y) refl (principal_eq (principal_of y) e.0 && kind_eq y.kind e.1) refl
+  where
+    go : (t : Bool) → counts bit y ≡ t → (s : Bool) → (principal_eq (principal_of y) e.0 && kind_eq y.kind e.1) ≡ s
+        → is_free (column (y ∷ []) bit) e ≡ (counts bit y && (principal_eq (principal_of y) e.0 && kind_eq y.kind e.1))
+    go false f s g = rw f refl
+    go true f true g = rw f (rw g refl)
+    go true f false g = rw f (rw g (and_false_right (not (conflicts (principal_of y, y.kind) e))))

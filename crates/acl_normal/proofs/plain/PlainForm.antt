@@ -1,0 +1,116 @@
+-- What is emitted of the plain reduction of a list is its normal form.
+use Rattle.std.proofs.Common.{◌≡◌, ℕ, ◌≤◌, List, [], length, sym, ap, subst, ◌∙◌, arith}
+use Rattle.std.specs.Prelude.{Result, Ok, Err, IfOk}
+use Rattle.std.specs.List.{AllByRecursion}
+use Rattle.acl_perm.specs.Bits.{all_rights}
+use Rattle.acl_perm.specs.Profile.{full}
+use Rattle.acl_nfs4.specs.Ace.{Ace}
+use Rattle.acl_nfs4.specs.Limits.{most_weight}
+use Rattle.acl_nfs4.specs.Spelling.{IsAce, IsAccepted, weight}
+use Rattle.acl_nfs4.proofs.Within.{each_of, fits_of}
+use Rattle.acl_eval.specs.Column.{column}
+use Rattle.acl_eval.specs.Grant.{SameGrants}
+use Rattle.acl_eval.specs.Laws.{IsEquivalence}
+use Rattle.acl_eval.proofs.Same.{equivalence}
+use Rattle.acl_normal.specs.internal.Emissions.{count_left, HasOnceColumns, IsEmission, IsOnce}
+use Rattle.acl_normal.specs.Normal.{IsNormal}
+use Rattle.acl_normal.specs.NormalForm.{IsNormalFormOf}
+use Rattle.acl_normal.specs.internal.Passes.{IsPlainReduction, KeepsProfiles}
+use Rattle.acl_normal.specs.internal.Plain.{unshadowed, default, needed_keys}
+use Rattle.acl_normal.proofs.unique.Accepted.{each_mask, each_name}
+use Rattle.acl_normal.proofs.unique.Normal.{emitted_is_normal, quiet_flags}
+use Rattle.acl_normal.proofs.plain.Reduced.{reduced_once}
+use Rattle.acl_normal.proofs.plain.Shorter.{reduced_shorter}
+use Rattle.acl_normal.proofs.unique.Unique.{unique}
+use Rattle.acl_normal.proofs.unique.Weights.{count_no_greater, count_within, length_under, weight_falls}
+
+-- a normal list with the grants of an accepted one, with no more keys at any bit and within what that is within, is
+-- its normal form
+pub plain_form : (source result : List Ace) → IsAccepted full source → IsNormal result
+    → SameGrants all_rights source result
+    → ((bit : ℕ) → length (column result bit) ≤ length (column source bit)) → KeepsProfiles source result
+    → IsNormalFormOf source result
+plain_form source result accepted normal grants shorter kept =
+    let each = kept full accepted.each in
+    let light : weight result ≤ weight source =
+    weight_falls source result (quiet_flags result normal.flags) (each_mask result each) shorter in record {
+      normal = normal;
+      grants = grants;
+      lighter = light;
+      accepted = record {
+        count = omega (arith, length_under result normal.irreducible.no_empty_mask, light, accepted.weight);
+        weight = omega (arith, light, accepted.weight);
+        each = each;
+      };
+      fits = λ p fits. fits_of p result (kept p (each_of p source accepted.each fits));
+      only = λ other is same. only other is same;
+      itself = λ is. only source is (laws.reflexive source);
+    }
+  where
+    laws : IsEquivalence (SameGrants all_rights)
+    laws = equivalence all_rights
+
+    only : (other : List Ace) → IsNormal other → SameGrants all_rights source other → result ≡ other
+    only other is same =
+        unique result other normal is (laws.transitive result source other (laws.symmetric source result grants) same)
+
+-- each principal once
+pub reduced_columns : (source needed : List Ace) → IsPlainReduction source needed → HasOnceColumns needed
+reduced_columns source needed h bit = subst IsOnce (sym (h.columns bit)) (reduced_once (column source bit))
+
+reduced_fewer : (source needed : List Ace) → IsPlainReduction source needed → (bit : ℕ)
+    → length (column needed bit) ≤ length (column source bit)
+reduced_fewer source needed h bit = omega (arith, ap length (h.columns bit), reduced_shorter (column source bit))
+
+-- no more keys than an accepted list may have
+pub reduced_small : (source needed : List Ace) → IsAccepted full source → IsPlainReduction source needed
+    → count_left 32 needed ≤ most_weight
+reduced_small source needed accepted h =
+    omega (
+      arith,
+      count_no_greater 32 source needed (reduced_fewer source needed h),
+      count_within 32 source,
+      accepted.weight,
+    )
+
+-- what is emitted of it is the normal form
+pub reduced_form : (source needed result : List Ace) → IsAccepted full source → IsPlainReduction source needed
+    → IsEmission needed result → ((bit : ℕ) → length (column result bit) ≤ length (column needed bit))
+    → KeepsProfiles needed result → IsNormalFormOf source result
+reduced_form source needed result accepted h emission shorter kept =
+    let each = h.profiles full accepted.each in
+    let both = emitted_is_normal source needed result h.columns (each_name full needed each) emission
+    (each_mask result (kept full each)) in
+    plain_form source result accepted both.0 both.1
+    (λ bit. omega (arith, shorter bit, reduced_fewer source needed h bit)) (λ p within. kept p (h.profiles p within))
+
+-- the two passes make the plain reduction, where the second answers
+pub passes_reduce : {V E : Type 0} (list : V → List Ace) (source aces reached lent : List Ace) (answer : Result V E)
+    → aces ≡ source → ((bit : ℕ) → column reached bit ≡ unshadowed [] (column aces bit)) → KeepsProfiles aces reached
+    → lent ≡ reached
+    → IfOk answer (λ v. (bit : ℕ)
+    → column (list v) bit ≡ needed_keys (default (column lent bit)) (column lent bit))
+    → IfOk answer (λ v. KeepsProfiles lent (list v)) → IfOk answer (λ v. IsPlainReduction source (list v))
+passes_reduce list source aces reached lent (Ok v) same first kept loan second kept_again = record {
+  columns = λ bit. second bit
+      ∙ ap (λ c. needed_keys (default c) c)
+      (ap (λ v. column v bit) loan ∙ first bit ∙ ap (λ v. unshadowed [] (column v bit)) same);
+  profiles = λ p each.
+      let there = kept p (subst (AllByRecursion (IsAce p)) (sym same) each) in
+      kept_again p (subst (AllByRecursion (IsAce p)) (sym loan) there);
+}
+passes_reduce list source aces reached lent (Err fault) same first kept loan second kept_again = tt
+
+-- an answer that is emitted of the reduction is the normal form, where it is Ok
+pub emitted_form : {E : Type 0} (source needed : List Ace) (answer : Result (List Ace) E) → IsAccepted full source
+    → IsPlainReduction source needed → IfOk answer (IsEmission needed)
+    → IfOk answer (λ list. (bit : ℕ) → length (column list bit) ≤ length (column needed bit))
+    → IfOk answer (KeepsProfiles needed) → IfOk answer (IsNormalFormOf source)
+emitted_form source needed (Ok list) accepted h emission shorter kept =
+    reduced_form source needed list accepted h emission shorter kept
+emitted_form source needed (Err fault) accepted h emission shorter kept = tt
+
+-- the ACEs of the reduction are ones of the whole profile
+pub reduced_each : (source needed : List Ace) → IsAccepted full source → IsPlainReduction source needed
+    → AllByRecursion (IsAce full) needed
+reduced_each source needed accepted h = h.profiles full accepted.each

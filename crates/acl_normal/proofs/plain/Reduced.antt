@@ -1,0 +1,466 @@
+-- The plain reduction of a column decides alike, and is settled.
+use Rattle.std.specs.Prelude.{◌≡◌, Bool, true, false, not, ◌||◌, ◌&&◌, ◌⊎◌, [], ◌∷◌, ◌++◌, Option, Some, None, unwrap_or, refl}
+use Rattle.std.proofs.Common.{sym, ◌∙◌, ap, subst, arith, ⊎_elim, inl, inr}
+use Rattle.std.proofs.lemmas.Bool.{or_left, or_from, or_cases, or_parts, and_parts, false_from_ne_true}
+use Rattle.acl_perm.specs.Principal.{Principal, everyone}
+use Rattle.acl_perm.specs.Overlap.{may_overlap}
+use Rattle.acl_perm.specs.declared.kind.Kind.{Kind}
+use Rattle.acl_perm.specs.declared.kind.Kind.TheVariants.{Deny, Allow}
+use Rattle.acl_eval.specs.Column.{Column, first_kind, verdict}
+use Rattle.acl_normal.specs.Keys.{principal_eq, kind_eq}
+use Rattle.acl_normal.specs.internal.Alike.{is_either}
+use Rattle.acl_normal.specs.internal.Emissions.{IsOnce}
+use Rattle.acl_normal.specs.internal.Plain.{reduced, unshadowed, default, has_opposite, is_needed, needed_keys}
+use Rattle.acl_normal.proofs.unique.Names.{principal_eq_same, either_first, either_second, either_within}
+use Rattle.acl_normal.proofs.unique.FirstKind.{IsClique, none_within, append_none, append_some}
+use Rattle.acl_normal.proofs.unique.Irreducible.{IsClean, either_same}
+use Rattle.acl_normal.proofs.unique.Free.{kind_eq_same, kind_eq_itself, some_same, once_from_clean}
+use Rattle.acl_normal.proofs.unique.Settled.{opposite, everyone_for, IsWitness, IsSettled, two_kinds}
+
+-- the shadowed keys decide nothing
+pub same_unshadowed : (m : Principal → Bool) (before c : Column) → m everyone ≡ true → first_kind m before ≡ None
+    → first_kind m (unshadowed before c) ≡ first_kind m c
+same_unshadowed m before [] e none = refl
+same_unshadowed m before ((p, k) ∷ c) e none =
+    go (m p) refl (first_kind (is_either p everyone) before) refl (same_unshadowed m (before ++ (p, k) ∷ []) c e)
+  where
+    go : (b : Bool) → m p ≡ b → (o : Option Kind) → first_kind (is_either p everyone) before ≡ o
+        → (first_kind m (before ++ (p, k) ∷ []) ≡ None → first_kind m (unshadowed (before ++ (p, k) ∷ []) c)
+        ≡ first_kind m c) → first_kind m (unshadowed before ((p, k) ∷ c)) ≡ first_kind m ((p, k) ∷ c)
+    go true h None i ih = rw (i, h) refl
+    go true h (Some j) i ih =
+        let never = none_within m (is_either p everyone) before none (either_within m p everyone h e) in
+        absurd (cc)
+    go false h None i ih = rw (i, h) (ih (append_none m before ((p, k) ∷ []) none ∙ rw h refl))
+    go false h (Some j) i ih = rw (i, h) (ih (append_none m before ((p, k) ∷ []) none ∙ rw h refl))
+
+-- what a key before has, or everyone, is kept no more
+shadowed_lacks : (x : Principal) (j : Kind) (before c : Column) → first_kind (is_either x everyone) before ≡ Some j
+    → first_kind (is_either x x) (unshadowed before c) ≡ None
+shadowed_lacks x j before [] h = refl
+shadowed_lacks x j before ((p, k) ∷ c) h =
+    go (first_kind (is_either p everyone) before) refl
+    (shadowed_lacks x j (before ++ (p, k) ∷ []) c (append_some (is_either x everyone) before ((p, k) ∷ []) j h))
+  where
+    go : (o : Option Kind) → first_kind (is_either p everyone) before ≡ o
+        → first_kind (is_either x x) (unshadowed (before ++ (p, k) ∷ []) c) ≡ None
+        → first_kind (is_either x x) (unshadowed before ((p, k) ∷ c)) ≡ None
+    go (Some i) e ih = rw e ih
+    go None e ih =
+        let other : is_either x x p ≡ false = false_from_ne_true _ (λ t. clash (either_same x p t)) in
+        rw e (rw other ih)
+      where
+        clash : p ≡ x → ⊥
+        clash same =
+            let again = subst (λ v. first_kind (is_either v everyone) before ≡ None) same e in
+            cc
+
+shadowed_nothing : (j : Kind) (before c : Column) → first_kind (is_either everyone everyone) before ≡ Some j
+    → unshadowed before c ≡ []
+shadowed_nothing j before [] h = refl
+shadowed_nothing j before ((p, k) ∷ c) h =
+    go (first_kind (is_either p everyone) before) refl
+    (shadowed_nothing j (before ++ (p, k) ∷ []) c (append_some (is_either everyone everyone) before ((p, k) ∷ []) j h))
+  where
+    go : (o : Option Kind) → first_kind (is_either p everyone) before ≡ o → unshadowed (before ++ (p, k) ∷ []) c ≡ []
+        → unshadowed before ((p, k) ∷ c) ≡ []
+    go (Some i) e ih = rw e ih
+    go None e ih =
+        let never =
+        none_within (is_either p everyone) (is_either everyone everyone) before e
+        (either_within (is_either p everyone) everyone everyone (either_second p everyone)
+        (either_second p everyone)) in
+        absurd (cc)
+
+unshadowed_clean : (before c : Column) → IsClean (unshadowed before c)
+unshadowed_clean before [] = tt
+unshadowed_clean before ((p, k) ∷ c) =
+    go (first_kind (is_either p everyone) before) refl (unshadowed_clean (before ++ (p, k) ∷ []) c)
+  where
+    go : (o : Option Kind) → first_kind (is_either p everyone) before ≡ o
+        → IsClean (unshadowed (before ++ (p, k) ∷ []) c) → IsClean (unshadowed before ((p, k) ∷ c))
+    go (Some i) e ih = rw e ih
+    go None e ih =
+        let here : first_kind (is_either p everyone) (before ++ (p, k) ∷ []) ≡ Some k =
+        append_none (is_either p everyone) before ((p, k) ∷ []) e ∙ rw (either_first p everyone) refl in
+        rw e (shadowed_lacks p k (before ++ (p, k) ∷ []) c here, last here, ih)
+      where
+        last : first_kind (is_either p everyone) (before ++ (p, k) ∷ []) ≡ Some k → principal_eq p everyone ≡ true
+            → unshadowed (before ++ (p, k) ∷ []) c ≡ []
+        last here same =
+            shadowed_nothing k (before ++ (p, k) ∷ []) c
+            (subst (λ v. first_kind (is_either v everyone) (before ++ (p, k) ∷ []) ≡ Some k)
+            (principal_eq_same p everyone same) here)
+
+none_needed : (m : Principal → Bool) (d : Kind) (c : Column) → first_kind m c ≡ None
+    → first_kind m (needed_keys d c) ≡ None
+none_needed m d [] h = refl
+none_needed m d ((p, k) ∷ c) h = go (is_needed d p k c) refl (m p) refl (none_needed m d c)
+  where
+    go : (b : Bool) → is_needed d p k c ≡ b → (t : Bool) → m p ≡ t
+        → (first_kind m c ≡ None → first_kind m (needed_keys d c) ≡ None)
+        → first_kind m (needed_keys d ((p, k) ∷ c)) ≡ None
+    go b e true f ih = absurd (grind arith)
+    go true e false f ih = rw e (rw f (ih (grind arith)))
+    go false e false f ih = rw e (ih (grind arith))
+
+needed_clean : (d : Kind) (c : Column) → IsClean c → IsClean (needed_keys d c)
+needed_clean d [] h = tt
+needed_clean d ((p, k) ∷ c) h = go (is_needed d p k c) refl (needed_clean d c h.2)
+  where
+    go : (b : Bool) → is_needed d p k c ≡ b → IsClean (needed_keys d c) → IsClean (needed_keys d ((p, k) ∷ c))
+    go true e ih = rw e (none_needed (is_either p p) d c h.0, (λ same. ap (needed_keys d) (h.1 same)), ih)
+    go false e ih = rw e ih
+
+-- the default stays in the rest of a clean column
+default_rest : (p : Principal) (k : Kind) (c : Column) → principal_eq p everyone ≡ false
+    → default ((p, k) ∷ c) ≡ default c
+default_rest p k c e =
+    let skip : is_either everyone everyone p ≡ false = or_from _ _ e e in
+    rw skip refl
+
+-- where nothing of another kind may_overlap, the first that matches beside p has the default
+no_opposite : (m : Principal → Bool) (d : Kind) (p : Principal) (c : Column) → IsClique m → m everyone ≡ true
+    → m p ≡ true → default c ≡ d → has_opposite d p c ≡ false → verdict m c ≡ d
+no_opposite m d p c q e at h none = go (first_kind m c) refl
+  where
+    has : (c : Column) (k : Kind) → first_kind m c ≡ Some k → has_opposite d p c ≡ false → k ≡ d
+    has [] k i none = cc
+    has ((x, j) ∷ c) k i none = split (m x) refl (has c k)
+      where
+        parts : ((may_overlap p x && not (kind_eq j d)) ≡ false) × (has_opposite d p c ≡ false)
+        parts = or_parts (may_overlap p x && not (kind_eq j d)) (has_opposite d p c) none
+
+        not_other : (b : Bool) → kind_eq j d ≡ b → (may_overlap p x && not (kind_eq j d)) ≡ false
+            → may_overlap p x ≡ true → j ≡ d
+        not_other true f g o = kind_eq_same j d f
+        not_other false f g o = absurd (grind arith)
+
+        split : (b : Bool) → m x ≡ b → (first_kind m c ≡ Some k → has_opposite d p c ≡ false → k ≡ d) → k ≡ d
+        split true f ih =
+            let same : j ≡ k = grind arith in
+            sym same ∙ not_other (kind_eq j d) refl parts.0 (q p x at f)
+        split false f ih = ih (grind arith) parts.1
+
+    go : (o : Option Kind) → first_kind m c ≡ o → verdict m c ≡ d
+    go (Some k) i = ap (λ o. unwrap_or o Deny) i ∙ has c k i none
+    go None i =
+        let nobody = none_within m (is_either everyone everyone) c i (either_within m everyone everyone e e) in
+        ap (λ o. unwrap_or o Deny) i ∙ sym (ap (λ o. unwrap_or o Deny) nobody) ∙ h
+
+needed_everyone : (m : Principal → Bool) (d : Kind) (p : Principal) (k : Kind) → m p ≡ true
+    → principal_eq p everyone ≡ true → verdict m (needed_keys d ((p, k) ∷ [])) ≡ verdict m ((p, k) ∷ [])
+needed_everyone m d p Allow at e = rw e refl
+needed_everyone m d p Deny at e = rw (e, at) refl
+
+not_needed : (d : Kind) (p : Principal) (k : Kind) (c : Column) → principal_eq p everyone ≡ false
+    → is_needed d p k c ≡ false → (k ≡ d) × (has_opposite d p c ≡ false)
+not_needed d p k c e h = go (kind_eq k d) refl
+  where
+    rest : (not (kind_eq k d) ≡ false) × (has_opposite d p c ≡ false)
+    rest = or_parts (not (kind_eq k d)) (has_opposite d p c) (rw e at h)
+
+    go : (b : Bool) → kind_eq k d ≡ b → (k ≡ d) × (has_opposite d p c ≡ false)
+    go true f = (kind_eq_same k d f, rest.1)
+    go false f = absurd (grind arith)
+
+-- the keys that aren't needed decide nothing
+same_needed : (m : Principal → Bool) (d : Kind) (c : Column) → IsClique m → m everyone ≡ true → IsClean c
+    → default c ≡ d → verdict m (needed_keys d c) ≡ verdict m c
+same_needed m d [] q e clean h = refl
+same_needed m d ((p, k) ∷ c) q e clean h = go (principal_eq p everyone) refl (same_needed m d c q e clean.2)
+  where
+    rest : principal_eq p everyone ≡ false → default c ≡ d → (b : Bool) → is_needed d p k c ≡ b → (t : Bool) → m p ≡ t
+        → verdict m (needed_keys d c) ≡ verdict m c
+        → verdict m (needed_keys d ((p, k) ∷ c)) ≡ verdict m ((p, k) ∷ c)
+    rest other dc true f true g ih = rw f (rw g refl)
+    rest other dc true f false g ih = rw f (rw g ih)
+    rest other dc false f true g ih =
+        rw (f, g) (ih ∙ no_opposite m d p c q e g dc (not_needed d p k c other f).1
+        ∙ sym (not_needed d p k c other f).0)
+    rest other dc false f false g ih = rw (f, g) ih
+
+    go : (b : Bool) → principal_eq p everyone ≡ b → (default c ≡ d → verdict m (needed_keys d c) ≡ verdict m c)
+        → verdict m (needed_keys d ((p, k) ∷ c)) ≡ verdict m ((p, k) ∷ c)
+    go true f ih =
+        let at : m p ≡ true = subst (λ v. m v ≡ true) (sym (principal_eq_same p everyone f)) e in
+        subst (λ v. verdict m (needed_keys d ((p, k) ∷ v)) ≡ verdict m ((p, k) ∷ v)) (sym (clean.1 f))
+        (needed_everyone m d p k at f)
+    go false f ih =
+        let dc : default c ≡ d = sym (default_rest p k c f) ∙ h in
+        rest f dc (is_needed d p k c) refl (m p) refl (ih dc)
+
+everyone_alone : (d : Kind) (p : Principal) (k : Kind) → principal_eq p everyone ≡ true → default ((p, k) ∷ []) ≡ d
+    → first_kind (is_either everyone everyone) (needed_keys d ((p, k) ∷ [])) ≡ everyone_for d
+everyone_alone d p k e h = go k d refl (sym found ∙ h)
+  where
+    at : is_either everyone everyone p ≡ true
+    at = or_left (principal_eq p everyone) (principal_eq p everyone) e
+
+    found : default ((p, k) ∷ []) ≡ k
+    found = rw at refl
+
+    go : (j i : Kind) → k ≡ j → k ≡ i
+        → first_kind (is_either everyone everyone) (needed_keys i ((p, j) ∷ [])) ≡ everyone_for i
+    go Allow Allow f g = rw e (rw at refl)
+    go Deny Deny f g = rw e refl
+    go Allow Deny f g = absurd (cc)
+    go Deny Allow f g = absurd (cc)
+
+needed_everyone_is : (d : Kind) (c : Column) → IsClean c → default c ≡ d
+    → first_kind (is_either everyone everyone) (needed_keys d c) ≡ everyone_for d
+needed_everyone_is d [] clean h = ap everyone_for h
+needed_everyone_is d ((p, k) ∷ c) clean h = go (principal_eq p everyone) refl (needed_everyone_is d c clean.2)
+  where
+    rest : is_either everyone everyone p ≡ false → (b : Bool) → is_needed d p k c ≡ b
+        → first_kind (is_either everyone everyone) (needed_keys d c) ≡ everyone_for d
+        → first_kind (is_either everyone everyone) (needed_keys d ((p, k) ∷ c)) ≡ everyone_for d
+    rest skip true f ih = rw f (rw skip ih)
+    rest skip false f ih = rw f ih
+
+    go : (b : Bool) → principal_eq p everyone ≡ b
+        → (default c ≡ d → first_kind (is_either everyone everyone) (needed_keys d c) ≡ everyone_for d)
+        → first_kind (is_either everyone everyone) (needed_keys d ((p, k) ∷ c)) ≡ everyone_for d
+    go true f ih =
+        let nothing = clean.1 f in
+        subst (λ v. first_kind (is_either everyone everyone) (needed_keys d ((p, k) ∷ v)) ≡ everyone_for d)
+        (sym nothing) (everyone_alone d p k f (ap (λ v. default ((p, k) ∷ v)) (sym nothing) ∙ h))
+    go false f ih = rest (or_from _ _ f f) (is_needed d p k c) refl (ih (sym (default_rest p k c f) ∙ h))
+
+-- in a clean column everyone stands last
+everyone_last : (c : Column) (p : Principal) (k : Kind) → IsClean c → principal_eq p everyone ≡ false
+    → first_kind (is_either p p) c ≡ Some k → first_kind (is_either p everyone) c ≡ Some k
+everyone_last [] p k clean e h = cc
+everyone_last ((x, j) ∷ c) p k clean e h =
+    go (principal_eq x p) refl (principal_eq x everyone) refl (everyone_last c p k clean.2 e)
+  where
+    go : (b : Bool) → principal_eq x p ≡ b → (t : Bool) → principal_eq x everyone ≡ t
+        → (first_kind (is_either p p) c ≡ Some k → first_kind (is_either p everyone) c ≡ Some k)
+        → first_kind (is_either p everyone) ((x, j) ∷ c) ≡ Some k
+    go true f t g ih = rw f (grind arith)
+    go false f true g ih =
+        let nothing = ap (first_kind (is_either p p)) (clean.1 g) in
+        absurd (grind arith)
+    go false f false g ih = rw (f, g) (ih (grind arith))
+
+-- a key of the other kind that may_overlap and stays
+pub record IsOther (d : Kind) (p : Principal) (c : Column) (q : Principal) : Type 0 where
+  pub not_everyone : principal_eq q everyone ≡ false
+  pub overlap : may_overlap p q ≡ true
+  pub source : first_kind (is_either q q) c ≡ Some (opposite d)
+  pub kind : first_kind (is_either q q) (needed_keys d c) ≡ Some (opposite d)
+
+-- a key in front of others leaves what comes after it
+other_behind : (d : Kind) (p : Principal) (c : Column) (q x : Principal) (j : Kind) → principal_eq x q ≡ false
+    → IsOther d p c q → IsOther d p ((x, j) ∷ c) q
+other_behind d p c q x j f h = record {
+  not_everyone = h.not_everyone;
+  overlap = h.overlap;
+  source = rw skip
+      h.source;
+  kind = go (is_needed d x j c) refl;
+}
+  where
+    skip : is_either q q x ≡ false
+    skip = or_from _ _ f f
+
+    go : (b : Bool) → is_needed d x j c ≡ b
+        → first_kind (is_either q q) (needed_keys d ((x, j) ∷ c)) ≡ Some (opposite d)
+    go true e = rw e (rw skip h.kind)
+    go false e = rw e h.kind
+
+-- a key of another principal, since the column has each once
+other_principal : (x q : Principal) (c : Column) (k : Kind) → first_kind (is_either x x) c ≡ None
+    → first_kind (is_either q q) c ≡ Some k → principal_eq x q ≡ false
+other_principal x q c k none has =
+    false_from_ne_true _ (λ e. clash (subst (λ v. first_kind (is_either v v) c ≡ None) (principal_eq_same x q e) none))
+  where
+    clash : first_kind (is_either q q) c ≡ None → ⊥
+    clash n = absurd (cc)
+
+find_other : (d : Kind) (p : Principal) (c : Column) → IsClean c → default c ≡ d → has_opposite d p c ≡ true
+    → (q : Principal) × IsOther d p c q
+find_other d p [] clean h has = cc
+find_other d p ((x, j) ∷ c) clean h has =
+    go (principal_eq x everyone) refl (or_cases (may_overlap p x && not (kind_eq j d)) (has_opposite d p c) has)
+    (find_other d p c clean.2)
+  where
+    not_default : j ≡ d → not (kind_eq j d) ≡ true → ⊥
+    not_default same f =
+        let is : kind_eq j d ≡ true = subst (λ v. kind_eq j v ≡ true) same (kind_eq_itself j) in
+        absurd (clash (kind_eq j d) is f)
+      where
+        clash : (b : Bool) → b ≡ true → not b ≡ true → ⊥
+        clash true g i = cc
+        clash false g i = cc
+
+    other_kind : not (kind_eq j d) ≡ true → j ≡ opposite d
+    other_kind f = ⊎_elim (λ e. absurd (not_default e f)) (λ e. e) (two_kinds j d)
+
+    go : (b : Bool) → principal_eq x everyone ≡ b
+        → ((may_overlap p x && not (kind_eq j d)) ≡ true) ⊎ (has_opposite d p c ≡ true)
+        → (default c ≡ d → has_opposite d p c ≡ true → (q : Principal) × IsOther d p c q)
+        → (q : Principal) × IsOther d p ((x, j) ∷ c) q
+    go true e (inl f) ih =
+        let found : default ((x, j) ∷ c) ≡ j =
+        rw (or_left (principal_eq x everyone) (principal_eq x everyone) e) refl in
+        absurd (not_default (sym found ∙ h) (and_parts (may_overlap p x) (not (kind_eq j d)) f).1)
+    go true e (inr f) ih =
+        let nothing = ap (has_opposite d p) (clean.1 e) in
+        absurd (cc)
+    go false e (inl f) ih =
+        let parts = and_parts (may_overlap p x) (not (kind_eq j d)) f in
+        let kind : j ≡ opposite d = other_kind parts.1 in
+        let at : is_either x x x ≡ true = either_first x x in
+        let stays : is_needed d x j c ≡ true = rw e (or_left (not (kind_eq j d)) (has_opposite d x c) parts.1) in (
+          x,
+          record {
+            not_everyone = e;
+            overlap = parts.0;
+            source = rw at (ap Some kind);
+            kind = rw stays
+                (rw at (ap Some kind));
+          },
+        )
+    go false e (inr f) ih = behind (ih (sym (default_rest x j c e) ∙ h) f)
+      where
+        behind : (q : Principal) × IsOther d p c q → (q : Principal) × IsOther d p ((x, j) ∷ c) q
+        behind (q, o) = (q, other_behind d p c q x j (other_principal x q c (opposite d) clean.0 o.source) o)
+
+find_witness : (d : Kind) (p : Principal) (c : Column) → IsClean c → default c ≡ d → principal_eq p everyone ≡ false
+    → first_kind (is_either p p) (needed_keys d c) ≡ Some d
+    → (q : Principal) × IsOther d p c q × (first_kind (is_either p q) (needed_keys d c) ≡ Some d)
+find_witness d p [] clean h ne has = cc
+find_witness d p ((x, j) ∷ c) clean h ne has =
+    go (principal_eq x p) refl (is_needed d x j c) refl (find_witness d p c clean.2)
+  where
+    Found : Column → Type 0
+    Found v = (q : Principal) × IsOther d p v q × (first_kind (is_either p q) (needed_keys d v) ≡ Some d)
+
+    later : (b : Bool) → is_needed d x j c ≡ b → principal_eq x p ≡ false
+        → (q : Principal) × IsOther d p c q × (first_kind (is_either p q) (needed_keys d c) ≡ Some d)
+        → (q : Principal) × IsOther d p ((x, j) ∷ c) q
+        × (first_kind (is_either p q) (needed_keys d ((x, j) ∷ c)) ≡ Some d)
+    later b f e (q, o, a) =
+        let other : principal_eq x q ≡ false = other_principal x q c (opposite d) clean.0 o.source in
+        (q, other_behind d p c q x j other o, kept b f other a)
+      where
+        kept : (b : Bool) → is_needed d x j c ≡ b → principal_eq x q ≡ false
+            → first_kind (is_either p q) (needed_keys d c) ≡ Some d
+            → first_kind (is_either p q) (needed_keys d ((x, j) ∷ c)) ≡ Some d
+        kept true f other a = rw f (rw (or_from (principal_eq x p) (principal_eq x q) e other) a)
+        kept false f other a = rw f a
+
+    rest_has : (b : Bool) → is_needed d x j c ≡ b → principal_eq x p ≡ false
+        → first_kind (is_either p p) (needed_keys d c) ≡ Some d
+    rest_has true f e =
+        let step : first_kind (is_either p p) ((x, j) ∷ needed_keys d c) ≡ Some d = rw f at has in
+        rw (or_from (principal_eq x p) (principal_eq x p) e e) at step
+    rest_has false f e = rw f at has
+
+    rest_default : first_kind (is_either p p) (needed_keys d c) ≡ Some d → (t : Bool) → principal_eq x everyone ≡ t
+        → default c ≡ d
+    rest_default i false g = sym (default_rest x j c g) ∙ h
+    rest_default i true g =
+        let nothing = ap (λ v. first_kind (is_either p p) (needed_keys d v)) (clean.1 g) in
+        absurd (cc)
+
+    go : (b : Bool) → principal_eq x p ≡ b → (t : Bool) → is_needed d x j c ≡ t
+        → (default c ≡ d → principal_eq p everyone ≡ false → first_kind (is_either p p) (needed_keys d c) ≡ Some d
+        → (q : Principal) × IsOther d p c q × (first_kind (is_either p q) (needed_keys d c) ≡ Some d))
+        → (q : Principal) × IsOther d p ((x, j) ∷ c) q
+        × (first_kind (is_either p q) (needed_keys d ((x, j) ∷ c)) ≡ Some d)
+    go false e t f ih =
+        let i = rest_has t f e in
+        later t f e (ih (rest_default i (principal_eq x everyone) refl) ne i)
+    go true e false f ih =
+        let gone =
+        none_needed (is_either p p) d c
+        (subst (λ v. first_kind (is_either v v) c ≡ None) (principal_eq_same x p e) clean.0) in
+        let still : first_kind (is_either p p) (needed_keys d c) ≡ Some d = rw f at has in
+        absurd (cc)
+    go true e true f ih = here (find_other d p c clean.2 dc opp)
+      where
+        same : x ≡ p
+        same = principal_eq_same x p e
+
+        not_all : principal_eq x everyone ≡ false
+        not_all = subst (λ v. principal_eq v everyone ≡ false) (sym same) ne
+
+        dc : default c ≡ d
+        dc = sym (default_rest x j c not_all) ∙ h
+
+        at_x : is_either p p x ≡ true
+        at_x = or_left (principal_eq x p) (principal_eq x p) e
+
+        kind : j ≡ d
+        kind =
+            let step : first_kind (is_either p p) ((x, j) ∷ needed_keys d c) ≡ Some d = rw f at has in
+            let step' : Some j ≡ Some d = rw at_x at step in
+            some_same step'
+
+        opp : has_opposite d p c ≡ true
+        opp = subst (λ v. has_opposite d v c ≡ true) same (from (not (kind_eq j d)) refl)
+          where
+            is : kind_eq j d ≡ true
+            is = subst (λ v. kind_eq j v ≡ true) kind (kind_eq_itself j)
+
+            from : (b : Bool) → not (kind_eq j d) ≡ b → has_opposite d x c ≡ true
+            from b i =
+                let whole : (not (kind_eq j d) || has_opposite d x c) ≡ true = rw not_all at f in
+                rw is at whole
+
+        here : (q : Principal) × IsOther d p c q
+            → (q : Principal) × IsOther d p ((x, j) ∷ c) q
+            × (first_kind (is_either p q) (needed_keys d ((x, j) ∷ c)) ≡ Some d)
+        here (q, o) = (
+          q,
+          other_behind d p c q x j (other_principal x q c (opposite d) clean.0 o.source) o,
+          rw f
+              (rw (or_left (principal_eq x p) (principal_eq x q) e) (ap Some kind)),
+        )
+
+-- what is left of a clean column is settled
+needed_settled : (d : Kind) (c : Column) → IsClean c → default c ≡ d → IsSettled (needed_keys d c) d
+needed_settled d c clean h = record {
+  everyone_is = needed_everyone_is d c clean h;
+  needed = λ p ne has. witness p (find_witness d p c clean h ne has);
+  deny_first = λ p has. deny p has (principal_eq p everyone) refl;
+}
+  where
+    witness : (p : Principal)
+        → (q : Principal) × IsOther d p c q × (first_kind (is_either p q) (needed_keys d c) ≡ Some d)
+        → (q : Principal) × IsWitness (needed_keys d c) d p q
+    witness p (q, o, a) = (q, record { not_everyone = o.not_everyone; overlap = o.overlap; kind = o.kind; after = a })
+
+    no_deny : (e : Kind) → everyone_for e ≡ Some Deny → ⊥
+    no_deny Deny i = cc
+    no_deny Allow i = cc
+
+    deny : (p : Principal) → first_kind (is_either p p) (needed_keys d c) ≡ Some Deny → (b : Bool)
+        → principal_eq p everyone ≡ b → first_kind (is_either p everyone) (needed_keys d c) ≡ Some Deny
+    deny p has false e = everyone_last (needed_keys d c) p Deny (needed_clean d c clean) e has
+    deny p has true e =
+        absurd (no_deny d (sym (needed_everyone_is d c clean h)
+        ∙ subst (λ v. first_kind (is_either v v) (needed_keys d c) ≡ Some Deny) (principal_eq_same p everyone e)
+        has))
+
+-- a column decides as its reduction does
+pub same_reduced : (m : Principal → Bool) (c : Column) → IsClique m → m everyone ≡ true
+    → verdict m (reduced c) ≡ verdict m c
+same_reduced m c q e =
+    same_needed m (default (unshadowed [] c)) (unshadowed [] c) q e (unshadowed_clean [] c) refl
+    ∙ ap (λ o. unwrap_or o Deny) (same_unshadowed m [] c e refl)
+
+-- a reduced column is settled
+pub reduced_settled : (c : Column) → IsSettled (reduced c) (default (unshadowed [] c))
+reduced_settled c = needed_settled (default (unshadowed [] c)) (unshadowed [] c) (unshadowed_clean [] c) refl
+
+-- each principal stands once in a reduced column
+pub reduced_once : (c : Column) → IsOnce (reduced c)
+reduced_once c =
+    once_from_clean (reduced c) (needed_clean (default (unshadowed [] c)) (unshadowed [] c) (unshadowed_clean [] c))
+
+-- and in a column without what is shadowed
+pub unshadowed_once : (c : Column) → IsOnce (unshadowed [] c)
+unshadowed_once c = once_from_clean (unshadowed [] c) (unshadowed_clean [] c)

@@ -1,0 +1,524 @@
+-- The masks of the first ACEs of a list, place by place.
+use Rattle.std.proofs.Math.Bool.{and-true, or-false, and-false, or_self}
+use Rattle.std.specs.Prelude.{◌≡◌, ℕ, ◌+◌, ◌<◌, ◌≤◌, suc, Bool, true, false, cond, not, ◌||◌, ◌&&◌, List, [], ◌∷◌, ◌++◌, Option, Some, None, is_some, is_none, option_map, length, replicate, take, slice_set, slice_index_or, bit_or, refl}
+use Rattle.std.proofs.Common.{sym, ◌∙◌, ap, subst, arith, add-one}
+use Rattle.std.proofs.lemmas.List.{append-nil, get_or-replicate, get_or-set_same, get_or-set_other, length-append, length-replicate, length-set, length-take-le, take_all, take_more}
+use Rattle.acl_perm.specs.Bits.{IsDifference, has_bit}
+use Rattle.acl_perm.specs.Principal.{Principal, everyone}
+use Rattle.acl_perm.specs.Profile.{full}
+use Rattle.acl_perm.specs.declared.kind.Kind.{Kind}
+use Rattle.acl_perm.proofs.Sets.{has_bit-or, no_bit}
+use Rattle.acl_nfs4.specs.Ace.{Ace, ace}
+use Rattle.acl_nfs4.specs.Spelling.{IsAccepted}
+use Rattle.acl_nfs4.specs.Who.{principal_of}
+use Rattle.acl_nfs4.specs.declared.ace.AceRef.{AceRef}
+use Rattle.acl_eval.specs.Column.{Column, first_kind, column}
+use Rattle.acl_normal.specs.internal.Alike.{is_either}
+use Rattle.acl_normal.specs.Keys.{Key, ace_key, principal_eq}
+use Rattle.acl_normal.specs.internal.Emissions.{IsOnce}
+use Rattle.acl_normal.specs.Left.{KeepsFirsts}
+use Rattle.acl_normal.specs.internal.Tidy.{IsQuiet, IsTidy}
+use Rattle.acl_normal.specs.Normal.{counts, is_inherit_only}
+use Rattle.acl_normal.specs.Places.{first_at, nothing_left}
+use Rattle.acl_normal.specs.internal.Plain.{unshadowed}
+use Rattle.acl_normal.specs.internal.Reduced.{IsThinned}
+use Rattle.acl_normal.specs.internal.Rows.{AreRowNumbers, is_named, row_of}
+use Rattle.acl_normal.specs.internal.Shown.{aces_in, with_masks}
+use Rattle.acl_normal.proofs.unique.Accepted.{accepted_masks}
+use Rattle.acl_normal.proofs.unique.Bits.{no_bits}
+use Rattle.acl_normal.proofs.unique.Columns.{column_first}
+use Rattle.acl_normal.proofs.rows.BitTaken.{default_unread}
+use Rattle.acl_normal.proofs.unique.FirstKind.{none_within}
+use Rattle.acl_normal.proofs.reduce.FirstRows.{column_more, first_stands, first_then, index_is, key_at_index, length_of, none_from, none_is, some_either, unshadowed_push}
+use Rattle.acl_normal.proofs.unique.Irreducible.{either_same}
+use Rattle.acl_normal.proofs.unique.ListColumns.{column-append}
+use Rattle.acl_normal.proofs.unique.Names.{either_first, either_second, principal_eq_itself, principal_eq_same}
+use Rattle.acl_normal.proofs.unique.Outline.{length_alike, nothing_append}
+use Rattle.acl_normal.proofs.plain.Reduced.{same_unshadowed, unshadowed_once}
+use Rattle.acl_normal.proofs.reduce.Reducing.{no_column, no_right}
+use Rattle.acl_normal.proofs.rows.Rows.{named_here, row_below, row_same}
+use Rattle.acl_normal.proofs.rows.TakeOut.{absent_first, none_cases}
+
+-- ---- one ACE behind a list
+
+-- the ACE with another mask
+abbrev pub masked : Ace → ℕ → Ace
+masked a m = record a { mask = m }
+
+-- the column with it
+pub column_push : (b : ℕ) (xs : List Ace) (a : Ace)
+    → column (xs ++ a ∷ []) b ≡ column xs b ++ cond (counts b a) (ace_key a ∷ []) []
+column_push b xs a = column-append b xs (a ∷ []) ∙ ap (λ v. column xs b ++ v) (column_first b a [])
+
+-- what stands first before it stands first with it
+first_front : (b : ℕ) (p : Principal) (xs ys : List Ace) (e : Kind × ℕ) → first_at b p xs ≡ Some e
+    → first_at b p (xs ++ ys) ≡ Some e
+first_front b p [] ys e h = cc
+first_front b p (x ∷ xs) ys e h =
+    go (counts b x && principal_eq (principal_of x) p) refl (first_at b p xs) refl
+    (λ d g. first_front b p xs ys d g)
+  where
+    go : (t : Bool) → (counts b x && principal_eq (principal_of x) p) ≡ t → (o : Option (Kind × ℕ))
+        → first_at b p xs ≡ o
+        → ((d : Kind × ℕ) → first_at b p xs ≡ Some d → first_at b p (xs ++ ys) ≡ Some d)
+        → first_at b p (x ∷ (xs ++ ys)) ≡ Some e
+    go true f o g ih = rw f (rw f at h)
+    go false f None g ih = cc (rw (f, g) at h)
+    go false f (Some d) g ih =
+        let rest : first_at b p (xs ++ ys) ≡ Some d = ih d g in
+        rw (f, rest) (rw (f, g) at h)
+
+-- and where none does, it may
+first_behind : (b : ℕ) (p : Principal) (xs : List Ace) (a : Ace) → first_at b p xs ≡ None
+    → first_at b p (xs ++ a ∷ [])
+    ≡ cond (counts b a && principal_eq (principal_of a) p) (Some (a.kind, length xs)) None
+first_behind b p [] a h = refl
+first_behind b p (x ∷ xs) a h =
+    let both = none_cases b p x xs h in
+    let rest = first_behind b p xs a both.1 in
+    rw (both.0, rest) (go (counts b a && principal_eq (principal_of a) p))
+  where
+    later : Kind × ℕ → Kind × ℕ
+    later e = (e.0, suc e.1)
+
+    go : (t : Bool) → option_map later (cond t (Some (a.kind, length xs)) None)
+        ≡ cond t (Some (a.kind, suc (length xs))) None
+    go true = refl
+    go false = refl
+
+-- whether one more key is the first of some principals
+some_push : (m : Principal → Bool) (c : Column) (k : Key) (t : Bool)
+    → is_some (first_kind m (c ++ cond t (k ∷ []) [])) ≡ (is_some (first_kind m c) || (t && m k.0))
+some_push m [] k false = refl
+some_push m [] k true = go (m k.0) refl
+  where
+    go : (t : Bool) → m k.0 ≡ t → is_some (cond (m k.0) (Some k.1) None) ≡ m k.0
+    go true e = rw e refl
+    go false e = rw e refl
+some_push m ((q, j) ∷ c) k t = go (m q) refl (some_push m c k t)
+  where
+    go : (s : Bool) → m q ≡ s → is_some (first_kind m (c ++ cond t (k ∷ []) []))
+        ≡ (is_some (first_kind m c) || (t && m k.0)) → is_some
+        (first_kind m ((q, j) ∷ (c ++ cond t (k ∷ []) []))) ≡ (is_some (first_kind m ((q, j) ∷ c)) || (t && m k.0))
+    go true e ih = rw e refl
+    go false e ih = rw e ih
+
+-- ---- the list, place by place
+
+-- what the loop keeps: the first ACEs of the places that are done
+pub record FirstsTo (whole : List Ace) (n : ℕ) (xs : List Ace) : Type 0 where
+  pub outline : nothing_left xs ≡ nothing_left (take n whole)
+  pub columns : (b : ℕ) → column xs b ≡ unshadowed [] (column (take n whole) b)
+  pub quiet : IsQuiet xs
+  pub firsts : KeepsFirsts whole xs
+
+-- what it has at the end
+pub record FirstsAre (whole xs : List Ace) : Type 0 where
+  pub outline : nothing_left xs ≡ nothing_left whole
+  pub columns : (b : ℕ) → column xs b ≡ unshadowed [] (column whole b)
+
+-- before the first place
+pub firsts_to_start : (whole : List Ace) → FirstsTo whole 0 []
+firsts_to_start whole = record {
+  outline = refl;
+  columns = λ b. refl;
+  quiet = tt;
+  firsts = λ b p k i h. cc;
+}
+
+-- the mask has the bits with which the ACE takes part and that none has before, of its principal or of everyone
+abbrev pub IsFresh : List Ace → Ace → ℕ → Type 0
+IsFresh xs a m = (b : ℕ)
+    → has_bit m b ≡ (counts b a && is_none (first_kind (is_either (principal_of a) everyone) (column xs b)))
+
+-- it takes part with all of them
+fresh_counts : (xs : List Ace) (a : Ace) (m b : ℕ) → IsFresh xs a m → counts b (masked a m) ≡ has_bit m b
+fresh_counts xs a m b f = go (is_inherit_only a) refl (has_bit a.mask b) refl
+  where
+    go : (t : Bool) → is_inherit_only a ≡ t → (s : Bool) → has_bit a.mask b ≡ s
+        → (has_bit m b && not (is_inherit_only a)) ≡ has_bit m b
+    go false e s g = rw e (and-true (has_bit m b))
+    go true e true g =
+        let none : has_bit m b ≡ false = f b ∙ rw (g, e) refl in
+        rw none refl
+    go true e false g =
+        let none : has_bit m b ≡ false = f b ∙ rw g refl in
+        rw none refl
+
+quiet_push : (xs : List Ace) (a : Ace) → IsQuiet xs → (is_inherit_only a ≡ true → a.mask ≡ 0)
+    → IsQuiet (xs ++ a ∷ [])
+quiet_push [] a q h = (h, tt)
+quiet_push (x ∷ xs) a q h = (q.0, quiet_push xs a q.1 h)
+
+-- one place more
+pub firsts_to_more : (whole : List Ace) (n : ℕ) (xs : List Ace) (a : Ace) (m : ℕ) → FirstsTo whole n xs
+    → n < length whole → slice_index_or whole n a ≡ a → IsFresh xs a m
+    → FirstsTo whole (suc n) (xs ++ masked a m ∷ [])
+firsts_to_more whole n xs a m f l is fresh = record {
+  outline =
+      nothing_append xs (masked a m ∷ []) ∙ ap (λ v. v ++ record a { mask = 0 } ∷ []) f.outline
+      ∙ sym (nothing_append (take n whole) (a ∷ [])) ∙ ap nothing_left (sym more);
+  columns = λ b. columns b (counts b a) refl;
+  quiet = quiet_push xs (masked a m) f.quiet (λ e. no_bits m (λ b. lacks e b (has_bit a.mask b) refl));
+  firsts = λ b p k i h. firsts b p k i h (first_at b p xs) refl;
+}
+  where
+    more : take (suc n) whole ≡ take n whole ++ a ∷ []
+    more = ap (λ v. take v whole) (sym (add-one n)) ∙ take_more whole n a l ∙ ap (λ v. take n whole ++ v ∷ []) is
+
+    lacks : is_inherit_only a ≡ true → (b : ℕ) → (t : Bool) → has_bit a.mask b ≡ t → has_bit m b ≡ false
+    lacks e b true g = fresh b ∙ rw (g, e) refl
+    lacks e b false g = fresh b ∙ rw g refl
+
+    columns : (b : ℕ) (t : Bool) → counts b a ≡ t
+        → column (xs ++ masked a m ∷ []) b ≡ unshadowed [] (column (take (suc n) whole) b)
+    columns b false e =
+        let none : counts b (masked a m) ≡ false = fresh_counts xs a m b fresh ∙ fresh b ∙ rw e refl in
+        column_push b xs (masked a m) ∙ ap (λ t. column xs b ++ cond t (ace_key a ∷ []) []) none
+        ∙ append-nil (column xs b) ∙ f.columns b
+        ∙ ap (λ v. unshadowed [] v) (sym (column_more b n whole a l is
+        ∙ ap (λ t. column (take n whole) b ++ cond t (ace_key a ∷ []) []) e
+        ∙ append-nil (column (take n whole) b)))
+    columns b true e =
+        let new : counts b (masked a m) ≡ is_none (first_kind (is_either (principal_of a) everyone) (column xs b)) =
+        fresh_counts xs a m b fresh ∙ fresh b ∙ rw e refl in
+        column_push b xs (masked a m) ∙ ap (λ t. column xs b ++ cond t (ace_key a ∷ []) []) new
+        ∙ then_is (column xs b) (is_none (first_kind (is_either (principal_of a) everyone) (column xs b)))
+        ∙ ap (first_then (ace_key a)) (f.columns b)
+        ∙ sym (unshadowed_push (column (take n whole) b) (ace_key a))
+        ∙ ap (λ v. unshadowed [] v) (sym (column_more b n whole a l is
+        ∙ ap (λ t. column (take n whole) b ++ cond t (ace_key a ∷ []) []) e))
+      where
+        then_is : (c : Column) (t : Bool) → c ++ cond t (ace_key a ∷ []) [] ≡ cond t (c ++ ace_key a ∷ []) c
+        then_is c true = refl
+        then_is c false = append-nil c
+
+    count : length xs ≡ n
+    count = length_alike xs (take n whole) f.outline ∙ length-take-le n whole (omega (arith, l))
+
+    firsts : (b : ℕ) (p : Principal) (k : Kind) (i : ℕ) → first_at b p (xs ++ masked a m ∷ []) ≡ Some (k, i)
+        → (o : Option (Kind × ℕ)) → first_at b p xs ≡ o → first_at b p whole ≡ Some (k, i)
+    firsts b p k i h (Some d) e =
+        f.firsts b p k i (e ∙ sym (first_front b p xs (masked a m ∷ []) d e) ∙ h)
+    firsts b p k i h None e =
+        here (counts b (masked a m)) refl (principal_eq (principal_of a) p) refl (counts b a) refl
+        (is_none (first_kind (is_either (principal_of a) everyone) (column xs b))) refl
+      where
+        at : Kind × ℕ
+        at = (a.kind, length xs)
+
+        whole_is : cond (counts b (masked a m) && principal_eq (principal_of a) p) (Some at) None ≡ Some (k, i)
+        whole_is = sym (first_behind b p xs (masked a m) e) ∙ h
+
+        counts_is : counts b (masked a m)
+            ≡ (counts b a && is_none (first_kind (is_either (principal_of a) everyone) (column xs b)))
+        counts_is = fresh_counts xs a m b fresh ∙ fresh b
+
+        here : (t : Bool) → counts b (masked a m) ≡ t → (s : Bool) → principal_eq (principal_of a) p ≡ s
+            → (u : Bool) → counts b a ≡ u → (v : Bool)
+            → is_none (first_kind (is_either (principal_of a) everyone) (column xs b)) ≡ v
+            → first_at b p whole ≡ Some (k, i)
+        here false t s x u y v z = cc (rw t at whole_is)
+        here true t false x u y v z = cc (rw (t, x) at whole_is)
+        here true t true x false y v z = cc (rw y at counts_is)
+        here true t true x true y false z = cc (rw (y, z) at counts_is)
+        here true t true x true y true z =
+            let pair : Some at ≡ Some (k, i) = rw (t, x) at whole_is in
+            first_stands b p n whole a l is y x none ∙ ap (λ w. Some (a.kind, w)) (sym count) ∙ pair
+          where
+            either : first_kind (is_either (principal_of a) everyone) (column (take n whole) b) ≡ None
+            either =
+                sym (same_unshadowed (is_either (principal_of a) everyone) [] (column (take n whole) b)
+                (either_second (principal_of a) everyone) refl)
+                ∙ ap (first_kind (is_either (principal_of a) everyone)) (sym (f.columns b)) ∙ none_from _ z
+
+            none : first_at b p (take n whole) ≡ None
+            none =
+                subst (λ v. first_at b v (take n whole) ≡ None) (principal_eq_same (principal_of a) p x)
+                (absent_first b (principal_of a) (take n whole)
+                (none_within (is_either (principal_of a) everyone) (is_either (principal_of a) (principal_of a))
+                (column (take n whole) b) either
+                (λ w g. subst (λ v. is_either (principal_of a) everyone v ≡ true)
+                (sym (either_same (principal_of a) w g)) (either_first (principal_of a) everyone))))
+
+-- after the last place
+pub firsts_to_all : (whole : List Ace) (n : ℕ) (xs : List Ace) → FirstsTo whole n xs → length whole ≤ n
+    → FirstsAre whole xs
+firsts_to_all whole n xs f l = record {
+  outline = f.outline ∙ ap nothing_left (take_all n whole l);
+  columns = λ b. f.columns b ∙ ap (λ v. unshadowed [] (column v b)) (take_all n whole l);
+}
+
+-- first ACEs of an accepted list are tidy
+pub firsts_tidy : (whole xs : List Ace) → IsAccepted full whole → IsQuiet xs
+    → ((b : ℕ) → column xs b ≡ unshadowed [] (column whole b)) → IsTidy xs
+firsts_tidy whole xs accepted quiet columns = record {
+  once = λ b. subst IsOnce (sym (columns b)) (unshadowed_once (column whole b));
+  quiet = quiet;
+  low = λ b h. columns b ∙ ap (unshadowed []) (no_column b whole (accepted_masks whole accepted) (no_right b h));
+}
+
+-- ---- which bits are seen
+
+-- what the loop knows: the bits of each row, and those of everyone
+pub record HoldsSeen (whole : List Ace) (seen : List ℕ) (all : ℕ) (xs : List Ace) : Type 0 where
+  pub count : length seen ≡ length whole
+  pub rows : (p : Principal) → is_named p whole ≡ true → (b : ℕ)
+      → has_bit (slice_index_or seen (row_of p whole) 0) b ≡ is_some (first_kind (is_either p p) (column xs b))
+  pub everyone : (b : ℕ) → has_bit all b ≡ is_some (first_kind (is_either everyone everyone) (column xs b))
+
+-- before the first place
+pub seen_start : (whole : List Ace) (seen : List ℕ) → seen ≡ replicate (length whole) 0 → HoldsSeen whole seen 0 []
+seen_start whole seen is = record {
+  count = ap length is ∙ length-replicate (length whole) 0;
+  rows =
+      λ p h b. ap (λ v. has_bit (slice_index_or v (row_of p whole) 0) b) is
+      ∙ ap (λ v. has_bit v b) (get_or-replicate (length whole) (row_of p whole) 0 0 (row_below p whole h))
+      ∙ no_bit b;
+  everyone = λ b. no_bit b;
+}
+
+-- the bits that are new, by what was seen
+pub fresh_is : (whole : List Ace) (seen : List ℕ) (all : ℕ) (xs : List Ace) (a : Ace) (active m : ℕ)
+    → HoldsSeen whole seen all xs → is_named (principal_of a) whole ≡ true
+    → ((b : ℕ) → has_bit active b ≡ counts b a)
+    → IsDifference active (bit_or (slice_index_or seen (row_of (principal_of a) whole) 0) all) m → IsFresh xs a m
+fresh_is whole seen all xs a active m s named act is b =
+    is b
+    ∙ ap (λ t. t && not (has_bit (bit_or (slice_index_or seen (row_of (principal_of a) whole) 0) all) b)) (act b)
+    ∙ ap (λ t. counts b a && not t) seen_is
+    ∙ ap (λ t. counts b a && t) (sym (none_is _))
+  where
+    seen_is : has_bit (bit_or (slice_index_or seen (row_of (principal_of a) whole) 0) all) b
+        ≡ is_some (first_kind (is_either (principal_of a) everyone) (column xs b))
+    seen_is =
+        has_bit-or (slice_index_or seen (row_of (principal_of a) whole) 0) all b
+        ∙ ap (λ t. t || has_bit all b) (s.rows (principal_of a) named b)
+        ∙ ap (λ t. is_some (first_kind (is_either (principal_of a) (principal_of a)) (column xs b)) || t)
+        (s.everyone b)
+        ∙ sym (some_either (principal_of a) everyone (column xs b))
+
+-- one ACE more is seen
+pub seen_more : (whole : List Ace) (seen : List ℕ) (all all' : ℕ) (xs : List Ace) (a : Ace) (m : ℕ)
+    → HoldsSeen whole seen all xs → is_named (principal_of a) whole ≡ true → IsFresh xs a m
+    → ((b : ℕ) → has_bit all' b ≡ (has_bit all b || (has_bit m b && principal_eq (principal_of a) everyone)))
+    → HoldsSeen whole (slice_set seen (row_of (principal_of a) whole)
+    (bit_or (slice_index_or seen (row_of (principal_of a) whole) 0) m)) all' (xs ++ masked a m ∷ [])
+seen_more whole seen all all' xs a m s named fresh is = record {
+  count = length-set seen row new ∙ s.count;
+  rows = λ p h b. rows p h b (principal_eq (principal_of a) p) refl;
+  everyone = λ b. of_all b;
+}
+  where
+    row : ℕ
+    row = row_of (principal_of a) whole
+
+    new : ℕ
+    new = bit_or (slice_index_or seen (row_of (principal_of a) whole) 0) m
+
+    some_is : (b : ℕ) (p : Principal) → is_some (first_kind (is_either p p) (column (xs ++ masked a m ∷ []) b))
+        ≡ (is_some (first_kind (is_either p p) (column xs b)) || (has_bit m b && principal_eq (principal_of a) p))
+    some_is b p =
+        ap (λ v. is_some (first_kind (is_either p p) v)) (column_push b xs (masked a m))
+        ∙ some_push (is_either p p) (column xs b) (ace_key a) (counts b (masked a m))
+        ∙ ap (λ t. is_some (first_kind (is_either p p) (column xs b)) || (t && is_either p p (principal_of a)))
+        (fresh_counts xs a m b fresh)
+        ∙ ap (λ t. is_some (first_kind (is_either p p) (column xs b)) || (has_bit m b && t))
+        (or_self (principal_eq (principal_of a) p))
+
+    rows : (p : Principal) → is_named p whole ≡ true → (b : ℕ) → (t : Bool) → principal_eq (principal_of a) p ≡ t
+        → has_bit (slice_index_or (slice_set seen (row_of (principal_of a) whole)
+        (bit_or (slice_index_or seen (row_of (principal_of a) whole) 0) m)) (row_of p whole) 0) b
+        ≡ is_some (first_kind (is_either p p) (column (xs ++ masked a m ∷ []) b))
+    rows p h b true e =
+        let same : principal_of a ≡ p = principal_eq_same (principal_of a) p e in
+        let within : row_of (principal_of a) whole < length seen =
+        omega (arith, row_below (principal_of a) whole named, s.count) in
+        ap (λ v. has_bit (slice_index_or (slice_set seen (row_of (principal_of a) whole)
+        (bit_or (slice_index_or seen (row_of (principal_of a) whole) 0) m)) (row_of v whole) 0) b) (sym same)
+        ∙ ap (λ v. has_bit v b) (get_or-set_same seen (row_of (principal_of a) whole)
+        (bit_or (slice_index_or seen (row_of (principal_of a) whole) 0) m) 0 within)
+        ∙ has_bit-or (slice_index_or seen (row_of (principal_of a) whole) 0) m b
+        ∙ ap (λ t. t || has_bit m b) (s.rows (principal_of a) named b)
+        ∙ ap (λ v. is_some (first_kind (is_either v v) (column xs b)) || has_bit m b) same
+        ∙ ap (λ t. is_some (first_kind (is_either p p) (column xs b)) || t) (sym (and-true (has_bit m b)))
+        ∙ ap (λ t. is_some (first_kind (is_either p p) (column xs b)) || (has_bit m b && t)) (sym e)
+        ∙ sym (some_is b p)
+    rows p h b false e =
+        ap (λ v. has_bit v b) (get_or-set_other seen (row_of (principal_of a) whole) (row_of p whole)
+        (bit_or (slice_index_or seen (row_of (principal_of a) whole) 0) m) 0 apart)
+        ∙ s.rows p h b
+        ∙ sym (or-false (is_some (first_kind (is_either p p) (column xs b))))
+        ∙ ap (λ t. is_some (first_kind (is_either p p) (column xs b)) || t) (sym (and-false (has_bit m b)))
+        ∙ ap (λ t. is_some (first_kind (is_either p p) (column xs b)) || (has_bit m b && t)) (sym e)
+        ∙ sym (some_is b p)
+      where
+        apart : row_of p whole ≡ row_of (principal_of a) whole → ⊥
+        apart g =
+            let same : p ≡ principal_of a = row_same p (principal_of a) whole h named g in
+            let one : principal_eq (principal_of a) p ≡ true =
+            ap (principal_eq (principal_of a)) same ∙ principal_eq_itself (principal_of a) in
+            cc
+
+    of_all : (b : ℕ)
+        → has_bit all' b ≡ is_some (first_kind (is_either everyone everyone) (column (xs ++ masked a m ∷ []) b))
+    of_all b =
+        is b ∙ ap (λ t. t || (has_bit m b && principal_eq (principal_of a) everyone)) (s.everyone b)
+        ∙ sym (some_is b everyone)
+
+-- ---- masks by place
+
+-- no masks show no ACE
+pub masks_none : (aces : List AceRef) → with_masks aces [] ≡ []
+masks_none [] = refl
+masks_none (x ∷ aces) = refl
+
+-- one mask more shows one ACE more
+pub masks_push : (aces : List AceRef) (masks : List ℕ) (x : AceRef) (m : ℕ) → length masks < length aces
+    → x ≡ slice_index_or aces (length masks) x
+    → with_masks aces (masks ++ m ∷ []) ≡ with_masks aces masks ++ masked (ace x) m ∷ []
+masks_push [] masks x m h is = absurd (omega (arith, h))
+masks_push (y ∷ aces) [] x m h is =
+    ap (λ v. masked (ace y) m ∷ v) (masks_none aces) ∙ sym (ap (λ v. masked (ace v) m ∷ []) is)
+masks_push (y ∷ aces) (n ∷ masks) x m h is =
+    ap (λ v. masked (ace y) n ∷ v) (masks_push aces masks x m (omega (arith, h)) is)
+
+-- ---- rows by place
+
+-- the row of whom the ACE at a place names
+pub row_here : (whole : List Ace) (rows : List ℕ) (i : ℕ) (a : Ace) → AreRowNumbers whole rows → i < length whole
+    → slice_index_or whole i a ≡ a → slice_index_or rows i 0 ≡ row_of (principal_of a) whole
+row_here whole rows i a r l is =
+    r.at i l ∙ ap (λ k. row_of k.0 whole) (key_at_index whole i a l ∙ ap ace_key is)
+
+-- who is named
+pub named_by_ace : (whole : List Ace) (i : ℕ) (a : Ace) → i < length whole → slice_index_or whole i a ≡ a
+    → is_named (principal_of a) whole ≡ true
+named_by_ace whole i a l is =
+    ap (λ k. is_named k.0 whole) (sym (key_at_index whole i a l ∙ ap ace_key is)) ∙ named_here whole i l
+
+-- what stands at the row
+pub row_value : (seen : List ℕ) (row r v : ℕ) → v ≡ slice_index_or seen row v → row ≡ r → r < length seen
+    → v ≡ slice_index_or seen r 0
+row_value seen row r v h e l = h ∙ ap (λ n. slice_index_or seen n v) e ∙ default_unread seen r v 0 l
+
+-- the row of the ACE at a place is one of those that are seen
+pub row_seen : (aces : List AceRef) (rows seen : List ℕ) (place all : ℕ) (xs : List Ace) (x : AceRef)
+    → AreRowNumbers (aces_in aces) rows → place < length aces → x ≡ slice_index_or aces place x
+    → HoldsSeen (aces_in aces) seen all xs → slice_index_or rows place 0 < length seen
+row_seen aces rows seen place all xs x r l is holds =
+    let within : place < length (aces_in aces) = omega (arith, length_of aces, l) in
+    let at = index_is aces place x l is in
+    omega (
+      arith,
+      row_here (aces_in aces) rows place (ace x) r within at,
+      row_below (principal_of (ace x)) (aces_in aces) (named_by_ace (aces_in aces) place (ace x) within at),
+      holds.count,
+    )
+
+-- ---- the loop
+
+-- what it keeps: the masks of the places that are done, and the bits that are seen in them
+pub record Reaches (aces : List AceRef) (place : ℕ) (masks seen : List ℕ) (all : ℕ) : Type 0 where
+  pub count : length masks ≡ place
+  pub firsts : FirstsTo (aces_in aces) place (with_masks aces masks)
+  pub holds : HoldsSeen (aces_in aces) seen all (with_masks aces masks)
+
+-- before the first place
+pub reaches_none : (aces : List AceRef) (masks seen : List ℕ) → masks ≡ [] → seen ≡ replicate (length aces) 0
+    → Reaches aces 0 masks seen 0
+reaches_none aces masks seen no_mask zeros = record {
+  count = ap length no_mask;
+  firsts = subst (FirstsTo (aces_in aces) 0) (sym none) (firsts_to_start (aces_in aces));
+  holds =
+      subst (HoldsSeen (aces_in aces) seen 0) (sym none)
+      (seen_start (aces_in aces) seen (zeros ∙ ap (λ n. replicate n 0) (sym (length_of aces))));
+}
+  where
+    none : with_masks aces masks ≡ []
+    none = ap (with_masks aces) no_mask ∙ masks_none aces
+
+-- the ACE at the next place, what was seen in its row before, and what takes part of it and is new
+pub record IsNext (aces : List AceRef) (rows : List ℕ) (place : ℕ) (seen : List ℕ) (all : ℕ) (x : AceRef) (here fresh : ℕ)
+    : Type 0 where
+  pub numbers : AreRowNumbers (aces_in aces) rows
+  pub below : place < length aces
+  pub is : x ≡ slice_index_or aces place x
+  pub in_row : here ≡ slice_index_or seen (slice_index_or rows place 0) here
+  pub active : ℕ
+  pub takes_part : (b : ℕ) → has_bit active b ≡ counts b (ace x)
+  pub new : IsDifference active (bit_or here all) fresh
+
+-- one place more
+pub reaches_more : (aces : List AceRef) (rows : List ℕ) (place : ℕ) (masks seen : List ℕ) (all all' : ℕ) (x : AceRef)
+    (here fresh : ℕ) → Reaches aces place masks seen all → IsNext aces rows place seen all x here fresh
+    → ((b : ℕ) → has_bit all' b ≡ (has_bit all b || (has_bit fresh b && principal_eq (principal_of (ace x)) everyone)))
+    → Reaches aces (place + 1) (masks ++ fresh ∷ [])
+    (slice_set seen (slice_index_or rows place 0) (bit_or here fresh)) all'
+reaches_more aces rows place masks seen all all' x here fresh r next of_all = record {
+  count = length-append masks (fresh ∷ []) ∙ ap (λ n. n + 1) r.count;
+  firsts =
+      subst (FirstsTo whole (place + 1)) (sym shown)
+      (subst (λ n. FirstsTo whole n (with_masks aces masks ++ masked (ace x) fresh ∷ [])) (sym (add-one place))
+      (firsts_to_more whole place _ _ _ r.firsts within is new));
+  holds =
+      subst (HoldsSeen whole _ all') (sym shown)
+      (subst (λ v. HoldsSeen whole v all' (with_masks aces masks ++ masked (ace x) fresh ∷ [])) (sym written)
+      (seen_more whole seen all all' _ _ _ r.holds named new of_all));
+}
+  where
+    whole : List Ace
+    whole = aces_in aces
+
+    row : ℕ
+    row = row_of (principal_of (ace x)) whole
+
+    within : place < length whole
+    within = omega (arith, length_of aces, next.below)
+
+    is : slice_index_or whole place (ace x) ≡ ace x
+    is = index_is aces place x next.below next.is
+
+    at_row : slice_index_or rows place 0 ≡ row
+    at_row = row_here whole rows place (ace x) next.numbers within is
+
+    named : is_named (principal_of (ace x)) whole ≡ true
+    named = named_by_ace whole place (ace x) within is
+
+    there : here ≡ slice_index_or seen row 0
+    there =
+        row_value seen _ row here next.in_row at_row
+        (omega (arith, row_below (principal_of (ace x)) whole named, r.holds.count))
+
+    written : slice_set seen (slice_index_or rows place 0) (bit_or here fresh)
+        ≡ slice_set seen row (bit_or (slice_index_or seen row 0) fresh)
+    written =
+        ap (λ n. slice_set seen n (bit_or here fresh)) at_row
+        ∙ ap (λ v. slice_set seen row (bit_or v fresh)) there
+
+    new : IsFresh (with_masks aces masks) (ace x) fresh
+    new =
+        fresh_is whole seen all (with_masks aces masks) (ace x) next.active fresh r.holds named next.takes_part
+        (subst (λ v. IsDifference next.active (bit_or v all) fresh) there next.new)
+
+    shown : with_masks aces (masks ++ fresh ∷ []) ≡ with_masks aces masks ++ masked (ace x) fresh ∷ []
+    shown =
+        masks_push aces masks x fresh (omega (arith, r.count, next.below))
+        (next.is ∙ ap (λ n. slice_index_or aces n x) (sym r.count))
+
+-- after the last place
+pub reaches_all : (aces : List AceRef) (place : ℕ) (masks seen : List ℕ) (all : ℕ)
+    → Reaches aces place masks seen all → length aces ≤ place → FirstsAre (aces_in aces) (with_masks aces masks)
+reaches_all aces place masks seen all r past =
+    firsts_to_all (aces_in aces) place _ r.firsts (omega (arith, length_of aces, past))
+
+-- these are the list without the bits that an earlier ACE has
+pub reaches_thinned : (aces : List AceRef) (place : ℕ) (masks seen : List ℕ) (all : ℕ) → IsAccepted full (aces_in aces)
+    → Reaches aces place masks seen all → length aces ≤ place → IsThinned (aces_in aces) (with_masks aces masks)
+reaches_thinned aces place masks seen all accepted r past =
+    let are = reaches_all aces place masks seen all r past in
+    record {
+      outline = are.outline;
+      tidy = firsts_tidy (aces_in aces) _ accepted r.firsts.quiet are.columns;
+      firsts = r.firsts.firsts;
+    }

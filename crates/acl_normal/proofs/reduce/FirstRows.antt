@@ -1,0 +1,146 @@
+-- What is unshadowed in a column, and ACEs by place.
+use Rattle.std.specs.Prelude.{◌≡◌, ℕ, ◌<◌, zero, suc, Bool, true, false, cond, not, ◌||◌, List, [], ◌∷◌, ◌++◌, Option, Some, None, is_some, is_none, length, take, slice_index_or, refl}
+use Rattle.std.proofs.Common.{sym, ◌∙◌, ap, subst, arith, add-one, append_assoc}
+use Rattle.std.proofs.lemmas.List.{take_more, append-nil}
+use Rattle.acl_perm.specs.Principal.{Principal, everyone}
+use Rattle.acl_perm.specs.declared.kind.Kind.{Kind}
+use Rattle.acl_nfs4.specs.Ace.{Ace, ace}
+use Rattle.acl_nfs4.specs.Who.{principal_of}
+use Rattle.acl_nfs4.specs.declared.ace.AceRef.{AceRef}
+use Rattle.acl_eval.specs.Column.{Column, first_kind, column}
+use Rattle.acl_normal.specs.Keys.{principal_eq, Key, ace_key}
+use Rattle.acl_normal.specs.internal.Alike.{is_either}
+use Rattle.acl_normal.specs.internal.Plain.{unshadowed}
+use Rattle.acl_normal.specs.Places.{first_at}
+use Rattle.acl_normal.specs.internal.AtPlaces.{key_here}
+use Rattle.acl_normal.specs.Normal.{counts}
+use Rattle.acl_normal.specs.internal.Shown.{aces_in}
+use Rattle.acl_normal.proofs.unique.Names.{either_second}
+use Rattle.acl_normal.proofs.unique.ListColumns.{column-append}
+use Rattle.acl_normal.proofs.plain.Reduced.{same_unshadowed}
+use Rattle.acl_normal.proofs.rows.TakeOut.{none_cases}
+use Rattle.acl_normal.proofs.unique.Columns.{column_first}
+
+-- ---- the outline
+
+-- ---- shadows
+
+-- one of two principals stands in a column exactly if one of each does
+pub some_either : (p q : Principal) (c : Column)
+    → is_some (first_kind (is_either p q) c)
+    ≡ (is_some (first_kind (is_either p p) c) || is_some (first_kind (is_either q q) c))
+some_either p q [] = refl
+some_either p q ((s, j) ∷ c) = go (principal_eq s p) (principal_eq s q) refl refl (some_either p q c)
+  where
+    right : (t : Bool) → true ≡ (t || true)
+    right true = refl
+    right false = refl
+
+    go : (x y : Bool) → principal_eq s p ≡ x → principal_eq s q ≡ y
+        → is_some (first_kind (is_either p q) c)
+        ≡ (is_some (first_kind (is_either p p) c) || is_some (first_kind (is_either q q) c)) → is_some
+        (first_kind (is_either p q) ((s, j) ∷ c))
+        ≡ (is_some (first_kind (is_either p p) ((s, j) ∷ c)) || is_some (first_kind (is_either q q) ((s, j) ∷ c)))
+    go true y e f ih = rw e refl
+    go false true e f ih = rw (e, f) (right (is_some (first_kind (is_either p p) c)))
+    go false false e f ih = rw (e, f) ih
+
+-- none is not some
+pub none_is : (o : Option Kind) → is_none o ≡ not (is_some o)
+none_is None = refl
+none_is (Some k) = refl
+
+-- nothing is there
+pub none_from : (o : Option Kind) → is_none o ≡ true → o ≡ None
+none_from None h = refl
+none_from (Some k) h = cc
+
+-- the column, and a key behind it where none of the same principal or of everyone is in it
+abbrev pub first_then : Key → Column → Column
+first_then k c = cond (is_none (first_kind (is_either k.0 everyone) c)) (c ++ k ∷ []) c
+
+-- what is unshadowed in a list of two parts
+pub unshadowed_append : (before c : Column) (k : Key)
+    → unshadowed before (c ++ k ∷ []) ≡ unshadowed before c
+    ++ cond (is_none (first_kind (is_either k.0 everyone) (before ++ c))) (k ∷ []) []
+unshadowed_append before [] (p, k) =
+    ap (λ v. cond (is_none (first_kind (is_either p everyone) v)) ((p, k) ∷ []) []) (sym (append-nil before))
+unshadowed_append before ((q, j) ∷ c) k =
+    go (is_none (first_kind (is_either q everyone) before)) refl (unshadowed_append (before ++ (q, j) ∷ []) c k)
+  where
+    go : (t : Bool) → is_none (first_kind (is_either q everyone) before) ≡ t
+        → unshadowed (before ++ (q, j) ∷ []) (c ++ k ∷ []) ≡ unshadowed (before ++ (q, j) ∷ []) c
+        ++ cond (is_none (first_kind (is_either k.0 everyone) ((before ++ (q, j) ∷ []) ++ c))) (k ∷ []) []
+        → unshadowed before ((q, j) ∷ (c ++ k ∷ [])) ≡ unshadowed before ((q, j) ∷ c)
+        ++ cond (is_none (first_kind (is_either k.0 everyone) (before ++ (q, j) ∷ c))) (k ∷ []) []
+    go true e ih =
+        let step =
+        ih ∙ ap (λ v. unshadowed (before ++ (q, j) ∷ []) c
+        ++ cond (is_none (first_kind (is_either k.0 everyone) v)) (k ∷ []) [])
+        (append_assoc before ((q, j) ∷ []) c) in
+        rw e (ap (λ v. (q, j) ∷ v) step)
+    go false e ih =
+        let step =
+        ih ∙ ap (λ v. unshadowed (before ++ (q, j) ∷ []) c
+        ++ cond (is_none (first_kind (is_either k.0 everyone) v)) (k ∷ []) [])
+        (append_assoc before ((q, j) ∷ []) c) in
+        rw e step
+
+-- one key more
+pub unshadowed_push : (c : Column) (k : Key) → unshadowed [] (c ++ k ∷ []) ≡ first_then k (unshadowed [] c)
+unshadowed_push c k =
+    unshadowed_append [] c k ∙ ap (λ o. unshadowed [] c ++ cond (is_none o) (k ∷ []) [])
+    (sym (same_unshadowed (is_either k.0 everyone) [] c (either_second k.0 everyone) refl))
+    ∙ go (is_none (first_kind (is_either k.0 everyone) (unshadowed [] c)))
+  where
+    go : (t : Bool) → unshadowed [] c ++ cond t (k ∷ []) [] ≡ cond t (unshadowed [] c ++ k ∷ []) (unshadowed [] c)
+    go true = refl
+    go false = append-nil (unshadowed [] c)
+
+-- ---- one place more
+
+-- where a place has the bit and none before it of the same principal
+pub first_stands : (b : ℕ) (p : Principal) (i : ℕ) (xs : List Ace) (a : Ace) → i < length xs → slice_index_or xs i a ≡ a
+    → counts b a ≡ true → principal_eq (principal_of a) p ≡ true → first_at b p (take i xs) ≡ None
+    → first_at b p xs ≡ Some (a.kind, i)
+first_stands b p i [] a l is has same none = absurd (omega (arith, l))
+first_stands b p zero (x ∷ xs) a l is has same none =
+    subst (λ v. first_at b p (v ∷ xs) ≡ Some (a.kind, 0)) (sym is) (rw (has, same) refl)
+first_stands b p (suc i) (x ∷ xs) a l is has same none =
+    let both = none_cases b p x (take i xs) none in
+    let rest = first_stands b p i xs a (omega (arith, l)) is has same both.1 in
+    rw (both.0, rest) refl
+
+-- the key of the ACE at a place
+pub key_at_index : (xs : List Ace) (i : ℕ) (d : Ace) → i < length xs
+    → key_here xs i ≡ ace_key (slice_index_or xs i d)
+key_at_index [] i d h = absurd (omega (arith, h))
+key_at_index (a ∷ xs) zero d h = refl
+key_at_index (a ∷ xs) (suc i) d h = key_at_index xs i d (omega (arith, h))
+
+-- the column of one place more
+pub column_more : (b i : ℕ) (xs : List Ace) (a : Ace) → i < length xs → slice_index_or xs i a ≡ a
+    → column (take (suc i) xs) b ≡ column (take i xs) b ++ cond (counts b a) (ace_key a ∷ []) []
+column_more b i xs a h is =
+    ap (λ n. column (take n xs) b) (sym (add-one i)) ∙ ap (λ v. column v b) (take_more xs i a h)
+    ∙ column-append b (take i xs) (slice_index_or xs i a ∷ []) ∙ ap (λ v. column (take i xs) b ++ column (v ∷ []) b)
+    is ∙ ap (λ v. column (take i xs) b ++ v) (column_first b a [])
+
+-- ---- keys that borrow their names
+
+-- as many ACEs are shown as there are
+pub length_of : (aces : List AceRef) → length (aces_in aces) ≡ length aces
+length_of [] = refl
+length_of (x ∷ aces) = ap suc (length_of aces)
+
+-- the ACE at a place
+pub index_of : (aces : List AceRef) (i : ℕ) (d : AceRef) → i < length aces
+    → slice_index_or (aces_in aces) i (ace (slice_index_or aces i d)) ≡ ace (slice_index_or aces i d)
+index_of [] i d h = absurd (omega (arith, h))
+index_of (x ∷ aces) zero d h = refl
+index_of (x ∷ aces) (suc i) d h = index_of aces i d (omega (arith, h))
+
+-- the same of what indexing gives
+pub index_is : (aces : List AceRef) (i : ℕ) (x : AceRef) → i < length aces → x ≡ slice_index_or aces i x
+    → slice_index_or (aces_in aces) i (ace x) ≡ ace x
+index_is aces i x h is = ap (λ v. slice_index_or (aces_in aces) i (ace v)) is ∙ index_of aces i x h ∙ ap ace (sym is)

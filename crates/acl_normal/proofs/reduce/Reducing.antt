@@ -1,0 +1,163 @@
+-- A list with reduced columns is irreducible and grants the same.
+use Rattle.std.specs.Prelude.{◌≡◌, ℕ, ◌<◌, ◌≤◌, Bool, true, false, ◌==◌, List, [], ◌∷◌, refl}
+use Rattle.std.specs.Int.{bit_at}
+use Rattle.std.proofs.Common.{sym, ◌∙◌, ap, subst, arith, ⊎_elim}
+use Rattle.std.proofs.lemmas.Bool.{cases_lt, eqb-true, eqb-false}
+use Rattle.std.proofs.lemmas.Nat.Bits.{bit_at_above}
+use mathlib.Core.Logic.Iff.{symm, trans}
+use Rattle.acl_perm.specs.Situation.{matches}
+use Rattle.acl_perm.specs.Bits.{has_bit, all_rights}
+use Rattle.acl_perm.specs.Profile.{full}
+use Rattle.acl_nfs4.specs.Ace.{Ace}
+use Rattle.acl_nfs4.specs.Spelling.{IsAccepted}
+use Rattle.acl_eval.specs.Column.{verdict, column}
+use Rattle.acl_eval.specs.Grant.{SameGrants}
+use Rattle.acl_normal.specs.internal.Alike.{IsIrreducible}
+use Rattle.acl_normal.specs.Normal.{HasNoEmptyMask, IsIrreducibleList, IsNormal}
+use Rattle.acl_normal.specs.internal.Names.{HasNames}
+use Rattle.acl_normal.specs.internal.Tidy.{HasMasks, IsQuiet, IsTidy}
+use Rattle.acl_normal.specs.internal.Plain.{unshadowed, default, needed_keys, reduced}
+use Rattle.acl_normal.specs.Left.{left}
+use Rattle.acl_normal.specs.Places.{nothing_left}
+use Rattle.acl_normal.proofs.unique.Accepted.{accepted_masks, accepted_names}
+use Rattle.acl_normal.proofs.unique.ListColumns.{names_in_column, same_grants_from_columns}
+use Rattle.acl_normal.proofs.unique.Normal.{irreducible_list, clique_of}
+use Rattle.acl_normal.proofs.plain.Reduced.{same_reduced, reduced_settled}
+use Rattle.acl_normal.proofs.unique.Settled.{IsSettled, settled_irreducible}
+use Rattle.acl_normal.proofs.unique.Unique.{unique}
+use Rattle.acl_normal.proofs.emit.Leaving.{column_left, masks_of_quiet}
+
+-- two passes that reduce each column
+pub reduces : (xs ys zs : List Ace) → ((b : ℕ) → b < 21 → column ys b ≡ unshadowed [] (column xs b))
+    → ((b : ℕ) → b < 21 → column zs b ≡ needed_keys (default (column ys b)) (column ys b)) → (b : ℕ) → b < 21
+    → column zs b ≡ reduced (column xs b)
+reduces xs ys zs f g b h = g b h ∙ ap (λ c. needed_keys (default c) c) (f b h)
+
+-- ---- what the outline keeps
+
+names_on : (xs : List Ace) → HasNames xs → HasNames (nothing_left xs)
+names_on [] h = tt
+names_on (a ∷ xs) h = (h.0, names_on xs h.1)
+
+names_back : (xs : List Ace) → HasNames (nothing_left xs) → HasNames xs
+names_back [] h = tt
+names_back (a ∷ xs) h = (h.0, names_back xs h.1)
+
+names_kept : (xs ys : List Ace) → nothing_left ys ≡ nothing_left xs → HasNames xs → HasNames ys
+names_kept xs ys e h = names_back ys (subst HasNames (sym e) (names_on xs h))
+
+-- ---- no bit outside the sixteen
+
+-- a bit that is no right has an empty column
+pub no_column : (b : ℕ) (xs : List Ace) → HasMasks xs → has_bit all_rights b ≡ false → column xs b ≡ []
+no_column b [] h out = refl
+no_column b (a ∷ xs) h out = go (has_bit a.mask b) refl (no_column b xs h.1 out)
+  where
+    go : (t : Bool) → has_bit a.mask b ≡ t → column xs b ≡ [] → column (a ∷ xs) b ≡ []
+    go true e ih = cc (h.0 b e)
+    go false e ih = rw e ih
+
+-- a right is one of the first 21 bits
+pub rights_below : (b : ℕ) → has_bit all_rights b ≡ true → b < 21
+rights_below b h = ⊎_elim (λ l. l) (λ l. absurd (high l)) (cases_lt b 21)
+  where
+    high : 21 ≤ b → ⊥
+    high l = omega (arith, bit_at_above all_rights 21 b (omega arith) l, eqb-true (bit_at all_rights b) 1 h)
+
+-- and no bit above these is one
+pub no_right : (b : ℕ) → 21 ≤ b → has_bit all_rights b ≡ false
+no_right b h = go (has_bit all_rights b) refl
+  where
+    go : (t : Bool) → has_bit all_rights b ≡ t → t ≡ false
+    go true e = absurd (omega (arith, h, rights_below b e))
+    go false e = refl
+
+-- ---- without the empty keys
+
+full_left : (xs : List Ace) → HasNoEmptyMask (left xs)
+full_left [] = tt
+full_left (a ∷ xs) = go (a.mask == 0) refl (full_left xs)
+  where
+    go : (t : Bool) → (a.mask == 0) ≡ t → HasNoEmptyMask (left xs) → HasNoEmptyMask (left (a ∷ xs))
+    go true e ih = rw e ih
+    go false e ih = rw e (eqb-false a.mask 0 e, ih)
+
+quiet_left : (xs : List Ace) → IsQuiet xs → IsQuiet (left xs)
+quiet_left [] q = tt
+quiet_left (a ∷ xs) q = go (a.mask == 0) refl (quiet_left xs q.1)
+  where
+    go : (t : Bool) → (a.mask == 0) ≡ t → IsQuiet (left xs) → IsQuiet (left (a ∷ xs))
+    go true e ih = rw e ih
+    go false e ih = rw e (q.0, ih)
+
+-- ---- a list with reduced columns
+
+nothing_irreducible : IsIrreducible []
+nothing_irreducible [] e after is same = cc
+nothing_irreducible (f ∷ before) e after is same = cc
+
+-- the list with reduced columns, at the places of the source
+pub record IsReduction (xs ys : List Ace) : Type 0 where
+  pub outline : nothing_left ys ≡ nothing_left xs
+  pub columns : (b : ℕ) → b < 21 → column ys b ≡ reduced (column xs b)
+  pub names : HasNames xs
+  pub masks : HasMasks xs
+  pub tidy : IsTidy ys
+
+-- so it is after two passes over an accepted list
+pub two_passes : (xs ys zs : List Ace) → IsAccepted full xs → nothing_left ys ≡ nothing_left xs
+    → ((b : ℕ) → column ys b ≡ unshadowed [] (column xs b)) → nothing_left zs ≡ nothing_left ys → IsTidy zs
+    → ((b : ℕ) → b < 21 → column zs b ≡ needed_keys (default (column ys b)) (column ys b)) → IsReduction xs zs
+two_passes xs ys zs accepted e f g tidy h = record {
+  outline = g ∙ e;
+  columns = reduces xs ys zs (λ b l. f b) h;
+  names = accepted_names full xs accepted;
+  masks = accepted_masks xs accepted;
+  tidy = tidy;
+}
+
+-- it has no bit that is no right
+pub reduction_rights : (xs ys : List Ace) → IsReduction xs ys → (b : ℕ) → has_bit all_rights b ≡ false
+    → column ys b ≡ []
+reduction_rights xs ys r b out =
+    ⊎_elim (λ l. r.columns b l ∙ ap reduced (no_column b xs r.masks out)) (λ l. r.tidy.low b l) (cases_lt b 21)
+
+-- what is left of it is irreducible
+pub reduction_irreducible : (xs ys : List Ace) → IsReduction xs ys → IsIrreducibleList (left ys)
+reduction_irreducible xs ys r =
+    irreducible_list (left ys) (full_left ys)
+    (masks_of_quiet (left ys) (quiet_left ys r.tidy.quiet) (λ b out. column_left b ys ∙ reduction_rights xs ys r b out))
+    (quiet_left ys r.tidy.quiet)
+    (λ b. subst IsIrreducible (sym (column_left b ys)) (irr b))
+  where
+    irr : (b : ℕ) → IsIrreducible (column ys b)
+    irr b = ⊎_elim
+        (λ l. settled_irreducible (column ys b) (default (unshadowed [] (column xs b))) (r.tidy.once b)
+        (names_in_column b ys (names_kept xs ys r.outline r.names))
+        (subst (λ c. IsSettled c (default (unshadowed [] (column xs b)))) (sym (r.columns b l))
+        (reduced_settled (column xs b))))
+        (λ l. subst IsIrreducible (sym (r.tidy.low b l)) nothing_irreducible)
+        (cases_lt b 21)
+
+-- it grants the same
+pub reduction_grants : (xs ys : List Ace) → ((b : ℕ) → b < 21 → column ys b ≡ reduced (column xs b))
+    → SameGrants all_rights xs ys
+reduction_grants xs ys columns = same_grants_from_columns xs ys (λ b inside s valid.
+    sym (same_reduced (matches s) (column xs b) (clique_of s) refl)
+    ∙ ap (verdict (matches s)) (sym (columns b (rights_below b inside))))
+
+-- ---- the normal form is the only normal list with the grants
+
+-- granting the same goes on
+pub grants_through : (xs ys zs : List Ace) → SameGrants all_rights xs ys → SameGrants all_rights ys zs
+    → SameGrants all_rights xs zs
+grants_through xs ys zs f g s valid request within = trans (f s valid request within) (g s valid request within)
+
+-- and turns round
+pub grants_back : (xs ys : List Ace) → SameGrants all_rights xs ys → SameGrants all_rights ys xs
+grants_back xs ys f s valid request within = symm (f s valid request within)
+
+-- the normal form is the only normal list that grants the same
+pub only_one : (xs ns ms : List Ace) → IsNormal ns → SameGrants all_rights xs ns → IsNormal ms
+    → SameGrants all_rights xs ms → ms ≡ ns
+only_one xs ns ms n f m g = unique ms ns m n (grants_through ms xs ns (grants_back xs ms g) f)

@@ -1,0 +1,14 @@
+pub mod PairParts
+pub mod Waits
+pub mod Quiet
+pub mod FreeByPlaces
+pub mod FreeBits
+pub mod TakeOut
+pub mod BitTaken
+pub mod BitsTaken
+pub mod Rows
+pub mod WaitingPlaces
+pub mod FirstPlaces
+pub mod HeadOrder
+pub mod RowNumbers
+pub mod Publics

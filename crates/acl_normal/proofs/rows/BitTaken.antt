@@ -1,0 +1,195 @@
+-- One bit of a principal taken out of the rows.
+use Rattle.std.specs.Prelude.{◌≡◌, ◌≢◌, ℕ, ◌<◌, ◌^◌, zero, suc, Bool, true, false, cond, ◌&&◌, ◌==◌, List, [], ◌∷◌, Some, length, slice_index_or, slice_set, refl}
+use Rattle.std.specs.Ordering.{nat_cmp, is_eq}
+use Rattle.std.specs.declared.cmp.Ordering.TheVariants.{Equal}
+use Rattle.std.specs.Cmp.{nat_cmp_is, Equal-is}
+use Rattle.std.specs.Vec.{with_item}
+use Rattle.std.specs.BTreeMap.{is_at}
+use Rattle.std.specs.declared.collections.BTreeSet.{BTreeSet}
+use Rattle.std.specs.List.{list_any}
+use Rattle.std.proofs.Common.{sym, ◌∙◌, ap, arith, ⊎_elim, Global}
+use Rattle.std.proofs.lemmas.List.{get_or-set_same, get_or-set_other}
+use Rattle.std.proofs.lemmas.Bool.{eq-eqb, ne_eqb, and_parts, cases_eq, false_from_ne_true}
+use Rattle.acl_perm.specs.Principal.{Principal, is_user}
+use Rattle.acl_perm.specs.declared.kind.Kind.{Kind}
+use Rattle.acl_perm.specs.declared.kind.Kind.TheVariants.{Deny, Allow}
+use Rattle.acl_perm.specs.Bits.{has_bit}
+use Rattle.acl_normal.specs.Keys.{kind_eq}
+use Rattle.acl_normal.specs.Places.{waits, first_at, take_out, same_class}
+use Rattle.acl_normal.specs.internal.Waiting.{slot_of}
+use Rattle.acl_normal.specs.declared.rows.merged.MergedRows.TheInside.{Inside}
+use Rattle.acl_normal.specs.internal.Merged.{IsRight}
+use Rattle.acl_normal.proofs.unique.Free.{kind_eq_same}
+use Rattle.acl_normal.proofs.unique.Bits.{has_power}
+use Rattle.acl_eval.proofs.Same.{only_bit}
+use Rattle.std.proofs.lemmas.Map.Lookups.{exact_unsigned}
+use Rattle.acl_normal.proofs.rows.TakeOut.{waits_kept, waits_gone, waits_apart, waits_first, none_taken, once_taken}
+
+-- within the list the default plays no part
+pub default_unread : {A : Type 0} (xs : List A) (i : ℕ) (d e : A) → i < length xs
+    → slice_index_or xs i d ≡ slice_index_or xs i e
+default_unread [] i d e h = absurd (omega arith)
+default_unread (x ∷ xs) zero d e h = refl
+default_unread (x ∷ xs) (suc i) d e h = default_unread xs i d e (omega arith)
+
+-- a slot is one of 84
+pub slot_below : (k : Kind) (u : Bool) (b : ℕ) → b < 21 → slot_of k u b < 84
+slot_below Deny false b h = omega arith
+slot_below Deny true b h = omega arith
+slot_below Allow false b h = omega arith
+slot_below Allow true b h = omega arith
+
+-- the slots of a DENY are none of an ALLOW
+kinds_apart : (u v : Bool) (b c : ℕ) → slot_of Deny u b ≡ slot_of Allow v c → ⊥
+kinds_apart false false b c h = omega arith
+kinds_apart false true b c h = omega arith
+kinds_apart true false b c h = omega arith
+kinds_apart true true b c h = omega arith
+
+-- a slot tells its type, class and bit
+pub slot_same : (k j : Kind) (u v : Bool) (b c : ℕ) → slot_of k u b ≡ slot_of j v c → (k ≡ j) × (u ≡ v) × (b ≡ c)
+slot_same Deny Deny false false b c h = (refl, refl, omega arith)
+slot_same Deny Deny true true b c h = (refl, refl, omega arith)
+slot_same Allow Allow false false b c h = (refl, refl, omega arith)
+slot_same Allow Allow true true b c h = (refl, refl, omega arith)
+slot_same Deny Deny false true b c h = absurd (omega arith)
+slot_same Deny Deny true false b c h = absurd (omega arith)
+slot_same Allow Allow false true b c h = absurd (omega arith)
+slot_same Allow Allow true false b c h = absurd (omega arith)
+slot_same Deny Allow u v b c h = absurd (kinds_apart u v b c h)
+slot_same Allow Deny u v b c h = absurd (kinds_apart v u c b (sym h))
+
+-- classes that are told to be the same are
+pub class_same : (u v : Bool) → same_class u v ≡ true → u ≡ v
+class_same true true h = refl
+class_same false false h = refl
+class_same _ _ h = cc
+
+-- a power of two has its one bit
+pub power_is : (b i : ℕ) → has_bit (2 ^ b) i ≡ (i == b)
+power_is b i = ⊎_elim (λ e. here e) (λ n. there n) (cases_eq i b)
+  where
+    here : i ≡ b → has_bit (2 ^ b) i ≡ (i == b)
+    here e = ap (has_bit (2 ^ b)) e ∙ has_power b ∙ sym (eq-eqb i b e)
+
+    there : (i ≡ b → ⊥) → has_bit (2 ^ b) i ≡ (i == b)
+    there n = false_from_ne_true _ (λ t. n (only_bit b i t)) ∙ sym (ne_eqb i b n)
+
+-- a place is found at itself
+pub is_eq_itself : (i : ℕ) → is_eq (nat_cmp i i) ≡ true
+is_eq_itself i = ap is_eq (sym (nat_cmp_is i i Equal refl))
+
+-- a place that is found is the same
+pub is_eq_same : (i l : ℕ) → is_eq (nat_cmp i l) ≡ true → i ≡ l
+is_eq_same i l t = exact_unsigned i l ((Equal-is (nat_cmp i l)).0 t)
+
+-- what the removal of a place leaves
+abbrev pub Without : ℕ → List ℕ → List ℕ → Type 0
+Without i old new =
+    (q : ℕ) → list_any (is_at (nat_cmp q)) new ≡ cond (is_at (nat_cmp i) q) false (list_any (is_at (nat_cmp q)) old)
+
+-- a place that was removed is no more
+pub removed_here : (i : ℕ) (old new : List ℕ) → Without i old new → list_any (is_at (nat_cmp i)) new ≡ false
+removed_here i old new h = h i ∙ same i
+  where
+    itself : (i : ℕ) → is_at (nat_cmp i) i ≡ true
+    itself i = is_eq_itself i
+
+    same : (i : ℕ) → cond (is_at (nat_cmp i) i) false (list_any (is_at (nat_cmp i)) old) ≡ false
+    same i = rw (itself i) refl
+
+-- and the others are
+pub removed_apart : (i l : ℕ) (old new : List ℕ) → Without i old new → l ≢ i
+    → list_any (is_at (nat_cmp l)) new ≡ list_any (is_at (nat_cmp l)) old
+removed_apart i l old new h n = h l ∙ rw differs refl
+  where
+    differs : is_at (nat_cmp i) l ≡ false
+    differs = false_from_ne_true _ (λ t. n (sym (is_eq_same i l t)))
+
+-- a set without places
+abbrev pub NoKeys : BTreeSet ℕ Global
+NoKeys = record { keys = [] }
+
+-- the sets of places are right without the bit
+pub emit_right : (s : Inside) (p : Principal) (b : ℕ) (j : Kind) (i : ℕ) (set : BTreeSet ℕ Global) → IsRight s → b < 21
+    → first_at b p s.rest ≡ Some (j, i)
+    → Without i (slice_index_or s.waiting.items (slot_of j (is_user p) b) NoKeys).keys set.keys
+    → IsRight (record {
+      rest = take_out p (2 ^ b) s.rest;
+      waiting = with_item s.waiting (slot_of j (is_user p) b) set;
+    })
+emit_right s p b j i set right low first less = record {
+  sets = right.sets;
+  once = once_taken p (2 ^ b) s.rest right.once;
+  rights = λ c h. none_taken p (2 ^ b) s.rest c (right.rights c h);
+  waiting = λ k u c l h. places k u c l h;
+}
+  where
+    at : ℕ
+    at = slot_of j (is_user p) b
+
+    at_below : at < length s.waiting.items
+    at_below = omega (arith, slot_below j (is_user p) b low, right.sets, s.waiting.ok)
+
+    old_keys : (l : ℕ)
+        → list_any (is_at (nat_cmp l)) (slice_index_or s.waiting.items at NoKeys).keys ≡ waits j (is_user p) b s.rest l
+    old_keys l = right.waiting j (is_user p) b l low
+
+    in_set : (l : ℕ) → list_any (is_at (nat_cmp l)) set.keys ≡ waits j (is_user p) b (take_out p (2 ^ b) s.rest) l
+    in_set l = ⊎_elim (λ e. here e) (λ n. there n) (cases_eq l i)
+      where
+        here : l ≡ i → list_any (is_at (nat_cmp l)) set.keys ≡ waits j (is_user p) b (take_out p (2 ^ b) s.rest) l
+        here e =
+            rw e (removed_here i _ set.keys less
+            ∙ sym (waits_gone j (is_user p) b p (2 ^ b) s.rest j i (has_power b) first))
+
+        there : (l ≡ i → ⊥)
+            → list_any (is_at (nat_cmp l)) set.keys ≡ waits j (is_user p) b (take_out p (2 ^ b) s.rest) l
+        there n =
+            removed_apart i l _ set.keys less n ∙ old_keys l
+            ∙ sym (waits_apart j (is_user p) b p s.rest j i l (right.once b) first n)
+
+    others : (k : Kind) (u : Bool) (c l : ℕ) → (slot_of k u c ≡ at → ⊥)
+        → waits k u c (take_out p (2 ^ b) s.rest) l ≡ waits k u c s.rest l
+    others k u c l n =
+        ⊎_elim (λ e. same e) (λ m. waits_kept k u c p (2 ^ b) s.rest l (power_is b c ∙ ne_eqb c b m))
+        (cases_eq c b)
+      where
+        same : c ≡ b → waits k u c (take_out p (2 ^ b) s.rest) l ≡ waits k u c s.rest l
+        same e =
+            rw e (⊎_elim (λ f. here f) (λ m. waits_apart k u b p s.rest j i l (right.once b) first m)
+            (cases_eq l i))
+          where
+            differs : (kind_eq j k && same_class (is_user p) u) ≡ false
+            differs = false_from_ne_true _ (λ t. n (both (and_parts (kind_eq j k) (same_class (is_user p) u) t)))
+              where
+                both : (kind_eq j k ≡ true) × (same_class (is_user p) u ≡ true) → slot_of k u c ≡ at
+                both (f, g) = rw (← kind_eq_same j k f, ← class_same (is_user p) u g, e) refl
+
+            here : l ≡ i → waits k u b (take_out p (2 ^ b) s.rest) l ≡ waits k u b s.rest l
+            here f =
+                rw f (waits_gone k u b p (2 ^ b) s.rest j i (has_power b) first
+                ∙ sym (waits_first k u b p s.rest j i first ∙ differs))
+
+    places : (k : Kind) (u : Bool) (c l : ℕ) → c < 21
+        → list_any (is_at (nat_cmp l)) (slice_index_or (slice_set s.waiting.items at set) (slot_of k u c)
+        NoKeys).keys ≡ waits k u c (take_out p (2 ^ b) s.rest) l
+    places k u c l h = ⊎_elim (λ e. here e) (λ n. there n) (cases_eq (slot_of k u c) at)
+      where
+        here : slot_of k u c ≡ at
+            → list_any (is_at (nat_cmp l)) (slice_index_or (slice_set s.waiting.items at set) (slot_of k u c)
+            NoKeys).keys ≡ waits k u c (take_out p (2 ^ b) s.rest) l
+        here e =
+            let parts = slot_same k j u (is_user p) c b e in
+            ap (λ v. list_any (is_at (nat_cmp l)) (slice_index_or (slice_set s.waiting.items at set) v NoKeys).keys) e
+            ∙ ap (λ v. list_any (is_at (nat_cmp l)) v.keys) (get_or-set_same s.waiting.items at set NoKeys at_below)
+            ∙ in_set l
+            ∙ rw (← parts.0, ← parts.1, ← parts.2) refl
+
+        there : (slot_of k u c ≡ at → ⊥)
+            → list_any (is_at (nat_cmp l)) (slice_index_or (slice_set s.waiting.items at set) (slot_of k u c)
+            NoKeys).keys ≡ waits k u c (take_out p (2 ^ b) s.rest) l
+        there n =
+            ap (λ v. list_any (is_at (nat_cmp l)) v.keys)
+            (get_or-set_other s.waiting.items at (slot_of k u c) set NoKeys n) ∙ right.waiting k u c l h
+            ∙ sym (others k u c l n)

@@ -1,0 +1,164 @@
+-- Several bits of a principal taken out, one after the other.
+use Rattle.std.specs.Prelude.{◌≡◌, ℕ, ◌+◌, ◌<◌, ◌≤◌, ◌^◌, zero, suc, Bool, true, false, not, ◌||◌, ◌&&◌, nat_lt, List, [], ◌∷◌, bit_or, refl, length, slice_index_or}
+use Rattle.std.proofs.Common.{sym, ◌∙◌, ap, arith, ⊎_elim, add-one, subst}
+use Rattle.std.proofs.lemmas.Bool.{cases_eq, eq-eqb, ne_eqb, cases_lt, le-ltb, lt-ltb}
+use Rattle.acl_perm.specs.Principal.{Principal}
+use Rattle.acl_perm.specs.Bits.{has_bit}
+use Rattle.acl_perm.proofs.Sets.{has_bit-or, no_bit}
+use Rattle.acl_nfs4.specs.Ace.{Ace, ace}
+use Rattle.acl_nfs4.specs.Who.{principal_of}
+use Rattle.acl_nfs4.specs.declared.ace.AceRef.{AceRef}
+use Rattle.acl_eval.specs.Scan.{without}
+use Rattle.acl_eval.proofs.Scans.{has_bit-without}
+use Rattle.acl_normal.specs.Keys.{principal_eq}
+use Rattle.acl_normal.specs.Normal.{is_inherit_only}
+use Rattle.acl_normal.specs.internal.Shown.{with_masks}
+use Rattle.acl_normal.specs.Places.{without_bits, take_out}
+use Rattle.acl_normal.specs.internal.AtPlaces.{key_here}
+use Rattle.acl_normal.specs.internal.Ready.{low_bits}
+use Rattle.acl_normal.proofs.unique.Bits.{masks_same}
+use Rattle.acl_normal.proofs.rows.BitTaken.{power_is}
+
+-- no bits taken out leave the ACE
+pub without_nothing : (p : Principal) (a : Ace) → without_bits p 0 a ≡ a
+without_nothing p a = go (principal_eq (principal_of a) p && not (is_inherit_only a)) refl
+  where
+    same : without a.mask 0 ≡ a.mask
+    same = masks_same _ _ (λ b. has_bit-without a.mask 0 b ∙ rw (no_bit b) (kept (has_bit a.mask b)))
+      where
+        kept : (t : Bool) → (t && true) ≡ t
+        kept true = refl
+        kept false = refl
+
+    go : (t : Bool) → (principal_eq (principal_of a) p && not (is_inherit_only a)) ≡ t → without_bits p 0 a ≡ a
+    go true e = rw e (ap (λ v. record a { mask = v }) same)
+    go false e = rw e refl
+
+-- and the list
+pub take_zero : (p : Principal) (xs : List Ace) → take_out p 0 xs ≡ xs
+take_zero p [] = refl
+take_zero p (a ∷ xs) = ap (λ v. v ∷ take_out p 0 xs) (without_nothing p a) ∙ ap (λ v. a ∷ v) (take_zero p xs)
+
+-- bits taken out in two turns
+pub without_both : (p : Principal) (m n : ℕ) (a : Ace)
+    → without_bits p n (without_bits p m a) ≡ without_bits p (bit_or m n) a
+without_both p m n a = go (principal_eq (principal_of a) p && not (is_inherit_only a)) refl
+  where
+    bools : (x y z : Bool) → ((x && not y) && not z) ≡ (x && not (y || z))
+    bools true true z = refl
+    bools true false z = refl
+    bools false y z = refl
+
+    same : without (without a.mask m) n ≡ without a.mask (bit_or m n)
+    same =
+        masks_same _ _ (λ b. has_bit-without (without a.mask m) n b
+        ∙ rw (has_bit-without a.mask m b, has_bit-without a.mask (bit_or m n) b, has_bit-or m n b)
+        (bools (has_bit a.mask b) (has_bit m b) (has_bit n b)))
+
+    go : (t : Bool) → (principal_eq (principal_of a) p && not (is_inherit_only a)) ≡ t
+        → without_bits p n (without_bits p m a) ≡ without_bits p (bit_or m n) a
+    go true e = rw e (rw e (ap (λ v. record a { mask = v }) same))
+    go false e = rw e (rw e refl)
+
+-- the same of a list
+pub take_both : (p : Principal) (m n : ℕ) (xs : List Ace) → take_out p n (take_out p m xs) ≡ take_out p (bit_or m n) xs
+take_both p m n [] = refl
+take_both p m n (a ∷ xs) =
+    ap (λ v. v ∷ take_out p n (take_out p m xs)) (without_both p m n a) ∙ ap (λ v. without_bits p (bit_or m n) a ∷ v)
+    (take_both p m n xs)
+
+-- a turn of the loop over the bits
+pub emit_more : (p : Principal) (m b : ℕ) (xs ys zs : List Ace) → has_bit m b ≡ true
+    → ys ≡ take_out p (low_bits m b) xs → zs ≡ take_out p (2 ^ b) ys → zs ≡ take_out p (low_bits m (b + 1)) xs
+emit_more p m b xs ys zs h e f =
+    rw add-one (rw h (f ∙ ap (take_out p (2 ^ b)) e ∙ take_both p (low_bits m b) (2 ^ b) xs))
+
+-- a turn at a bit that is not to be taken out
+pub emit_same : (p : Principal) (m b : ℕ) (xs ys : List Ace) → has_bit m b ≡ false → ys ≡ take_out p (low_bits m b) xs
+    → ys ≡ take_out p (low_bits m (b + 1)) xs
+emit_same p m b xs ys h e = rw add-one (rw h e)
+
+-- the bits below a place
+pub has_bit-low : (m b i : ℕ) → has_bit (low_bits m b) i ≡ (has_bit m i && nat_lt i b)
+has_bit-low m zero i = no_bit i ∙ sym (rw (le-ltb i 0 (omega arith)) (none (has_bit m i)))
+  where
+    none : (t : Bool) → (t && false) ≡ false
+    none true = refl
+    none false = refl
+has_bit-low m (suc b) i = go (has_bit m b) refl (has_bit-low m b i)
+  where
+    same : (i ≡ b → ⊥) → nat_lt i (suc b) ≡ nat_lt i b
+    same n =
+        ⊎_elim (λ l. lt-ltb i (suc b) (omega (arith, l)) ∙ sym (lt-ltb i b l)) (λ l. le-ltb i (suc b) (above l)
+        ∙ sym (le-ltb i b l)) (cases_lt i b)
+      where
+        above : b ≤ i → suc b ≤ i
+        above l = ⊎_elim (λ g. g) (λ g. absurd (n (omega (arith, l, g)))) (cases_lt b i)
+
+    right : (t : Bool) → (t || true) ≡ true
+    right true = refl
+    right false = refl
+
+    go : (t : Bool) → has_bit m b ≡ t → has_bit (low_bits m b) i ≡ (has_bit m i && nat_lt i b)
+        → has_bit (low_bits m (suc b)) i ≡ (has_bit m i && nat_lt i (suc b))
+    go true e ih = rw e (has_bit-or (low_bits m b) (2 ^ b) i ∙ ⊎_elim (λ f. here f) (λ n. there n) (cases_eq i b))
+      where
+        here : i ≡ b → (has_bit (low_bits m b) i || has_bit (2 ^ b) i) ≡ (has_bit m i && nat_lt i (suc b))
+        here f =
+            rw (power_is b i, eq-eqb i b f, lt-ltb i (suc b) (omega (arith, f))) (right (has_bit (low_bits m b) i)
+            ∙ sym (ap (λ v. has_bit m v && true) f ∙ rw e refl))
+
+        there : (i ≡ b → ⊥) → (has_bit (low_bits m b) i || has_bit (2 ^ b) i) ≡ (has_bit m i && nat_lt i (suc b))
+        there n = rw (power_is b i, ne_eqb i b n, ih, same n) (other (has_bit m i && nat_lt i b))
+          where
+            other : (t : Bool) → (t || false) ≡ t
+            other true = refl
+            other false = refl
+    go false e ih = rw e (ih ∙ ⊎_elim (λ f. here f) (λ n. rw (same n) refl) (cases_eq i b))
+      where
+        here : i ≡ b → (has_bit m i && nat_lt i b) ≡ (has_bit m i && nat_lt i (suc b))
+        here f =
+            let none : has_bit m i ≡ false = ap (has_bit m) f ∙ e in
+            rw none refl
+
+-- which are all of them in the end
+pub low_all : (m b : ℕ) → ((i : ℕ) → b ≤ i → has_bit m i ≡ false) → low_bits m b ≡ m
+low_all m b h = masks_same _ _ (λ i. has_bit-low m b i ∙ ⊎_elim (λ l. below i l) (λ l. above i l) (cases_lt i b))
+  where
+    kept : (t : Bool) → (t && true) ≡ t
+    kept true = refl
+    kept false = refl
+
+    below : (i : ℕ) → i < b → (has_bit m i && nat_lt i b) ≡ has_bit m i
+    below i l = rw (lt-ltb i b l) (kept (has_bit m i))
+
+    above : (i : ℕ) → b ≤ i → (has_bit m i && nat_lt i b) ≡ has_bit m i
+    above i l = rw (h i l) refl
+
+-- a place of what is left is one of the list
+pub place_within : (aces : List AceRef) (masks : List ℕ) (i : ℕ) → i < length (with_masks aces masks) → i < length aces
+place_within [] masks i h = absurd (omega arith)
+place_within (x ∷ aces) [] i h = absurd (omega arith)
+place_within (x ∷ aces) (m ∷ masks) zero h = omega arith
+place_within (x ∷ aces) (m ∷ masks) (suc i) h = omega (arith, place_within aces masks i (omega arith))
+
+-- its key is that of the ACE there
+pub key_there : (aces : List AceRef) (masks : List ℕ) (i : ℕ) (d : AceRef) → i < length (with_masks aces masks)
+    → (principal_of (ace (slice_index_or aces i d)), (slice_index_or aces i d).kind) ≡ key_here
+    (with_masks aces masks) i
+key_there [] masks i d h = absurd (omega arith)
+key_there (x ∷ aces) [] i d h = absurd (omega arith)
+key_there (x ∷ aces) (m ∷ masks) zero d h = refl
+key_there (x ∷ aces) (m ∷ masks) (suc i) d h = key_there aces masks i d (omega arith)
+
+-- a place of a list that is what is left is one of the ACEs
+pub place_of_left : (aces : List AceRef) (masks : List ℕ) (i : ℕ) (xs : List Ace) → with_masks aces masks ≡ xs
+    → i < length xs → i < length aces
+place_of_left aces masks i xs is l = place_within aces masks i (subst (λ v. i < length v) (sym is) l)
+
+-- and its key
+pub key_of_left : (aces : List AceRef) (masks : List ℕ) (i : ℕ) (d : AceRef) (xs : List Ace)
+    → with_masks aces masks ≡ xs → i < length xs
+    → (principal_of (ace (slice_index_or aces i d)), (slice_index_or aces i d).kind) ≡ key_here xs i
+key_of_left aces masks i d xs is l =
+    key_there aces masks i d (subst (λ v. i < length v) (sym is) l) ∙ ap (λ v. key_here v i) is

@@ -1,0 +1,157 @@
+-- Where each right of a principal stands: the place of its first ACE with the right.
+use Rattle.std.specs.Prelude.{◌≡◌, ℕ, ◌<◌, ◌≤◌, zero, suc, true, false, ◌&&◌, ◌⊎◌, List, [], ◌∷◌, Option, Some, None, option_map, length, slice_index_or, refl}
+use Rattle.std.specs.Ordering.{is_le, ordering_reverse}
+use Rattle.std.specs.declared.cmp.Ordering.{Ordering}
+use Rattle.std.specs.declared.cmp.Ordering.TheVariants.{Less, Equal, Greater}
+use Rattle.std.proofs.Common.{sym, ◌∙◌, ap, subst, arith, inl, inr, ⊎_elim}
+use Rattle.std.proofs.lemmas.Bool.{and_from, and_parts, cases_lt}
+use Rattle.std.proofs.lemmas.Option.{same_Some}
+use Rattle.acl_perm.specs.Bits.{has_bit}
+use Rattle.acl_perm.specs.Order.{principal_cmp}
+use Rattle.acl_perm.specs.Principal.{Principal, is_user}
+use Rattle.acl_perm.specs.declared.kind.Kind.{Kind}
+use Rattle.acl_perm.proofs.Orders.{principal_exact, principal_order}
+use Rattle.acl_nfs4.specs.Ace.{Ace}
+use Rattle.acl_nfs4.specs.Who.{principal_of}
+use Rattle.acl_eval.specs.Column.{column}
+use Rattle.acl_normal.specs.Keys.{Key, kind_eq}
+use Rattle.acl_normal.specs.Normal.{counts}
+use Rattle.acl_normal.specs.internal.Tidy.{IsQuiet}
+use Rattle.acl_normal.specs.Places.{first_at, same_class, waits}
+use Rattle.acl_normal.specs.internal.AtPlaces.{mask_here, principal_here, key_here}
+use Rattle.acl_normal.specs.internal.Emissions.{IsOnce}
+use Rattle.acl_normal.specs.internal.Rows.{AreRowNumbers, IsByPrincipal, IsRowOf, first_place, row_of}
+use Rattle.acl_normal.proofs.emit.Walk.{key_from_first, same_class_itself, stands_at}
+use Rattle.acl_normal.proofs.rows.Rows.{named_here, row_same}
+use Rattle.acl_normal.proofs.rows.TakeOut.{IsHere, IsThere, first_cases}
+use Rattle.acl_normal.proofs.rows.WaitingPlaces.{quiet_counts}
+use Rattle.acl_normal.proofs.unique.Free.{kind_eq_itself}
+
+-- the first ACE of a principal with the bit has the type of the ACE at its place
+pub first_by_place : (b : ℕ) (p : Principal) (xs : List Ace) (i : ℕ) → first_place b p xs ≡ Some i
+    → first_at b p xs ≡ Some ((key_here xs i).1, i)
+first_by_place b p xs i h = go (first_at b p xs) refl
+  where
+    go : (o : Option (Kind × ℕ)) → first_at b p xs ≡ o → first_at b p xs ≡ Some ((key_here xs i).1, i)
+    go None e = cc (rw e at h)
+    go (Some (j, l)) e =
+        let same : l ≡ i = same_Some l i (rw e at h) in
+        let kind : (key_here xs l).1 ≡ j = ap (λ (k : Key). k.1) (key_from_first b p xs j l e) in
+        e ∙ ap (λ v. Some (v, l)) (sym kind) ∙ ap (λ v. Some ((key_here xs v).1, v)) same
+
+-- which is one of the list
+pub first_in_list : (b : ℕ) (p : Principal) (xs : List Ace) (e : Kind × ℕ) → first_at b p xs ≡ Some e → e.1 < length xs
+first_in_list b p [] e h = cc
+first_in_list b p (a ∷ xs) (j, i) h = go (first_cases b p a xs j i h) (λ l. first_in_list b p xs (j, l))
+  where
+    go : IsHere b p a j i ⊎ IsThere b p a xs j i
+        → ((l : ℕ) → first_at b p xs ≡ Some (j, l) → l < length xs) → i < length (a ∷ xs)
+    go (inl here) ih = omega (arith, here.place)
+    go (inr there) ih = omega (arith, there.place, ih there.before there.first)
+
+-- without a place there is no such ACE
+pub first_by_none : (b : ℕ) (p : Principal) (xs : List Ace) → first_place b p xs ≡ None → first_at b p xs ≡ None
+first_by_none b p xs h = go (first_at b p xs) refl
+  where
+    go : (o : Option (Kind × ℕ)) → first_at b p xs ≡ o → first_at b p xs ≡ None
+    go None e = e
+    go (Some (j, l)) e = cc (rw e at h)
+
+-- what has the bit waits in its type and class
+waits_here : (b : ℕ) (xs : List Ace) (i : ℕ) → IsQuiet xs → has_bit (mask_here xs i) b ≡ true → i < length xs
+    → waits (key_here xs i).1 (is_user (key_here xs i).0) b xs i ≡ true
+waits_here b [] i quiet has l = absurd (omega (arith, l))
+waits_here b (a ∷ xs) zero quiet has l =
+    and_from (counts b a) (kind_eq a.kind a.kind && same_class (is_user (principal_of a)) (is_user (principal_of a)))
+    (quiet_counts b a quiet.0 ∙ has)
+    (and_from (kind_eq a.kind a.kind) (same_class (is_user (principal_of a)) (is_user (principal_of a)))
+    (kind_eq_itself a.kind) (same_class_itself (is_user (principal_of a))))
+waits_here b (a ∷ xs) (suc i) quiet has l = waits_here b xs i quiet.1 has (omega (arith, l))
+
+-- and is the first of its principal, in a column with each principal once
+first_here : (b : ℕ) (xs : List Ace) (i : ℕ) → IsOnce (column xs b) → IsQuiet xs → has_bit (mask_here xs i) b ≡ true
+    → i < length xs → first_place b (principal_here xs i) xs ≡ Some i
+first_here b xs i once quiet has l =
+    ap (option_map (λ (e : Kind × ℕ). e.1)) (stands_at (key_here xs i).1 (is_user (key_here xs i).0) b xs i once
+    (waits_here b xs i quiet has l)).first
+
+-- what stands first has the bit
+has_first : (b : ℕ) (p : Principal) (xs : List Ace) (j : Kind) (i : ℕ) → first_at b p xs ≡ Some (j, i)
+    → has_bit (mask_here xs i) b ≡ true
+has_first b p [] j i h = cc
+has_first b p (a ∷ xs) j i h = go (first_cases b p a xs j i h) (has_first b p xs j)
+  where
+    go : IsHere b p a j i ⊎ IsThere b p a xs j i
+        → ((i : ℕ) → first_at b p xs ≡ Some (j, i) → has_bit (mask_here xs i) b ≡ true)
+        → has_bit (mask_here (a ∷ xs) i) b ≡ true
+    go (inl here) ih = rw here.place ((and_parts (has_bit a.mask b) _ here.counts).0)
+    go (inr there) ih = rw there.place (ih there.before there.first)
+
+-- the ACE at a place that is first of a principal names it
+first_named : (b : ℕ) (p : Principal) (xs : List Ace) (i : ℕ) → first_place b p xs ≡ Some i → principal_here xs i ≡ p
+first_named b p xs i h = ap (λ (k : Key). k.0) (key_from_first b p xs _ i (first_by_place b p xs i h))
+
+-- ---- the places of a row, in the order of the principals
+
+-- who stands no higher than another and no lower is the same
+both_le : (a b : Principal) → is_le (principal_cmp a b) ≡ true → is_le (principal_cmp b a) ≡ true → a ≡ b
+both_le a b h l = go (principal_cmp a b) refl
+  where
+    go : (o : Ordering) → principal_cmp a b ≡ o → a ≡ b
+    go Less e =
+        let turned : principal_cmp b a ≡ Greater = principal_order.reversed a b ∙ ap ordering_reverse e in
+        absurd (cc)
+    go Equal e = principal_exact a b e
+    go Greater e = cc
+
+-- between two places of a principal all are of it
+between : (p : Principal) (xs : List Ace) (order : List ℕ) (i j k : ℕ) → IsByPrincipal xs order → i ≤ j → j ≤ k
+    → k < length xs → principal_here xs (slice_index_or order i 0) ≡ p
+    → principal_here xs (slice_index_or order k 0) ≡ p → principal_here xs (slice_index_or order j 0) ≡ p
+between p xs order i j k by from to l first last =
+    both_le (principal_here xs (slice_index_or order j 0)) p
+    (subst (λ v. is_le (principal_cmp (principal_here xs (slice_index_or order j 0)) v) ≡ true) last
+    (by.rising j k to l))
+    (subst (λ v. is_le (principal_cmp v (principal_here xs (slice_index_or order j 0))) ≡ true) first
+    (by.rising i j from (omega (arith, to, l))))
+
+-- none of the places from one to another has the bit
+abbrev pub ArePassed : ℕ → List Ace → List ℕ → ℕ → ℕ → Type 0
+ArePassed b xs order from to =
+    (j : ℕ) → from ≤ j → j < to → has_bit (mask_here xs (slice_index_or order j 0)) b ≡ false
+
+-- where none of the places of a row had the bit up to one of another row, or to the last, its principal has none
+pub row_passed : (b : ℕ) (xs : List Ace) (rows order : List ℕ) (row to : ℕ) (p : Principal) → AreRowNumbers xs rows
+    → IsByPrincipal xs order → IsRowOf row p xs → row ≤ to → ArePassed b xs order row to
+    → (to < length xs → slice_index_or rows (slice_index_or order to 0) 0 ≡ row → ⊥) → first_place b p xs ≡ None
+row_passed b xs rows order row to p numbers by at from passed other = go (first_place b p xs) refl
+  where
+    go : (o : Option ℕ) → first_place b p xs ≡ o → first_place b p xs ≡ None
+    go None e = e
+    go (Some i) e =
+        let first = first_by_place b p xs i e in
+        let within : i < length xs = first_in_list b p xs _ first in
+        let whose : principal_here xs i ≡ p = first_named b p xs i e in
+        let w = by.whole i within in
+        let begins : row ≤ w.0 = omega (arith, at.is, ap (λ v. row_of v xs) whose, w.1) in
+        absurd (⊎_elim
+        (λ l. clash (sym (has_first b p xs _ i first) ∙ ap (λ v. has_bit (mask_here xs v) b) (sym w.3)
+        ∙ passed w.0 begins l))
+        (λ l. let inside : to < length xs = omega (arith, l, w.2) in
+        other inside (numbers.at (slice_index_or order to 0) (by.within to inside)
+        ∙ ap (λ v. row_of v xs) (between p xs order row to w.0 by from l w.2
+        (ap (λ v. principal_here xs (slice_index_or order v 0)) at.is ∙ by.first p at.named)
+        (ap (principal_here xs) w.3 ∙ whose))
+        ∙ sym at.is)) (cases_lt w.0 to))
+      where
+        clash : true ≡ false → ⊥
+        clash t = cc
+
+-- a place of the row that has the bit is that of its principal's first ACE with it
+pub row_has : (b : ℕ) (xs : List Ace) (rows : List ℕ) (row i : ℕ) (p : Principal) → AreRowNumbers xs rows
+    → IsRowOf row p xs → IsOnce (column xs b) → IsQuiet xs → i < length xs → slice_index_or rows i 0 ≡ row
+    → has_bit (mask_here xs i) b ≡ true → first_place b p xs ≡ Some i
+row_has b xs rows row i p numbers at once quiet l is has =
+    let whose : principal_here xs i ≡ p =
+    row_same (principal_here xs i) p xs (named_here xs i l) at.named (sym (numbers.at i l) ∙ is ∙ at.is) in
+    subst (λ v. first_place b v xs ≡ Some i) whose (first_here b xs i once quiet has l)

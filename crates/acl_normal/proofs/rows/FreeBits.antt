@@ -1,0 +1,42 @@
+-- Whether a principal is free at a bit, by its place.
+use Rattle.std.specs.Prelude.{◌≡◌, ℕ, Bool, true, false, not, ◌||◌, List, Some, None, refl}
+use Rattle.std.proofs.Common.{ap, sym, ◌∙◌}
+use Rattle.acl_perm.specs.Principal.{Principal, is_user}
+use Rattle.acl_perm.specs.declared.kind.Kind.{Kind}
+use Rattle.acl_perm.specs.declared.kind.Kind.TheVariants.{Deny, Allow}
+use Rattle.acl_eval.specs.Column.{column}
+use Rattle.acl_nfs4.specs.Ace.{Ace}
+use Rattle.acl_normal.specs.internal.Emissions.{IsOnce}
+use Rattle.acl_normal.specs.Places.{first_at}
+use Rattle.acl_normal.specs.internal.AtPlaces.{is_blocked}
+use Rattle.acl_perm.specs.Kind.{other_kind}
+use Rattle.acl_normal.specs.Normal.{is_free}
+use Rattle.acl_normal.proofs.rows.FreeByPlaces.{free_at_first, none_free}
+
+-- where none of its ACEs has the bit it is not
+pub free_none : (xs : List Ace) (b : ℕ) (p : Principal) → first_at b p xs ≡ None
+    → false ≡ (is_free (column xs b) (p, Deny) || is_free (column xs b) (p, Allow))
+free_none xs b p first = rw (none_free b p Deny xs first, none_free b p Allow xs first) refl
+
+-- a test that answers as the contrary of another
+pub not_from : (t x : Bool) → (t ≡ true → x ≡ false) → (t ≡ false → x ≡ true) → t ≡ not x
+not_from true x up down = sym (ap not (up refl))
+not_from false x up down = sym (ap not (down refl))
+
+-- where one has it, if nothing blocks its place
+pub free_some : (xs : List Ace) (b : ℕ) (p : Principal) (j : Kind) (i : ℕ) (t : Bool) → IsOnce (column xs b)
+    → first_at b p xs ≡ Some (j, i) → t ≡ not (is_blocked j (is_user p) b xs i)
+    → t ≡ (is_free (column xs b) (p, Deny) || is_free (column xs b) (p, Allow))
+free_some xs b p j i t once first clear =
+    let both = free_at_first b p xs j i once first in
+    clear ∙ sym both.0 ∙ split j both.1
+  where
+    or_false : (x : Bool) → x ≡ (x || false)
+    or_false true = refl
+    or_false false = refl
+
+    split : (j : Kind) → is_free (column xs b) (p, other_kind j) ≡ false
+        → is_free (column xs b) (p, j)
+        ≡ (is_free (column xs b) (p, Deny) || is_free (column xs b) (p, Allow))
+    split Deny n = rw n (or_false (is_free (column xs b) (p, Deny)))
+    split Allow n = rw n refl

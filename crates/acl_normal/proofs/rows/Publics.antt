@@ -1,0 +1,121 @@
+-- What the public calls on merged rows say, from what those on one bit say.
+use Rattle.std.proofs.Common.{◌≡◌, ℕ, ◌+◌, ◌<◌, ◌≤◌, Bool, true, false, List, refl, sym, ◌∙◌, ap, subst, arith, ⊎_elim, inl, inr}
+use Rattle.std.specs.Prelude.{◌↔◌, ◌||◌, IsTrue, Option, Some, None, IfSome, IfNone, option_map}
+use Rattle.std.proofs.lemmas.Bool.{cases_eq, cases_lt, false_from_ne_true}
+use Rattle.acl_perm.specs.Bits.{has_bit, IsMask}
+use Rattle.acl_perm.specs.Principal.{Principal}
+use Rattle.acl_perm.specs.declared.kind.Kind.{Kind}
+use Rattle.acl_perm.specs.declared.right.Right.{Right}
+use Rattle.acl_perm.specs.declared.kind.Kind.TheVariants.{Deny, Allow}
+use Rattle.acl_perm.proofs.Sets.{bits_from_mask, no_bit}
+use Rattle.acl_nfs4.specs.Ace.{Ace}
+use Rattle.acl_eval.specs.Column.{column}
+use Rattle.acl_normal.specs.Left.{HasFree, IsLowest}
+use Rattle.acl_normal.specs.Normal.{is_free}
+use Rattle.acl_normal.specs.internal.NextRight.{IsNextRight, LacksFrom}
+use Rattle.acl_normal.proofs.reduce.Reducing.{rights_below}
+
+-- a right is one of the first 21 bits
+pub right_below : (bits b : ℕ) → IsMask bits → has_bit bits b ≡ true → b < 21
+right_below bits b is h = rights_below b (bits_from_mask bits b is h)
+
+-- a set of rights has no bit from 21 on
+pub no_right_above : (bits : ℕ) → IsMask bits → (b : ℕ) → 21 ≤ b → has_bit bits b ≡ false
+no_right_above bits is b l = false_from_ne_true _ (λ h. absurd (omega (arith, l, right_below bits b is h)))
+
+-- ---- whether a right is free
+
+-- whether the principal is free at a bit, with either type
+abbrev pub free_either : List Ace → Principal → ℕ → Bool
+free_either list p b = is_free (column list b) (p, Deny) || is_free (column list b) (p, Allow)
+
+-- none of the bits rights_below a place is free
+abbrev pub NoneFree : List Ace → Principal → ℕ → ℕ → Type 0
+NoneFree list p bits n = (b : ℕ) → b < n → has_bit bits b ≡ true → free_either list p b ≡ false
+
+-- rights_below the first place there is none
+pub none_free_yet : (list : List Ace) (p : Principal) (bits : ℕ) → NoneFree list p bits 0
+none_free_yet list p bits b l h = absurd (omega (arith, l))
+
+-- one more that isn't free
+pub none_free_more : (list : List Ace) (p : Principal) (bits n : ℕ) → NoneFree list p bits n
+    → (has_bit bits n ≡ true → free_either list p n ≡ false) → NoneFree list p bits (n + 1)
+none_free_more list p bits n before here b l h = elim (cases_eq b n) [
+  | inl e ↦ ap (free_either list p) e ∙ here (subst (λ v. has_bit bits v ≡ true) e h)
+  | inr other ↦ before b (less other) h
+]
+  where
+    less : (b ≡ n → ⊥) → b < n
+    less other = ⊎_elim (λ g. g) (λ g. absurd (other (omega (arith, g, l)))) (cases_lt b n)
+
+free_kind : (list : List Ace) (p : Principal) (bits b : ℕ) (d a : Bool) → has_bit bits b ≡ true
+    → is_free (column list b) (p, Deny) ≡ d → is_free (column list b) (p, Allow) ≡ a → (d || a) ≡ true
+    → HasFree list p bits
+free_kind list p bits b true a has e f h = (b, Deny, has, e)
+free_kind list p bits b false true has e f h = (b, Allow, has, f)
+free_kind list p bits b false false has e f h = absurd cc
+
+-- a bit that is not asked for
+pub none_free_absent : (list : List Ace) (p : Principal) (bits n : ℕ) → NoneFree list p bits n
+    → has_bit bits n ≡ false → NoneFree list p bits (n + 1)
+none_free_absent list p bits n before lacks =
+    none_free_more list p bits n before (λ has. absurd (clash (sym lacks ∙ has)))
+  where
+    clash : false ≡ true → ⊥
+    clash e = cc
+
+-- a bit that is free
+pub free_there : (list : List Ace) (p : Principal) (bits b : ℕ) → has_bit bits b ≡ true
+    → free_either list p b ≡ true → IsTrue true ↔ HasFree list p bits
+free_there list p bits b has free = (λ t. free_kind list p bits b _ _ has refl refl free, λ h. refl)
+
+-- where none is, there is none
+pub free_nowhere : (list : List Ace) (p : Principal) (bits : ℕ) → IsMask bits → NoneFree list p bits 21
+    → IsTrue false ↔ HasFree list p bits
+free_nowhere list p bits is none = (λ t. absurd cc, λ (b, kind, has, free). absurd (clash b kind has free))
+  where
+    left_false : (d a : Bool) → (d || a) ≡ false → d ≡ true → ⊥
+    left_false true a h e = cc
+    left_false false a h e = cc
+
+    right_false : (d a : Bool) → (d || a) ≡ false → a ≡ true → ⊥
+    right_false true a h e = cc
+    right_false false true h e = cc
+    right_false false false h e = cc
+
+    clash : (b : ℕ) (kind : Kind) → has_bit bits b ≡ true → is_free (column list b) (p, kind) ≡ true → ⊥
+    clash b Deny has free = left_false _ _ (none b (right_below bits b is has) has) free
+    clash b Allow has free = right_false _ _ (none b (right_below bits b is has) has) free
+
+-- ---- the lowest right
+
+-- the next right from bit 0 on is the lowest, and a set without a next has no lowest
+pub lowest_is : (bits : ℕ) (next : Option Right) → IsMask bits → IfSome next (λ right. IsNextRight bits 0 right.bit)
+    → IfNone next (LacksFrom bits 0 21) → (b : ℕ) → IsLowest b bits → option_map (λ right. right.bit) next ≡ Some b
+lowest_is bits None is some none b (has, before) =
+    absurd (clash (sym (none b (omega arith) (right_below bits b is has)) ∙ has))
+  where
+    clash : false ≡ true → ⊥
+    clash e = cc
+lowest_is bits (Some right) is some none b (has, before) =
+    ap Some (⊎_elim (λ g. absurd (above g))
+    (λ g. ⊎_elim (λ l. absurd (below_it l)) (λ l. omega (arith, l, g)) (cases_lt b right.bit)) (cases_lt right.bit b))
+  where
+    clash : false ≡ true → ⊥
+    clash e = cc
+
+    above : right.bit < b → ⊥
+    above g = clash (sym (before right.bit g) ∙ some.has)
+
+    below_it : b < right.bit → ⊥
+    below_it g = clash (sym (some.lacks b (omega arith) g) ∙ has)
+
+-- the empty set has no next right
+pub no_lowest : (bits : ℕ) (next : Option Right) → IfSome next (λ right. IsNextRight bits 0 right.bit) → bits ≡ 0
+    → next ≡ None
+no_lowest bits None some none = refl
+no_lowest bits (Some right) some none =
+    absurd (clash (sym (ap (λ v. has_bit v right.bit) none ∙ no_bit right.bit) ∙ some.has))
+  where
+    clash : false ≡ true → ⊥
+    clash e = cc

@@ -1,0 +1,108 @@
+-- What is known of an accepted list: each who is a name, and each bit is a right.
+use Rattle.std.proofs.Common.{◌≡◌, ℕ, ◌<◌, ◌+◌, ◌/◌, ◌%◌, Bool, true, false, List, [], ◌∷◌, ◌++◌, length, refl, subst, arith, inl, inr}
+use Rattle.std.specs.Prelude.{nat_lt, not, Option, None, Some, if◌then◌else◌}
+use Rattle.std.specs.List.{AllByRecursion}
+use Rattle.std.specs.Str.{is_utf8, bytes_eq}
+use Rattle.std.proofs.Math.Utf8.{encode, encodes, scalar, scalars, scalar_cases}
+use Rattle.std.proofs.lemmas.Bool.{ltb-true, and_parts}
+use Rattle.std.proofs.lemmas.List.Elements.{All-from_recursion}
+use Rattle.std.proofs.lemmas.Str.{IsUtf8-from_is_utf8}
+use Rattle.acl_perm.specs.Bits.{has_bit, identifier_group}
+use Rattle.acl_perm.specs.Situation.{IsName}
+use Rattle.acl_perm.specs.Profile.{Profile, full}
+use Rattle.acl_perm.proofs.Sets.{bits_from_mask}
+use Rattle.acl_nfs4.specs.Ace.{Ace}
+use Rattle.acl_nfs4.specs.Who.{IsWho, is_no_who_len, principal_of, owner_name, group_name, everyone_name}
+use Rattle.acl_nfs4.specs.Spelling.{IsAce, IsAccepted}
+use Rattle.acl_nfs4.proofs.Fields.{who_bounds}
+use Rattle.acl_normal.specs.internal.Names.{HasName, HasNames}
+use Rattle.acl_normal.specs.internal.Tidy.{HasMasks}
+
+-- ---- a who is a name
+
+-- each number is a byte
+abbrev AreBytes : List ℕ → Type 0
+AreBytes bs = AllByRecursion (λ b. b < 256) bs
+
+encoded_bytes : (c : ℕ) → c < 1114112 → AreBytes (encode c)
+unfolding encode
+encoded_bytes c lt = go (nat_lt c 128) refl (nat_lt c 2048) refl (nat_lt c 65536) refl
+  where
+    next : (n : ℕ) → 128 + n % 64 < 256
+    next n = omega arith
+
+    go : (x : Bool) → nat_lt c 128 ≡ x → (y : Bool) → nat_lt c 2048 ≡ y → (z : Bool) → nat_lt c 65536 ≡ z
+        → AreBytes (encode c)
+    go true e y f z g = rw e (let h = ltb-true c 128 e in omega arith, tt)
+    go false e true f z g = rw (e, f) (let h = ltb-true c 2048 f in omega arith, (next c, tt))
+    go false e false f true g = rw (e, f, g) (let h = ltb-true c 65536 g in omega arith, (next (c / 64), (next c, tt)))
+    go false e false f false g = rw (e, f, g) (omega arith, (next (c / 4096), (next (c / 64), (next c, tt))))
+
+are_bytes-append : (xs ys : List ℕ) → AreBytes xs → AreBytes ys → AreBytes (xs ++ ys)
+are_bytes-append [] ys h g = g
+are_bytes-append (x ∷ xs) ys h g = (h.0, are_bytes-append xs ys h.1 g)
+
+scalar_below : (c : ℕ) → scalar c ≡ true → c < 1114112
+scalar_below c h = elim (scalar_cases c h) [
+  | inl low ↦ omega arith
+  | inr high ↦ high.1
+]
+
+encodes_bytes : (cs : List ℕ) → scalars cs ≡ true → AreBytes (encodes cs)
+encodes_bytes [] h = tt
+encodes_bytes (c ∷ cs) h =
+    let parts = and_parts (scalar c) (scalars cs) h in
+    are_bytes-append (encode c) (encodes cs) (encoded_bytes c (scalar_below c parts.0)) (encodes_bytes cs parts.1)
+
+utf8_bytes : (bs : List ℕ) → is_utf8 bs ≡ true → AreBytes bs
+utf8_bytes bs h =
+    let text = IsUtf8-from_is_utf8 bs h in
+    subst AreBytes text.1.1 (encodes_bytes text.0 text.1.0)
+
+passes : {A : Type 0} (a u : Bool) (x y : A) (r : Option A)
+    → (if a then Some x else (if not u then Some y else r)) ≡ None → u ≡ true
+passes true u x y r h = absurd cc
+passes false true x y r h = refl
+passes false false x y r h = absurd cc
+
+-- a who is a name that a situation may have
+pub who_name : (who : List ℕ) → IsWho who → IsName who
+who_name who is = (
+  let bounds = who_bounds who is in omega arith,
+  All-from_recursion (λ b. b < 256) who
+      (utf8_bytes who (passes (is_no_who_len (length who)) (is_utf8 who) _ _ _ is)),
+)
+
+-- and so is the name of the principal of an ACE
+pub ace_name : (a : Ace) → IsWho a.who → HasName (principal_of a)
+ace_name a is = go (bytes_eq a.who owner_name) refl (bytes_eq a.who group_name) refl
+    (bytes_eq a.who everyone_name) refl (has_bit a.flags identifier_group) refl
+  where
+    go : (o : Bool) → bytes_eq a.who owner_name ≡ o → (g : Bool) → bytes_eq a.who group_name ≡ g
+        → (e : Bool) → bytes_eq a.who everyone_name ≡ e → (f : Bool) → has_bit a.flags identifier_group ≡ f
+        → HasName (principal_of a)
+    go true h g i e j f k = rw h tt
+    go false h true i e j f k = rw (h, i) tt
+    go false h false i true j f k = rw (h, i, j) tt
+    go false h false i false j true k = rw (h, i, j, k) (who_name a.who is)
+    go false h false i false j false k = rw (h, i, j, k) (who_name a.who is)
+
+-- ---- each of a list
+
+-- the names of ACEs are names
+pub each_name : (p : Profile) (list : List Ace) → AllByRecursion (IsAce p) list → HasNames list
+each_name p [] h = tt
+each_name p (a ∷ list) h = (ace_name a h.0.who, each_name p list h.1)
+
+-- the user and group names of an accepted list are names that a situation may have
+pub accepted_names : (p : Profile) (list : List Ace) → IsAccepted p list → HasNames list
+accepted_names p list h = each_name p list h.each
+
+-- the bits of ACEs are rights
+pub each_mask : (list : List Ace) → AllByRecursion (IsAce full) list → HasMasks list
+each_mask [] h = tt
+each_mask (a ∷ list) h = (λ k has. bits_from_mask a.mask k h.0.mask has, each_mask list h.1)
+
+-- the bits of an accepted list are rights
+pub accepted_masks : (list : List Ace) → IsAccepted full list → HasMasks list
+accepted_masks list h = each_mask list h.each

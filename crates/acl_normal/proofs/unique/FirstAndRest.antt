@@ -1,0 +1,150 @@
+-- What comes first of a list, and what is emitted of the rest.
+use Rattle.std.specs.Prelude.{◌≡◌, ℕ, Bool, true, false, ◌||◌, List, [], ◌∷◌, Some, None, refl}
+use Rattle.std.proofs.Common.{sym, ◌∙◌, ap, subst, ⊎_elim}
+use Rattle.std.proofs.lemmas.Bool.{or_from, false_from_ne_true}
+use Rattle.acl_perm.specs.Principal.{Principal}
+use Rattle.acl_perm.specs.Overlap.{may_overlap}
+use Rattle.acl_perm.specs.declared.kind.Kind.{Kind}
+use Rattle.acl_perm.specs.Bits.{has_bit}
+use Rattle.acl_nfs4.specs.Ace.{Ace}
+use Rattle.acl_nfs4.specs.Who.{principal_of}
+use Rattle.acl_eval.specs.Column.{Column, first_kind, column}
+use Rattle.acl_normal.specs.Keys.{principal_eq, Key, ace_key}
+use Rattle.acl_normal.specs.internal.Alike.{is_either, IsAlike}
+use Rattle.acl_normal.specs.Normal.{is_free}
+use Rattle.acl_normal.specs.internal.Plain.{without_principal}
+use Rattle.acl_normal.specs.internal.Emissions.{IsOnce, IsStep, IsEmission, HasOnceColumns}
+use Rattle.acl_normal.proofs.unique.Names.{principal_eq_same, overlaps_back, overlaps_itself, principal_eq_itself}
+use Rattle.acl_normal.proofs.unique.Irreducible.{either_is, either_same}
+use Rattle.acl_normal.proofs.unique.Free.{ahead_from_free, same_free, skip_head}
+use Rattle.acl_normal.proofs.unique.Unique.{column_with, column_lacking}
+
+-- tests that agree everywhere find the same
+pub first_kind_same : (m n : Principal → Bool) (c : Column) → ((z : Principal) → m z ≡ n z)
+    → first_kind m c ≡ first_kind n c
+first_kind_same m n [] h = refl
+first_kind_same m n ((p, k) ∷ c) h =
+    let here : m p ≡ n p = h p in
+    let there = first_kind_same m n c h in
+    rw (here, there)
+
+-- either of two, whichever comes first
+pub or_swap : (a b : Bool) → (a || b) ≡ (b || a)
+or_swap true true = refl
+or_swap true false = refl
+or_swap false true = refl
+or_swap false false = refl
+
+-- the order of two principals plays no part in what comes first
+pub either_swap : (p q : Principal) (c : Column) → first_kind (is_either p q) c ≡ first_kind (is_either q p) c
+either_swap p q c =
+    first_kind_same (is_either p q) (is_either q p) c (λ z. or_swap (principal_eq z p) (principal_eq z q))
+
+-- a test that doesn't pass a principal finds the same without it
+pub first_kind_other : (m : Principal → Bool) (p : Principal) (c : Column) → m p ≡ false
+    → first_kind m (without_principal p c) ≡ first_kind m c
+first_kind_other m p [] h = refl
+first_kind_other m p ((q, j) ∷ c) h = go (principal_eq q p) refl (first_kind_other m p c h)
+  where
+    go : (b : Bool) → principal_eq q p ≡ b → first_kind m (without_principal p c) ≡ first_kind m c
+        → first_kind m (without_principal p ((q, j) ∷ c)) ≡ first_kind m ((q, j) ∷ c)
+    go true e ih =
+        let skip : m q ≡ false = subst (λ v. m v ≡ false) (sym (principal_eq_same q p e)) h in
+        rw (e, skip) ih
+    go false e ih = rw (e, ih) refl
+
+-- a free key may stand first
+move_front : (c d : Column) (p : Principal) (k : Kind) → is_free c (p, k) ≡ true → IsAlike (without_principal p c) d
+    → IsAlike c ((p, k) ∷ d)
+move_front c d p k free a x y o = go (is_either x y p) refl
+  where
+    ahead : (q : Principal) → may_overlap p q ≡ true → first_kind (is_either p q) c ≡ Some k
+    ahead = ahead_from_free c p k free
+
+    go : (b : Bool) → is_either x y p ≡ b → first_kind (is_either x y) c ≡ first_kind (is_either x y) ((p, k) ∷ d)
+    go false e = sym (first_kind_other (is_either x y) p c e) ∙ a x y o ∙ sym (skip_head (is_either x y) p k d e)
+    go true e =
+        let found : first_kind (is_either x y) c ≡ Some k = ⊎_elim
+        (λ f. subst (λ v. first_kind (is_either v y) c ≡ Some k) f
+        (ahead y (subst (λ v. may_overlap v y ≡ true) (sym f) o)))
+        (λ f. either_swap x y c ∙ subst (λ v. first_kind (is_either v x) c ≡ Some k) f
+        (ahead x (subst (λ v. may_overlap v x ≡ true) (sym f) (overlaps_back x y o))))
+        (either_is x y p e) in
+        found ∙ rw e refl
+
+-- without a principal, a column lacks it
+pub lacks_principal : (p : Principal) (c : Column) → first_kind (is_either p p) (without_principal p c) ≡ None
+lacks_principal p [] = refl
+lacks_principal p ((q, j) ∷ c) = go (principal_eq q p) refl (lacks_principal p c)
+  where
+    go : (b : Bool) → principal_eq q p ≡ b → first_kind (is_either p p) (without_principal p c) ≡ None
+        → first_kind (is_either p p) (without_principal p ((q, j) ∷ c)) ≡ None
+    go true e ih = rw e ih
+    go false e ih = rw e (rw (or_from (principal_eq q p) (principal_eq q p) e e) ih)
+
+-- what comes first of a list, before what is emitted of the rest, is emitted of the list
+pub emission_step : (xs rest ns : List Ace) (a : Ace) → ((b : ℕ) → IsOnce (column xs b)) → IsStep xs a rest
+    → IsEmission rest ns → IsEmission xs (a ∷ ns)
+emission_step xs rest ns a once step h = record {
+  alike = alike;
+  once = once';
+  ordered = (
+    λ k b free. step.least k b (same k b ∙ free),
+    λ b. step.all b ∙ same (ace_key a) b,
+    h.ordered,
+  );
+  flags = (step.flags, h.flags);
+  masks = (step.mask, h.masks);
+}
+  where
+    alike_at : (b : ℕ) (t : Bool) → has_bit a.mask b ≡ t → IsAlike (column xs b) (column (a ∷ ns) b)
+    alike_at b true e =
+        let moved =
+        move_front (column xs b) (column ns b) (principal_of a) a.kind (sym (step.all b) ∙ e)
+        (subst (λ c. IsAlike c (column ns b)) (step.taken b e) (h.alike b)) in
+        subst (λ c. IsAlike (column xs b) c) (sym (column_with b a ns step.flags e)) moved
+    alike_at b false e =
+        subst (λ c. IsAlike (column xs b) c) (sym (column_lacking b a ns step.flags e))
+        (subst (λ c. IsAlike c (column ns b)) (step.kept b e) (h.alike b))
+
+    alike : (b : ℕ) → IsAlike (column xs b) (column (a ∷ ns) b)
+    alike b = alike_at b (has_bit a.mask b) refl
+
+    once_at : (b : ℕ) (t : Bool) → has_bit a.mask b ≡ t → IsOnce (column (a ∷ ns) b)
+    once_at b true e =
+        let p : Principal = principal_of a in
+        let none =
+        sym (h.alike b p p (overlaps_itself p)) ∙ ap (first_kind (is_either p p)) (step.taken b e)
+        ∙ lacks_principal p (column xs b) in
+        subst (λ c. IsOnce c) (sym (column_with b a ns step.flags e)) (none, h.once b)
+    once_at b false e = subst (λ c. IsOnce c) (sym (column_lacking b a ns step.flags e)) (h.once b)
+
+    once' : (b : ℕ) → IsOnce (column (a ∷ ns) b)
+    once' b = once_at b (has_bit a.mask b) refl
+
+    same : (k : Key) (b : ℕ) → is_free (column xs b) k ≡ is_free (column (a ∷ ns) b) k
+    same k b = same_free (column xs b) (column (a ∷ ns) b) k (once b) (once' b) (alike b)
+
+-- without a principal, each other still stands once
+pub once_without : (p : Principal) (c : Column) → IsOnce c → IsOnce (without_principal p c)
+once_without p [] h = tt
+once_without p ((q, j) ∷ c) h = go (principal_eq q p) refl (once_without p c h.1)
+  where
+    go : (b : Bool) → principal_eq q p ≡ b → IsOnce (without_principal p c) → IsOnce (without_principal p ((q, j) ∷ c))
+    go true e ih = rw e ih
+    go false e ih =
+        let other : is_either q q p ≡ false = false_from_ne_true _ (λ t. absurd (clash (either_same q p t))) in
+        rw e (first_kind_other (is_either q q) p c other ∙ h.0, ih)
+      where
+        clash : p ≡ q → ⊥
+        clash same =
+            let is = subst (λ v. principal_eq q v ≡ true) (sym same) (principal_eq_itself q) in
+            cc
+
+-- each principal stands once in what is left too
+pub once_left : (xs rest : List Ace) (a : Ace) → HasOnceColumns xs → IsStep xs a rest → HasOnceColumns rest
+once_left xs rest a once step b = go (has_bit a.mask b) refl
+  where
+    go : (t : Bool) → has_bit a.mask b ≡ t → IsOnce (column rest b)
+    go true e = rw (step.taken b e) (once_without (principal_of a) (column xs b) (once b))
+    go false e = rw (step.kept b e) (once b)

@@ -1,0 +1,48 @@
+-- What lists of one outline have in common: all but the masks.
+use Rattle.std.specs.Prelude.{◌≡◌, ℕ, zero, suc, List, [], ◌∷◌, ◌++◌, length, refl}
+use Rattle.std.proofs.Common.{sym, ◌∙◌, ap, arith}
+use Rattle.acl_nfs4.specs.Ace.{Ace}
+use Rattle.acl_nfs4.specs.declared.ace.AceRef.{AceRef}
+use Rattle.acl_normal.specs.Places.{nothing_left}
+use Rattle.acl_normal.specs.internal.AtPlaces.{key_here}
+use Rattle.acl_normal.specs.internal.Shown.{aces_in, with_masks}
+
+-- the length
+pub outline_length : (xs : List Ace) → length (nothing_left xs) ≡ length xs
+outline_length [] = refl
+outline_length (a ∷ xs) = ap suc (outline_length xs)
+
+-- whom an ACE names, and its type
+pub outline_key : (xs : List Ace) (i : ℕ) → key_here (nothing_left xs) i ≡ key_here xs i
+outline_key [] i = refl
+outline_key (a ∷ xs) zero = refl
+outline_key (a ∷ xs) (suc i) = outline_key xs i
+
+-- the length is that of both
+pub length_alike : (xs ys : List Ace) → nothing_left xs ≡ nothing_left ys → length xs ≡ length ys
+length_alike xs ys e = sym (outline_length xs) ∙ ap length e ∙ outline_length ys
+
+-- and so are the keys
+pub key_alike : (xs ys : List Ace) (i : ℕ) → nothing_left xs ≡ nothing_left ys → key_here xs i ≡ key_here ys i
+key_alike xs ys i e = sym (outline_key xs i) ∙ ap (λ v. key_here v i) e ∙ outline_key ys i
+
+-- with a mask for each, ACEs keep their outline
+pub outline_shown : (aces : List AceRef) (masks : List ℕ) → length masks ≡ length aces
+    → nothing_left (with_masks aces masks) ≡ nothing_left (aces_in aces)
+outline_shown [] masks h = refl
+outline_shown (x ∷ aces) [] h = absurd (omega (arith, h))
+outline_shown (x ∷ aces) (m ∷ masks) h =
+    ap (λ v. record { kind = x.kind; flags = x.flags.bits; mask = 0; who = x.who.now } ∷ v)
+    (outline_shown aces masks (omega (arith, h)))
+
+-- as many are shown as there are
+pub length_shown : (aces : List AceRef) (masks : List ℕ) → length masks ≡ length aces
+    → length (with_masks aces masks) ≡ length aces
+length_shown [] masks h = refl
+length_shown (x ∷ aces) [] h = absurd (omega (arith, h))
+length_shown (x ∷ aces) (m ∷ masks) h = ap suc (length_shown aces masks (omega (arith, h)))
+
+-- the outline of a list in two parts
+pub nothing_append : (xs ys : List Ace) → nothing_left (xs ++ ys) ≡ nothing_left xs ++ nothing_left ys
+nothing_append [] ys = refl
+nothing_append (a ∷ xs) ys = ap (λ v. record a { mask = 0 } ∷ v) (nothing_append xs ys)

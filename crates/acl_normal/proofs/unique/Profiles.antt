@@ -1,0 +1,50 @@
+-- Lists that fit a profile grant nothing outside it.
+use Rattle.std.proofs.Common.{◌≡◌, ℕ, Bool, true, false, List, [], ◌∷◌, refl, sym, ap, ◌∙◌}
+use Rattle.std.specs.Prelude.{◌↔◌, ◌&&◌, IsTrue}
+use Rattle.acl_perm.specs.Bits.{has_bit, all_rights}
+use Rattle.acl_perm.specs.Profile.{Profile}
+use Rattle.acl_perm.specs.Situation.{Situation, matches}
+use Rattle.acl_perm.proofs.Sets.{has_bit-and, bits_from_mask}
+use Rattle.acl_nfs4.specs.Ace.{Ace}
+use Rattle.acl_nfs4.specs.Spelling.{Fits}
+use Rattle.acl_nfs4.specs.Within.{IsProfile, IsWithin}
+use Rattle.acl_eval.specs.Column.{column, verdict, SameVerdicts}
+use Rattle.acl_eval.specs.Grant.{SameGrants, grants_bit, is_allow}
+use Rattle.acl_eval.proofs.Same.{by_columns}
+use Rattle.acl_normal.proofs.unique.Columns.{column_lacks}
+
+lacks_bit : (set n k : ℕ) → IsWithin set n → has_bit set k ≡ false → has_bit n k ≡ false
+lacks_bit set n k is h =
+    sym (ap (λ (m : ℕ). has_bit m k) is) ∙ has_bit-and n set k ∙ none (has_bit n k) (has_bit set k) h
+  where
+    none : (a b : Bool) → b ≡ false → (a && b) ≡ false
+    none true b e = e
+    none false b e = refl
+
+-- no ACE of a list that fits a profile has a bit outside it
+pub column_outside : (p : Profile) (list : List Ace) (bit : ℕ) → Fits p list → has_bit p.masks bit ≡ false
+    → column list bit ≡ []
+column_outside p [] bit h out = refl
+column_outside p (a ∷ list) bit h out =
+    column_lacks bit a list (rw (lacks_bit p.masks a.mask bit h.0.1 out) refl) ∙ column_outside p list bit h.1 out
+
+-- such a list denies what is outside
+pub denied_outside : (p : Profile) (list : List Ace) (s : Situation) (bit : ℕ) → Fits p list
+    → has_bit p.masks bit ≡ false → grants_bit list s bit ≡ false
+denied_outside p list s bit h out = ap (λ c. is_allow (verdict (matches s) c)) (column_outside p list bit h out)
+
+-- lists that fit a profile grant the same rights of it exactly if they grant the same rights
+pub same_within : (p : Profile) (list other : List Ace) → IsProfile p → Fits p list → Fits p other
+    → SameGrants p.masks list other ↔ SameGrants all_rights list other
+same_within p list other is fits fits_other = (
+  λ same. (by_columns all_rights list other).1
+      (λ bit has. at bit (has_bit p.masks bit) refl ((by_columns p.masks list other).0 same bit)),
+  λ same s valid request within. same s valid request (λ k h. bits_from_mask p.masks k is.masks (within k h)),
+)
+  where
+    at : (bit : ℕ) (b : Bool) → has_bit p.masks bit ≡ b
+        → (IsTrue (has_bit p.masks bit) → SameVerdicts (column list bit) (column other bit))
+        → SameVerdicts (column list bit) (column other bit)
+    at bit true e inside = inside e
+    at bit false e inside =
+        rw (column_outside p list bit fits e, column_outside p other bit fits_other e) (λ s valid. refl)

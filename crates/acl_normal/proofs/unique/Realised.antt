@@ -1,0 +1,248 @@
+-- The small situations: which principals match in them.
+use Rattle.std.specs.Prelude.{◌≡◌, ℕ, ◌<◌, Bool, true, false, cond, ◌||◌, List, [], ◌∷◌, Option, Some, None, unwrap_or, refl, length, replicate, max, suc, zero, ◌⊎◌}
+use Rattle.std.specs.Str.{bytes_eq}
+use Rattle.std.proofs.Common.{sym, ◌∙◌, ap, subst, arith, ⊎_elim, inl, inr, lit<}
+use Rattle.std.specs.List.{AllByRecursion}
+use Rattle.std.proofs.lemmas.List.Elements.{All-replicate, All-from_recursion}
+use Rattle.std.proofs.lemmas.List.{length-replicate}
+use Rattle.std.proofs.lemmas.Slice.Eq.{bytes_eq-Decides}
+use Rattle.std.proofs.lemmas.Bool.{or_cases, or_left, or_from, false_from_ne_true, false≢true}
+pub use Rattle.acl_perm.proofs.Bools.{same_answers}
+use Rattle.acl_perm.specs.Principal.{Principal, owner, user, group, group_named, everyone}
+use Rattle.acl_perm.specs.Overlap.{may_overlap}
+use Rattle.acl_perm.specs.declared.kind.Kind.TheVariants.{Deny}
+use Rattle.acl_perm.specs.Situation.{IsSituation, IsName, matches, is_one_of}
+use Rattle.acl_perm.specs.Order.{principal_name}
+use Rattle.acl_eval.specs.Column.{Column, first_kind, verdict, SameVerdicts}
+use Rattle.acl_normal.specs.Keys.{principal_eq}
+use Rattle.acl_normal.specs.internal.Alike.{is_either_or_everyone}
+use Rattle.acl_normal.specs.SmallSituations.{small_situation, first_user, group_names, is_among, first_or, names_or}
+use Rattle.acl_normal.specs.internal.Names.{longest_name, HasName}
+use Rattle.acl_normal.proofs.unique.Names.{bytes_eq_itself, bytes_eq_turned, principal_eq_same}
+use Rattle.acl_nfs4.proofs.SetFields.{same_bytes}
+
+-- names of different lengths are different
+other_length : (a b : List ℕ) → (length a ≡ length b → ⊥) → bytes_eq a b ≡ false
+other_length a b h = false_from_ne_true (bytes_eq a b) (λ e. h (ap (λ x. length x) (same_bytes a b e)))
+
+-- of the names below n bytes
+abbrev pub AreShort : ℕ → List Principal → Type 0
+AreShort n [] = Unit {0}
+AreShort n (p ∷ ps) = (length (principal_name p) < n) × AreShort n ps
+
+-- at most one user name
+abbrev pub HasOneUser : List Principal → Type 0
+HasOneUser ps = (a b : List ℕ) → is_among (user a) ps ≡ true → is_among (user b) ps ≡ true → a ≡ b
+
+user_is_among : (ps : List Principal) (b : List ℕ) → first_user ps ≡ Some b → is_among (user b) ps ≡ true
+user_is_among [] b h = cc
+user_is_among (user a ∷ ps) b h = or_left _ _ ((bytes_eq-Decides b a).1 (grind arith))
+user_is_among (owner ∷ ps) b h = user_is_among ps b h
+user_is_among (_ ∷ ps) b h = user_is_among ps b h
+
+no_user_among : (ps : List Principal) (a : List ℕ) → first_user ps ≡ None → is_among (user a) ps ≡ false
+no_user_among [] a h = refl
+no_user_among (user b ∷ ps) a h = cc
+no_user_among (owner ∷ ps) a h = no_user_among ps a h
+no_user_among (_ ∷ ps) a h = no_user_among ps a h
+
+user_is_short : (n : ℕ) (ps : List Principal) (b : List ℕ) → AreShort n ps → first_user ps ≡ Some b → length b < n
+user_is_short n [] b s h = cc
+user_is_short n (user a ∷ ps) b s h =
+    let same : a ≡ b = grind arith in
+    subst (λ v. length v < n) same s.0
+user_is_short n (owner ∷ ps) b s h = user_is_short n ps b s.1 h
+user_is_short n (_ ∷ ps) b s h = user_is_short n ps b s.1 h
+
+group_names_are : (ps : List Principal) (a : List ℕ) → is_one_of a (group_names ps) ≡ is_among (group_named a) ps
+group_names_are [] a = refl
+group_names_are (group_named b ∷ ps) a = ap (λ t. bytes_eq a b || t) (group_names_are ps a)
+group_names_are (owner ∷ ps) a = group_names_are ps a
+group_names_are (_ ∷ ps) a = group_names_are ps a
+
+stranger_is_none : (n : ℕ) (ps : List Principal) (a : List ℕ) → AreShort n ps → length a ≡ n
+    → is_one_of a (group_names ps) ≡ false
+stranger_is_none n [] a s h = refl
+stranger_is_none n (group_named b ∷ ps) a s h =
+    or_from _ _ (other_length a b (λ e. absurd (omega (arith, s.0)))) (stranger_is_none n ps a s.1 h)
+stranger_is_none n (owner ∷ ps) a s h = stranger_is_none n ps a s.1 h
+stranger_is_none n (_ ∷ ps) a s h = stranger_is_none n ps a s.1 h
+
+strangers_differ : (n : ℕ) → 0 < n → bytes_eq (replicate n 117) (replicate n 111) ≡ false
+strangers_differ zero h = absurd (omega arith)
+strangers_differ (suc n) h = refl
+
+-- the user of the small situation is the user name among the principals
+user_matches : (n : ℕ) (ps : List Principal) (a : List ℕ) → HasOneUser ps → length a < n
+    → bytes_eq a (unwrap_or (first_user ps) (replicate n 117)) ≡ is_among (user a) ps
+user_matches n ps a only h = go (first_user ps) refl
+  where
+    go : (o : Option (List ℕ)) → first_user ps ≡ o
+        → bytes_eq a (unwrap_or (first_user ps) (replicate n 117)) ≡ is_among (user a) ps
+    go None e =
+        rw (e, no_user_among ps a e) (other_length a (replicate n 117)
+        (λ same. absurd (omega (arith, same ∙ length-replicate n 117))))
+    go (Some b) e =
+        rw e (same_answers _ _
+        (λ i. subst (λ v. is_among (user v) ps ≡ true) (sym (same_bytes a b i)) (user_is_among ps b e))
+        (λ i. (bytes_eq-Decides a b).1 (only a b i (user_is_among ps b e))))
+
+owner_matches : (n : ℕ) (ps : List Principal) → AreShort n ps → 0 < n
+    → matches (small_situation n ps) owner ≡ is_among owner ps
+owner_matches n ps s h = go (is_among owner ps) refl (first_user ps) refl
+  where
+    go : (b : Bool) → is_among owner ps ≡ b → (o : Option (List ℕ)) → first_user ps ≡ o
+        → matches (small_situation n ps) owner ≡ is_among owner ps
+    go true e o i = rw e (bytes_eq_itself (unwrap_or (first_user ps) (replicate n 117)))
+    go false e None i = rw (e, i) (strangers_differ n h)
+    go false e (Some b) i =
+        rw (e, i) (other_length b (replicate n 111)
+        (λ same. absurd (omega (arith, same ∙ length-replicate n 111, user_is_short n ps b s i))))
+
+group_matches : (n : ℕ) (ps : List Principal) → AreShort n ps → matches (small_situation n ps) group ≡ is_among group ps
+group_matches n ps s = go (is_among group ps) refl (group_names ps) refl
+  where
+    go : (b : Bool) → is_among group ps ≡ b → (names : List (List ℕ)) → group_names ps ≡ names
+        → matches (small_situation n ps) group ≡ is_among group ps
+    go true e [] i = rw (e, i) (or_left _ _ (bytes_eq_itself (replicate n 103)))
+    go true e (x ∷ xs) i = rw (e, i) (or_left _ _ (bytes_eq_itself x))
+    go false e names i = rw e (stranger_is_none n ps (replicate n 103) s (length-replicate n 103))
+
+group_named_matches : (n : ℕ) (ps : List Principal) (a : List ℕ) → length a < n
+    → matches (small_situation n ps) (group_named a) ≡ is_among (group_named a) ps
+group_named_matches n ps a h = go (is_among group ps) refl (group_names ps) refl
+  where
+    go : (b : Bool) → is_among group ps ≡ b → (names : List (List ℕ)) → group_names ps ≡ names
+        → matches (small_situation n ps) (group_named a) ≡ is_among (group_named a) ps
+    go true e [] i =
+        rw (e, i) (or_from _ _ (other_length a (replicate n 103)
+        (λ same. absurd (omega (arith, same ∙ length-replicate n 103)))) refl ∙ ap (is_one_of a) (sym i)
+        ∙ group_names_are ps a)
+    go true e (x ∷ xs) i = rw (e, i) (ap (is_one_of a) (sym i) ∙ group_names_are ps a)
+    go false e names i = rw e (group_names_are ps a)
+
+-- in the small situation just these principals match, and everyone
+pub small_matches : (n : ℕ) (ps : List Principal) → AreShort n ps → HasOneUser ps → 0 < n → (r : Principal)
+    → length (principal_name r) < n → matches (small_situation n ps) r ≡ is_among r (everyone ∷ ps)
+small_matches n ps s only h owner l = owner_matches n ps s h
+small_matches n ps s only h (user a) l = bytes_eq_turned _ a ∙ user_matches n ps a only l
+small_matches n ps s only h group l = group_matches n ps s
+small_matches n ps s only h (group_named a) l = group_named_matches n ps a l
+small_matches n ps s only h everyone l = refl
+
+-- tests that answer alike at short names find the same
+pub first_kind_alike : (m n : Principal → Bool) (c : Column) (len : ℕ)
+    → ((r : Principal) → length (principal_name r) < len → m r ≡ n r) → longest_name c < len
+    → first_kind m c ≡ first_kind n c
+first_kind_alike m n [] len same short = refl
+first_kind_alike m n ((p, k) ∷ c) len same short =
+    let here : m p ≡ n p = same p (omega arith) in
+    let there = first_kind_alike m n c len same (omega arith) in
+    rw (here, there)
+
+stranger_is_name : (n x : ℕ) → 0 < n → x < 256 → IsName (replicate n x)
+stranger_is_name n x h l = (omega (arith, length-replicate n x), All-replicate (λ b. b < 256) n x l)
+
+-- each is a name
+abbrev AreNames : List (List ℕ) → Type 0
+AreNames names = AllByRecursion IsName names
+
+-- each has a name, where it is a user or a group name
+abbrev pub AllNamed : List Principal → Type 0
+AllNamed [] = Unit {0}
+AllNamed (p ∷ ps) = HasName p × AllNamed ps
+
+user_is_name : (ps : List Principal) (b : List ℕ) → AllNamed ps → first_user ps ≡ Some b → IsName b
+user_is_name [] b s h = cc
+user_is_name (user a ∷ ps) b s h =
+    let same : a ≡ b = grind arith in
+    subst (λ v. IsName v) same s.0
+user_is_name (owner ∷ ps) b s h = user_is_name ps b s.1 h
+user_is_name (_ ∷ ps) b s h = user_is_name ps b s.1 h
+
+group_names_named : (ps : List Principal) → AllNamed ps → AreNames (group_names ps)
+group_names_named [] s = tt
+group_names_named (group_named a ∷ ps) s = (s.0, group_names_named ps s.1)
+group_names_named (owner ∷ ps) s = group_names_named ps s.1
+group_names_named (_ ∷ ps) s = group_names_named ps s.1
+
+first_or_named : (names : List (List ℕ)) (x : List ℕ) → AreNames names → IsName x → IsName (first_or names x)
+first_or_named [] x s h = h
+first_or_named (y ∷ names) x s h = s.0
+
+names_or_named : (names : List (List ℕ)) (x : List ℕ) → AreNames names → IsName x → AreNames (names_or names x)
+names_or_named [] x s h = (h, tt)
+names_or_named (y ∷ names) x s h = s
+
+cond_named : (b : Bool) (x y : List ℕ) → IsName x → IsName y → IsName (cond b x y)
+cond_named true x y h i = h
+cond_named false x y h i = i
+
+cond_names : (b : Bool) (x y : List (List ℕ)) → AreNames x → AreNames y → AreNames (cond b x y)
+cond_names true x y h i = h
+cond_names false x y h i = i
+
+unwrap_named : (o : Option (List ℕ)) (x : List ℕ) → ((b : List ℕ) → o ≡ Some b → IsName b) → IsName x
+    → IsName (unwrap_or o x)
+unwrap_named None x h i = i
+unwrap_named (Some b) x h i = h b refl
+
+-- the names of a small situation are names
+pub small_is_situation : (n : ℕ) (ps : List Principal) → 0 < n → AllNamed ps → IsSituation (small_situation n ps)
+small_is_situation n ps h s =
+    let stranger = stranger_is_name n 103 h (lit< tt) in
+    let asking =
+    unwrap_named (first_user ps) (replicate n 117) (λ b e. user_is_name ps b s e)
+    (stranger_is_name n 117 h (lit< tt)) in
+    let groups = group_names_named ps s in
+    record {
+      owner_name = cond_named (is_among owner ps) _ _ asking (stranger_is_name n 111 h (lit< tt));
+      owning_group = cond_named (is_among group ps) _ _ (first_or_named (group_names ps) _ groups stranger) stranger;
+      user_name = asking;
+      groups = All-from_recursion IsName _
+          (cond_names (is_among group ps) _ _ (names_or_named (group_names ps) _ groups stranger) groups);
+    }
+
+-- everyone first or last
+pub reorder : (a b e : Bool) → (e || (a || (b || false))) ≡ ((a || b) || e)
+reorder true true e = grind arith
+reorder true false e = grind arith
+reorder false true e = grind arith
+reorder false false e = grind arith
+
+among_two : (p q r : Principal) → is_among r (p ∷ q ∷ []) ≡ true → (r ≡ p) ⊎ (r ≡ q)
+among_two p q r h =
+    ⊎_elim
+    (λ e. inl (principal_eq_same r p e))
+    (λ e. ⊎_elim (λ f. inr (principal_eq_same r q f)) (λ f. absurd (false≢true f))
+    (or_cases (principal_eq r q) false e))
+    (or_cases (principal_eq r p) (principal_eq r q || false) h)
+
+same_user : (p q : Principal) (a b : List ℕ) → may_overlap p q ≡ true → user a ≡ p → user b ≡ q → a ≡ b
+same_user p q a b o e f =
+    let second : may_overlap p (user b) ≡ true = subst (λ w. may_overlap p w ≡ true) (sym f) o in
+    same_bytes a b (subst (λ v. may_overlap v (user b) ≡ true) (sym e) second)
+
+-- of two that overlap at most one is a user name
+pub two_names : (p q : Principal) → may_overlap p q ≡ true → HasOneUser (p ∷ q ∷ [])
+two_names p q o a b h i =
+    ⊎_elim
+    (λ e. ⊎_elim (λ f. ap principal_name (e ∙ sym f)) (λ f. same_user p q a b o e f) (among_two p q (user b) i))
+    (λ e. ⊎_elim (λ f. sym (same_user p q b a o f e)) (λ f. ap principal_name (e ∙ sym f)) (among_two p q (user b) i))
+    (among_two p q (user a) h)
+
+-- columns that decide alike in every situation do so for two principals that overlap, and everyone
+pub pairs_from_situations : (c d : Column) (p q : Principal) → SameVerdicts c d → HasName p → HasName q
+    → may_overlap p q ≡ true → verdict (is_either_or_everyone p q) c ≡ verdict (is_either_or_everyone p q) d
+pairs_from_situations c d p q same np nq o =
+    let n : ℕ =
+    suc (max (max (longest_name c) (longest_name d))
+    (max (length (principal_name p)) (length (principal_name q)))) in
+    let m = matches (small_situation n (p ∷ q ∷ [])) in
+    let are : (r : Principal) → length (principal_name r) < n → m r ≡ is_either_or_everyone p q r =
+    λ r l. small_matches n (p ∷ q ∷ []) (omega arith, (omega arith, tt)) (two_names p q o) (omega arith) r l
+    ∙ reorder (principal_eq r p) (principal_eq r q) (principal_eq r everyone) in
+    let first = ap (λ x. unwrap_or x Deny) (first_kind_alike m (is_either_or_everyone p q) c n are (omega arith)) in
+    let second = ap (λ x. unwrap_or x Deny) (first_kind_alike m (is_either_or_everyone p q) d n are (omega arith)) in
+    sym first ∙ same (small_situation n (p ∷ q ∷ []))
+    (small_is_situation n (p ∷ q ∷ []) (omega arith) (np, (nq, tt))) ∙ second

@@ -1,0 +1,193 @@
+-- Irreducible lists that grant the same: the same bits, in the same order.
+use Rattle.std.specs.Prelude.{◌≡◌, ℕ, Bool, true, false, not, List, [], ◌∷◌, ◌++◌, Option, Some, None, refl}
+use Rattle.std.proofs.Common.{sym, ◌∙◌, ap, subst, arith, ⊎_elim, append_assoc}
+use Rattle.std.proofs.lemmas.Bool.{or_right, or_from, and_parts, false_from_ne_true}
+use Rattle.acl_perm.specs.Principal.{Principal}
+use Rattle.acl_perm.specs.Overlap.{may_overlap}
+use Rattle.acl_perm.specs.declared.kind.Kind.{Kind}
+use Rattle.acl_perm.specs.Bits.{all_rights}
+use Rattle.acl_nfs4.specs.Ace.{Ace}
+use Rattle.acl_eval.specs.Column.{Column, first_kind, column}
+use Rattle.acl_eval.specs.Grant.{SameGrants}
+use Rattle.acl_normal.specs.Keys.{principal_eq, Key, conflicts, kind_eq}
+use Rattle.acl_normal.specs.internal.Alike.{is_either, IsAlike}
+use Rattle.acl_normal.specs.Normal.{IsIrreducibleList}
+use Rattle.acl_normal.specs.Laws.{Has, Precedes}
+use Rattle.acl_normal.specs.internal.Emissions.{IsOnce}
+use Rattle.acl_normal.proofs.unique.Names.{principal_eq_same, principal_eq_itself, either_first, overlaps_itself}
+use Rattle.acl_normal.proofs.unique.FirstKind.{SplitsAt, splits_at, none_within}
+use Rattle.acl_normal.proofs.unique.Irreducible.{clean, either_is, either_same}
+use Rattle.acl_normal.proofs.unique.Free.{once_from_clean, kind_eq_itself, some_same}
+use Rattle.acl_normal.proofs.unique.SameKeys.{skip_to, stop_at}
+use Rattle.acl_normal.proofs.unique.ListColumns.{irreducible_column, alike_columns}
+
+first_kind_after : (m : Principal → Bool) (l : Column) (p : Principal) (k : Kind) (r : Column)
+    → first_kind m (l ++ (p, k) ∷ r) ≡ None → m p ≡ false
+first_kind_after m [] p k r h = go (m p) refl
+  where
+    go : (b : Bool) → m p ≡ b → m p ≡ false
+    go true e = absurd (grind arith)
+    go false e = e
+first_kind_after m ((q, j) ∷ l) p k r h = grind (arith, first_kind_after m l p k r)
+
+-- before its own key, and after it, a column without repetition lacks the principal
+pub once_before : (l : Column) (p : Principal) (k : Kind) (r : Column) → IsOnce (l ++ (p, k) ∷ r)
+    → first_kind (is_either p p) l ≡ None
+once_before [] p k r h = refl
+once_before ((q, j) ∷ l) p k r h =
+    let other = first_kind_after (is_either q q) l p k r h.0 in
+    let no : is_either p p q ≡ false = different (principal_eq p q) (principal_eq q p) refl refl other in
+    rw no (once_before l p k r h.1)
+  where
+    different : (a b : Bool) → principal_eq p q ≡ a → principal_eq q p ≡ b → is_either q q p ≡ false
+        → is_either p p q ≡ false
+    different a false e f h = or_from (principal_eq q p) (principal_eq q p) f f
+    different a true e f h =
+        let same : q ≡ p = principal_eq_same q p f in
+        absurd (clash (subst (λ v. is_either v v p ≡ false) same h))
+      where
+        clash : is_either p p p ≡ false → ⊥
+        clash h =
+            let yes' = either_first p p in
+            cc
+
+-- a key of a column without repetition is the first of its principal
+pub once_has : (c : Column) (p : Principal) (k : Kind) → IsOnce c → Has c (p, k) → first_kind (is_either p p) c ≡ Some k
+once_has c p k once h =
+    let none = once_before h.before p k h.after (subst (λ v. IsOnce v) h.is once) in
+    ap (first_kind (is_either p p)) h.is ∙ stop_at (is_either p p) h.before h.after p k none (either_first p p)
+
+-- the first key of a principal is a key
+pub has_once : (c : Column) (p : Principal) (k : Kind) → first_kind (is_either p p) c ≡ Some k → Has c (p, k)
+has_once c p k h =
+    let s = splits_at (is_either p p) c k h in
+    let same : s.principal ≡ p = either_same p s.principal s.passes in
+    record { before = s.before; after = s.after; is = s.is ∙ ap (λ v. s.before ++ (v, k) ∷ s.after) same }
+
+-- irreducible lists that grant the same have the same bits with the same types
+pub same_bits : (xs ys : List Ace) → IsIrreducibleList xs → IsIrreducibleList ys → SameGrants all_rights xs ys
+    → (b : ℕ) (e : Key) → Has (column xs b) e → Has (column ys b) e
+same_bits xs ys ix iy same b e h =
+    has_once (column ys b) e.0 e.1
+    (sym (alike_columns xs ys ix iy same b e.0 e.0 (overlaps_itself e.0))
+    ∙ once_has (column xs b) e.0 e.1 (once_from_clean _ (clean _ (irreducible_column xs b ix))) h)
+
+none_left : (m : Principal → Bool) (l r : Column) → first_kind m (l ++ r) ≡ None → first_kind m l ≡ None
+none_left m [] r h = refl
+none_left m ((p, k) ∷ l) r h = grind (arith, none_left m l r)
+
+neither : (p q : Principal) (c : Column) → first_kind (is_either p p) c ≡ None → first_kind (is_either q q) c ≡ None
+    → first_kind (is_either p q) c ≡ None
+neither p q c np nq = go (first_kind (is_either p q) c) refl
+  where
+    go : (o : Option Kind) → first_kind (is_either p q) c ≡ o → first_kind (is_either p q) c ≡ None
+    go None h = h
+    go (Some k) h =
+        let s = splits_at (is_either p q) c k h in
+        ⊎_elim
+        (λ e. absurd (clash p s e np))
+        (λ e. absurd (clash q s e nq))
+        (either_is p q s.principal s.passes)
+      where
+        clash : (x : Principal) (s : SplitsAt (is_either p q) c k) → s.principal ≡ x
+            → first_kind (is_either x x) c ≡ None → ⊥
+        clash x s e n =
+            let here =
+            first_kind_after (is_either x x) s.before s.principal k s.after
+            (ap (first_kind (is_either x x)) (sym s.is) ∙ n) in
+            let there = subst (λ v. is_either x x v ≡ true) (sym e) (either_first x x) in
+            cc
+
+conflict_kinds : (p q : Principal) (k j : Kind) → conflicts (p, k) (q, j) ≡ true → k ≡ j → ⊥
+conflict_kinds p q k j h e =
+    let parts = and_parts (may_overlap p q) (not (kind_eq k j)) h in
+    let same : kind_eq k j ≡ true = subst (λ v. kind_eq k v ≡ true) e (kind_eq_itself k) in
+    clash (kind_eq k j) same parts.1
+  where
+    clash : (b : Bool) → b ≡ true → not b ≡ true → ⊥
+    clash true e f = cc
+    clash false e f = cc
+
+precedes_alike : (c d : Column) (p q : Principal) (k j : Kind) → IsOnce c → IsOnce d → IsAlike c d
+    → conflicts (p, k) (q, j) ≡ true → Precedes c (p, k) (q, j) → Precedes d (p, k) (q, j)
+precedes_alike c d p q k j oc od a conflict h = go (splits_at (is_either p q) d k in_d)
+  where
+    over : may_overlap p q ≡ true
+    over = (and_parts (may_overlap p q) (not (kind_eq k j)) conflict).0
+
+    before_q : c ≡ (h.before ++ (p, k) ∷ h.between) ++ (q, j) ∷ h.after
+    before_q = h.is ∙ sym (append_assoc h.before ((p, k) ∷ h.between) ((q, j) ∷ h.after))
+
+    p_none : first_kind (is_either p p) h.before ≡ None
+    p_none = once_before h.before p k (h.between ++ (q, j) ∷ h.after) (subst (λ v. IsOnce v) h.is oc)
+
+    q_none : first_kind (is_either q q) h.before ≡ None
+    q_none =
+        none_left (is_either q q) h.before ((p, k) ∷ h.between)
+        (once_before (h.before ++ (p, k) ∷ h.between) q j h.after (subst (λ v. IsOnce v) before_q oc))
+
+    in_d : first_kind (is_either p q) d ≡ Some k
+    in_d =
+        sym (a p q over) ∙ ap (first_kind (is_either p q)) h.is
+        ∙ stop_at (is_either p q) h.before (h.between ++ (q, j) ∷ h.after) p k (neither p q h.before p_none q_none)
+        (either_first p q)
+
+    q_in_d : first_kind (is_either q q) d ≡ Some j
+    q_in_d =
+        sym (a q q (overlaps_itself q))
+        ∙ once_has c q j oc (record { before = h.before ++ (p, k) ∷ h.between; after = h.after; is = before_q })
+
+    p_in_d : first_kind (is_either p p) d ≡ Some k
+    p_in_d =
+        sym (a p p (overlaps_itself p))
+        ∙ once_has c p k oc (record { before = h.before; after = h.between ++ (q, j) ∷ h.after; is = h.is })
+
+    apart : p ≡ q → ⊥
+    apart e =
+        conflict_kinds p q k j conflict (some_same (sym p_in_d ∙ ap (λ v. first_kind (is_either v v) d) e ∙ q_in_d))
+
+    after_p : (s : SplitsAt (is_either p q) d k) → s.principal ≡ p → Precedes d (p, k) (q, j)
+    after_p s e =
+        let none =
+        none_within (is_either p q) (is_either q q) s.before s.none
+        (λ x t. or_right (principal_eq x p) (principal_eq x q) (only x t)) in
+        let skip : is_either q q s.principal ≡ false =
+        false_from_ne_true _ (λ t. apart (sym e ∙ either_same q s.principal t)) in
+        let rest : first_kind (is_either q q) s.after ≡ Some j =
+        sym (skip_to (is_either q q) s.before s.after s.principal k none skip)
+        ∙ ap (first_kind (is_either q q)) (sym s.is) ∙ q_in_d in
+        build s e (has_once s.after q j rest)
+      where
+        only : (x : Principal) → is_either q q x ≡ true → principal_eq x q ≡ true
+        only x t = subst (λ v. principal_eq v q ≡ true) (sym (either_same q x t)) (principal_eq_itself q)
+
+        build : (s : SplitsAt (is_either p q) d k) → s.principal ≡ p → Has s.after (q, j) → Precedes d (p, k) (q, j)
+        build s e t = record {
+          before = s.before;
+          between = t.before;
+          after = t.after;
+          is = s.is
+              ∙ ap (λ v. s.before ++ (v, k) ∷ s.after) e ∙ ap (λ v. s.before ++ (p, k) ∷ v) t.is;
+        }
+
+    go : SplitsAt (is_either p q) d k → Precedes d (p, k) (q, j)
+    go s = ⊎_elim (λ e. after_p s e) (λ e. absurd (wrong s e)) (either_is p q s.principal s.passes)
+      where
+        wrong : (s : SplitsAt (is_either p q) d k) → s.principal ≡ q → ⊥
+        wrong s e =
+            let k_at_q : first_kind (is_either q q) d ≡ Some k =
+            once_has d q k od (record {
+              before = s.before;
+              after = s.after;
+              is = s.is
+                  ∙ ap (λ v. s.before ++ (v, k) ∷ s.after) e;
+            }) in
+            conflict_kinds p q k j conflict (some_same (sym k_at_q ∙ q_in_d))
+
+-- and those that conflict in the same order
+pub same_order : (xs ys : List Ace) → IsIrreducibleList xs → IsIrreducibleList ys → SameGrants all_rights xs ys
+    → (b : ℕ) (e f : Key) → conflicts e f ≡ true → Precedes (column xs b) e f → Precedes (column ys b) e f
+same_order xs ys ix iy same b e f conflict h =
+    precedes_alike (column xs b) (column ys b) e.0 f.0 e.1 f.1
+    (once_from_clean _ (clean _ (irreducible_column xs b ix)))
+    (once_from_clean _ (clean _ (irreducible_column ys b iy))) (alike_columns xs ys ix iy same b) conflict h

@@ -1,0 +1,195 @@
+-- Small situations suffice to compare columns.
+use Rattle.std.specs.Prelude.{◌≡◌, ℕ, ◌<◌, Bool, true, false, ◌||◌, List, [], ◌∷◌, ◌++◌, Option, Some, None, unwrap_or, refl, length}
+use Rattle.std.specs.Ordering.{ordering_reverse}
+use Rattle.std.specs.declared.cmp.Ordering.{Ordering}
+use Rattle.std.specs.declared.cmp.Ordering.TheVariants.{Less, Equal, Greater}
+use Rattle.std.proofs.lemmas.Bool.{or_left, or_cases, false≢true}
+use Rattle.std.proofs.Common.{sym, ◌∙◌, ap, subst, arith, ⊎_elim}
+use Rattle.acl_perm.specs.Principal.{Principal, user, everyone}
+use Rattle.acl_perm.specs.Overlap.{may_overlap}
+use Rattle.acl_perm.specs.declared.kind.Kind.{Kind}
+use Rattle.acl_perm.specs.declared.kind.Kind.TheVariants.{Deny}
+use Rattle.acl_perm.specs.Situation.{matches}
+use Rattle.acl_perm.specs.Order.{principal_name, principal_cmp, principal_total}
+use Rattle.acl_eval.specs.Column.{Column, first_kind, verdict, SameVerdicts}
+use Rattle.acl_perm.proofs.Orders.{principal_exact}
+use Rattle.acl_normal.specs.Keys.{principal_eq}
+use Rattle.acl_normal.specs.internal.Alike.{is_either_or_everyone}
+use Rattle.acl_normal.specs.SmallSituations.{small_situation, is_among}
+use Rattle.acl_normal.specs.internal.Names.{longest_name}
+use Rattle.acl_normal.proofs.unique.Names.{principal_eq_same, overlaps_itself, overlaps_back, or_everyone_first, or_everyone_second, either_or_everyone_within, matches_overlap}
+use Rattle.acl_normal.proofs.unique.FirstAndRest.{or_swap}
+use Rattle.acl_normal.proofs.unique.FirstKind.{IsNarrower, IsClique, none_within, SplitsAt, splits_at, first_within}
+use Rattle.acl_normal.proofs.unique.Realised.{AreShort, two_names, small_matches, first_kind_alike, HasOneUser, reorder}
+
+-- the columns agree at each two principals of which P holds that overlap
+abbrev pub AgreeWhere : (Principal → Type 0) → Column → Column → Type 0
+AgreeWhere P c d =
+    (p q : Principal) → P p → P q → may_overlap p q ≡ true → verdict (is_either_or_everyone p q) c ≡ verdict
+    (is_either_or_everyone p q) d
+
+-- P holds of each principal of the column
+abbrev pub HasOnly : (Principal → Type 0) → Column → Type 0
+HasOnly P [] = Unit {0}
+HasOnly P ((p, k) ∷ c) = P p × HasOnly P c
+
+only_at : (P : Principal → Type 0) (l r : Column) (p : Principal) (k : Kind) → HasOnly P (l ++ (p, k) ∷ r) → P p
+only_at P [] r p k h = h.0
+only_at P ((q, j) ∷ l) r p k h = only_at P l r p k h.1
+
+only_split : (P : Principal → Type 0) (m : Principal → Bool) (c : Column) (k : Kind) (s : SplitsAt m c k)
+    → HasOnly P c → P s.principal
+only_split P m c k s h = only_at P s.before s.after s.principal k (subst (λ v. HasOnly P v) s.is h)
+
+-- where one of them has a key that passes and the other has none, its own principal is such a pair
+one_found : (P : Principal → Type 0) (m : Principal → Bool) (c d : Column) (k : Kind) → m everyone ≡ true
+    → HasOnly P c → AgreeWhere P c d → first_kind m c ≡ Some k → first_kind m d ≡ None → verdict m c ≡ verdict m d
+one_found P m c d k e oc a h i =
+    let s = splits_at m c k h in
+    let p : Principal = s.principal in
+    let w : IsNarrower (is_either_or_everyone p p) m = either_or_everyone_within m p p s.passes s.passes e in
+    let found = first_within m (is_either_or_everyone p p) c k s (or_everyone_first p p) w in
+    let missed = none_within m (is_either_or_everyone p p) d i w in
+    let both = a p p (only_split P m c k s oc) (only_split P m c k s oc) (overlaps_itself p) in
+    grind arith
+
+-- columns that agree at their own pairs agree at every clique with everyone
+own_pairs_agree : (P : Principal → Type 0) (m : Principal → Bool) (c d : Column) → IsClique m → m everyone ≡ true
+    → HasOnly P c → HasOnly P d → AgreeWhere P c d → verdict m c ≡ verdict m d
+own_pairs_agree P m c d q e oc od a = go (first_kind m c) (first_kind m d) refl refl
+  where
+    go : (x y : Option Kind) → first_kind m c ≡ x → first_kind m d ≡ y → verdict m c ≡ verdict m d
+    go None None h i = grind arith
+    go (Some j) None h i = one_found P m c d j e oc a h i
+    go None (Some k) h i = sym (one_found P m d c k e od (λ p r hp hr o. sym (a p r hp hr o)) i h)
+    go (Some j) (Some k) h i =
+        let s = splits_at m c j h in
+        let t = splits_at m d k i in
+        let p : Principal = s.principal in
+        let r : Principal = t.principal in
+        let w : IsNarrower (is_either_or_everyone p r) m = either_or_everyone_within m p r s.passes t.passes e in
+        let left = first_within m (is_either_or_everyone p r) c j s (or_everyone_first p r) w in
+        let right = first_within m (is_either_or_everyone p r) d k t (or_everyone_second p r) w in
+        let both = a p r (only_split P m c j s oc) (only_split P m d k t od) (q p r s.passes t.passes) in
+        grind arith
+
+-- none, one, or two overlapping principals, the lesser first, of which P holds, everyone excepted
+pub data IsSmallSet (P : Principal → Type 0) : List Principal → Type 0 where
+  none : IsSmallSet P []
+  one : (p : Principal) → P p → principal_eq p everyone ≡ false → IsSmallSet P (p ∷ [])
+  two : (p q : Principal) → P p → P q → principal_eq p everyone ≡ false → principal_eq q everyone ≡ false
+      → may_overlap p q ≡ true → principal_cmp p q ≡ Less → IsSmallSet P (p ∷ q ∷ [])
+
+-- of two principals one is the lesser
+pub principal_greater : (p q : Principal) → principal_cmp p q ≡ Greater → principal_cmp q p ≡ Less
+principal_greater p q h = principal_total.antisymm q p ∙ ap ordering_reverse h
+
+h1 : (e : Bool) → (e || false) ≡ ((e || e) || e)
+h1 true = refl
+h1 false = refl
+
+h2 : (e a : Bool) → (e || (a || false)) ≡ ((e || a) || e)
+h2 true a = refl
+h2 false true = refl
+h2 false false = refl
+
+h3 : (e a : Bool) → (e || (a || false)) ≡ ((a || e) || e)
+h3 true true = refl
+h3 true false = refl
+h3 false true = refl
+h3 false false = refl
+
+h4 : (e a : Bool) → (e || (a || false)) ≡ ((a || a) || e)
+h4 true true = refl
+h4 true false = refl
+h4 false true = refl
+h4 false false = refl
+
+h5 : (e a b : Bool) → (e || (b || (a || false))) ≡ ((a || b) || e)
+h5 e a b = reorder b a e ∙ ap (λ v. v || e) (or_swap b a)
+
+-- a small set that with everyone has just these two
+pub record Covers (P : Principal → Type 0) (p q : Principal) (n : ℕ) : Type 0 where
+  pub set : List Principal
+  pub small : IsSmallSet P set
+  pub short : AreShort n set
+  pub one_user : HasOneUser set
+  pub same : (r : Principal) → is_among r (everyone ∷ set) ≡ is_either_or_everyone p q r
+
+covers : (P : Principal → Type 0) (p q : Principal) (n : ℕ) → P p → P q → length (principal_name p) < n
+    → length (principal_name q) < n → may_overlap p q ≡ true → Covers P p q n
+covers P p q n hp hq sp sq o = go (principal_eq p everyone) refl (principal_eq q everyone) refl (principal_cmp p q) refl
+  where
+    nobody : HasOneUser []
+    nobody a b h i = cc
+
+    alone : (x : Principal) → HasOneUser (x ∷ [])
+    alone x a b h i = two_names x x (overlaps_itself x) a b (first (user a) h) (first (user b) i)
+      where
+        first : (r : Principal) → is_among r (x ∷ []) ≡ true → is_among r (x ∷ x ∷ []) ≡ true
+        first r h = ⊎_elim (λ e. or_left _ _ e) (λ e. absurd (false≢true e)) (or_cases (principal_eq r x) false h)
+
+    covers_alone : (x : Principal) → P x → length (principal_name x) < n → principal_eq x everyone ≡ false
+        → ((r : Principal) → is_among r (everyone ∷ x ∷ []) ≡ is_either_or_everyone p q r) → Covers P p q n
+    covers_alone x hx sx e same = record {
+      set = x ∷ [];
+      small = one x hx e;
+      short = (sx, tt);
+      one_user = alone x;
+      same = same;
+    }
+
+    go : (b : Bool) → principal_eq p everyone ≡ b → (t : Bool) → principal_eq q everyone ≡ t → (w : Ordering)
+        → principal_cmp p q ≡ w → Covers P p q n
+    go true e true f w g = record {
+      set = [];
+      small = none;
+      short = tt;
+      one_user = nobody;
+      same = λ r. subst
+          (λ v. is_among r (everyone ∷ []) ≡ is_either_or_everyone v q r) (sym (principal_eq_same p everyone e))
+          (subst (λ v. is_among r (everyone ∷ []) ≡ is_either_or_everyone everyone v r)
+          (sym (principal_eq_same q everyone f)) (h1 (principal_eq r everyone)));
+    }
+    go true e false f w g =
+        covers_alone q hq sq f (λ r. subst (λ v. is_among r (everyone ∷ q ∷ []) ≡ is_either_or_everyone v q r)
+        (sym (principal_eq_same p everyone e)) (h2 (principal_eq r everyone) (principal_eq r q)))
+    go false e true f w g =
+        covers_alone p hp sp e (λ r. subst (λ v. is_among r (everyone ∷ p ∷ []) ≡ is_either_or_everyone p v r)
+        (sym (principal_eq_same q everyone f)) (h3 (principal_eq r everyone) (principal_eq r p)))
+    go false e false f Less g = record {
+      set = p ∷ q ∷ [];
+      small = two p q hp hq e f o g;
+      short = (sp, (sq, tt));
+      one_user = two_names p q o;
+      same = λ r. reorder (principal_eq r p) (principal_eq r q) (principal_eq r everyone);
+    }
+    go false e false f Equal g =
+        covers_alone p hp sp e (λ r. subst (λ v. is_among r (everyone ∷ p ∷ []) ≡ is_either_or_everyone p v r)
+        (principal_exact p q g) (h4 (principal_eq r everyone) (principal_eq r p)))
+    go false e false f Greater g = record {
+      set = q ∷ p ∷ [];
+      small = two q p hq hp f e (overlaps_back p q o) (principal_greater p q g);
+      short = (sq, (sp, tt));
+      one_user = two_names q p (overlaps_back p q o);
+      same = λ r. h5 (principal_eq r everyone) (principal_eq r p) (principal_eq r q);
+    }
+
+-- columns that agree in each small situation of their principals agree in every situation
+pub small_suffice : (P : Principal → Type 0) (n : ℕ) (c d : Column) → HasOnly P c → HasOnly P d → 0 < n
+    → longest_name c < n → longest_name d < n → ((p : Principal) → P p → length (principal_name p) < n)
+    → ((ps : List Principal) → IsSmallSet P ps → verdict (matches (small_situation n ps)) c ≡ verdict
+    (matches (small_situation n ps)) d) → SameVerdicts c d
+small_suffice P n c d oc od pos lc ld short small s valid =
+    own_pairs_agree P (matches s) c d (λ p q h i. matches_overlap s p q h i) refl oc od
+    (λ p q hp hq o. at p q (covers P p q n hp hq (short p hp) (short q hq) o))
+  where
+    at : (p q : Principal) → Covers P p q n
+        → verdict (is_either_or_everyone p q) c ≡ verdict (is_either_or_everyone p q) d
+    at p q h =
+        let m = matches (small_situation n h.set) in
+        let same : (r : Principal) → length (principal_name r) < n → m r ≡ is_either_or_everyone p q r =
+        λ r l. small_matches n h.set h.short h.one_user pos r l ∙ h.same r in
+        sym (ap (λ o. unwrap_or o Deny) (first_kind_alike m (is_either_or_everyone p q) c n same lc))
+        ∙ small h.set h.small
+        ∙ ap (λ o. unwrap_or o Deny) (first_kind_alike m (is_either_or_everyone p q) d n same ld)

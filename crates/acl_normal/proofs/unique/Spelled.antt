@@ -1,0 +1,52 @@
+-- Normal forms have equal spellings exactly if their sources grant the same.
+use Rattle.std.proofs.Common.{◌≡◌, List, [], refl, sym, ap, subst, ◌∙◌}
+use Rattle.std.specs.Prelude.{◌↔◌}
+use Rattle.std.proofs.lemmas.List.{append-nil}
+use Rattle.acl_perm.specs.Profile.{Profile}
+use Rattle.acl_nfs4.specs.Ace.{Ace}
+use Rattle.acl_nfs4.specs.Spelling.{spelling, Fits, IsAccepted}
+use Rattle.acl_nfs4.specs.Within.{IsProfile}
+use Rattle.acl_nfs4.proofs.Body.{one}
+use Rattle.acl_nfs4.proofs.Within.{accepted_where_it_fits}
+use Rattle.acl_eval.specs.Grant.{SameGrants}
+use Rattle.acl_eval.specs.Laws.{IsEquivalence}
+use Rattle.acl_eval.proofs.Same.{equivalence}
+use Rattle.acl_normal.specs.NormalForm.{IsFormUnder, IsNormalFormOf}
+use Rattle.acl_normal.proofs.unique.Unique.{unique}
+use Rattle.acl_normal.proofs.unique.Profiles.{same_within}
+
+-- accepted lists with one spelling are one
+pub spelled_alike : (p : Profile) (list other : List Ace) → IsProfile p → IsAccepted p list → IsAccepted p other
+    → spelling list ≡ spelling other → list ≡ other
+spelled_alike p list other is taken taken_other same =
+    (one p list other (spelling list) (spelling other) [] [] is (record { accepted = taken; spelled = refl })
+    (record { accepted = taken_other; spelled = refl })
+    (append-nil (spelling list) ∙ same ∙ sym (append-nil (spelling other)))).0
+
+-- the spellings of two such lists are equal exactly if their sources grant the same
+pub forms_tell : (p : Profile) (a b n m : List Ace) → IsProfile p → IsFormUnder p a n → IsFormUnder p b m
+    → (spelling n ≡ spelling m) ↔ SameGrants p.masks a b
+forms_tell p a b n m is f g = (
+  λ same.
+      let forms = spelled_alike p n m is f.accepted g.accepted same in
+      laws.transitive a m b (subst (λ v. SameGrants p.masks a v) forms f.grants) (laws.symmetric b m g.grants),
+  λ same.
+      let all = laws.transitive n b m (laws.transitive n a b (laws.symmetric a n f.grants) same) g.grants in
+      ap spelling (unique n m f.normal g.normal ((same_within p n m is (fits n f.accepted) (fits m g.accepted)).0 all)),
+)
+  where
+    laws : IsEquivalence (SameGrants p.masks)
+    laws = equivalence p.masks
+
+    fits : (list : List Ace) → IsAccepted p list → Fits p list
+    fits list h = ((accepted_where_it_fits p list is).0 h).1
+
+-- the normal form of a list that is accepted under a profile is such a list
+pub form_of : (p : Profile) (source result : List Ace) → IsProfile p → IsAccepted p source
+    → IsNormalFormOf source result → IsFormUnder p source result
+form_of p source result is taken h =
+    let fits = ((accepted_where_it_fits p source is).0 taken).1 in record {
+      accepted = (accepted_where_it_fits p result is).1 (h.accepted, h.fits p fits);
+      normal = h.normal;
+      grants = (same_within p source result is fits (h.fits p fits)).1 h.grants;
+    }

@@ -1,0 +1,141 @@
+-- That the keys of the normal form are keys of the source.
+use Rattle.std.proofs.Common.{◌≡◌, ℕ, ◌≤◌, ◌<◌, Bool, true, false, List, [], ◌∷◌, ◌++◌, length, refl, ◌∙◌, ap, subst, arith, ⊎_elim}
+use Rattle.std.specs.Prelude.{is_none}
+use Rattle.std.proofs.lemmas.Bool.{cases_lt, false_from_ne_true}
+use Rattle.acl_perm.specs.Bits.{all_rights}
+use Rattle.acl_perm.specs.Principal.{everyone}
+use Rattle.acl_perm.specs.declared.kind.Kind.{Kind}
+use Rattle.acl_nfs4.specs.Ace.{Ace}
+use Rattle.acl_eval.specs.Column.{Column, column, first_kind}
+use Rattle.acl_eval.specs.Grant.{SameGrants}
+use Rattle.acl_normal.specs.internal.Alike.{IsAlike, is_either}
+use Rattle.acl_normal.specs.internal.Emissions.{IsOnce}
+use Rattle.acl_normal.specs.Keys.{Key}
+use Rattle.acl_normal.specs.Laws.{Has}
+use Rattle.acl_normal.specs.Left.{left}
+use Rattle.acl_normal.specs.Normal.{IsIrreducibleList, IsNormal}
+use Rattle.acl_normal.specs.internal.Tidy.{HasMasks}
+use Rattle.acl_normal.specs.internal.Plain.{unshadowed, default, is_needed, needed_keys, reduced}
+use Rattle.acl_normal.proofs.unique.Forming.{IsTaken, first_same}
+use Rattle.acl_normal.proofs.unique.Free.{once_from_clean}
+use Rattle.acl_normal.proofs.unique.Irreducible.{clean}
+use Rattle.acl_normal.proofs.emit.Leaving.{alike_length, column_left, masks_of_quiet, same_left}
+use Rattle.acl_normal.proofs.unique.ListColumns.{alike_columns, irreducible_column, no_other_bits}
+use Rattle.acl_normal.proofs.unique.Names.{overlaps_itself}
+use Rattle.acl_normal.proofs.unique.Normal.{quiet_flags}
+use Rattle.acl_normal.proofs.reduce.Reducing.{rights_below, grants_back, grants_through}
+use Rattle.acl_normal.proofs.plain.Shorter.{reduced_shorter}
+use Rattle.acl_normal.proofs.unique.SameOrder.{has_once, once_has}
+use Rattle.acl_normal.proofs.unique.Weights.{weight_falls}
+
+-- ---- the reduction adds no key
+
+-- a key of a column without its first
+behind : (f e : Key) (c : Column) → Has c e → Has (f ∷ c) e
+behind f e c h = record { before = f ∷ h.before; after = h.after; is = ap (λ v. f ∷ v) h.is }
+
+-- a key of a column that begins with another is that one, or one of the rest
+first_or_rest : (f e : Key) (c d : Column) → ((h : Has c e) → Has d e) → (f ≡ e → Has d e) → Has (f ∷ c) e → Has d e
+first_or_rest f e c d rest first h = go h.before h.is
+  where
+    go : (before : Column) → f ∷ c ≡ before ++ e ∷ h.after → Has d e
+    go [] is = first (first_same f e c h.after is).0
+    go (g ∷ before) is =
+        rest (record { before = before; after = h.after; is = (first_same f g c (before ++ e ∷ h.after) is).1 })
+
+at_front : (f e : Key) (c : Column) → f ≡ e → Has (f ∷ c) e
+at_front f e c same = record { before = []; after = c; is = ap (λ v. v ∷ c) same }
+
+no_key : {P : Type 0} (e : Key) → Has [] e → P
+no_key e h = go h.before h.is
+  where
+    go : {P : Type 0} (before : Column) → [] ≡ before ++ e ∷ h.after → P
+    go [] is = cc
+    go (f ∷ before) is = cc
+
+unshadowed_within : (before c : Column) (e : Key) → Has (unshadowed before c) e → Has c e
+unshadowed_within before [] e h = no_key e h
+unshadowed_within before ((p, k) ∷ c) e h =
+    go (is_none (first_kind (is_either p everyone) before)) refl (unshadowed_within (before ++ (p, k) ∷ []) c e)
+  where
+    go : (t : Bool) → is_none (first_kind (is_either p everyone) before) ≡ t
+        → (Has (unshadowed (before ++ (p, k) ∷ []) c) e → Has c e) → Has ((p, k) ∷ c) e
+    go true i ih =
+        first_or_rest (p, k) e (unshadowed (before ++ (p, k) ∷ []) c) ((p, k) ∷ c) (λ r. behind (p, k) e c (ih r))
+        (at_front (p, k) e c) (rw i at h)
+    go false i ih = behind (p, k) e c (ih (rw i at h))
+
+needed_within : (d : Kind) (c : Column) (e : Key) → Has (needed_keys d c) e → Has c e
+needed_within d [] e h = no_key e h
+needed_within d ((p, k) ∷ c) e h = go (is_needed d p k c) refl (needed_within d c e)
+  where
+    go : (t : Bool) → is_needed d p k c ≡ t → (Has (needed_keys d c) e → Has c e) → Has ((p, k) ∷ c) e
+    go true i ih =
+        first_or_rest (p, k) e (needed_keys d c) ((p, k) ∷ c) (λ r. behind (p, k) e c (ih r))
+        (at_front (p, k) e c) (rw i at h)
+    go false i ih = behind (p, k) e c (ih (rw i at h))
+
+-- a key of a reduced column is one of the column
+pub reduced_within : (c : Column) (e : Key) → Has (reduced c) e → Has c e
+reduced_within c e h = unshadowed_within [] c e (needed_within (default (unshadowed [] c)) (unshadowed [] c) e h)
+
+-- ---- the normal form of a reduced list
+
+-- a normal list has no principal twice at a bit
+pub normal_once : (ns : List Ace) (b : ℕ) → IsNormal ns → IsOnce (column ns b)
+normal_once ns b n = once_from_clean (column ns b) (clean (column ns b) (irreducible_column ns b n.irreducible))
+
+-- and columns alike those of what is left of a list that grants the same
+pub normal_alike : (xs ys ns : List Ace) (b : ℕ) → IsIrreducibleList (left ys) → SameGrants all_rights xs ys
+    → IsNormal ns
+    → SameGrants all_rights xs ns → IsAlike (column ys b) (column ns b)
+normal_alike xs ys ns b irr f n g =
+    subst (λ c. IsAlike c (column ns b)) (column_left b ys) (alike_columns (left ys) ns irr n.irreducible same b)
+  where
+    same : SameGrants all_rights (left ys) ns
+    same =
+        grants_through (left ys) ys ns (grants_back ys (left ys) (same_left ys))
+        (grants_through ys xs ns (grants_back xs ys f) g)
+
+-- the normal form of a list has keys of the list alone, and no more of them
+pub taken : (xs ys ns : List Ace) → ((b : ℕ) → b < 21 → column ys b ≡ reduced (column xs b))
+    → IsIrreducibleList (left ys)
+    → SameGrants all_rights xs ys → IsNormal ns → SameGrants all_rights ys ns → IsTaken xs ns
+taken xs ys ns columns irr f n g = record {
+  normal = n;
+  grants = grants_through xs ys ns f g;
+  lighter = weight_falls xs ns (quiet_flags ns n.flags) masks fewer;
+  comes = λ b e h. ⊎_elim (λ l. reduced_within (column xs b) e (subst (λ c. Has c e) (columns b l) (in_rows b e h)))
+      (λ l. no_key e (subst (λ c. Has c e) (none b l) h)) (cases_lt b 21);
+}
+  where
+    masks : HasMasks ns
+    masks = masks_of_quiet ns (quiet_flags ns n.flags) (λ b out. no_other_bits ns b n.irreducible out)
+
+    high : (b : ℕ) → 21 ≤ b → b < 21 → ⊥
+    high b l h = omega (arith, l, h)
+
+    none : (b : ℕ) → 21 ≤ b → column ns b ≡ []
+    none b l = no_other_bits ns b n.irreducible (false_from_ne_true _ (λ t. absurd (high b l (rights_below b t))))
+
+    like : (b : ℕ) → IsAlike (column ys b) (column ns b)
+    like b = normal_alike xs ys ns b irr f n (grants_through xs ys ns f g)
+
+    once : (b : ℕ) → IsOnce (column ys b)
+    once b =
+        subst IsOnce (column_left b ys)
+        (once_from_clean (column (left ys) b) (clean (column (left ys) b) (irreducible_column (left ys) b irr)))
+
+    in_rows : (b : ℕ) (e : Key) → Has (column ns b) e → Has (column ys b) e
+    in_rows b (p, k) h =
+        has_once (column ys b) p k (like b p p (overlaps_itself p) ∙ once_has (column ns b) p k (normal_once ns b n) h)
+
+    fewer : (b : ℕ) → length (column ns b) ≤ length (column xs b)
+    fewer b =
+        ⊎_elim (λ l. omega (
+          arith,
+          alike_length (column ys b) (column ns b) (once b) (normal_once ns b n) (like b),
+          ap length (columns b l),
+          reduced_shorter (column xs b),
+        ))
+        (λ l. omega (arith, ap length (none b l))) (cases_lt b 21)

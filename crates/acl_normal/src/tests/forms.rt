@@ -1,0 +1,133 @@
+//! Normal forms of worked lists.
+
+use super::harness::{
+    ALLOW, AMY, AceRow, DENY, EVERYONE, EXECUTE, FOR_FILES, GROUP, NO_STAFF, NO_WRITE,
+    NO_WRITE_FORM, OWNER, READ_DATA, STAFF, WRITE_DATA, built, kept, passes,
+};
+use crate::{is_normal, normalize};
+use acl_nfs4::{Acl, PushFault};
+use std::alloc::{AllocError, Global};
+use std::process::Abort;
+
+const ALICE: AceRow = (ALLOW, 0, READ_DATA, b"alice");
+
+const ALL: AceRow = (ALLOW, 0, 0x001f_07ff, b"EVERYONE@");
+
+const OPS: AceRow = (ALLOW, 0, READ_DATA, b"ops");
+
+const NO_BOB: AceRow = (DENY, 0, READ_DATA, b"bob");
+
+const NO_OPS: AceRow = (DENY, GROUP, READ_DATA, b"ops");
+
+// Lists and their normal forms.
+static FORMS: [(&[AceRow], &[AceRow]); 19] = [
+    (&[], &[]),
+    (&[EVERYONE], &[EVERYONE]),
+    (&[ALL, ALL, ALL], &[ALL]),
+    (&[NO_BOB, ALICE], &[ALICE]),
+    (&[ALICE, NO_BOB], &[ALICE]),
+    (&[NO_BOB, EVERYONE], &[NO_BOB, EVERYONE]),
+    (
+        &[OWNER, (DENY, 0, READ_DATA | WRITE_DATA, b"OWNER@")],
+        &[OWNER],
+    ),
+    (
+        &[(ALLOW, GROUP, READ_DATA, b"GROUP@")],
+        &[(ALLOW, 0, READ_DATA, b"GROUP@")],
+    ),
+    (&NO_WRITE, &NO_WRITE_FORM),
+    (&[OPS, NO_OPS], &[OPS]),
+    (&[NO_OPS, OPS], &[NO_OPS, OPS]),
+    (
+        &[ALICE, (ALLOW, 0, WRITE_DATA, b"alice")],
+        &[(ALLOW, 0, READ_DATA | WRITE_DATA, b"alice")],
+    ),
+    (&STAFF, &[NO_STAFF, AMY, (ALLOW, 0, EXECUTE, b"EVERYONE@")]),
+    (
+        &[
+            (ALLOW, 0, READ_DATA, b"zoe"),
+            AMY,
+            (DENY, 0, READ_DATA, b"EVERYONE@"),
+        ],
+        &[AMY, (ALLOW, 0, READ_DATA, b"zoe")],
+    ),
+    (&FOR_FILES, &[AMY]),
+    (&[(DENY, 0, 0, b"OWNER@")], &[]),
+    (
+        &[
+            ALICE,
+            (DENY, 0, READ_DATA, b"OWNER@"),
+            (ALLOW, 0, READ_DATA, b"bob"),
+        ],
+        &[
+            ALICE,
+            (DENY, 0, READ_DATA, b"OWNER@"),
+            (ALLOW, 0, READ_DATA, b"bob"),
+        ],
+    ),
+    // Flags that play no part: those of inheritance, and then all but INHERIT_ONLY.
+    (&[(ALLOW, 0x83, READ_DATA, b"amy")], &[AMY]),
+    (
+        &[(ALLOW, 0xf7, READ_DATA, b"ops")],
+        &[(ALLOW, GROUP, READ_DATA, b"ops")],
+    ),
+];
+
+/// The worked lists, with their normal forms.
+pub fn forms() -> &'static [(&'static [AceRow], &'static [AceRow])] {
+    &FORMS
+}
+
+fn has_form(alloc: Global, list: &Acl, wanted: &Acl) -> Result<bool, AllocError> {
+    let form = normalize(alloc, list)?;
+    Ok(form == *wanted)
+}
+
+// Whether the list has this form, which has itself for its form, and each is normal just where it is its own form.
+fn is_normalized(alloc: Global, list: &Acl, wanted: &Acl) -> Result<bool, AllocError> {
+    let is_form = has_form(alloc, list, wanted)?;
+    let is_own_form = has_form(alloc, wanted, wanted)?;
+    let is_list_normal = is_normal(alloc, list)?;
+    let is_form_normal = is_normal(alloc, wanted)?;
+    Ok(is_form && is_own_form && is_form_normal && is_list_normal == (list == wanted))
+}
+
+/// Each worked list has its normal form.
+pub fn normal_forms(rt: &impl Abort, alloc: Global) -> Result<(), PushFault> {
+    for (lines, form) in forms() {
+        let list = built(alloc, lines)?;
+        let wanted = built(alloc, form)?;
+        assert!(rt; kept(is_normalized(alloc, &list, &wanted))?);
+    }
+    Ok(())
+}
+
+#[test]
+fn normal_form_of_a_worked_list_is_its_own(rt: HostRuntime) {
+    assert!(rt; passes(normal_forms(&rt, rt.alloc())));
+}
+
+// The ACEs of a list, so many times.
+fn repeated(alloc: Global, list: &Acl, times: usize) -> Result<Acl, PushFault> {
+    let mut whole = Acl::new(alloc);
+    for _place in 0..times {
+        for ace in list.aces() {
+            whole.push(ace)?;
+        }
+    }
+    Ok(whole)
+}
+
+mod ample {
+    use super::*;
+
+    // The heaviest list of one ACE, again and again.
+    #[test]
+    fn an_ace_that_is_repeated_stands_once(rt: HostRuntime) -> Result<(), PushFault> {
+        let wanted = built(rt.alloc(), &[ALL])?;
+        let list = repeated(rt.alloc(), &wanted, 4096)?;
+        assert!(rt; is_normal(rt.alloc(), &list) == Ok(false));
+        assert!(rt; has_form(rt.alloc(), &list, &wanted) == Ok(true));
+        Ok(())
+    }
+}

@@ -1,0 +1,34 @@
+//! The rows of principals, from which an ACE is taken after the other.
+
+use super::harness::{NO_WRITE, READ_DATA, WRITE_DATA, built};
+use crate::MergedRows;
+use acl_perm::{Kind, Mask, Principal};
+use std::process::Abort;
+use std::test::Fail;
+
+// Bob's ACE waits before the owner's, which is free to write once bob's is out.
+fn bob_goes_first(rt: &impl Abort, rows: &mut MergedRows<'_>, read: Mask, write: Mask) {
+    let bob = Principal::User(b"bob");
+    assert!(rt; rows.is_free(Principal::Owner, read));
+    assert!(rt; !rows.is_free(Principal::Owner, write));
+    assert!(rt; rows.is_free(bob, write));
+    assert!(rt; rows.waiting(Kind::Deny, true, write).contains(&0));
+    assert!(rt; rows.waiting(Kind::Allow, false, write).contains(&1));
+    rows.emit(bob, write);
+    assert!(rt; !rows.waiting(Kind::Deny, true, write).contains(&0));
+    assert!(rt; rows.is_free(Principal::Owner, write));
+}
+
+mod ample {
+    use super::*;
+
+    #[test]
+    fn merged_rows_are_freed_by_what_is_emitted(rt: HostRuntime) -> Result<(), Fail> {
+        let read = Mask::new(READ_DATA).ok_or("no such right")?;
+        let write = Mask::new(WRITE_DATA).ok_or("no such right")?;
+        let list = built(rt.alloc(), &NO_WRITE)?;
+        let mut rows = MergedRows::new(rt.alloc(), &list)?;
+        bob_goes_first(&rt, &mut rows, read, write);
+        Ok(())
+    }
+}

@@ -1,0 +1,207 @@
+//! The comparison, held against the plain search, which goes over all small situations.
+
+use super::differences::tells_apart;
+use super::harness::{
+    ALLOW, AceRow, DENY, Dice, GROUP, INHERIT_ONLY, READ_DATA, ace_of, built, kept,
+};
+use crate::{Difference, compare, plain};
+use acl_nfs4::{Acl, PushFault};
+use acl_perm::Kind;
+use std::alloc::{AllocError, Global};
+use std::process::Abort;
+
+// Whom the lists name that are compared.
+static PEOPLE: [(u32, &[u8]); 8] = [
+    (0, b"OWNER@"),
+    (0, b"a"),
+    (0, b"ab"),
+    (0, b"GROUP@"),
+    (GROUP, b"a"),
+    (GROUP, b"b"),
+    (GROUP | INHERIT_ONLY, b"abc"),
+    (0, b"EVERYONE@"),
+];
+
+fn any_row(dice: &mut Dice) -> AceRow {
+    let kind = if dice.below(2) == 0 { ALLOW } else { DENY };
+    let (flags, who) = PEOPLE
+        .get(dice.below(8) as usize)
+        .copied()
+        .unwrap_or((0, b"bob"));
+    (kind, flags, dice.below(4), who)
+}
+
+fn any_rows(alloc: Global, dice: &mut Dice) -> Result<Vec<AceRow>, AllocError> {
+    let mut rows = Vec::new(alloc);
+    for _ in 0..dice.below(6).saturating_add(2) {
+        rows.push(any_row(dice))?;
+    }
+    Ok(rows)
+}
+
+// The same rows with two of them in each other's place, without one, or rows of their own.
+fn other_rows(alloc: Global, dice: &mut Dice, rows: &[AceRow]) -> Result<Vec<AceRow>, AllocError> {
+    let mut others = Vec::from_slice(alloc, rows)?;
+    match dice.below(4) {
+        0 => any_rows(alloc, dice),
+        1 => {
+            others.pop();
+            Ok(others)
+        }
+        _ => {
+            let (i, j) = (dice.below(6) as usize, dice.below(6) as usize);
+            if i < others.len() && j < others.len() {
+                others.swap(i, j);
+            }
+            Ok(others)
+        }
+    }
+}
+
+// Whether two principals match whom the difference names: no name of these lists begins as a strange one.
+fn is_of_two(d: &Difference) -> bool {
+    let is_named = !d.user.starts_with(b"u");
+    let is_owner = d.owner == d.user;
+    let is_in_owning_group = d.groups.contains(&d.group);
+    let groups = d
+        .groups
+        .iter()
+        .filter(|group| !group.starts_with(b"g"))
+        .count();
+    let others = usize::from(is_named) + usize::from(is_owner) + usize::from(is_in_owning_group);
+    groups.saturating_add(others) == 2
+}
+
+fn same_difference(d: &Option<Difference>, e: &Option<Difference>) -> bool {
+    match (d, e) {
+        (None, None) => true,
+        (Some(d), Some(e)) => {
+            d.owner == e.owner
+                && d.group == e.group
+                && d.user == e.user
+                && d.groups == e.groups
+                && d.bit == e.bit
+                && d.first_grants == e.first_grants
+        }
+        _ => false,
+    }
+}
+
+// Whether the plain search finds the same.
+fn is_same_plainly(
+    alloc: Global,
+    first: &Acl,
+    second: &Acl,
+    found: &Option<Difference>,
+) -> Result<bool, AllocError> {
+    let slow = plain::compare(alloc, first, second)?;
+    Ok(same_difference(found, &slow))
+}
+
+// Of two lists none where they don't differ, and else whether two principals match.
+fn found_by_both(
+    rt: &impl Abort,
+    alloc: Global,
+    first: &Acl,
+    second: &Acl,
+) -> Result<Option<bool>, AllocError> {
+    let found = compare(alloc, first, second)?;
+    assert!(rt; is_same_plainly(alloc, first, second, &found)?);
+    match &found {
+        None => Ok(None),
+        Some(d) => {
+            assert!(rt; tells_apart(alloc, first, second, d)?);
+            Ok(Some(is_of_two(d)))
+        }
+    }
+}
+
+fn found_of_rows(
+    rt: &impl Abort,
+    alloc: Global,
+    rows: &[AceRow],
+    others: &[AceRow],
+) -> Result<Option<bool>, PushFault> {
+    let first = built(alloc, rows)?;
+    let second = built(alloc, others)?;
+    kept(found_by_both(rt, alloc, &first, &second))
+}
+
+fn found_of_next(
+    rt: &impl Abort,
+    alloc: Global,
+    dice: &mut Dice,
+) -> Result<Option<bool>, PushFault> {
+    let rows = kept(any_rows(alloc, dice))?;
+    let others = kept(other_rows(alloc, dice, &rows))?;
+    found_of_rows(rt, alloc, &rows, &others)
+}
+
+fn push_group(list: &mut Acl, kind: Kind, number: u8) -> Result<(), PushFault> {
+    let who = [b'a' + number / 16, b'a' + number % 16];
+    match ace_of(kind, GROUP, READ_DATA, &who) {
+        Some(ace) => list.push(ace),
+        None => Ok(()),
+    }
+}
+
+// DENY for so many groups, and ALLOW for one more, before the last of them or behind it.
+fn many_groups(alloc: Global, count: u8, is_before: bool) -> Result<Acl, PushFault> {
+    let mut list = Acl::new(alloc);
+    for number in 1..count {
+        push_group(&mut list, DENY, number)?;
+    }
+    if is_before {
+        push_group(&mut list, ALLOW, 255)?;
+    }
+    push_group(&mut list, DENY, 0)?;
+    if !is_before {
+        push_group(&mut list, ALLOW, 255)?;
+    }
+    Ok(list)
+}
+
+fn found_of_groups(
+    rt: &impl Abort,
+    alloc: Global,
+    count: u8,
+    is_before: bool,
+) -> Result<Option<bool>, PushFault> {
+    let first = many_groups(alloc, count, true)?;
+    let second = many_groups(alloc, count, is_before)?;
+    kept(found_by_both(rt, alloc, &first, &second))
+}
+
+mod ample {
+    use super::*;
+
+    #[test]
+    fn compare_finds_what_the_plain_search_finds(rt: HostRuntime) -> Result<(), PushFault> {
+        let mut dice = Dice { state: 2026 };
+        let (mut same, mut apart, mut by_two) = (0u32, 0u32, 0u32);
+        for _ in 0..2_500 {
+            match found_of_next(&rt, rt.alloc(), &mut dice)? {
+                None => same = same.saturating_add(1),
+                Some(is_by_two) => {
+                    apart = apart.saturating_add(1);
+                    by_two = by_two.saturating_add(u32::from(is_by_two));
+                }
+            }
+        }
+        // The pairs are of each kind.
+        assert!(rt;
+            same > 300 && apart > 300 && by_two > 20,
+            "{same} {apart} {by_two}"
+        );
+        Ok(())
+    }
+
+    // They differ for a member of two groups alone, or not at all.
+    #[test]
+    fn compare_finds_what_the_plain_search_finds_of_many_groups(rt: HostRuntime) {
+        for count in [41, 64, 128u8] {
+            assert!(rt; found_of_groups(&rt, rt.alloc(), count, false) == Ok(Some(true)));
+            assert!(rt; found_of_groups(&rt, rt.alloc(), count, true) == Ok(None));
+        }
+    }
+}

@@ -1,0 +1,66 @@
+//! The tables of single rights.
+
+use super::harness::{
+    ALLOW, AceRow, DENY, EXECUTE, FOR_FILES, NO_WRITE, READ_DATA, STAFF, WRITE_DATA, built, kept,
+    passes,
+};
+use crate::{Row, table};
+use acl_nfs4::{Acl, PushFault};
+use acl_perm::{Kind, Mask};
+use std::alloc::{AllocError, Global};
+use std::process::Abort;
+
+// Of a list and a right, the rows: the place, the type, the who, and whether it is the name of a group.
+type Shown = (usize, Kind, &'static [u8], bool);
+
+static TABLES: [(&[AceRow], u32, &[Shown]); 6] = [
+    (
+        &NO_WRITE,
+        WRITE_DATA,
+        &[(0, DENY, b"bob", false), (1, ALLOW, b"OWNER@", false)],
+    ),
+    (&NO_WRITE, READ_DATA, &[(1, ALLOW, b"OWNER@", false)]),
+    (&STAFF, EXECUTE, &[(2, ALLOW, b"EVERYONE@", false)]),
+    (
+        &STAFF,
+        READ_DATA,
+        &[(0, DENY, b"staff", true), (1, ALLOW, b"amy", false)],
+    ),
+    (&FOR_FILES, READ_DATA, &[(1, ALLOW, b"amy", false)]),
+    (&FOR_FILES, 0, &[]),
+];
+
+fn is_shown(row: &Row, shown: &Shown) -> bool {
+    let (source, kind, who, group) = *shown;
+    row.source == source && row.kind == kind && row.who.as_slice() == who && row.group == group
+}
+
+fn are_shown(rows: &[Row], wanted: &[Shown]) -> bool {
+    for (row, shown) in rows.iter().zip(wanted) {
+        if !is_shown(row, shown) {
+            return false;
+        }
+    }
+    rows.len() == wanted.len()
+}
+
+fn is_table(alloc: Global, list: &Acl, bit: Mask, wanted: &[Shown]) -> Result<bool, AllocError> {
+    let rows = table(alloc, list, bit)?;
+    Ok(are_shown(&rows, wanted))
+}
+
+/// A row tells the first ACE of its who that has the right and takes part.
+pub fn tables(rt: &impl Abort, alloc: Global) -> Result<(), PushFault> {
+    for (lines, bits, wanted) in &TABLES {
+        let list = built(alloc, lines)?;
+        if let Some(bit) = Mask::new(*bits) {
+            assert!(rt; kept(is_table(alloc, &list, bit, wanted))?);
+        }
+    }
+    Ok(())
+}
+
+#[test]
+fn table_names_the_source_of_each_row(rt: HostRuntime) {
+    assert!(rt; passes(tables(&rt, rt.alloc())));
+}
