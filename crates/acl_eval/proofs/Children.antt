@@ -6,7 +6,6 @@ use Rattle.std.specs.Int.{bit_at}
 use Rattle.std.proofs.lemmas.Bool.{eqb-true}
 use Rattle.std.proofs.lemmas.Nat.{and_comm}
 use Rattle.std.proofs.lemmas.Nat.Bits.{and_pow}
-use Rattle.std.proofs.lemmas.List.{length-append}
 use Rattle.std.proofs.lemmas.Option.{same_Some}
 use Rattle.acl_perm.proofs.Sets.{has_bit-and, has_bit-or, same_set}
 use Rattle.acl_perm.specs.Bits.{has_bit, inherit_only}
@@ -145,23 +144,6 @@ child_accepted p kind list h ok = record {
       (λ a f e is. record { flags = child_within p.flags kind a.flags f h is.flags e; mask = is.mask; who = is.who })
       ok.each;
 }
-
-each_front : (P : Ace → Type 0) (front back : List Ace) → AllByRecursion P (front ++ back) → AllByRecursion P front
-each_front P [] back each = tt
-each_front P (a ∷ front) back each = (each.0, each_front P front back each.1)
-
--- the front of an accepted list is accepted
-pub front_accepted : (p : Profile) (front back : List Ace) → IsAccepted p (front ++ back) → IsAccepted p front
-front_accepted p front back ok = record {
-  count = omega (arith, ok.count, length-append front back);
-  weight = omega (arith, ok.weight, weight_front front back);
-  each = each_front (IsAce p) front back ok.each;
-}
-  where
-    weight_front : (front back : List Ace) → weight front ≤ weight (front ++ back)
-    weight_front [] back = omega arith
-    weight_front (a ∷ front) back =
-        omega (arith, weight_front front back, weight-cons a front, weight-cons a (front ++ back))
 
 -- one more ACE moves from what is to come to what the child has
 pub moved : (done rest : List Ace) (a : Ace) → (done ++ a ∷ []) ++ rest ≡ done ++ a ∷ rest

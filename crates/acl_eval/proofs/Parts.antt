@@ -22,7 +22,7 @@ use Rattle.acl_eval.specs.declared.bridging.BridgeFault.{BridgeFault}
 use Rattle.acl_eval.specs.declared.bridging.BridgeFault.TheVariants.{Limits, Memory}
 use Rattle.acl_eval.specs.Bridge.{image, who_of, flags_of, ace_of, each, is_user_tag, is_group_tag, is_other_tag, allow_of, deny_of, decide_of, bridge_list}
 use Rattle.acl_eval.specs.internal.BridgeBody.{part_of, Refuses, fault_of}
-use Rattle.acl_eval.proofs.Children.{front_accepted}
+use Rattle.acl_nfs4.proofs.Lists.{front_accepted}
 use Rattle.acl_perm.specs.Profile.{full}
 
 -- ---- what is refused stays refused with more behind it

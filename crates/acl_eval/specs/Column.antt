@@ -1,4 +1,4 @@
--- The entries of one bit of a list of ACEs, and what they decide (RFC 8881, section 6.2.1).
+-- The keys of those ACEs of a list that have one bit, and what they decide (RFC 8881, section 6.2.1).
 use Rattle.std.specs.Prelude.{◌≡◌, ℕ, Bool, ◌&&◌, not, if◌then◌else◌, List, [], ◌∷◌, map, filter, Option, Some, None, unwrap_or}
 use Rattle.acl_perm.specs.Bits.{has_bit, inherit_only}
 use Rattle.acl_perm.specs.Principal.{Principal}
@@ -12,7 +12,7 @@ use Rattle.acl_nfs4.specs.Who.{principal_of}
 abbrev pub takes_part : Ace → Bool
 takes_part a = not (has_bit a.flags inherit_only)
 
--- entries in order: whom each names, and whether it denies or allows
+-- keys in order: whom each names, and whether it denies or allows
 abbrev pub Column : Type 0
 Column = List (Principal × Kind)
 
@@ -20,7 +20,7 @@ Column = List (Principal × Kind)
 abbrev pub column : List Ace → ℕ → Column
 column list bit = map (λ a. (principal_of a, a.kind)) (filter (λ a. has_bit a.mask bit && takes_part a) list)
 
--- the type of the first entry whose principal passes the test
+-- the type of the first key whose principal passes the test
 abbrev pub first_kind : (Principal → Bool) → Column → Option Kind
 first_kind test [] = None
 first_kind test ((p, kind) ∷ entries) = if test p then Some kind else first_kind test entries

@@ -11,9 +11,9 @@ successful_access = 4
 abbrev pub failed_access : ℕ
 failed_access = 5
 
--- which flags an ACE has in the child, by those that it has in the parent, where it is handed on or is not: the two
--- that say for what it is made where it is, with INHERIT_ONLY exactly where that is no directory; and those that say
--- nothing of inheritance as they were
+-- the flags f of an ACE in the child, by its flags in the parent and whether the child hands it on: FILE_INHERIT and
+-- DIRECTORY_INHERIT are as they were if it does, and else clear; INHERIT_ONLY is set if it does and DIRECTORY_INHERIT
+-- is clear; NO_PROPAGATE_INHERIT and INHERITED are clear; the other three flags are as they were
 pub record IsByFlag (is_handed_on : Bool) (flags f : ℕ) : Type 0 where
   pub file : has_bit f file_inherit ≡ (is_handed_on && has_bit flags file_inherit)
   pub directory : has_bit f directory_inherit ≡ (is_handed_on && has_bit flags directory_inherit)

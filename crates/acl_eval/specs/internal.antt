@@ -1,14 +1,14 @@
--- What only this library's code and its proofs need. No public clause cites it.
---
--- LastByte: the last byte of a name
--- GroupOrder: the order of groups
--- Asked: what a standing asks
--- DecidingBody: going over a list for the ACE that decides
--- Settled: what is known of a part of the mode while a list is gone over
--- BridgeBody: the list of a POSIX ACL while it is made
+-- What only the code and its proofs need (this library's own): no clause of a public call cites it.
+
+-- the last byte of a name, by which most names are told apart
 pub mod LastByte
+-- the order of groups, by which one is looked up
 pub mod GroupOrder
+-- how a requester stands to an object, as a situation
 pub mod Asked
+-- going over a list for the ACE that decides
 pub mod DecidingBody
+-- what is known of a class of the mode before the rest of a list is gone over
 pub mod Settled
+-- the list of a POSIX ACL while it is made, and the weight that its entries cost
 pub mod BridgeBody

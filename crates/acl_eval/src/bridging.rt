@@ -36,10 +36,12 @@ enum Part {
     Others,
 }
 
-/// The NFSv4 list that stands for a POSIX access ACL: what USER_OBJ and each USER allow and deny, then what GROUP_OBJ
-/// and each GROUP allow, then what these deny, then what OTHER allows. Permissions are effective ones, read stands for
-/// READ_DATA, write for WRITE_DATA and APPEND_DATA, execute for EXECUTE, and names are decimal ids. Limits are judged
-/// before memory is asked for. Time n log n in the number of entries.
+/// The NFSv4 list that stands for a POSIX access ACL (this library's own: neither RFC 8881 nor acl(5) has one). It has
+/// what USER_OBJ and each USER allow and deny, then what GROUP_OBJ and each GROUP allow, then what these deny, then
+/// what OTHER allows. Groups deny after all of them have allowed, since acl(5), "ACCESS CHECK ALGORITHM", asks whether
+/// any group's entry grants. Permissions are effective ones, read stands for READ_DATA, write for WRITE_DATA and
+/// APPEND_DATA, execute for EXECUTE, and names are decimal ids. `Limits` is judged before memory is asked for. Time is
+/// linear in the number of entries.
 pub fn bridge(alloc: Global, acl: &PosixAcl) -> Result<Acl, BridgeFault>
     ensures list { IfOk result (λ list. list ≡ bridge_list acl.now) }
     // A list is answered only where it is accepted.

@@ -19,9 +19,9 @@ pub struct Decision {
     pub kind: Kind,
 }
 
-/// The ACE that decides the right for the requester of the object: the first of those without INHERIT_ONLY that has it
-/// and speaks of the requester; none where no ACE does, which denies the right. It goes over the list once, ends at
-/// that ACE, and takes no memory.
+/// The ACE that decides the right for the requester of the object, by RFC 8881, section 6.2.1: the first of those
+/// without INHERIT_ONLY that has it and speaks of the requester; none where no ACE does, which denies the right. It
+/// goes over the list once, ends at that ACE, and takes no memory.
 #[tactic(auto, using(crate::proofs::Decisions::decisions))]
 pub fn deciding_ace(
     aces: Aces<'_>,

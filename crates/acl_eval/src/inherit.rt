@@ -18,9 +18,10 @@ pub enum ChildKind {
     Directory,
 }
 
-/// The list that a new object takes from that of the directory in which it is created, in time linear in its bytes.
-/// Its ACEs are those of the parent that are inherited, in order and as they were, but for the flags that speak of
-/// inheritance.
+/// The list that a new object takes from `parent`, the list of the directory in which it is created (this library's
+/// own, in the manner of RFC 8881, section 6.4). Its ACEs are those of the parent that are inherited, in order and as
+/// they were, but for the flags that speak of inheritance. Time is linear in the bytes of the parent, and only want of
+/// memory fails.
 #[tactic(auto)]
 pub fn child(alloc: Global, parent: &Acl, kind: ChildKind) -> Result<Acl, AllocError>
     ensures ok { IfOk result (λ list. list ≡ children kind parent.now) }

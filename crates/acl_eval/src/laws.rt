@@ -129,5 +129,6 @@ pub fn bridge_and_check(acl: &PosixAcl, owner: Id, group: Id, user: Id, groups: 
         (record { user = user.value; groups = ids groups.now })
         want.bits }
 {
+    // The entries of an ACL are valid, and the law is one of valid entries.
     let _entries = acl.entries();
 }

@@ -1,5 +1,5 @@
--- The first fault of a text, said without reading it: where its fields end, and what the next one breaks. The layout is
--- that of RFC 4506, sections 4.2, 4.11 and 4.13, over RFC 8881, section 6.2.1; the reasons are this library's own.
+-- The first fault of bytes, said without reading them: where their fields end, and what the next one breaks. The layout
+-- is that of RFC 4506, sections 4.2, 4.11 and 4.13, over RFC 8881, section 6.2.1; the reasons are this library's own.
 use Rattle.std.specs.Prelude.{◌≡◌, ℕ, ◌+◌, ◌≤◌, ◌<◌, List, [], ◌∷◌, ◌++◌, length, take, replicate, count_ones, Err, ◌⊎◌}
 use Rattle.acl_perm.specs.Profile.{Profile}
 use Rattle.acl_nfs4.specs.Ace.{Ace}
@@ -23,7 +23,7 @@ pub data Stage : Type 0 where
   who : (n : ℕ) (list : List Ace) (k : Kind) (f m l : ℕ) → Stage
   padding : (n : ℕ) (list : List Ace) (k : Kind) (f m : ℕ) (who : List ℕ) → Stage
 
--- a text whose fields are all accepted, and what stands next: a case for each row of the layout
+-- bytes whose fields are all accepted, and what stands next: a case for each row of the layout
 pub data Border (p : Profile) : Stage → List ℕ → Type 0 where
   start : Border p count []
   counted : (n : ℕ) → n ≤ most_aces → Border p (kind n []) (word n)
@@ -77,14 +77,14 @@ IsOwed (len n list k f m) = Unit {0}
 IsOwed (who n list k f m l) = Unit {0}
 IsOwed (padding n list k f m w) = Unit {0}
 
--- the rest of the text ends inside the next field, and all of it is taken, or the field is whole and refused, and what
+-- the rest of the bytes ends inside the next field, and all of it is taken, or the field is whole and refused, and what
 -- is taken ends where it does
 abbrev pub Breaks : Profile → Stage → List ℕ → ℕ → Reason → Type 0
 Breaks p s rest n r = ((length rest < size s) × (n ≡ length rest) × (r ≡ Truncated))
     ⊎ ((size s ≤ length rest) × (n ≡ size s) × refuses p s (take (size s) rest) r)
 
--- the first fault of a text: accepted fields up to a border, where one of at least one byte is owed and breaks; and how
--- many bytes of the text are taken when that is known
+-- the first fault of bytes: accepted fields up to a border, where one of at least one byte is owed and breaks; and how
+-- many of the bytes are taken when that is known
 pub record IsFirstFault (p : Profile) (bytes : List ℕ) (offset taken : ℕ) (r : Reason) : Type 0 where
   pub stage : Stage
   pub front : List ℕ
@@ -98,11 +98,11 @@ pub record IsFirstFault (p : Profile) (bytes : List ℕ) (offset taken : ℕ) (r
   pub breaks : Breaks p stage rest more r
   pub ends : offset + more ≡ taken
 
--- the first fault of a text
+-- the first fault of bytes
 abbrev pub IsFault : Profile → List ℕ → ℕ → Reason → Type 0
 IsFault p bytes offset r = (taken : ℕ) × IsFirstFault p bytes offset taken r
 
--- the first fault of a text that is to be one value and nothing more: that of its value, or the first byte behind it
+-- the first fault of bytes that are to be one list and nothing more: that of the list, or the first byte behind it
 pub data IsWholeFault (p : Profile) (bytes : List ℕ) : ℕ → Reason → Type 0 where
   of_value : (offset : ℕ) (r : Reason) → IsFault p bytes offset r → IsWholeFault p bytes offset r
   behind : (list : List Ace) (text rest : List ℕ)

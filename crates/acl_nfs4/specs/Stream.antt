@@ -12,7 +12,7 @@ use Rattle.acl_nfs4.specs.declared.xdr.fault.Reason.TheVariants.{Truncated, Read
 use Rattle.acl_nfs4.specs.declared.feed.fed.Fed.{Fed}
 use Rattle.acl_nfs4.specs.declared.feed.fed.Fed.TheVariants.{More, Done, Refused}
 
--- a text that ends before its value does
+-- bytes that end before their list does
 abbrev pub IsCut : Profile → List ℕ → Type 0
 IsCut p text = (o : ℕ) × IsFault p text o Truncated
 
@@ -30,7 +30,7 @@ no_memory = record { offset = 0; reason = Memory }
 abbrev pub Refuses : Profile → List ℕ → Fault → Type 0
 Refuses p text f = (f ≡ no_memory) ⊎ (IsFault p text f.offset f.reason × (f.reason ≢ Truncated))
 
--- the answer to one more piece, and what the feed stands for then: the stream is cut short, or begins with a value that
+-- the answer to one more piece, and what the feed stands for then: the stream is cut short, or begins with a list that
 -- ends in this piece, or has a fault; a list and a fault are kept
 abbrev pub Feeds : Standing → List ℕ → Fed → Standing → Type 0
 Feeds (more p s) piece More new = (new ≡ more p (s ++ piece)) × IsCut p (s ++ piece)

@@ -1,18 +1,18 @@
--- What only this library's code and its proofs need. No public clause cites it.
---
--- Reading: what is read of a list's bytes from left to right, and its fault
--- Cursor: the place of a reader
--- Body: the ACEs of a list without the word of their number
--- Appending: bytes at the end of others
--- Progress: how far a text that comes in pieces is judged
--- Pulling: fields that are pulled from a source
--- NameTable: a table of names as the code holds it
--- AceReading: what is read of lines of ACEs, and its fault
+-- What only the code and its proofs need (this library's own): no clause of a public call cites it.
+
+-- what is read of a list's bytes from left to right, and its fault
 pub mod Reading
+-- the place of a reader
 pub mod Cursor
+-- the ACEs of a list without the word of their number
 pub mod Body
+-- a table of names as the code holds it, and how a field that names some is cut
 pub mod NameTable
+-- what is read of lines of ACEs, and its fault
 pub mod AceReading
+-- bytes at the end of others
 pub mod Appending
+-- how far bytes that come in pieces are judged
 pub mod Progress
+-- fields that are pulled from a source
 pub mod Pulling

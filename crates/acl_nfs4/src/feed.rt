@@ -24,7 +24,7 @@ use std::marker::Model;
 // A long piece is taken by so many bytes at a time, so that no more than these are kept in vain behind a list's end.
 const CHUNK: usize = 4096;
 
-/// A value of which a part has come. It holds the whole ACEs that came so far and the fields so far of the one that is
+/// A list of which a part has come. It holds the whole ACEs that came so far and the fields so far of the one that is
 /// being read.
 #[derive(Drop)]
 pub struct Feed {

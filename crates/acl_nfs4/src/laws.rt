@@ -40,7 +40,7 @@ pub fn faults_break_spellings()
         → BeginsSpelling p (take offset bytes) }
 {}
 
-/// At most one fault fits a text, and none where a spelling stands at its front.
+/// At most one fault fits bytes, and none where a spelling stands at their front.
 pub fn one_fault()
     ensures one { (p : Profile) (bytes : List ℕ) (o q t u : ℕ) (r s : Reason) → IsProfile p
         → IsFirstFault p bytes o t r → IsFirstFault p bytes q u s → (o ≡ q) × (t ≡ u) × (r ≡ s) }
@@ -49,7 +49,7 @@ pub fn one_fault()
         → IsProfile p → Xdr p list text → bytes ≡ text ++ rest → IsFault p bytes o r → ⊥ }
 {}
 
-/// At most one fault fits a text that is to be one spelling and nothing more, and none where it is one.
+/// At most one fault fits bytes that are to be one spelling and nothing more, and none where they are one.
 pub fn one_whole_fault()
     ensures one { (p : Profile) (bytes : List ℕ) (o q : ℕ) (r s : Reason) → IsProfile p
         → IsWholeFault p bytes o r

@@ -5,15 +5,18 @@ ghost use Rattle.acl_nfs4.specs.internal.Reading.{is_plain_ascii, ArePlain};
 
 use std::simd::prelude::*;
 
-// Whether the N bytes from `at` on are plain ASCII, which are 0x5f bytes from the blank on.
+/// Whether all bytes are plain ASCII. `true` is certain; at `false`, `judge_bytes` of `who` looks at each byte.
+#[tactic(auto, using(crate::proofs::PlainLanes::plain_whole))]
 #[inline(always)]
-fn are_plain<const N: usize>(bytes: &[u8], at: usize) -> bool
-    requires lanes { N ≤ 64 }
-    requires inside { at + N ≤ length bytes.now }
-    ensures { IsTrue result → ArePlain bytes.now at (at + N) }
+pub(crate) fn is_plain_ascii(bytes: &[u8]) -> bool
+    ensures { IsTrue result → list_all is_plain_ascii bytes.now ≡ true }
 {
-    let above = Simd::<u8, N>::from_slice(&bytes[at..]) - Simd::<u8, N>::splat(0x20);
-    above.simd_ge(Simd::<u8, N>::splat(0x5f)).to_bitmask() == 0
+    match bytes.len() {
+        0..4 => bytes.iter().all(|byte| *byte >= 0x20 && *byte < 0x7f),
+        4..8 => ends_are_plain::<4>(bytes),
+        8..16 => ends_are_plain::<8>(bytes),
+        _ => is_long_plain(bytes),
+    }
 }
 
 // Whether N to 2 N bytes are plain ASCII: the first N and the last N of them, which may overlap.
@@ -43,16 +46,14 @@ fn is_long_plain(bytes: &[u8]) -> bool
     are_plain::<16>(bytes, last)
 }
 
-/// Whether all bytes are plain ASCII. What is true holds; the judges of a who go by the byte where it is false.
-#[tactic(auto, using(crate::proofs::PlainLanes::plain_whole))]
+// Whether the N bytes from `at` on are plain ASCII. Plain ASCII is 0x20 to 0x7e, so such a byte minus 0x20 is below
+// 0x5f. Any other byte minus 0x20 is 0x5f or more, since the subtraction wraps.
 #[inline(always)]
-pub(crate) fn is_plain_ascii(bytes: &[u8]) -> bool
-    ensures { IsTrue result → list_all is_plain_ascii bytes.now ≡ true }
+fn are_plain<const N: usize>(bytes: &[u8], at: usize) -> bool
+    requires lanes { N ≤ 64 }
+    requires inside { at + N ≤ length bytes.now }
+    ensures { IsTrue result → ArePlain bytes.now at (at + N) }
 {
-    match bytes.len() {
-        0..4 => bytes.iter().all(|byte| *byte >= 0x20 && *byte < 0x7f),
-        4..8 => ends_are_plain::<4>(bytes),
-        8..16 => ends_are_plain::<8>(bytes),
-        _ => is_long_plain(bytes),
-    }
+    let above = Simd::<u8, N>::from_slice(&bytes[at..]) - Simd::<u8, N>::splat(0x20);
+    above.simd_ge(Simd::<u8, N>::splat(0x5f)).to_bitmask() == 0
 }

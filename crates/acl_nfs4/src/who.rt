@@ -17,51 +17,6 @@ pub(crate) enum WhoFault {
     Special,
 }
 
-#[tactic(auto, using(crate::proofs::PlainText::text_tests))]
-fn is_text(bytes: &[u8]) -> bool
-    ensures { result ≡ is_utf8 bytes.now }
-{
-    match str::from_utf8(bytes) {
-        Ok(_) => true,
-        Err(_) => false,
-    }
-}
-
-fn is_plain_byte(byte: u8) -> bool
-    ensures { result ≡ is_plain byte }
-{
-    byte >= 0x20 && byte != 0x7f
-}
-
-fn is_plain_text(bytes: &[u8]) -> bool
-    ensures { result ≡ list_all is_plain bytes.now }
-{
-    bytes.iter().all(|byte| is_plain_byte(*byte))
-}
-
-#[inline(always)]
-fn has_at(who: &[u8]) -> bool
-    requires { 1 ≤ length who.now }
-    ensures { result ≡ ends_in_at who.now }
-{
-    who[who.len() - 1] == b'@'
-}
-
-#[inline(never)]
-fn is_special_who(who: &[u8]) -> bool
-    ensures { result ≡ is_special who.now }
-{
-    who == b"OWNER@".as_slice() || who == b"GROUP@".as_slice() || who == b"EVERYONE@".as_slice()
-}
-
-/// Whether no who has so many bytes.
-#[inline(always)]
-pub(crate) fn is_no_who_len(len: usize) -> bool
-    ensures { result ≡ is_no_who_len len }
-{
-    len == 0 || len > LONGEST_WHO
-}
-
 /// Refuses what can't be a who.
 pub(crate) fn judge(who: &[u8]) -> Result<(), WhoFault>
     ensures { Judges result (who_fault who.now) }
@@ -72,18 +27,12 @@ pub(crate) fn judge(who: &[u8]) -> Result<(), WhoFault>
     judge_text(who)
 }
 
-// Refuses what isn't UTF-8, and what has a control byte.
-#[inline(never)]
-fn judge_bytes(who: &[u8]) -> Result<(), WhoFault>
-    ensures { Judges result (text_fault who.now) }
+/// Whether no who has so many bytes.
+#[inline(always)]
+pub(crate) fn is_no_who_len(len: usize) -> bool
+    ensures { result ≡ is_no_who_len len }
 {
-    if !is_text(who) {
-        return Err(WhoFault::Utf8);
-    }
-    if !is_plain_text(who) {
-        return Err(WhoFault::Control);
-    }
-    Ok(())
+    len == 0 || len > LONGEST_WHO
 }
 
 /// Refuses what can't be a who of this length.
@@ -101,4 +50,55 @@ pub(crate) fn judge_text(who: &[u8]) -> Result<(), WhoFault>
         return Err(WhoFault::Special);
     }
     Ok(())
+}
+
+// Refuses what isn't UTF-8, and what has a control byte.
+#[inline(never)]
+fn judge_bytes(who: &[u8]) -> Result<(), WhoFault>
+    ensures { Judges result (text_fault who.now) }
+{
+    if !is_text(who) {
+        return Err(WhoFault::Utf8);
+    }
+    if !is_plain_text(who) {
+        return Err(WhoFault::Control);
+    }
+    Ok(())
+}
+
+#[tactic(auto, using(crate::proofs::PlainText::text_tests))]
+fn is_text(bytes: &[u8]) -> bool
+    ensures { result ≡ is_utf8 bytes.now }
+{
+    match str::from_utf8(bytes) {
+        Ok(_) => true,
+        Err(_) => false,
+    }
+}
+
+fn is_plain_text(bytes: &[u8]) -> bool
+    ensures { result ≡ list_all is_plain bytes.now }
+{
+    bytes.iter().all(|byte| is_plain_byte(*byte))
+}
+
+fn is_plain_byte(byte: u8) -> bool
+    ensures { result ≡ is_plain byte }
+{
+    byte >= 0x20 && byte != 0x7f
+}
+
+#[inline(always)]
+fn has_at(who: &[u8]) -> bool
+    requires { 1 ≤ length who.now }
+    ensures { result ≡ ends_in_at who.now }
+{
+    who[who.len() - 1] == b'@'
+}
+
+#[inline(never)]
+fn is_special_who(who: &[u8]) -> bool
+    ensures { result ≡ is_special who.now }
+{
+    who == b"OWNER@".as_slice() || who == b"GROUP@".as_slice() || who == b"EVERYONE@".as_slice()
 }

@@ -1,15 +1,30 @@
+-- the principals that lists mention
 pub mod MentionedPrincipals
+-- the small situations of two lists decide whether the lists grant the same
 pub mod SmallSetLemmas
+-- what a list grants to a small set of principals, as the code finds it: for all rights at once
 pub mod SetEvaluation
+-- the test whether two principals are the same
 pub mod SameTests
+-- going over the small sets, one after the other
 pub mod SetSearchLemmas
+-- the longest name of the principals that lists mention
 pub mod MentionedNames
+-- rising lists of the same principals are the same
 pub mod Ordered
+-- what the first small set at which two lists grant otherwise says of them
 pub mod FirstSet
+-- the numbers of principals that stand in order
 pub mod Numbers
+-- the principals that lists mention, by row and by number
 pub mod MentionedRows
+-- where a list first speaks of each principal
 pub mod FirstPlaceLemmas
+-- what two principals are granted, by what each is granted alone and which comes first
 pub mod PairGrants
+-- the least number of a principal at which two lists grant otherwise, bit by bit
 pub mod RowFacts
+-- tables tell which standings invert another
 pub mod TableFacts
+-- the first small set, by least numbers
 pub mod Assembly

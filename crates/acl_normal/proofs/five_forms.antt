@@ -1,3 +1,6 @@
+-- below the first new directory nothing is new, and what fits a profile does at every path
 pub mod Paths
+-- lists that go out one behind the other
 pub mod FormsOut
+-- that the ACEs of a normal form, one after the other, are a list
 pub mod Writing

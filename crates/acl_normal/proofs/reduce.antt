@@ -1,5 +1,10 @@
+-- what is unshadowed in a column, and ACEs by place
 pub mod FirstRows
+-- the masks of the first ACEs of a list, place by place
 pub mod FirstMasks
+-- the masks of what later ACEs have, and of what everyone is allowed
 pub mod LaterBits
+-- the needless bits dropped, from the last ACE to the first
 pub mod Unneeded
+-- a list with reduced columns is irreducible and grants the same
 pub mod Reducing

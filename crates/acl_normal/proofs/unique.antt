@@ -1,28 +1,56 @@
+-- when two principals are the same, and when they overlap
 pub mod Names
+-- one bit of a list that begins with an ACE, or that is two lists
 pub mod Columns
+-- a column without a principal
 pub mod Shorter
+-- the first key of a column that passes a test
 pub mod FirstKind
+-- the small situations: which principals match in them
 pub mod Realised
+-- what an irreducible column looks like
 pub mod Irreducible
+-- the principals of an irreducible column have names
 pub mod Named
+-- irreducible columns that decide alike are alike
 pub mod SameKeys
+-- single bits of a mask
 pub mod Bits
+-- the columns of lists, and of irreducible lists
 pub mod ListColumns
+-- which keys are free, by what comes first
 pub mod Free
+-- the order of keys tells them apart
 pub mod Keys
+-- normal lists that grant the same are equal
 pub mod Unique
+-- irreducible lists that grant the same: the same bits, in the same order
 pub mod SameOrder
+-- what comes first of a list, and what is emitted of the rest
 pub mod FirstAndRest
+-- settled columns, and that they are irreducible
 pub mod Settled
+-- a column alike an irreducible one is irreducible
 pub mod Invariant
+-- lists whose columns are irreducible, and normal forms
 pub mod Normal
+-- small situations suffice to compare columns
 pub mod Small
+-- the weight of a list, bit by bit
 pub mod Weights
+-- ACEs with fewer bits stay within what the list is within
 pub mod Kept
+-- lists that fit a profile grant nothing outside it
 pub mod Profiles
+-- normal forms have equal spellings exactly if their sources grant the same
 pub mod Spelled
+-- what is known of an accepted list: each who is a name, and each bit is a right
 pub mod Accepted
+-- what lists of one outline have in common: all but the masks
 pub mod Outline
+-- what makes a normal list the normal form of an accepted one: that its keys are keys of the source
 pub mod Forming
+-- that the keys of the normal form are keys of the source
 pub mod Taken
+-- the five normal forms of a list, and what they tell of it
 pub mod FiveFormLemmas

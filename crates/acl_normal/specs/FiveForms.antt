@@ -1,5 +1,5 @@
 -- The five normal forms of the list of a directory (this library's own, over RFC 8881, section 6.2.1).
-use Rattle.std.specs.Prelude.{◌≡◌, ◌∷◌, [], ℕ, Bool, List}
+use Rattle.std.specs.Prelude.{◌≡◌, ◌↔◌, ◌∷◌, [], ℕ, Bool, List}
 use Rattle.std.specs.Cmp.{IsEquivalence, IsPartialEquivalence, on_equiv, on_per}
 use Rattle.std.specs.Cmp.Lexicographic.{lists_equiv, lists_per, pointwise}
 use Rattle.std.specs.List.{flat_map}
@@ -8,9 +8,10 @@ use Rattle.acl_perm.specs.Profile.{Profile}
 use Rattle.acl_nfs4.specs.Ace.{Ace}
 use Rattle.acl_nfs4.specs.Owned.{same_list, same_list_equiv, same_list_laws}
 use Rattle.acl_nfs4.specs.Spelling.{IsAccepted, spelling}
+use Rattle.acl_nfs4.specs.Within.{IsProfile}
 use Rattle.acl_eval.specs.declared.inherit.ChildKind.TheVariants.{Directory, File}
 use Rattle.acl_normal.specs.NormalForm.{IsNormalFormOf}
-use Rattle.acl_normal.specs.Paths.{at, below, here}
+use Rattle.acl_normal.specs.Paths.{SameAtEveryPath, at, below, here}
 use Rattle.acl_normal.specs.declared.five_forms.FiveForms.{FiveForms}
 
 -- each of the five is the normal form of the list at its path
@@ -42,9 +43,16 @@ abbrev pub five_lists : FiveForms → List (List Ace)
 five_lists forms = forms.object ∷ forms.file ∷ forms.directory ∷ forms.file_in_directory
     ∷ forms.directory_in_directory ∷ []
 
--- their spellings, one behind the other
+-- the spellings of the five lists, one behind the other
 abbrev pub five_spellings : FiveForms → List ℕ
 five_spellings forms = flat_map spelling (five_lists forms)
+
+-- the five forms of two accepted lists are the same in this sense exactly if the lists grant the same at every path
+abbrev pub TellApart : (FiveForms → FiveForms → Type 0) → Type 0
+TellApart Same = (p : Profile) (list other : List Ace) (five other_five : FiveForms) → IsProfile p
+    → IsAccepted p list → AreFormsOf list five
+    → IsAccepted p other → AreFormsOf other other_five
+    → Same five other_five ↔ SameAtEveryPath p.masks list other
 
 -- each of the five has the spelling of its fellow, as a test; of accepted lists that is that they are the same
 abbrev pub same_forms : FiveForms → FiveForms → Bool

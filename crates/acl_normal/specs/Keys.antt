@@ -1,4 +1,4 @@
--- Entries of one bit of a list of ACEs (RFC 8881, section 6.2.1): a principal and a type each, when two of them are the
+-- Keys of one bit of a list of ACEs (RFC 8881, section 6.2.1): a principal and a kind each, when two of them are the
 -- same, when they conflict, and their order.
 use Rattle.std.specs.Prelude.{Bool, true, false, not, ◌&&◌}
 use Rattle.std.specs.Str.{bytes_eq}
@@ -48,14 +48,14 @@ principal_eq everyone group = false
 principal_eq everyone (group_named other) = false
 principal_eq everyone everyone = true
 
--- the same type
+-- the same kind
 abbrev pub kind_eq : Kind → Kind → Bool
 kind_eq Deny Deny = true
 kind_eq Deny Allow = false
 kind_eq Allow Deny = false
 kind_eq Allow Allow = true
 
--- the types differ, and one requester may be spoken of by both
+-- the kinds differ, and one requester may be spoken of by both
 abbrev pub conflicts : Key → Key → Bool
 conflicts e f = may_overlap e.0 f.0 && not (kind_eq e.1 f.1)
 

@@ -31,10 +31,10 @@ five_paths = here ∷ below 0 File ∷ below 0 Directory ∷ below 1 File ∷ be
 abbrev pub SameAt : ℕ → List Ace → List Ace → Path → Type 0
 SameAt rights list other path = SameGrants rights (at list path) (at other path)
 
--- and at each of the five
+-- both lists grant the same at each of the five paths
 abbrev pub SameAtFive : ℕ → List Ace → List Ace → Type 0
 SameAtFive rights list other = AllByRecursion (SameAt rights list other) five_paths
 
--- and at every path
+-- both lists grant the same at every path
 abbrev pub SameAtEveryPath : ℕ → List Ace → List Ace → Type 0
 SameAtEveryPath rights list other = (path : Path) → SameAt rights list other path

@@ -1,4 +1,4 @@
--- ACEs by their places in a list (RFC 8881, section 6.2.1): which wait at a bit, by type and class, and which stands
+-- ACEs by their places in a list (RFC 8881, section 6.2.1): which wait at a bit, by kind and class, and which stands
 -- first.
 use Rattle.std.specs.Prelude.{ℕ, ◌+◌, ◌*◌, zero, suc, Bool, true, false, cond, not, ◌&&◌, ◌||◌, List, [], ◌∷◌, Option, Some, None, option_map, map}
 use Rattle.acl_perm.specs.Kind.{other_kind}
@@ -70,15 +70,15 @@ key_here [] i = (everyone, Deny)
 key_here (a ∷ xs) zero = ace_key a
 key_here (a ∷ xs) (suc i) = key_here xs i
 
--- its principal
+-- the principal of the key at a place
 abbrev pub principal_here : List Ace → ℕ → Principal
 principal_here xs i = (key_here xs i).0
 
--- its type
+-- the kind of the key at a place
 abbrev pub kind_here : List Ace → ℕ → Kind
 kind_here xs i = (key_here xs i).1
 
--- the set of a type, a class and a bit
+-- the set of a kind, a class and a bit
 abbrev pub slot_of : Kind → Bool → ℕ → ℕ
 slot_of Deny false b = 4 * b + 0 + 0
 slot_of Deny true b = 4 * b + 0 + 1

@@ -15,8 +15,8 @@ use Rattle.acl_normal.specs.declared.bit_table.Row.{Row}
 abbrev pub with_bit : ℕ → List Ace → List Ace
 with_bit bit list = filter (λ a. has_bit a.mask bit) list
 
--- the row shows the ACE: its type, its who, and whether that is the name of a group; and the first ACE of the source
--- that names the same, takes part and has the bit has that type and stands at that place
+-- the row shows the ACE: its kind, its who, and whether that is the name of a group; and the first ACE of the source
+-- that names the same, takes part and has the bit has that kind and stands at that place
 pub record IsRow (bit : ℕ) (source : List Ace) (a : Ace) (r : Row) : Type 0 where
   pub kind : r.kind ≡ a.kind
   pub who : r.who.items ≡ a.who

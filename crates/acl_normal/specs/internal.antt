@@ -32,7 +32,7 @@ pub mod Merged
 pub mod Remaining
 -- the keys that have a free bit, by number
 pub mod Ready
--- what the fields of those numbers are to their bits
+-- what the fields of the numbers of ready keys are to their bits
 pub mod Heaped
 -- an ACE of a normal form as it is made
 pub mod Emitted

@@ -4,11 +4,11 @@ ghost use Rattle.acl_nfs4.specs.Ace.{Ace};
 ghost use Rattle.acl_nfs4.specs.Who.{principal_of};
 ghost use Rattle.acl_normal.specs.internal.Emitted.{StandInRows, emitted_ace, emitted_aces};
 ghost use Rattle.acl_normal.specs.Left.{IsLowest};
-ghost use Rattle.acl_normal.specs.internal.Rows.{ArePlaces, first_place};
+ghost use Rattle.acl_normal.specs.internal.Rows.{ArePlaces, first_place_of};
 ghost use Rattle.acl_normal.specs.Tables.{AddsRow, AreRows, HasKey, IsTable, with_bit};
 
 use crate::emit::emission::{Emitted, normalize_left};
-use crate::emit::remaining::Remaining;
+use crate::rows::remaining::Remaining;
 use crate::normal_form::ace_of;
 use crate::reduce::remaining;
 use crate::rows::merged::lowest;
@@ -16,22 +16,22 @@ use acl_nfs4::Acl;
 use acl_perm::{Kind, Mask, Right};
 use std::alloc::{AllocError, Global};
 
-/// An ACE of the normal form: its type, its who, whether that is the name of a group, and the place in the given list,
+/// An ACE of the normal form: its kind, its who, whether that is the name of a group, and the place in the given list,
 /// from 0, of the first ACE without INHERIT_ONLY that has the right and names the same.
 #[derive(Debug, Drop)]
 pub struct Row {
     /// Whether it denies or allows.
     pub kind: Kind,
-    /// Its who.
+    /// The who of the ACE.
     pub who: Vec<u8>,
-    /// Whether that is the name of a group.
+    /// Whether the who is the name of a group.
     pub group: bool,
     /// The place in the given list, from 0.
     pub source: usize,
 }
 
-/// The ACEs of the normal form of a list that have a right, in its order. Of several rights it is the lowest; without a
-/// right there is no row.
+/// The ACEs of the normal form of a list that have a right, in its order (this library's own, over RFC 8881, section
+/// 6.2.1). Of several rights it is the lowest; without a right there is no row. An error is want of memory.
 pub fn table(alloc: Global, list: &Acl, bit: Mask) -> Result<Vec<Row>, AllocError>
     ensures rows { IfOk result (λ rows. (b : ℕ) → IsLowest b bit.bits
         → IsTable b list.now rows.items) }
@@ -40,6 +40,7 @@ pub fn table(alloc: Global, list: &Acl, bit: Mask) -> Result<Vec<Row>, AllocErro
     let Some(right) = lowest(bit) else {
         return Ok(Vec::new(alloc));
     };
+    // The call is for its clause alone, that the list is accepted.
     let _accepted = list.aces();
     let mut rows = remaining(alloc, list)?;
     let places = places(alloc, &rows, right)?;
@@ -92,7 +93,7 @@ fn add_row(
     table: &mut Vec<Row>,
 ) -> Result<(), AllocError>
     ensures { OnOk result ((list : List Ace)
-        → place ≡ first_place right.bit (principal_of (emitted_ace item.entry)) list
+        → place ≡ first_place_of right.bit (principal_of (emitted_ace item.entry)) list
         → HasKey right.bit list (emitted_ace item.entry)
         → AddsRow right.bit list (emitted_ace item.entry) table.old.items table.new.items) }
 {

@@ -41,9 +41,9 @@ pub struct Difference {
 }
 
 /// The first of the small situations of two lists in which one grants a right and the other doesn't, or None where both
-/// grant the same in every situation. A small situation is one in which just none, one or two of the principals match
-/// that the lists mention, and everyone. It takes time near linear in the ACEs, times the rights that either list has,
-/// and memory for some numbers an ACE.
+/// grant the same in every situation (this library's own, over RFC 8881, section 6.2.1). A small situation is one in
+/// which just none, one or two of the principals match that the lists mention, and everyone. It takes time near linear
+/// in the ACEs, times the rights that either list has, and memory for some numbers an ACE. An error is want of memory.
 pub fn compare(alloc: Global, first: &Acl, second: &Acl) -> Result<Option<Difference>, AllocError>
     // None exactly if both lists grant the same.
     ensures same { IfOk result (λ r. IsNone r ↔ SameGrants all_rights first.now second.now) }

@@ -2,4 +2,3 @@
 
 pub(crate) mod emission;
 pub(crate) mod ready;
-pub(crate) mod remaining;

@@ -10,22 +10,21 @@ ghost use Rattle.acl_nfs4.specs.Within.{IsProfile};
 ghost use Rattle.acl_eval.specs.Column.{column};
 ghost use Rattle.acl_eval.specs.Grant.{SameGrants, grants_bit};
 ghost use Rattle.acl_normal.specs.Keys.{Key, conflicts};
-ghost use Rattle.acl_normal.specs.FiveForms.{AreFormsOf, AreSpelledAlike, five_spellings};
+ghost use Rattle.acl_normal.specs.FiveForms.{AreSpelledAlike, TellApart, five_spellings};
 ghost use Rattle.acl_normal.specs.Laws.{Has, Precedes};
 ghost use Rattle.acl_normal.specs.Normal.{IsIrreducibleList, IsNormal};
 ghost use Rattle.acl_normal.specs.NormalForm.{IsNormalFormOf};
 ghost use Rattle.acl_normal.specs.Paths.{SameAtEveryPath, SameAtFive};
 ghost use Rattle.acl_normal.specs.SmallSets.{SmallSituationsSuffice};
-ghost use Rattle.acl_normal.specs.declared.five_forms.FiveForms.{FiveForms};
 
-/// In irreducible lists that grant the same, each principal has the same bits, with the same types.
+/// In irreducible lists that grant the same, each principal has the same bits, with the same kinds.
 pub fn same_bits()
     ensures { (list other : List Ace) → IsIrreducibleList list → IsIrreducibleList other
         → SameGrants all_rights list other → (bit : ℕ) (e : Key)
         → Has (column list bit) e ↔ Has (column other bit) e }
 {}
 
-/// In irreducible lists that grant the same, each two conflicting entries of a bit stand in the same order.
+/// In irreducible lists that grant the same, each two conflicting keys of a bit stand in the same order.
 pub fn same_order()
     ensures { (list other : List Ace) → IsIrreducibleList list → IsIrreducibleList other
         → SameGrants all_rights list other → (bit : ℕ) (e f : Key) → conflicts e f ≡ true
@@ -57,7 +56,8 @@ pub fn equal_bytes()
         → (spelling form ≡ spelling other_form) ↔ SameGrants p.masks source other }
     // So the bytes of the normal forms of two accepted lists tell whether these grant the same.
     ensures forms { (p : Profile) (source other form other_form : List Ace) → IsProfile p
-        → IsAccepted p source → IsNormalFormOf source form → IsAccepted p other → IsNormalFormOf other other_form
+        → IsAccepted p source → IsNormalFormOf source form
+        → IsAccepted p other → IsNormalFormOf other other_form
         → (spelling form ≡ spelling other_form) ↔ SameGrants p.masks source other }
 {}
 
@@ -76,19 +76,10 @@ pub fn five_paths_suffice()
 /// The five normal forms of two lists that are accepted under a profile tell whether the lists grant the same at every
 /// path of creations.
 pub fn five_forms_tell_apart()
-    // They are equal exactly if the lists do.
-    ensures forms { (p : Profile) (list other : List Ace) (five other_five : FiveForms)
-        → IsProfile p
-        → IsAccepted p list → AreFormsOf list five → IsAccepted p other → AreFormsOf other other_five
-        → (five ≡ other_five) ↔ SameAtEveryPath p.masks list other }
-    // So are their spellings, pair by pair,
-    ensures spelled { (p : Profile) (list other : List Ace) (five other_five : FiveForms)
-        → IsProfile p
-        → IsAccepted p list → AreFormsOf list five → IsAccepted p other → AreFormsOf other other_five
-        → AreSpelledAlike five other_five ↔ SameAtEveryPath p.masks list other }
-    // and all five, one behind the other.
-    ensures joined { (p : Profile) (list other : List Ace) (five other_five : FiveForms)
-        → IsProfile p
-        → IsAccepted p list → AreFormsOf list five → IsAccepted p other → AreFormsOf other other_five
-        → (five_spellings five ≡ five_spellings other_five) ↔ SameAtEveryPath p.masks list other }
+    // Equal forms tell it.
+    ensures forms { TellApart (λ five other. five ≡ other) }
+    // Equal spellings of each form and its fellow tell it.
+    ensures spelled { TellApart AreSpelledAlike }
+    // Equal bytes of all five spellings, one behind the other, tell it.
+    ensures joined { TellApart (λ five other. five_spellings five ≡ five_spellings other) }
 {}

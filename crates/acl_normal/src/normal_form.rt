@@ -18,20 +18,6 @@ use acl_nfs4::{AceRef, Acl, AclView, Fault, Reason};
 use acl_perm::{Counted, Flags, Principal, Profile};
 use std::alloc::{AllocError, Global};
 
-/// The normal form of a list: the one list that grants the same in every situation, in which each bit is needed, and
-/// which stands in one order. It takes time that is nearly linear in the bytes of the list.
-pub fn normalize(alloc: Global, list: &Acl) -> Result<Acl, AllocError>
-    ensures form { IfOk result (λ form. IsNormalFormOf list.now form) }
-    // Of the empty list it never wants memory.
-    ensures empty { list.now ≡ [] → IsOk result }
-{
-    if list.is_empty() {
-        return Ok(Acl::new(alloc));
-    }
-    let form = form_of(alloc, list)?;
-    written(alloc, &form)
-}
-
 /// Whether a list is its own normal form.
 pub fn is_normal(alloc: Global, list: &Acl) -> Result<bool, AllocError>
     ensures answer { IfOk result (λ answer. IsTrue answer ↔ IsNormal list.now) }
@@ -55,7 +41,8 @@ pub fn normal_bytes(alloc: Global, bytes: &[u8]) -> Result<Vec<u8>, Fault>
     normal_bytes_with(alloc, bytes, Profile::FULL)
 }
 
-/// The same of a list whose flags and masks the profile has.
+/// The bytes that spell the normal form of the list that the bytes spell, all of them, whose flags and rights are among
+/// those of the profile. A fault is that of the bytes, or want of memory.
 pub fn normal_bytes_with(alloc: Global, bytes: &[u8], profile: Profile) -> Result<Vec<u8>, Fault>
     ensures ok { IfOk result (λ text. Normalises (profile_of profile) bytes.now text.items) }
     ensures fault { IfErr result (λ f. (f ≡ no_memory)
@@ -84,21 +71,26 @@ fn spelled_form(alloc: Global, view: &AclView<'_>) -> Result<Vec<u8>, AllocError
     spelled(alloc, &form)
 }
 
-// The bytes that spell a list.
-fn spelled(alloc: Global, list: &Acl) -> Result<Vec<u8>, AllocError>
-    ensures { IfOk result (λ text. text.items ≡ spelling list.now) }
+/// The normal form of a list (this library's own, over RFC 8881, section 6.2.1): the one list that grants the same in
+/// every situation, in which each bit is needed, and which stands in one order. It takes time that is nearly linear in
+/// the bytes of the list. An error is want of memory.
+pub fn normalize(alloc: Global, list: &Acl) -> Result<Acl, AllocError>
+    ensures form { IfOk result (λ form. IsNormalFormOf list.now form) }
+    // Of the empty list it never wants memory.
+    ensures empty { list.now ≡ [] → IsOk result }
 {
-    let mut text = Counted::new(Vec::new(alloc));
-    match list.encode(&mut text) {
-        Ok(()) => Ok(text.into_inner()),
-        Err(_) => Err(AllocError),
+    if list.is_empty() {
+        return Ok(Acl::new(alloc));
     }
+    let form = form_of(alloc, list)?;
+    written(alloc, &form)
 }
 
 // The ACEs of the normal form, in order.
 pub(crate) fn form_of<'a>(alloc: Global, list: &'a Acl) -> Result<Vec<Emitted<'a>>, AllocError>
     ensures { IfOk result (λ form. IsNormalFormOf list.now (emitted_aces form.items)) }
 {
+    // The call is for its clause alone, that the list is accepted.
     let _accepted = list.aces();
     let mut rows = remaining(alloc, list)?;
     let form = normalize_left(alloc, &mut rows)?;
@@ -149,5 +141,16 @@ fn who_of<'a>(p: Principal<'a>) -> &'a [u8]
         Principal::User(name) | Principal::GroupNamed(name) => name,
         Principal::Group => b"GROUP@".as_slice(),
         Principal::Everyone => b"EVERYONE@".as_slice(),
+    }
+}
+
+// The bytes that spell a list.
+fn spelled(alloc: Global, list: &Acl) -> Result<Vec<u8>, AllocError>
+    ensures { IfOk result (λ text. text.items ≡ spelling list.now) }
+{
+    let mut text = Counted::new(Vec::new(alloc));
+    match list.encode(&mut text) {
+        Ok(()) => Ok(text.into_inner()),
+        Err(_) => Err(AllocError),
     }
 }

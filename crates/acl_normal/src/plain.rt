@@ -5,7 +5,8 @@ ghost use Rattle.std.specs.Prelude.{IfOk};
 ghost use Rattle.acl_perm.specs.Profile.{full};
 ghost use Rattle.acl_nfs4.specs.Spelling.{IsAccepted};
 ghost use Rattle.acl_normal.specs.NormalForm.{IsNormalFormOf};
-ghost use Rattle.acl_normal.specs.internal.Passes.{IsPlainReduction, list_of};
+ghost use Rattle.acl_normal.specs.internal.Shown.{aces_in};
+ghost use Rattle.acl_normal.specs.internal.Passes.{IsPlainReduction};
 
 mod emission;
 mod reduction;
@@ -29,7 +30,7 @@ pub fn normalize(alloc: Global, source: &Acl) -> Result<Acl, AllocError>
 
 // The ACEs with the bits that play a part.
 fn reduce(alloc: Global, source: &Acl) -> Result<Vec<AceRef<'_>>, AllocError>
-    ensures reduced { IfOk result (λ needed. IsPlainReduction source.now (list_of needed.items)) }
+    ensures reduced { IfOk result (λ needed. IsPlainReduction source.now (aces_in needed.items)) }
     ensures accepted { IsAccepted full source.now }
 {
     let aces = collect(alloc, source)?;

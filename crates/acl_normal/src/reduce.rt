@@ -11,7 +11,7 @@ pub(crate) mod collected;
 mod first;
 mod needless;
 
-use crate::emit::remaining::Remaining;
+use crate::rows::remaining::Remaining;
 use crate::reduce::collected::collect;
 use crate::reduce::first::first_masks;
 use crate::reduce::needless::drop_needless;
@@ -20,22 +20,11 @@ use acl_nfs4::{AceRef, Acl};
 use acl_perm::Mask;
 use std::alloc::{AllocError, Global};
 
-// The masks that are left of a list's ACEs, by place: without the bits that play no part. `numbers` has the rows of
-// the principals, by place.
-fn reduced_masks(
-    alloc: Global,
-    aces: &[AceRef<'_>],
-    numbers: &RowNumbers,
-) -> Result<Vec<Mask>, AllocError>
-    requires accepted { IsAccepted full (aces_in aces.now) }
-    requires rows { AreRowNumbers (aces_in aces.now) numbers.now.rows.items }
-    ensures places { IfOk result (λ masks. vec_len masks ≡ length aces.now) }
-    ensures reduced { IfOk result (λ masks. IsReducedOf (aces_in aces.now)
-        (with_masks aces.now (bits_in masks.items))) }
+/// What is to be emitted of a list: all of it but what no situation needs.
+pub(crate) fn remaining<'a>(alloc: Global, list: &'a Acl) -> Result<Remaining<'a>, AllocError>
+    ensures { IfOk result (λ rows. IsReducedOf list.now rows) }
 {
-    let mut masks = first_masks(alloc, aces, &numbers.rows)?;
-    drop_needless(aces, &mut masks);
-    Ok(masks)
+    Remaining::of(alloc, reduced_list(alloc, list)?)
 }
 
 /// The ACEs of a list, the masks that are left of them, and the rows of their principals.
@@ -65,9 +54,20 @@ pub(crate) fn reduced_list<'a>(alloc: Global, list: &'a Acl) -> Result<Reduced<'
     })
 }
 
-/// What is to be emitted of a list: all of it but what no situation needs.
-pub(crate) fn remaining<'a>(alloc: Global, list: &'a Acl) -> Result<Remaining<'a>, AllocError>
-    ensures { IfOk result (λ rows. IsReducedOf list.now rows) }
+// The masks that are left of a list's ACEs, by place: without the bits that play no part. `numbers` has the rows of
+// the principals, by place.
+fn reduced_masks(
+    alloc: Global,
+    aces: &[AceRef<'_>],
+    numbers: &RowNumbers,
+) -> Result<Vec<Mask>, AllocError>
+    requires accepted { IsAccepted full (aces_in aces.now) }
+    requires rows { AreRowNumbers (aces_in aces.now) numbers.now.rows.items }
+    ensures places { IfOk result (λ masks. vec_len masks ≡ length aces.now) }
+    ensures reduced { IfOk result (λ masks. IsReducedOf (aces_in aces.now)
+        (with_masks aces.now (bits_in masks.items))) }
 {
-    Remaining::of(alloc, reduced_list(alloc, list)?)
+    let mut masks = first_masks(alloc, aces, &numbers.rows)?;
+    drop_needless(aces, &mut masks);
+    Ok(masks)
 }

@@ -1,6 +1,7 @@
-//! What is left of a list while its normal form is made, by principal and by place.
+//! The rows of the principals of a list, by number, the places of its ACEs that wait, and what is left of it by both.
 
 mod heads;
 pub(crate) mod merged;
 pub(crate) mod numbers;
+pub(crate) mod remaining;
 pub(crate) mod waiting;

@@ -15,7 +15,7 @@ fused_calls f = f.calls
 abbrev pub fused_step : {T : Type 0} → Fused T → ℕ
 fused_step f = f.step
 
--- what is left of the reader, of which these bytes are left
+-- the bytes that are left to read, by what the reader has left; not known where a call passes no byte
 abbrev pub left_through : {T : Type 0} → (T → Option (List ℕ)) → Fused T → Option (List ℕ)
 left_through left f = fused_remaining (fused_step f) (left (fused_inner f))
 

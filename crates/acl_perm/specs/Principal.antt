@@ -1,4 +1,4 @@
--- Whom an entry of an access control list names (RFC 8881, section 6.2.1.5).
+-- Whom an ACE names (RFC 8881, section 6.2.1.5).
 use Rattle.std.specs.Prelude.{ℕ, List, [], Bool, true, false}
 use Rattle.acl_perm.specs.declared.principal.Principal.{Principal as PrincipalRef}
 use Rattle.acl_perm.specs.declared.principal.Principal.TheVariants as code

@@ -96,20 +96,14 @@ pub fn trimmed(bytes: &[u8]) -> &[u8]
     rest
 }
 
-/// The bytes before the first mark, or all of them.
-pub fn before_mark(bytes: &[u8], mark: u8) -> &[u8]
-    ensures { result.now ≡ before_mark mark bytes.now }
+fn blanks_before(bytes: &[u8]) -> usize
+    ensures value { result ≡ blanks_before bytes.now }
+    ensures within { result ≤ length bytes.now }
 {
-    match place_of(bytes, mark) {
-        Some(place) => &bytes[..place],
-        None => bytes,
+    match first_other(bytes) {
+        Some(place) => place,
+        None => bytes.len(),
     }
-}
-
-fn is_blank(b: u8) -> bool
-    ensures { result ≡ is_blank b }
-{
-    b == b' ' || b == b'\t'
 }
 
 fn first_other(bytes: &[u8]) -> Option<usize>
@@ -118,12 +112,18 @@ fn first_other(bytes: &[u8]) -> Option<usize>
     bytes.iter().position(|b| !is_blank(*b))
 }
 
-fn blanks_before(bytes: &[u8]) -> usize
-    ensures value { result ≡ blanks_before bytes.now }
-    ensures within { result ≤ length bytes.now }
+fn is_blank(b: u8) -> bool
+    ensures { result ≡ is_blank b }
 {
-    match first_other(bytes) {
-        Some(place) => place,
-        None => bytes.len(),
+    b == b' ' || b == b'\t'
+}
+
+/// The bytes before the first mark, or all of them.
+pub fn before_mark(bytes: &[u8], mark: u8) -> &[u8]
+    ensures { result.now ≡ before_mark mark bytes.now }
+{
+    match place_of(bytes, mark) {
+        Some(place) => &bytes[..place],
+        None => bytes,
     }
 }

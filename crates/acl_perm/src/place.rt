@@ -5,21 +5,17 @@ ghost use Rattle.acl_perm.specs.internal.Places.{IsPlaceIn};
 
 use std::simd::prelude::*;
 
-// Which of the N bytes from there on is the first that is wanted, or N.
-#[inline(always)]
-fn place_in<const N: usize>(bytes: &[u8], at: usize, wanted: u8) -> usize
-    requires lanes { N ≤ 64 }
-    requires inside { at + N ≤ length bytes.now }
-    ensures { IsPlaceIn wanted bytes.now at N result }
+/// The first place of a byte, where it stands among these.
+pub fn place_of(bytes: &[u8], wanted: u8) -> Option<usize>
+    ensures { result ≡ position (λ b. b == wanted) bytes.now }
 {
-    let hits = Simd::<u8, N>::from_slice(&bytes[at..])
-        .simd_eq(Simd::<u8, N>::splat(wanted))
-        .to_bitmask();
-    if hits == 0 {
-        N
-    } else {
-        hits.trailing_zeros() as usize
-    }
+    let len = bytes.len();
+    let place = match len {
+        0..8 => return bytes.iter().position(|byte| *byte == wanted),
+        8..16 => place_in_short(bytes, wanted),
+        _ => place_in_long(bytes, wanted),
+    };
+    if place < len { Some(place) } else { None }
 }
 
 // The first place of 8 to 16 bytes, or their number: among the first eight, and then the last.
@@ -55,15 +51,19 @@ fn place_in_long(bytes: &[u8], wanted: u8) -> usize
     last + place_in::<16>(bytes, last, wanted)
 }
 
-/// The first place of a byte, where it stands among these.
-pub fn place_of(bytes: &[u8], wanted: u8) -> Option<usize>
-    ensures { result ≡ position (λ b. b == wanted) bytes.now }
+// Which of the N bytes from there on is the first that is wanted, or N.
+#[inline(always)]
+fn place_in<const N: usize>(bytes: &[u8], at: usize, wanted: u8) -> usize
+    requires lanes { N ≤ 64 }
+    requires inside { at + N ≤ length bytes.now }
+    ensures { IsPlaceIn wanted bytes.now at N result }
 {
-    let len = bytes.len();
-    let place = match len {
-        0..8 => return bytes.iter().position(|byte| *byte == wanted),
-        8..16 => place_in_short(bytes, wanted),
-        _ => place_in_long(bytes, wanted),
-    };
-    if place < len { Some(place) } else { None }
+    let hits = Simd::<u8, N>::from_slice(&bytes[at..])
+        .simd_eq(Simd::<u8, N>::splat(wanted))
+        .to_bitmask();
+    if hits == 0 {
+        N
+    } else {
+        hits.trailing_zeros() as usize
+    }
 }

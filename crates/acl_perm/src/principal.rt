@@ -50,7 +50,7 @@ impl<'a> Principal<'a> {
         }
     }
 
-    /// Where the kind of principal stands in the order, from 0 for `OWNER@` to 4 for `EVERYONE@`.
+    /// The place in the order before names are compared, from 0 for `OWNER@` to 4 for `EVERYONE@` (this library's own).
     pub fn rank(&self) -> u8
         ensures { result ≡ principal_rank (principal self.now) }
     {

@@ -19,7 +19,8 @@ impl Profile {
         flags: Flags::ALL,
     };
 
-    /// The rights and flags without WRITE_RETENTION, WRITE_RETENTION_HOLD and INHERITED_ACE.
+    /// The rights and flags without WRITE_RETENTION, WRITE_RETENTION_HOLD and INHERITED_ACE, which not every server
+    /// knows (this library's own choice).
     pub const NARROW: Profile = Profile {
         masks: Mask { bits: 0x001f_01ff },
         flags: Flags { bits: 0x7f },

@@ -18,8 +18,10 @@ pub struct WriteFault {
 /// Why an input could not be read whole.
 #[derive(Clone, Copy, Debug, PartialEq, Eq, Error)]
 pub enum ReadFault {
+    /// A pull failed.
     #[error("read failed")]
     Read,
+    /// There is no memory for what was read.
     #[error("out of memory")]
     Memory,
 }

@@ -133,7 +133,8 @@ impl PosixAcl {
     }
 
     /// The permissions of an entry that MASK leaves: of a USER, GROUP_OBJ or GROUP entry those that MASK has too, where
-    /// there is one, and of any other entry all. No memory; constant time.
+    /// there is one, and of any other entry all. No memory; constant time, since MASK stands last but one, and an ACL
+    /// without MASK has three entries.
     pub fn effective(&self, entry: Entry) -> Perm
         ensures { result.bits ≡ effective_of self.now (pair_of entry) }
     {
@@ -145,7 +146,8 @@ impl PosixAcl {
         ensures { option_map (λ perm. perm.bits) result ≡ set.get self.now mask }
     {
         let entries = self.entries.as_slice();
-        // Where there is one, it stands before the last, which is OTHER.
+        // Where there is one, it stands before the last, which is OTHER. A list without MASK has three entries, so the
+        // look-up below takes constant time too.
         if let Some(entry) = entries.get(entries.len().saturating_sub(2)) {
             if let Tag::Mask = entry.tag {
                 return Some(entry.perm);

@@ -13,22 +13,65 @@ use crate::text_fault::Part;
 use acl_perm::Perm;
 use itoa::write_digits;
 
-// Bytes in front of those from `end` on, and where they begin.
-#[inline(always)]
-fn put<const N: usize>(line: &mut [u8; 64], end: usize, bytes: [u8; N]) -> usize
-    requires room { N ≤ end }
-    requires inside { end ≤ 64 }
-    ensures { IsPut bytes.entry line.old line.new end result }
+/// Puts the text of an entry with all that belongs to it at the end of a line, and answers where it begins.
+#[tactic(auto, unfolding(crate::specs::internal::Writing::entry_out))]
+pub(crate) fn put_entry(
+    line: &mut [u8; 64],
+    form: Form,
+    part: Part,
+    is_first: bool,
+    entry: Entry,
+    effective: Perm,
+) -> usize
+    ensures within { result ≤ 64 }
+    ensures text { drop result line.new
+        ≡ entry_out form part is_first effective.bits (pair_of entry) }
 {
-    let start = end - N;
-    line[start..end].copy_from_slice(&bytes);
-    start
+    let end = put_ending(line, form, effective, entry.perm);
+    let end = put_fields(line, end, form, entry);
+    put_lead(line, end, form, part, is_first)
 }
 
-fn letter(perm: Perm, bit: u8, shown: u8) -> u8
-    ensures { result ≡ letter perm.bits bit shown }
+// What stands behind an entry.
+fn put_ending(line: &mut [u8; 64], form: Form, effective: Perm, perm: Perm) -> usize
+    ensures text { IsPut (ending form effective.bits perm.bits) line.old line.new 64 result }
+    ensures short { 64 ≤ result + 16 }
 {
-    if perm.bits & bit == bit { shown } else { b'-' }
+    match form {
+        Form::Canonical => put(line, 64, *b"\n"),
+        Form::Shown => {
+            let end = put(line, 64, *b"\n");
+            put_mark(line, end, effective, perm)
+        }
+        Form::Short => 64,
+    }
+}
+
+// The effective permissions as a comment, where they are not those of the entry.
+fn put_mark(line: &mut [u8; 64], end: usize, effective: Perm, perm: Perm) -> usize
+    requires room { 15 ≤ end }
+    requires inside { end ≤ 64 }
+    ensures text { IsPut (mark_text effective.bits perm.bits) line.old line.new end result }
+    ensures short { end ≤ result + 15 }
+{
+    if effective.bits == perm.bits {
+        return end;
+    }
+    let end = put_perm(line, end, effective);
+    put(line, end, *b"\t#effective")
+}
+
+// The word, the qualifier and the permissions, with colons between them.
+fn put_fields(line: &mut [u8; 64], end: usize, form: Form, entry: Entry) -> usize
+    requires room { 20 ≤ end }
+    requires inside { end ≤ 64 }
+    ensures text { IsPut (entry_text (form_word form (tag_of entry.tag)) (pair_of entry))
+        line.old line.new end result }
+    ensures short { end ≤ result + 20 }
+{
+    let end = put_perm(line, end, entry.perm);
+    let end = put_qualifier(line, end, entry.tag);
+    put_word(line, end, form, entry.tag)
 }
 
 // A colon, and the permissions.
@@ -41,6 +84,12 @@ fn put_perm(line: &mut [u8; 64], end: usize, perm: Perm) -> usize
     let write = letter(perm, 2, b'w');
     let execute = letter(perm, 1, b'x');
     put(line, end, [b':', read, write, execute])
+}
+
+fn letter(perm: Perm, bit: u8, shown: u8) -> u8
+    ensures { result ≡ letter perm.bits bit shown }
+{
+    if perm.bits & bit == bit { shown } else { b'-' }
 }
 
 fn put_qualifier(line: &mut [u8; 64], end: usize, tag: Tag) -> usize
@@ -92,63 +141,14 @@ fn put_lead(line: &mut [u8; 64], end: usize, form: Form, part: Part, is_first: b
     }
 }
 
-// The effective permissions as a comment, where they are not those of the entry.
-fn put_mark(line: &mut [u8; 64], end: usize, effective: Perm, perm: Perm) -> usize
-    requires room { 15 ≤ end }
+// Bytes in front of those from `end` on, and where they begin.
+#[inline(always)]
+fn put<const N: usize>(line: &mut [u8; 64], end: usize, bytes: [u8; N]) -> usize
+    requires room { N ≤ end }
     requires inside { end ≤ 64 }
-    ensures text { IsPut (mark_text effective.bits perm.bits) line.old line.new end result }
-    ensures short { end ≤ result + 15 }
+    ensures { IsPut bytes.entry line.old line.new end result }
 {
-    if effective.bits == perm.bits {
-        return end;
-    }
-    let end = put_perm(line, end, effective);
-    put(line, end, *b"\t#effective")
-}
-
-// What stands behind an entry.
-fn put_ending(line: &mut [u8; 64], form: Form, effective: Perm, perm: Perm) -> usize
-    ensures text { IsPut (ending form effective.bits perm.bits) line.old line.new 64 result }
-    ensures short { 64 ≤ result + 16 }
-{
-    match form {
-        Form::Canonical => put(line, 64, *b"\n"),
-        Form::Shown => {
-            let end = put(line, 64, *b"\n");
-            put_mark(line, end, effective, perm)
-        }
-        Form::Short => 64,
-    }
-}
-
-// The word, the qualifier and the permissions, with colons between them.
-fn put_fields(line: &mut [u8; 64], end: usize, form: Form, entry: Entry) -> usize
-    requires room { 20 ≤ end }
-    requires inside { end ≤ 64 }
-    ensures text { IsPut (entry_text (form_word form (tag_of entry.tag)) (pair_of entry))
-        line.old line.new end result }
-    ensures short { end ≤ result + 20 }
-{
-    let end = put_perm(line, end, entry.perm);
-    let end = put_qualifier(line, end, entry.tag);
-    put_word(line, end, form, entry.tag)
-}
-
-/// Puts the text of an entry with all that belongs to it at the end of a line, and answers where it begins.
-#[tactic(auto, unfolding(crate::specs::internal::Writing::entry_out))]
-pub(crate) fn put_entry(
-    line: &mut [u8; 64],
-    form: Form,
-    part: Part,
-    is_first: bool,
-    entry: Entry,
-    effective: Perm,
-) -> usize
-    ensures within { result ≤ 64 }
-    ensures text { drop result line.new
-        ≡ entry_out form part is_first effective.bits (pair_of entry) }
-{
-    let end = put_ending(line, form, effective, entry.perm);
-    let end = put_fields(line, end, form, entry);
-    put_lead(line, end, form, part, is_first)
+    let start = end - N;
+    line[start..end].copy_from_slice(&bytes);
+    start
 }

@@ -18,12 +18,6 @@ pub enum TagWord {
     Other,
 }
 
-fn is_one_of(bytes: &[u8], long: &[u8], short: &[u8]) -> bool
-    ensures { result ≡ (bytes_eq bytes.now long.now || bytes_eq bytes.now short.now) }
-{
-    bytes == long || bytes == short
-}
-
 /// The tag word that a field spells.
 #[tactic(auto, unfolding(crate::specs::Fields::word_of))]
 pub(crate) fn read_word(bytes: &[u8]) -> Option<TagWord>
@@ -49,18 +43,10 @@ pub(crate) fn is_default(bytes: &[u8]) -> bool
     is_one_of(bytes, b"default", b"d")
 }
 
-fn count(bytes: &[u8], letter: u8) -> usize
-    ensures { result ≡ count_by (λ b. b == letter) bytes.now }
+fn is_one_of(bytes: &[u8], long: &[u8], short: &[u8]) -> bool
+    ensures { result ≡ (bytes_eq bytes.now long.now || bytes_eq bytes.now short.now) }
 {
-    bytes.iter().filter(|b| **b == letter).count()
-}
-
-fn are_permissions(bytes: &[u8]) -> bool
-    ensures { result ≡ list_all is_permission bytes.now }
-{
-    bytes
-        .iter()
-        .all(|b| *b == b'r' || *b == b'w' || *b == b'x' || *b == b'-')
+    bytes == long || bytes == short
 }
 
 /// The set that a permission field spells.
@@ -77,10 +63,18 @@ pub(crate) fn read_permissions(bytes: &[u8]) -> Option<Perm>
     Perm::new((4 * read + 2 * write + execute) as u8)
 }
 
-fn are_digits(bytes: &[u8]) -> bool
-    ensures { result ≡ list_all is_ascii_digit bytes.now }
+fn count(bytes: &[u8], letter: u8) -> usize
+    ensures { result ≡ count_by (λ b. b == letter) bytes.now }
 {
-    bytes.iter().all(|b| b.is_ascii_digit())
+    bytes.iter().filter(|b| **b == letter).count()
+}
+
+fn are_permissions(bytes: &[u8]) -> bool
+    ensures { result ≡ list_all is_permission bytes.now }
+{
+    bytes
+        .iter()
+        .all(|b| *b == b'r' || *b == b'w' || *b == b'x' || *b == b'-')
 }
 
 /// Whether there are digits alone, and at least one.
@@ -88,6 +82,12 @@ pub(crate) fn is_number(bytes: &[u8]) -> bool
     ensures { result ≡ is_number bytes.now }
 {
     !bytes.is_empty() && are_digits(bytes)
+}
+
+fn are_digits(bytes: &[u8]) -> bool
+    ensures { result ≡ list_all is_ascii_digit bytes.now }
+{
+    bytes.iter().all(|b| b.is_ascii_digit())
 }
 
 /// The id of decimal digits, if it is one.

@@ -27,7 +27,8 @@ pub fn create(
     dir: bool,
 ) -> Result<PosixFile, AllocError>
     ensures access { IfOk result (λ file.
-        file.access ≡ created_access (option_map (λ acl. acl.now) default.entry) mode.bits umask.bits) }
+        file.access
+        ≡ created_access (option_map (λ acl. acl.now) default.entry) mode.bits umask.bits) }
     ensures default { IfOk result (λ file.
         file.default ≡ created_default (option_map (λ acl. acl.now) default.entry) dir) }
 {

@@ -95,12 +95,6 @@ impl Names {
     }
 }
 
-fn contains(ids: &BTreeMap<Vec<u8>, Id>, name: &[u8]) -> bool
-    ensures { result ≡ fin.contains_key (ids_of ids.now.entries) name.now }
-{
-    ids.contains_key(name)
-}
-
 /// Adds a name to one half of the table.
 fn add(alloc: Global, ids: &mut BTreeMap<Vec<u8>, Id>, name: &[u8], id: Id) -> Result<(), NameFault>
     ensures added { OnOk result (ids_of ids.new.entries
@@ -121,4 +115,10 @@ fn add(alloc: Global, ids: &mut BTreeMap<Vec<u8>, Id>, name: &[u8], id: Id) -> R
     let name = Vec::from_slice(alloc, name)?;
     ids.insert(name, id)?;
     Ok(())
+}
+
+fn contains(ids: &BTreeMap<Vec<u8>, Id>, name: &[u8]) -> bool
+    ensures { result ≡ fin.contains_key (ids_of ids.now.entries) name.now }
+{
+    ids.contains_key(name)
 }

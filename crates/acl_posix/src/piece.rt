@@ -22,6 +22,65 @@ pub(crate) struct EntryPieces<'a> {
     pub permissions: Piece<'a>,
 }
 
+/// The entry that a piece spells, and its part.
+#[tactic(auto, unfolding(crate::specs::internal::Reading::read_piece))]
+pub(crate) fn read_piece(
+    piece: Piece,
+    line: usize,
+    names: &Names,
+) -> Result<(Part, Entry), TextFault>
+    requires { piece.column + length piece.bytes.now < 2 ^ 64 }
+    ensures { mapped view_entry result ≡ read_piece names.now line (span_of piece.entry) }
+{
+    let column = piece.start();
+    if is_all_blank(piece.bytes) {
+        return Err(TextFault::EmptyEntry { line, column });
+    }
+    let Some(fields) = fields(piece) else {
+        return Err(TextFault::Fields { line, column });
+    };
+    let word = word_at(fields.tag, line)?;
+    let tag = tag_at(fields.qualifier, line, word, names)?;
+    let perm = permissions_at(fields.permissions, line)?;
+    Ok((fields.part, Entry { tag, perm }))
+}
+
+/// The part that a piece belongs to, and its three fields.
+#[tactic(auto, unfolding(crate::specs::Grammar::fields_of))]
+fn fields<'a>(piece: Piece<'a>) -> Option<EntryPieces<'a>>
+    requires { piece.column + length piece.bytes.now < 2 ^ 64 }
+    ensures value { option_map view_fields result ≡ fields_of (cut_at colon (span_of piece.entry)) }
+    ensures fits { IfSome result (λ fields. FieldsFit fields piece.entry) }
+{
+    let (first, rest) = piece.cut(b':');
+    if is_default(trimmed(first.bytes)) {
+        three(Part::Default, rest?)
+    } else {
+        three(Part::Access, piece)
+    }
+}
+
+/// The three fields that a piece has from here on, and no more.
+fn three<'a>(part: Part, piece: Piece<'a>) -> Option<EntryPieces<'a>>
+    requires { piece.column + length piece.bytes.now < 2 ^ 64 }
+    ensures value { option_map view_fields result
+        ≡ three_of part (cut_at colon (span_of piece.entry)) }
+    ensures fits { IfSome result (λ fields. FieldsFit fields piece.entry) }
+{
+    let (tag, rest) = piece.cut(b':');
+    let (qualifier, rest) = rest?.cut(b':');
+    let (permissions, rest) = rest?.cut(b':');
+    match rest {
+        None => Some(EntryPieces {
+            part,
+            tag,
+            qualifier,
+            permissions,
+        }),
+        Some(_) => None,
+    }
+}
+
 #[tactic(auto, unfolding(crate::specs::internal::Reading::read_word))]
 fn word_at(field: Piece, line: usize) -> Result<TagWord, TextFault>
     requires { field.column + length field.bytes.now < 2 ^ 64 }
@@ -29,15 +88,6 @@ fn word_at(field: Piece, line: usize) -> Result<TagWord, TextFault>
 {
     let column = field.start();
     read_word(trimmed(field.bytes)).ok_or(TextFault::Tag { line, column })
-}
-
-#[tactic(auto, unfolding(crate::specs::internal::Reading::read_permissions))]
-fn permissions_at(field: Piece, line: usize) -> Result<Perm, TextFault>
-    requires { field.column + length field.bytes.now < 2 ^ 64 }
-    ensures { mapped (λ perm. perm.bits) result ≡ read_permissions line (span_of field.entry) }
-{
-    let column = field.start();
-    read_permissions(trimmed(field.bytes)).ok_or(TextFault::Permission { line, column })
 }
 
 #[tactic(auto, unfolding(crate::specs::internal::Reading::read_tag))]
@@ -74,61 +124,11 @@ fn tag_at(field: Piece, line: usize, word: TagWord, names: &Names) -> Result<Tag
     }
 }
 
-/// The three fields that a piece has from here on, and no more.
-fn three<'a>(part: Part, piece: Piece<'a>) -> Option<EntryPieces<'a>>
-    requires { piece.column + length piece.bytes.now < 2 ^ 64 }
-    ensures value { option_map view_fields result
-        ≡ three_of part (cut_at colon (span_of piece.entry)) }
-    ensures fits { IfSome result (λ fields. FieldsFit fields piece.entry) }
+#[tactic(auto, unfolding(crate::specs::internal::Reading::read_permissions))]
+fn permissions_at(field: Piece, line: usize) -> Result<Perm, TextFault>
+    requires { field.column + length field.bytes.now < 2 ^ 64 }
+    ensures { mapped (λ perm. perm.bits) result ≡ read_permissions line (span_of field.entry) }
 {
-    let (tag, rest) = piece.cut(b':');
-    let (qualifier, rest) = rest?.cut(b':');
-    let (permissions, rest) = rest?.cut(b':');
-    match rest {
-        None => Some(EntryPieces {
-            part,
-            tag,
-            qualifier,
-            permissions,
-        }),
-        Some(_) => None,
-    }
-}
-
-/// The part that a piece belongs to, and its three fields.
-#[tactic(auto, unfolding(crate::specs::Grammar::fields_of))]
-fn fields<'a>(piece: Piece<'a>) -> Option<EntryPieces<'a>>
-    requires { piece.column + length piece.bytes.now < 2 ^ 64 }
-    ensures value { option_map view_fields result ≡ fields_of (cut_at colon (span_of piece.entry)) }
-    ensures fits { IfSome result (λ fields. FieldsFit fields piece.entry) }
-{
-    let (first, rest) = piece.cut(b':');
-    if is_default(trimmed(first.bytes)) {
-        three(Part::Default, rest?)
-    } else {
-        three(Part::Access, piece)
-    }
-}
-
-/// The entry that a piece spells, and its part.
-#[tactic(auto, unfolding(crate::specs::internal::Reading::read_piece))]
-pub(crate) fn read_piece(
-    piece: Piece,
-    line: usize,
-    names: &Names,
-) -> Result<(Part, Entry), TextFault>
-    requires { piece.column + length piece.bytes.now < 2 ^ 64 }
-    ensures { mapped view_entry result ≡ read_piece names.now line (span_of piece.entry) }
-{
-    let column = piece.start();
-    if is_all_blank(piece.bytes) {
-        return Err(TextFault::EmptyEntry { line, column });
-    }
-    let Some(fields) = fields(piece) else {
-        return Err(TextFault::Fields { line, column });
-    };
-    let word = word_at(fields.tag, line)?;
-    let tag = tag_at(fields.qualifier, line, word, names)?;
-    let perm = permissions_at(fields.permissions, line)?;
-    Ok((fields.part, Entry { tag, perm }))
+    let column = field.start();
+    read_permissions(trimmed(field.bytes)).ok_or(TextFault::Permission { line, column })
 }

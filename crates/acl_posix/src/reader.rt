@@ -2,8 +2,8 @@
 ghost use Rattle.std.specs.Prelude.{◌≡◌, MatchResult, OnOk, Ok};
 ghost use Rattle.acl_perm.specs.Lines.{lines_of};
 ghost use Rattle.acl_posix.specs.Entries.{pair_of};
-ghost use Rattle.acl_posix.specs.Grammar.{line_pieces, numbered, pieces_from, pieces_of};
-ghost use Rattle.acl_posix.specs.internal.Reading.{added, lists_of, no_lists, read_pieces, view_entry, Fails, ReadsOn};
+ghost use Rattle.acl_posix.specs.Grammar.{pieces_from, pieces_of};
+ghost use Rattle.acl_posix.specs.internal.Reading.{added, lists_of, no_lists, read_entries, read_pieces, view_entry, Fails, ReadsOn};
 
 use crate::entry::Entry;
 use crate::names::Names;
@@ -20,40 +20,23 @@ pub(crate) struct EntryLists {
     pub default: Vec<Entry>,
 }
 
-fn push(lists: &mut EntryLists, part: Part, entry: Entry) -> Result<(), AllocError>
-    ensures { OnOk result (lists_of lists.new ≡ added (lists_of lists.old) (part, pair_of entry)) }
-{
-    match part {
-        Part::Access => lists.access.push(entry)?,
-        Part::Default => lists.default.push(entry)?,
-    }
-    Ok(())
-}
-
-/// Reads the entries of a line.
-fn read_line(
-    line: &[u8],
-    number: usize,
-    names: &Names,
-    lists: &mut EntryLists,
-) -> Result<(), TextFault>
+/// Reads the entries of a text.
+pub(crate) fn read_text(alloc: Global, text: &[u8], names: &Names) -> Result<EntryLists, TextFault>
     ensures { MatchResult result
-        (λ _. read_pieces names.now (lists_of lists.old) (numbered number (line_pieces line.now))
-        ≡ Ok (lists_of lists.new))
-        (λ fault. Fails fault (read_pieces names.now (lists_of lists.old) (numbered number (line_pieces line.now)))) }
+        (λ lists. read_pieces names.now no_lists (pieces_of text.now) ≡ Ok (lists_of lists))
+        (λ fault. Fails fault (read_pieces names.now no_lists (pieces_of text.now))) }
 {
-    let content = before_mark(line, b'#');
-    if is_all_blank(content) {
-        return Ok(());
+    let mut lists = EntryLists {
+        access: Vec::new(alloc),
+        default: Vec::new(alloc),
+    };
+    let mut number = 1;
+    let mut rest = Some(text);
+    while let Some(left) = rest {
+        rest = read_first(left, number, names, &mut lists)?;
+        number += 1;
     }
-    let mut rest = Some(Piece::whole(content));
-    while let Some(piece) = rest {
-        let (first, after) = piece.cut(b',');
-        let (part, entry) = read_piece(first, number, names)?;
-        push(lists, part, entry)?;
-        rest = after;
-    }
-    Ok(())
+    Ok(lists)
 }
 
 /// Reads the entries of the first line of a text, and answers what stands behind the line.
@@ -77,21 +60,38 @@ fn read_first<'a>(
     Ok(rest)
 }
 
-/// Reads the entries of a text.
-pub(crate) fn read_text(alloc: Global, text: &[u8], names: &Names) -> Result<EntryLists, TextFault>
+/// Reads the entries of a line.
+fn read_line(
+    line: &[u8],
+    number: usize,
+    names: &Names,
+    lists: &mut EntryLists,
+) -> Result<(), TextFault>
     ensures { MatchResult result
-        (λ lists. read_pieces names.now no_lists (pieces_of text.now) ≡ Ok (lists_of lists))
-        (λ fault. Fails fault (read_pieces names.now no_lists (pieces_of text.now))) }
+        (λ _. read_entries names.now (lists_of lists.old) number line.now
+        ≡ Ok (lists_of lists.new))
+        (λ fault. Fails fault (read_entries names.now (lists_of lists.old) number line.now)) }
 {
-    let mut lists = EntryLists {
-        access: Vec::new(alloc),
-        default: Vec::new(alloc),
-    };
-    let mut number = 1;
-    let mut rest = Some(text);
-    while let Some(left) = rest {
-        rest = read_first(left, number, names, &mut lists)?;
-        number += 1;
+    let content = before_mark(line, b'#');
+    if is_all_blank(content) {
+        return Ok(());
     }
-    Ok(lists)
+    let mut rest = Some(Piece::whole(content));
+    while let Some(piece) = rest {
+        let (first, after) = piece.cut(b',');
+        let (part, entry) = read_piece(first, number, names)?;
+        push(lists, part, entry)?;
+        rest = after;
+    }
+    Ok(())
+}
+
+fn push(lists: &mut EntryLists, part: Part, entry: Entry) -> Result<(), AllocError>
+    ensures { OnOk result (lists_of lists.new ≡ added (lists_of lists.old) (part, pair_of entry)) }
+{
+    match part {
+        Part::Access => lists.access.push(entry)?,
+        Part::Default => lists.default.push(entry)?,
+    }
+    Ok(())
 }

@@ -15,6 +15,47 @@ use crate::form::Form;
 use crate::text_fault::Part;
 use acl_perm::{Sink, WriteFault, put_next};
 
+/// Writes a text of the ACLs of a file, and answers how many bytes it has.
+fn put_file<S: Sink>(
+    sink: &mut S,
+    form: Form,
+    access: &PosixAcl,
+    default: Option<&PosixAcl>,
+) -> Result<u64, WriteFault>
+    ensures written { WritesFrom (S.contents sink.old) (S.contents sink.new) 0
+        (form_text form access.now (option_map (λ acl. acl.now) default.entry)) result }
+    ensures none_failed { OnOk result (S.failure_count sink.new ≡ S.failure_count sink.old) }
+    ensures failed { OnErr result (S.failure_count sink.new ≡ one_more (S.failure_count sink.old)) }
+{
+    let entries = access.entries();
+    match put_part(sink, 0, form, Part::Access, access, entries, true) {
+        Ok(done) => put_default(sink, done, form, default),
+        Err(fault) => Err(fault),
+    }
+}
+
+/// Writes the entries of the default part, if there is one.
+fn put_default<S: Sink>(
+    sink: &mut S,
+    done: u64,
+    form: Form,
+    default: Option<&PosixAcl>,
+) -> Result<u64, WriteFault>
+    requires { done < 2 ^ 62 }
+    ensures written { WritesFrom (S.contents sink.old) (S.contents sink.new) done
+        (default_out form (option_map (λ acl. acl.now) default.entry)) result }
+    ensures none_failed { OnOk result (S.failure_count sink.new ≡ S.failure_count sink.old) }
+    ensures failed { OnErr result (S.failure_count sink.new ≡ one_more (S.failure_count sink.old)) }
+{
+    match default {
+        Some(acl) => {
+            let entries = acl.entries();
+            put_part(sink, done, form, Part::Default, acl, entries, false)
+        }
+        None => Ok(done),
+    }
+}
+
 /// Writes the entries of a part, after `done` bytes of the text, and answers how many are out then.
 fn put_part<S: Sink>(
     sink: &mut S,
@@ -52,49 +93,8 @@ fn put_part<S: Sink>(
     Ok(done)
 }
 
-/// Writes the entries of the default part, if there is one.
-fn put_default<S: Sink>(
-    sink: &mut S,
-    done: u64,
-    form: Form,
-    default: Option<&PosixAcl>,
-) -> Result<u64, WriteFault>
-    requires { done < 2 ^ 62 }
-    ensures written { WritesFrom (S.contents sink.old) (S.contents sink.new) done
-        (default_out form (option_map (λ acl. acl.now) default.entry)) result }
-    ensures none_failed { OnOk result (S.failure_count sink.new ≡ S.failure_count sink.old) }
-    ensures failed { OnErr result (S.failure_count sink.new ≡ one_more (S.failure_count sink.old)) }
-{
-    match default {
-        Some(acl) => {
-            let entries = acl.entries();
-            put_part(sink, done, form, Part::Default, acl, entries, false)
-        }
-        None => Ok(done),
-    }
-}
-
-/// Writes a text of the ACLs of a file, and answers how many bytes it has.
-fn put_file<S: Sink>(
-    sink: &mut S,
-    form: Form,
-    access: &PosixAcl,
-    default: Option<&PosixAcl>,
-) -> Result<u64, WriteFault>
-    ensures written { WritesFrom (S.contents sink.old) (S.contents sink.new) 0
-        (form_text form access.now (option_map (λ acl. acl.now) default.entry)) result }
-    ensures none_failed { OnOk result (S.failure_count sink.new ≡ S.failure_count sink.old) }
-    ensures failed { OnErr result (S.failure_count sink.new ≡ one_more (S.failure_count sink.old)) }
-{
-    let entries = access.entries();
-    match put_part(sink, 0, form, Part::Access, access, entries, true) {
-        Ok(done) => put_default(sink, done, form, default),
-        Err(fault) => Err(fault),
-    }
-}
-
 impl PosixFile {
-    /// Writes the text in a form. The first put that fails ends it; nothing is tried again. No memory; time n log n.
+    /// Writes the text in a form. The first put that fails ends it; nothing is tried again. No memory; linear time.
     pub fn write<S: Sink>(&self, sink: &mut S, form: Form) -> Result<(), WriteFault>
         ensures { Writes S.contents S.failure_count sink.old sink.new
             (form_text form self.now.access self.now.default) result }
@@ -104,7 +104,7 @@ impl PosixFile {
     }
 
     /// Writes the canonical text: a line an entry in canonical order, and the default ACL behind the access ACL. The
-    /// first put that fails ends it; nothing is tried again. No memory; time n log n.
+    /// first put that fails ends it; nothing is tried again. No memory; linear time.
     pub fn write_canonical<S: Sink>(&self, sink: &mut S) -> Result<(), WriteFault>
         ensures { Writes S.contents S.failure_count sink.old sink.new
             (canonical_text self.now.access self.now.default) result }
@@ -113,7 +113,7 @@ impl PosixFile {
     }
 
     /// Writes the canonical text with a comment behind each entry that the mask cuts: its effective permissions. The
-    /// first put that fails ends it; nothing is tried again. No memory; time n log n.
+    /// first put that fails ends it; nothing is tried again. No memory; linear time.
     pub fn write_shown<S: Sink>(&self, sink: &mut S) -> Result<(), WriteFault>
         ensures { Writes S.contents S.failure_count sink.old sink.new
             (shown_text self.now.access self.now.default) result }
@@ -122,7 +122,7 @@ impl PosixFile {
     }
 
     /// Writes the short text: the entries in canonical order with commas between them, and no line feed. The first put
-    /// that fails ends it; nothing is tried again. No memory; time n log n.
+    /// that fails ends it; nothing is tried again. No memory; linear time.
     pub fn write_short<S: Sink>(&self, sink: &mut S) -> Result<(), WriteFault>
         ensures { Writes S.contents S.failure_count sink.old sink.new
             (short_text self.now.access self.now.default) result }
@@ -132,7 +132,7 @@ impl PosixFile {
 }
 
 impl PosixAcl {
-    /// Writes the text in a form. The first put that fails ends it; nothing is tried again. No memory; time n log n.
+    /// Writes the text in a form. The first put that fails ends it; nothing is tried again. No memory; linear time.
     pub fn write<S: Sink>(&self, sink: &mut S, form: Form) -> Result<(), WriteFault>
         ensures { Writes S.contents S.failure_count sink.old sink.new
             (form_text form self.now None) result }
@@ -142,7 +142,7 @@ impl PosixAcl {
     }
 
     /// Writes the canonical text: a line an entry in canonical order, and the default ACL behind the access ACL. The
-    /// first put that fails ends it; nothing is tried again. No memory; time n log n.
+    /// first put that fails ends it; nothing is tried again. No memory; linear time.
     pub fn write_canonical<S: Sink>(&self, sink: &mut S) -> Result<(), WriteFault>
         ensures { Writes S.contents S.failure_count sink.old sink.new
             (canonical_text self.now None) result }
@@ -151,7 +151,7 @@ impl PosixAcl {
     }
 
     /// Writes the canonical text with a comment behind each entry that the mask cuts: its effective permissions. The
-    /// first put that fails ends it; nothing is tried again. No memory; time n log n.
+    /// first put that fails ends it; nothing is tried again. No memory; linear time.
     pub fn write_shown<S: Sink>(&self, sink: &mut S) -> Result<(), WriteFault>
         ensures { Writes S.contents S.failure_count sink.old sink.new
             (shown_text self.now None) result }
@@ -160,7 +160,7 @@ impl PosixAcl {
     }
 
     /// Writes the short text: the entries in canonical order with commas between them, and no line feed. The first put
-    /// that fails ends it; nothing is tried again. No memory; time n log n.
+    /// that fails ends it; nothing is tried again. No memory; linear time.
     pub fn write_short<S: Sink>(&self, sink: &mut S) -> Result<(), WriteFault>
         ensures { Writes S.contents S.failure_count sink.old sink.new
             (short_text self.now None) result }

@@ -20,11 +20,11 @@ pub record Headline : Type 0 where
   -- two NFSv4 lists normalise to equal bytes exactly if, in every situation and for every mask, both grant or both deny
   pub equal_bytes : TellsListsApart Normalises SameGrants
   -- the normal form grants what its source grants
-  pub same_grants : (p : Profile) (list form : List Ace) (x a : List ℕ) → IsProfile p → Xdr p list x → Xdr p form a
-      → Normalises p x a → SameGrants p.masks list form
+  pub same_grants : (p : Profile) (list form : List Ace) (input output : List ℕ) → IsProfile p
+      → Xdr p list input → Xdr p form output → Normalises p input output → SameGrants p.masks list form
   -- normalising twice is once
-  pub twice_is_once : (p : Profile) (x a b : List ℕ) → IsProfile p → Normalises p x a
-      → Normalises p a b ↔ (b ≡ a)
+  pub twice_is_once : (p : Profile) (input once twice : List ℕ) → IsProfile p → Normalises p input once
+      → Normalises p once twice ↔ (twice ≡ once)
   -- two POSIX files have one canonical text exactly if they have the same entries
   pub one_text : TellsApart canonical_text
   -- and the canonical text reads back
@@ -44,7 +44,8 @@ pub record HeadlineOverPaths : Type 0 where
   -- mask, both grant or both deny
   pub equal_bytes : TellsListsApart NormalisesAtPaths SameAtEveryPath
   -- each of the five grants what stands at its path grants
-  pub same_grants : (p : Profile) (list : List Ace) (x a : List ℕ) → IsProfile p → Xdr p list x
-      → (five : NormalisesAtPaths p x a) → GrantAtPaths p.masks list five.forms
+  pub same_grants : (p : Profile) (list : List Ace) (input output : List ℕ) → IsProfile p → Xdr p list input
+      → (five : NormalisesAtPaths p input output) → GrantAtPaths p.masks list five.forms
   -- normalising each of the five once more changes none
-  pub twice_is_once : (p : Profile) (x a : List ℕ) → IsProfile p → NormalisesAtPaths p x a → IsFiveForms p a
+  pub twice_is_once : (p : Profile) (input output : List ℕ) → IsProfile p → NormalisesAtPaths p input output
+      → IsFiveForms p output

@@ -30,9 +30,10 @@ ShowsCanonical names input text =
 -- two texts of files, each with its names, get one canonical text exactly if the entries of both parts are equal
 abbrev pub ShowPosixTellsApart : Type 0
 ShowPosixTellsApart =
-    (t u : Table) (x y a b : List ℕ) (f g : PosixFile) → IsTable t → IsTable u → Reads x t f → Reads y u g
-    → ShowsCanonical t x a → ShowsCanonical u y b
-    → (a ≡ b) ↔ (f.access ≡ g.access) × (f.default ≡ g.default)
+    (names other_names : Table) (input other_input text other_text : List ℕ) (file other : PosixFile)
+    → IsTable names → IsTable other_names → Reads input names file → Reads other_input other_names other
+    → ShowsCanonical names input text → ShowsCanonical other_names other_input other_text
+    → (text ≡ other_text) ↔ (file.access ≡ other.access) × (file.default ≡ other.default)
 
 -- what `show-nfs` makes of bytes is a text that `encode` takes, and it makes these bytes of it and no others
 abbrev pub EncodeUndoesShow : Type 0
@@ -50,22 +51,26 @@ ShowUndoesEncode = (p : Profile) (input bytes text : List ℕ) (list : List Ace)
 -- two inputs, each of which spells a list of a profile, get equal bytes exactly if the lists are the same to the rights
 -- of the profile
 abbrev pub TellsListsApart : (Profile → List ℕ → List ℕ → Type 0) → (ℕ → List Ace → List Ace → Type 0) → Type 0
-TellsListsApart Gets Same = (p : Profile) (list other : List Ace) (x y a b : List ℕ) → IsProfile p → Xdr p list x
-    → Xdr p other y → Gets p x a → Gets p y b → (a ≡ b) ↔ Same p.masks list other
+TellsListsApart Gets Same =
+    (p : Profile) (list other : List Ace) (input other_input output other_output : List ℕ) → IsProfile p
+    → Xdr p list input → Xdr p other other_input → Gets p input output → Gets p other_input other_output
+    → (output ≡ other_output) ↔ Same p.masks list other
 
 -- `normalize` tells lists apart by what they grant: in every situation, for every mask within the profile, both lists
 -- grant or both deny
 abbrev pub NormalizeTellsApart : Type 0
-NormalizeTellsApart = TellsListsApart (λ p x a. NormalizeAnswer p x (done outcome.Yes a)) SameGrants
+NormalizeTellsApart = TellsListsApart (λ p input output. NormalizeAnswer p input (done outcome.Yes output)) SameGrants
 
 -- what `normalize` makes of bytes it makes of that too, and nothing else
 abbrev pub NormalizeTwice : Type 0
-NormalizeTwice = (p : Profile) (x a b : List ℕ) → IsProfile p → NormalizeAnswer p x (done outcome.Yes a)
-    → NormalizeAnswer p a (done outcome.Yes b) ↔ (b ≡ a)
+NormalizeTwice = (p : Profile) (input once twice : List ℕ) → IsProfile p
+    → NormalizeAnswer p input (done outcome.Yes once)
+    → NormalizeAnswer p once (done outcome.Yes twice) ↔ (twice ≡ once)
 
 -- `normalize --inherit` tells lists apart by what they grant at every path of creations
 abbrev pub NormalizeInheritTellsApart : Type 0
-NormalizeInheritTellsApart = TellsListsApart (λ p x a. NormalizeInheritAnswer p x (done outcome.Yes a)) SameAtEveryPath
+NormalizeInheritTellsApart =
+    TellsListsApart (λ p input output. NormalizeInheritAnswer p input (done outcome.Yes output)) SameAtEveryPath
 
 -- the text is five lists, one behind the other, each of which is its own normal form
 pub record IsFiveForms (p : Profile) (text : List ℕ) : Type 0 where
@@ -76,5 +81,5 @@ pub record IsFiveForms (p : Profile) (text : List ℕ) : Type 0 where
 -- what `normalize --inherit` makes of bytes is five lists, one behind the other, of each of which `normalize` makes the
 -- same bytes
 abbrev pub NormalizeInheritGivesForms : Type 0
-NormalizeInheritGivesForms = (p : Profile) (x a : List ℕ) → IsProfile p
-    → NormalizeInheritAnswer p x (done outcome.Yes a) → IsFiveForms p a
+NormalizeInheritGivesForms = (p : Profile) (input output : List ℕ) → IsProfile p
+    → NormalizeInheritAnswer p input (done outcome.Yes output) → IsFiveForms p output

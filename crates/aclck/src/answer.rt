@@ -13,7 +13,9 @@ use thiserror::Error;
 /// The answer of a command that ran to its end: No is denied or different.
 #[derive(Clone, Copy, Debug, PartialEq, Eq)]
 pub enum Outcome {
+    /// The answer is `granted` or `same`, or the command asks nothing and its whole output was written.
     Yes,
+    /// The answer is denied or different.
     No,
 }
 
@@ -81,9 +83,13 @@ impl From<WriteFault> for RunFault {
 /// Whose a fault is.
 #[derive(Clone, Copy, Debug, PartialEq, Eq)]
 pub enum Cause {
+    /// The input is refused.
     Input,
+    /// The source failed.
     Source,
+    /// The sink failed, by this fault.
     Sink(WriteFault),
+    /// There was no memory.
     Memory,
 }
 

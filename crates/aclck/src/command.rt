@@ -20,6 +20,7 @@ use std::io::Write;
 pub enum CommandFault {
     /// The first word names no command, the command does not take the words, or a value is bad.
     Usage,
+    /// The command did not run to its end, or there was no memory to read its words.
     Run(RunFault),
 }
 
@@ -101,7 +102,8 @@ pub fn command<S: Source, K: Sink, E: Sink>(
     ensures bound { (source.new ≡ source.old) ⊎ IsTaken (task_of (texts words.entry.now))
         (S.remaining source.old) (S.remaining source.new) }
     ensures stopped { (S.failure_count source.new ≡ S.failure_count source.old)
-        ⊎ IsStopped (task_of (texts words.entry.now)) (S.remaining source.old) (S.remaining source.new) }
+        ⊎ IsStopped (task_of (texts words.entry.now))
+        (S.remaining source.old) (S.remaining source.new) }
     ensures ended { result ≡ 2 → IsEnded
         (task_of (texts words.entry.now)) (S.remaining source.new) }
 

@@ -28,7 +28,9 @@ pub enum Argument {
 /// Why words ask for nothing.
 #[derive(Clone, Copy, Debug, PartialEq, Eq)]
 pub enum LineFault {
+    /// The command does not take the words, or a value is bad.
     Usage,
+    /// There was no memory to read the words.
     Memory,
 }
 
@@ -130,13 +132,6 @@ fn line_fault(error: &clap::Error) -> LineFault
     }
 }
 
-/// The first value of an option.
-pub(crate) fn text_of<'a>(matches: &ArgMatches<'a>, id: &str) -> Option<&'a str>
-    ensures { text_if_any result ≡ first_of id.now (rows_in matches.now) }
-{
-    matches.get_str(id)
-}
-
 /// Whether a flag was given.
 pub(crate) fn is_set(matches: &ArgMatches<'_>, id: &str) -> bool
     ensures { result ≡ is_given id.now (rows_in matches.now) }
@@ -152,4 +147,11 @@ fn is_true(text: Option<&str>) -> bool
         Some(text) => text == "true",
         None => false,
     }
+}
+
+/// The first value of an option.
+pub(crate) fn text_of<'a>(matches: &ArgMatches<'a>, id: &str) -> Option<&'a str>
+    ensures { text_if_any result ≡ first_of id.now (rows_in matches.now) }
+{
+    matches.get_str(id)
 }

@@ -5,9 +5,9 @@ use crate::xdr::fault::Fault;
 /// What a piece came to.
 #[derive(Clone, Copy, Debug, PartialEq, Eq)]
 pub enum Fed {
-    /// The value isn't whole yet.
+    /// The list isn't whole yet.
     More,
-    /// The value is whole, and so many bytes of the piece belong to it.
+    /// The list is whole, and so many bytes of the piece belong to it.
     Done { taken: usize },
     /// The stream has this fault.
     Refused(Fault),

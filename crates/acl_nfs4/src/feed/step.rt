@@ -1,4 +1,4 @@
-//! What one more piece makes of a text that is cut short: the list, a fault, or a text that is still cut short.
+//! What one more piece makes of bytes that are cut short: the list, a fault, or bytes that are still cut short.
 ghost use Rattle.std.specs.Prelude.{◌≡◌, ◌+◌, ◌≤◌, ◌<◌, ◌^◌, ◌++◌, length, take, drop};
 ghost use Rattle.acl_perm.specs.Profile.{profile_of};
 ghost use Rattle.acl_nfs4.specs.Stream.{Feeds, IsCut, more};
@@ -68,26 +68,8 @@ impl Step {
     }
 }
 
-// How far a text is judged, where it was judged up to `from` before: so no whole ACE is judged again for each piece.
-fn judge(text: &Text, from: Progress, profile: Profile) -> Reach
-    requires { IsProgress (profile_of profile) text.now from }
-    ensures progress { IsProgress (profile_of profile) text.now result.progress }
-    ensures judged { Judged (profile_of profile) text.now result.progress result.fault }
-    ensures fits { length text.now < 2 ^ 64 }
-{
-    match text.count() {
-        None => Reach::at_fault(from, Fault::at_front(Reason::Truncated)),
-        Some(count) => {
-            if count > MOST_ACES {
-                return Reach::at_fault(from, Fault::at_front(Reason::TooManyAces));
-            }
-            scan(text.body(), count, from, profile)
-        }
-    }
-}
-
-/// One more piece of a text that is cut short. What stands behind a list is cut off, so that a feed that is done holds
-/// the list alone.
+/// Adds one more piece to bytes that are cut short. What stands behind a list is cut off, so that a feed that is done
+/// holds the list alone.
 pub(crate) fn advance(text: &mut Text, piece: &[u8], from: Progress, profile: Profile) -> Step
     requires progress { IsProgress (profile_of profile) text.old from }
     requires cut { IsCut (profile_of profile) text.old }
@@ -110,6 +92,24 @@ pub(crate) fn advance(text: &mut Text, piece: &[u8], from: Progress, profile: Pr
                     _ => Step::refused(fault, reach.progress),
                 },
             }
+        }
+    }
+}
+
+// How far bytes are judged that were judged up to `from` before, so that no whole ACE is judged again at each piece.
+fn judge(text: &Text, from: Progress, profile: Profile) -> Reach
+    requires { IsProgress (profile_of profile) text.now from }
+    ensures progress { IsProgress (profile_of profile) text.now result.progress }
+    ensures judged { Judged (profile_of profile) text.now result.progress result.fault }
+    ensures fits { length text.now < 2 ^ 64 }
+{
+    match text.count() {
+        None => Reach::at_fault(from, Fault::at_front(Reason::Truncated)),
+        Some(count) => {
+            if count > MOST_ACES {
+                return Reach::at_fault(from, Fault::at_front(Reason::TooManyAces));
+            }
+            scan(text.body(), count, from, profile)
         }
     }
 }

@@ -13,26 +13,6 @@ use byteorder::{BigEndian, ByteOrder};
 use std::alloc::AllocError;
 use std::marker::Model;
 
-pub(crate) fn word_in(bytes: &[u8], at: usize) -> u32
-    requires { at + 4 ≤ length bytes.now }
-    ensures { result ≡ number (take 4 (drop at bytes.now)) }
-{
-    BigEndian::read_u32(&bytes[at..])
-}
-
-fn kind_named(number: u32) -> Kind
-    ensures { result ≡ kind_from number }
-{
-    if number == 0 { Kind::Allow } else { Kind::Deny }
-}
-
-// An ACE, and the bytes behind it.
-#[derive(Drop)]
-struct FirstAce<'a> {
-    ace: AceRef<'a>,
-    rest: &'a [u8],
-}
-
 // The ACE at the front of bytes that were judged before: nothing is judged again.
 fn first_ace(bytes: &[u8]) -> FirstAce<'_>
     requires { BeginsWithAce bytes.now }
@@ -57,6 +37,26 @@ fn first_ace(bytes: &[u8]) -> FirstAce<'_>
         who,
     };
     FirstAce { ace, rest }
+}
+
+fn kind_named(number: u32) -> Kind
+    ensures { result ≡ kind_from number }
+{
+    if number == 0 { Kind::Allow } else { Kind::Deny }
+}
+
+// An ACE, and the bytes behind it.
+#[derive(Drop)]
+struct FirstAce<'a> {
+    ace: AceRef<'a>,
+    rest: &'a [u8],
+}
+
+pub(crate) fn word_in(bytes: &[u8], at: usize) -> u32
+    requires { at + 4 ≤ length bytes.now }
+    ensures { result ≡ number (take 4 (drop at bytes.now)) }
+{
+    BigEndian::read_u32(&bytes[at..])
 }
 
 /// The ACEs of a list in order.

@@ -183,6 +183,23 @@ impl Acl {
     }
 }
 
+// Adds the piece of an ACE at the end, or nothing.
+fn append_piece(body: &mut Vec<u8>, item: &AceRef<'_>) -> Result<(), AllocError>
+    requires { length item.now.who.now ≤ longest_who }
+    ensures { Extended body.old.items body.new.items (piece (ace item.now)) result }
+{
+    let len = item.who.len();
+    // With this room nothing below wants memory, so no ACE is left half written.
+    body.reserve(16 + len + 3)?;
+    body.extend_from_slice(&head(item))?;
+    body.extend_from_slice(item.who)?;
+    // Three bytes and a cut cost less than a copy of as many as are wanted.
+    let end = body.len() + (4 - len % 4) % 4;
+    body.extend_from_slice(&[0; 3])?;
+    body.truncate(end);
+    Ok(())
+}
+
 // The four words that an ACE begins with.
 fn head(item: &AceRef<'_>) -> [u8; 16]
     requires { length item.now.who.now ≤ longest_who }
@@ -206,32 +223,6 @@ fn kind_word(kind: Kind) -> u32
     }
 }
 
-// Adds the piece of an ACE at the end, or nothing.
-fn append_piece(body: &mut Vec<u8>, item: &AceRef<'_>) -> Result<(), AllocError>
-    requires { length item.now.who.now ≤ longest_who }
-    ensures { Extended body.old.items body.new.items (piece (ace item.now)) result }
-{
-    let len = item.who.len();
-    // With this room nothing below wants memory, so no ACE is left half written.
-    body.reserve(16 + len + 3)?;
-    body.extend_from_slice(&head(item))?;
-    body.extend_from_slice(item.who)?;
-    // Three bytes and a cut cost less than a copy of as many as are wanted.
-    let end = body.len() + (4 - len % 4) % 4;
-    body.extend_from_slice(&[0; 3])?;
-    body.truncate(end);
-    Ok(())
-}
-
-#[tactic(auto, using(crate::proofs::Within::tests))]
-fn fits_ace(ace: &AceRef<'_>, profile: Profile) -> bool
-    ensures { IsTrue result
-        ↔ (IsWithin profile.flags.bits ace.now.flags.bits
-        × IsWithin profile.masks.bits ace.now.mask.bits) }
-{
-    profile.flags.contains(ace.flags) && profile.masks.contains(ace.mask)
-}
-
 fn fit(aces: Aces<'_>, profile: Profile) -> bool
     ensures { IsTrue result ↔ Fits (profile_of profile) aces.entry }
 {
@@ -241,6 +232,15 @@ fn fit(aces: Aces<'_>, profile: Profile) -> bool
         }
     }
     true
+}
+
+#[tactic(auto, using(crate::proofs::Within::tests))]
+fn fits_ace(ace: &AceRef<'_>, profile: Profile) -> bool
+    ensures { IsTrue result
+        ↔ (IsWithin profile.flags.bits ace.now.flags.bits
+        × IsWithin profile.masks.bits ace.now.mask.bits) }
+{
+    profile.flags.contains(ace.flags) && profile.masks.contains(ace.mask)
 }
 
 fn weight_of(aces: Aces<'_>) -> u32

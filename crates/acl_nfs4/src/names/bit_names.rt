@@ -27,21 +27,26 @@ impl BitName {
     }
 }
 
-// The row that a word names.
-fn row_named<'a>(table: &'a [BitName], word: &[u8]) -> Option<&'a BitName>
-    ensures { option_copied result ≡ find (λ r. is_name_of word.now (row_of r)) table.now }
+/// The set that a field names, where this one has all of it.
+#[tactic(auto, unfolding(crate::specs::internal::NameTable::set_within))]
+pub(crate) fn set_within(table: &[BitName], field: &[u8], whole: u32) -> Option<u32>
+    ensures exact { result ≡ set_within (table_of table.now) whole field.now }
+    ensures within { IfSome result (λ set. IsWithin whole set) }
 {
-    table.iter().find(|row| row.is_named(word))
+    let set = set_in(table, field)?;
+    if set & whole == set { Some(set) } else { None }
 }
 
-// The bit that a word names.
-fn bit_in(table: &[BitName], word: &[u8]) -> Option<u32>
-    ensures { result ≡ bit_in (table_of table.now) word.now }
+/// The set that a field names: the empty one by `-`, or the union of the bits that the names with `|` between them
+/// stand for.
+#[tactic(auto, unfolding(crate::specs::BitNames::set_named))]
+pub(crate) fn set_in(table: &[BitName], field: &[u8]) -> Option<u32>
+    ensures { result ≡ set_named (table_of table.now) field.now }
 {
-    match row_named(table, word) {
-        Some(row) => Some(row.bit),
-        None => None,
+    if field == b"-".as_slice() {
+        return Some(0);
     }
+    bits_in(table, field)
 }
 
 // The part of a field before the first `|`, and what stands after it.
@@ -49,6 +54,19 @@ fn bit_in(table: &[BitName], word: &[u8]) -> Option<u32>
 struct FirstWord<'a> {
     word: &'a [u8],
     after: Option<&'a [u8]>,
+}
+
+fn bits_in(table: &[BitName], field: &[u8]) -> Option<u32>
+    ensures { result ≡ bits_in (table_of table.now) (slice_split (λ b. b == 0x7c) field.now) }
+{
+    let mut bits = 0;
+    let mut rest = Some(field);
+    while let Some(text) = rest {
+        let first = cut(text);
+        bits |= bit_in(table, first.word)?;
+        rest = first.after;
+    }
+    Some(bits)
 }
 
 fn cut(field: &[u8]) -> FirstWord<'_>
@@ -72,45 +90,21 @@ fn bar_in(field: &[u8]) -> Option<usize>
     place_of(field, b'|')
 }
 
-fn bits_in(table: &[BitName], field: &[u8]) -> Option<u32>
-    ensures { result ≡ bits_in (table_of table.now) (slice_split (λ b. b == 0x7c) field.now) }
+// The bit that a word names.
+fn bit_in(table: &[BitName], word: &[u8]) -> Option<u32>
+    ensures { result ≡ bit_in (table_of table.now) word.now }
 {
-    let mut bits = 0;
-    let mut rest = Some(field);
-    while let Some(text) = rest {
-        let first = cut(text);
-        bits |= bit_in(table, first.word)?;
-        rest = first.after;
+    match row_named(table, word) {
+        Some(row) => Some(row.bit),
+        None => None,
     }
-    Some(bits)
 }
 
-/// The set that a field names: the empty one by `-`, or the union of the bits that the names with `|` between them
-/// stand for.
-#[tactic(auto, unfolding(crate::specs::BitNames::set_named))]
-pub(crate) fn set_in(table: &[BitName], field: &[u8]) -> Option<u32>
-    ensures { result ≡ set_named (table_of table.now) field.now }
+// The row that a word names.
+fn row_named<'a>(table: &'a [BitName], word: &[u8]) -> Option<&'a BitName>
+    ensures { option_copied result ≡ find (λ r. is_name_of word.now (row_of r)) table.now }
 {
-    if field == b"-".as_slice() {
-        return Some(0);
-    }
-    bits_in(table, field)
-}
-
-/// The set that a field names, where this one has all of it.
-#[tactic(auto, unfolding(crate::specs::internal::NameTable::set_within))]
-pub(crate) fn set_within(table: &[BitName], field: &[u8], whole: u32) -> Option<u32>
-    ensures exact { result ≡ set_within (table_of table.now) whole field.now }
-    ensures within { IfSome result (λ set. IsWithin whole set) }
-{
-    let set = set_in(table, field)?;
-    if set & whole == set { Some(set) } else { None }
-}
-
-fn row_of_bit(table: &[BitName], bit: u32) -> Option<&BitName>
-    ensures { option_copied result ≡ find (λ r. r.bit == bit) table.now }
-{
-    table.iter().find(|row| row.bit == bit)
+    table.iter().find(|row| row.is_named(word))
 }
 
 /// The first name of a bit.
@@ -121,4 +115,10 @@ pub(crate) fn first_name(table: &[BitName], bit: u32) -> Option<&'static str>
         Some(row) => Some(row.name),
         None => None,
     }
+}
+
+fn row_of_bit(table: &[BitName], bit: u32) -> Option<&BitName>
+    ensures { option_copied result ≡ find (λ r. r.bit == bit) table.now }
+{
+    table.iter().find(|row| row.bit == bit)
 }

@@ -36,10 +36,51 @@ pub(crate) fn is_skipped(line: &[u8]) -> bool
     }
 }
 
-fn space_in(bytes: &[u8]) -> Option<usize>
-    ensures { result ≡ position (λ b. b == 0x20) bytes.now }
+/// The ACE that a line spells, as the next of a list that has so many of this weight.
+#[tactic(auto, unfolding(crate::specs::internal::AceReading::read_ace))]
+pub(crate) fn read_ace(
+    line: &[u8],
+    number: usize,
+    count: usize,
+    weight: u32,
+    profile: Profile,
+) -> Result<AceRef<'_>, AceTextFault>
+    requires { weight ≤ most_weight }
+    ensures exact { Gives ace result (read_ace (profile_of profile) count weight number line.now) }
+    ensures room { IfOk result (λ a. count < most_aces) }
+    ensures light { IfOk result (λ a. weight + count_ones a.mask.bits ≤ most_weight) }
+    ensures who { IfOk result (λ a. IsWho a.who.now) }
 {
-    place_of(bytes, b' ')
+    if count >= MOST_ACES as usize {
+        return Err(AceTextFault::TooManyAces {
+            line: number,
+            column: 1,
+        });
+    }
+    let Some(fields) = fields(line) else {
+        return Err(AceTextFault::Fields {
+            line: number,
+            column: 1,
+        });
+    };
+    let Some(kind) = kind_named(fields.kind) else {
+        return Err(AceTextFault::AceType {
+            line: number,
+            column: 1,
+        });
+    };
+    let column = fields.kind.len() + 2;
+    let flags = flags_at(fields.flags, number, column, profile)?;
+    let column = column + fields.flags.len() + 1;
+    let mask = mask_at(fields.mask, number, column, weight, profile)?;
+    let column = column + fields.mask.len() + 1;
+    let who = who_at(fields.who, number, column)?;
+    Ok(AceRef {
+        kind,
+        flags,
+        mask,
+        who,
+    })
 }
 
 /// What stands before the first space, and what behind it.
@@ -47,16 +88,6 @@ fn space_in(bytes: &[u8]) -> Option<usize>
 pub(crate) struct FirstField<'a> {
     pub field: &'a [u8],
     pub rest: &'a [u8],
-}
-
-fn cut(bytes: &[u8]) -> Option<FirstField<'_>>
-    ensures { option_map view_first result ≡ cut_space bytes.now }
-{
-    let place = space_in(bytes)?;
-    Some(FirstField {
-        field: &bytes[..place],
-        rest: &bytes[place + 1..],
-    })
 }
 
 // The fields of a line, where it has four.
@@ -74,6 +105,22 @@ fn fields(line: &[u8]) -> Option<LineFields<'_>>
         mask: mask.field,
         who: mask.rest,
     })
+}
+
+fn cut(bytes: &[u8]) -> Option<FirstField<'_>>
+    ensures { option_map view_first result ≡ cut_space bytes.now }
+{
+    let place = space_in(bytes)?;
+    Some(FirstField {
+        field: &bytes[..place],
+        rest: &bytes[place + 1..],
+    })
+}
+
+fn space_in(bytes: &[u8]) -> Option<usize>
+    ensures { result ≡ position (λ b. b == 0x20) bytes.now }
+{
+    place_of(bytes, b' ')
 }
 
 #[tactic(auto, unfolding(crate::specs::internal::AceReading::kind_named))]
@@ -128,17 +175,6 @@ fn mask_at(
     Ok(Mask { bits })
 }
 
-fn who_fault(fault: WhoFault, line: usize, column: usize) -> AceTextFault
-    ensures { result ≡ who_fault_at line column fault }
-{
-    match fault {
-        WhoFault::Length => AceTextFault::WhoLength { line, column },
-        WhoFault::Utf8 => AceTextFault::WhoUtf8 { line, column },
-        WhoFault::Control => AceTextFault::WhoControl { line, column },
-        WhoFault::Special => AceTextFault::SpecialWho { line, column },
-    }
-}
-
 // The who of a field.
 fn who_at(field: &[u8], line: usize, column: usize) -> Result<&[u8], AceTextFault>
     ensures exact { Gives (λ who. who.now) result (read_who line column field.now) }
@@ -150,49 +186,13 @@ fn who_at(field: &[u8], line: usize, column: usize) -> Result<&[u8], AceTextFaul
     }
 }
 
-/// The ACE that a line spells, as the next of a list that has so many of this weight.
-#[tactic(auto, unfolding(crate::specs::internal::AceReading::read_ace))]
-pub(crate) fn read_ace(
-    line: &[u8],
-    number: usize,
-    count: usize,
-    weight: u32,
-    profile: Profile,
-) -> Result<AceRef<'_>, AceTextFault>
-    requires { weight ≤ most_weight }
-    ensures exact { Gives ace result (read_ace (profile_of profile) count weight number line.now) }
-    ensures room { IfOk result (λ a. count < most_aces) }
-    ensures light { IfOk result (λ a. weight + count_ones a.mask.bits ≤ most_weight) }
-    ensures who { IfOk result (λ a. IsWho a.who.now) }
+fn who_fault(fault: WhoFault, line: usize, column: usize) -> AceTextFault
+    ensures { result ≡ who_fault_at line column fault }
 {
-    if count >= MOST_ACES as usize {
-        return Err(AceTextFault::TooManyAces {
-            line: number,
-            column: 1,
-        });
+    match fault {
+        WhoFault::Length => AceTextFault::WhoLength { line, column },
+        WhoFault::Utf8 => AceTextFault::WhoUtf8 { line, column },
+        WhoFault::Control => AceTextFault::WhoControl { line, column },
+        WhoFault::Special => AceTextFault::SpecialWho { line, column },
     }
-    let Some(fields) = fields(line) else {
-        return Err(AceTextFault::Fields {
-            line: number,
-            column: 1,
-        });
-    };
-    let Some(kind) = kind_named(fields.kind) else {
-        return Err(AceTextFault::AceType {
-            line: number,
-            column: 1,
-        });
-    };
-    let column = fields.kind.len() + 2;
-    let flags = flags_at(fields.flags, number, column, profile)?;
-    let column = column + fields.flags.len() + 1;
-    let mask = mask_at(fields.mask, number, column, weight, profile)?;
-    let column = column + fields.mask.len() + 1;
-    let who = who_at(fields.who, number, column)?;
-    Ok(AceRef {
-        kind,
-        flags,
-        mask,
-        who,
-    })
 }

@@ -49,24 +49,6 @@ pub fn parse_text_with(alloc: Global, text: &[u8], profile: Profile) -> Result<A
     read_text(alloc, text, profile)
 }
 
-// Adds the ACE of a line, where it is to spell one.
-fn add_line(acl: &mut Acl, line: &[u8], number: usize, profile: Profile) -> Result<(), AceTextFault>
-    ensures { MatchResult result
-        (λ _. read_lines (profile_of profile) acl.old (ace_lines_from number (line.now ∷ []))
-        ≡ Ok acl.new)
-        (λ fault. Fails fault
-        (read_lines (profile_of profile) acl.old (ace_lines_from number (line.now ∷ [])))) }
-{
-    if is_skipped(line) {
-        return Ok(());
-    }
-    let item = read_ace(line, number, acl.len(), acl.weight(), profile)?;
-    match acl.append(item) {
-        Ok(()) => Ok(()),
-        Err(_) => Err(AceTextFault::Memory),
-    }
-}
-
 // The list of the lines.
 fn read_text(alloc: Global, text: &[u8], profile: Profile) -> Result<Acl, AceTextFault>
     ensures { MatchResult result
@@ -83,4 +65,22 @@ fn read_text(alloc: Global, text: &[u8], profile: Profile) -> Result<Acl, AceTex
         rest = after;
     }
     Ok(acl)
+}
+
+// Adds the ACE of a line, where it is to spell one.
+fn add_line(acl: &mut Acl, line: &[u8], number: usize, profile: Profile) -> Result<(), AceTextFault>
+    ensures { MatchResult result
+        (λ _. read_lines (profile_of profile) acl.old (ace_lines_from number (line.now ∷ []))
+        ≡ Ok acl.new)
+        (λ fault. Fails fault
+        (read_lines (profile_of profile) acl.old (ace_lines_from number (line.now ∷ [])))) }
+{
+    if is_skipped(line) {
+        return Ok(());
+    }
+    let item = read_ace(line, number, acl.len(), acl.weight(), profile)?;
+    match acl.append(item) {
+        Ok(()) => Ok(()),
+        Err(_) => Err(AceTextFault::Memory),
+    }
 }

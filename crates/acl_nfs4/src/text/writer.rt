@@ -23,11 +23,42 @@ use arrayvec::ArrayVec;
 // Room for a line: a type, all flags, all rights, the longest who, and what stands between them.
 type Line = ArrayVec<u8, 1600>;
 
-fn add(line: &mut Line, bytes: &[u8])
-    requires { array_vec_len line.old + length bytes.now ≤ 1600 }
-    ensures { line.new.items ≡ line.old.items ++ bytes.now }
+// Writes the lines of the ACEs, and answers how many bytes are out then.
+fn put_lines<S: Sink>(sink: &mut S, aces: Aces<'_>) -> Result<u64, WriteFault>
+    requires { length aces ≤ most_aces }
+    ensures written { WritesFrom (S.contents sink.old) (S.contents sink.new) 0
+        (ace_text aces.entry) result }
+    ensures none_failed { OnOk result (S.failure_count sink.new ≡ S.failure_count sink.old) }
+    ensures failed { OnErr result (S.failure_count sink.new ≡ one_more (S.failure_count sink.old)) }
 {
-    let _ = line.try_extend_from_slice(bytes);
+    let mut line = ArrayVec::new();
+    let mut done = 0;
+    for ace in aces {
+        fill(&mut line, ace);
+        match put_next(sink, done, &line) {
+            Ok(count) => done = count,
+            Err(fault) => return Err(fault),
+        }
+    }
+    Ok(done)
+}
+
+// The line of an ACE.
+#[tactic(auto, unfolding(crate::specs::AceText::ace_line))]
+fn fill(line: &mut Line, item: AceRef<'_>)
+    requires { length item.who.now ≤ longest_who }
+    ensures text { line.new.items ≡ ace_line (ace item.entry) }
+    ensures short { array_vec_len line.new ≤ 1600 }
+{
+    line.clear();
+    add(line, kind_name(item.kind));
+    line.push(b' ');
+    add_set(line, &FLAGS, item.flags.bits() as u32);
+    line.push(b' ');
+    add_set(line, &RIGHTS, item.mask.bits());
+    line.push(b' ');
+    add(line, item.who);
+    line.push(b'\n');
 }
 
 fn kind_name(kind: Kind) -> &'static [u8]
@@ -37,6 +68,22 @@ fn kind_name(kind: Kind) -> &'static [u8]
     match kind {
         Kind::Allow => b"ALLOW",
         Kind::Deny => b"DENY",
+    }
+}
+
+// Adds the field of a set.
+#[tactic(auto, unfolding(crate::specs::BitNames::set_text))]
+fn add_set(line: &mut Line, table: &[BitName], set: u32)
+    requires short { list_all is_short table.now ≡ true }
+    requires rising { is_rising table.now ≡ true }
+    requires room { array_vec_len line.old + 21 * length table.now + 1 ≤ 1600 }
+    ensures text { line.new.items ≡ line.old.items ++ set_text (table_of table.now) set }
+    ensures len { array_vec_len line.new ≤ array_vec_len line.old + 21 * length table.now + 1 }
+{
+    if set == 0 {
+        line.push(b'-');
+    } else {
+        add_names(line, table, set);
     }
 }
 
@@ -74,58 +121,12 @@ fn add_name(line: &mut Line, name: &[u8], is_first: bool)
     add(line, name);
 }
 
-// Adds the field of a set.
-#[tactic(auto, unfolding(crate::specs::BitNames::set_text))]
-fn add_set(line: &mut Line, table: &[BitName], set: u32)
-    requires short { list_all is_short table.now ≡ true }
-    requires rising { is_rising table.now ≡ true }
-    requires room { array_vec_len line.old + 21 * length table.now + 1 ≤ 1600 }
-    ensures text { line.new.items ≡ line.old.items ++ set_text (table_of table.now) set }
-    ensures len { array_vec_len line.new ≤ array_vec_len line.old + 21 * length table.now + 1 }
+fn add(line: &mut Line, bytes: &[u8])
+    requires { array_vec_len line.old + length bytes.now ≤ 1600 }
+    ensures { line.new.items ≡ line.old.items ++ bytes.now }
 {
-    if set == 0 {
-        line.push(b'-');
-    } else {
-        add_names(line, table, set);
-    }
-}
-
-// The line of an ACE.
-#[tactic(auto, unfolding(crate::specs::AceText::ace_line))]
-fn fill(line: &mut Line, item: AceRef<'_>)
-    requires { length item.who.now ≤ longest_who }
-    ensures text { line.new.items ≡ ace_line (ace item.entry) }
-    ensures short { array_vec_len line.new ≤ 1600 }
-{
-    line.clear();
-    add(line, kind_name(item.kind));
-    line.push(b' ');
-    add_set(line, &FLAGS, item.flags.bits() as u32);
-    line.push(b' ');
-    add_set(line, &RIGHTS, item.mask.bits());
-    line.push(b' ');
-    add(line, item.who);
-    line.push(b'\n');
-}
-
-// Writes the lines of the ACEs, and answers how many bytes are out then.
-fn put_lines<S: Sink>(sink: &mut S, aces: Aces<'_>) -> Result<u64, WriteFault>
-    requires { length aces ≤ most_aces }
-    ensures written { WritesFrom (S.contents sink.old) (S.contents sink.new) 0
-        (ace_text aces.entry) result }
-    ensures none_failed { OnOk result (S.failure_count sink.new ≡ S.failure_count sink.old) }
-    ensures failed { OnErr result (S.failure_count sink.new ≡ one_more (S.failure_count sink.old)) }
-{
-    let mut line = ArrayVec::new();
-    let mut done = 0;
-    for ace in aces {
-        fill(&mut line, ace);
-        match put_next(sink, done, &line) {
-            Ok(count) => done = count,
-            Err(fault) => return Err(fault),
-        }
-    }
-    Ok(done)
+    // The line has room for the bytes, so none is refused.
+    let _ = line.try_extend_from_slice(bytes);
 }
 
 impl Acl {

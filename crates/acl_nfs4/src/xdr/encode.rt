@@ -16,6 +16,7 @@ impl Acl {
         ensures value { result ≡ length (spelling self.now) }
         ensures small { result < 2 ^ 31 }
     {
+        // Every owned list is accepted, and an accepted list is spelled in less than 2^31 bytes.
         let _accepted = self.aces();
         4 + self.body.len() as u64
     }

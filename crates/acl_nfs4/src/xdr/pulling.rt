@@ -21,6 +21,100 @@ pub(crate) struct Pulled {
     pub bits: u32,
 }
 
+/// The next ACE of the source. Each pull asks for no more than the field that is being read lacks, and a field is
+/// judged before the next one is asked for.
+#[inline(always)]
+pub(crate) fn pull_ace<S: Source>(
+    source: &mut S,
+    room: &mut [u8],
+    next: NextAce,
+) -> Result<Pulled, Fault>
+    requires room { length room.old ≡ 1040 }
+    requires fits { next.offset + 1040 < 2 ^ 64 }
+    requires light { next.weight ≤ most_weight }
+    ensures { DrawsAce next (S.remaining source.old) (S.remaining source.new)
+        (S.failure_count source.old) (S.failure_count source.new) room.new result }
+{
+    let words = pull_words(source, room, next)?;
+    let who_end = 16 + words.len;
+    fill(source, room, 16, who_end, next.offset + 16)?;
+    placed(
+        (next.offset + 16) as u64,
+        judges::who_of(&room[16..who_end]),
+    )?;
+    let end = who_end + (4 - words.len % 4) % 4;
+    fill(source, room, who_end, end, next.offset + who_end)?;
+    placed(
+        (next.offset + who_end) as u64,
+        judges::padding_of(&room[who_end..end]),
+    )?;
+    Ok(Pulled {
+        len: end,
+        bits: words.bits,
+    })
+}
+
+// The four words of an ACE, of which each is judged before the next is asked for.
+#[inline(always)]
+fn pull_words<S: Source>(source: &mut S, room: &mut [u8], next: NextAce) -> Result<Words, Fault>
+    requires room { length room.old ≡ 1040 }
+    requires fits { next.offset + 1040 < 2 ^ 64 }
+    requires light { next.weight ≤ most_weight }
+    ensures { DrawsWords next (S.remaining source.old) (S.remaining source.new)
+        (S.failure_count source.old) (S.failure_count source.new) room.new result }
+{
+    let kind = word(source, room, 0, next.offset)?;
+    placed(next.offset as u64, judges::kind_of(kind))?;
+    let flags = word(source, room, 4, next.offset + 4)?;
+    placed(
+        (next.offset + 4) as u64,
+        judges::flags_of(flags, next.profile),
+    )?;
+    let rights = word(source, room, 8, next.offset + 8)?;
+    let mask = placed(
+        (next.offset + 8) as u64,
+        judges::mask_of(rights, next.weight, next.profile),
+    )?;
+    let number = word(source, room, 12, next.offset + 12)?;
+    let len = placed((next.offset + 12) as u64, judges::who_len_of(number))?;
+    Ok(Words {
+        len,
+        bits: mask.bits().count_ones(),
+    })
+}
+
+/// Where the next ACE begins, how many bits the masks of those before it have, and what it may have.
+#[derive(Clone, Copy)]
+pub(crate) struct NextAce {
+    pub offset: usize,
+    pub weight: u32,
+    pub profile: Profile,
+}
+
+// What the four words of an ACE say of the rest: the length of its who, and how many bits its mask has.
+#[derive(Clone, Copy)]
+struct Words {
+    len: usize,
+    bits: u32,
+}
+
+// The next word of the source.
+#[inline(always)]
+pub(crate) fn word<S: Source>(
+    source: &mut S,
+    room: &mut [u8],
+    held: usize,
+    offset: usize,
+) -> Result<u32, Fault>
+    requires { held + 4 ≤ length room.old }
+    ensures { (piece : List ℕ) × Consumes (S.remaining source.old) (S.remaining source.new) piece
+        × FillsWord offset held room.old room.new piece (S.remaining source.new)
+        (S.failure_count source.old) (S.failure_count source.new) result }
+{
+    fill(source, room, held, held + 4, offset)?;
+    Ok(word_in(room, held))
+}
+
 // The next bytes of the source, into the room from `held` to `end`. Where it ends or fails before, the fault stands at
 // the offset.
 #[inline(always)]
@@ -56,98 +150,4 @@ fn fill<S: Source>(
         }
     }
     Ok(())
-}
-
-// The next word of the source.
-#[inline(always)]
-pub(crate) fn word<S: Source>(
-    source: &mut S,
-    room: &mut [u8],
-    held: usize,
-    offset: usize,
-) -> Result<u32, Fault>
-    requires { held + 4 ≤ length room.old }
-    ensures { (piece : List ℕ) × Consumes (S.remaining source.old) (S.remaining source.new) piece
-        × FillsWord offset held room.old room.new piece (S.remaining source.new)
-        (S.failure_count source.old) (S.failure_count source.new) result }
-{
-    fill(source, room, held, held + 4, offset)?;
-    Ok(word_in(room, held))
-}
-
-/// Where the next ACE begins, how many bits the masks of those before it have, and what it may have.
-#[derive(Clone, Copy)]
-pub(crate) struct NextAce {
-    pub offset: usize,
-    pub weight: u32,
-    pub profile: Profile,
-}
-
-// What the four words of an ACE say of the rest: the length of its who, and how many bits its mask has.
-#[derive(Clone, Copy)]
-struct Words {
-    len: usize,
-    bits: u32,
-}
-
-// The four words of an ACE, of which each is judged before the next is asked for.
-#[inline(always)]
-fn pull_words<S: Source>(source: &mut S, room: &mut [u8], next: NextAce) -> Result<Words, Fault>
-    requires room { length room.old ≡ 1040 }
-    requires fits { next.offset + 1040 < 2 ^ 64 }
-    requires light { next.weight ≤ most_weight }
-    ensures { DrawsWords next (S.remaining source.old) (S.remaining source.new)
-        (S.failure_count source.old) (S.failure_count source.new) room.new result }
-{
-    let kind = word(source, room, 0, next.offset)?;
-    placed(next.offset as u64, judges::kind_of(kind))?;
-    let flags = word(source, room, 4, next.offset + 4)?;
-    placed(
-        (next.offset + 4) as u64,
-        judges::flags_of(flags, next.profile),
-    )?;
-    let rights = word(source, room, 8, next.offset + 8)?;
-    let mask = placed(
-        (next.offset + 8) as u64,
-        judges::mask_of(rights, next.weight, next.profile),
-    )?;
-    let number = word(source, room, 12, next.offset + 12)?;
-    let len = placed((next.offset + 12) as u64, judges::who_len_of(number))?;
-    Ok(Words {
-        len,
-        bits: mask.bits().count_ones(),
-    })
-}
-
-/// The next ACE of the source. Each pull asks for no more than the field that is being read lacks, and a field is
-/// judged before the next one is asked for.
-#[inline(always)]
-pub(crate) fn pull_ace<S: Source>(
-    source: &mut S,
-    room: &mut [u8],
-    next: NextAce,
-) -> Result<Pulled, Fault>
-    requires room { length room.old ≡ 1040 }
-    requires fits { next.offset + 1040 < 2 ^ 64 }
-    requires light { next.weight ≤ most_weight }
-    ensures { DrawsAce next (S.remaining source.old) (S.remaining source.new)
-        (S.failure_count source.old) (S.failure_count source.new) room.new result }
-{
-    let words = pull_words(source, room, next)?;
-    let who_end = 16 + words.len;
-    fill(source, room, 16, who_end, next.offset + 16)?;
-    placed(
-        (next.offset + 16) as u64,
-        judges::who_of(&room[16..who_end]),
-    )?;
-    let end = who_end + (4 - words.len % 4) % 4;
-    fill(source, room, who_end, end, next.offset + who_end)?;
-    placed(
-        (next.offset + who_end) as u64,
-        judges::padding_of(&room[who_end..end]),
-    )?;
-    Ok(Pulled {
-        len: end,
-        bits: words.bits,
-    })
 }

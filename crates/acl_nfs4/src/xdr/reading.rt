@@ -16,48 +16,67 @@ use crate::xdr::judges;
 use acl_perm::{Flags, Kind, Mask, Profile};
 use byteorder::{BigEndian, ByteOrder};
 
-// How many bytes were read. No cursor keeps it, since only a fault wants it.
-#[inline(always)]
-fn offset_of(cursor: &Cursor<'_>) -> u64
-    ensures { result ≡ (place cursor.now).at }
+pub(crate) fn count(cursor: &mut Cursor<'_>) -> Result<u32, Fault>
+    ensures exact { Gives (λ x. (x, place cursor.new)) result
+        (word_field count_of (place cursor.old)) }
+    ensures small { IfOk result (λ x. x ≤ most_aces) }
 {
-    (cursor.len - cursor.rest.len()) as u64
+    let offset = offset_of(cursor);
+    placed(offset, judges::count_of(word(cursor)?))
 }
 
-// What a field gives, or its fault at its first byte.
 #[inline(always)]
-pub(crate) fn placed<T>(offset: u64, judged: Result<T, Reason>) -> Result<T, Fault>
-    ensures { Placed offset judged result }
+pub(crate) fn skip_aces(cursor: &mut Cursor<'_>, count: u32, profile: Profile) -> Result<(), Fault>
+    ensures { Gives (λ _. place cursor.new) result
+        (ending (aces_at (profile_of profile) count 0 (place cursor.old))) }
 {
-    match judged {
-        Ok(value) => Ok(value),
-        Err(reason) => Err(Fault { offset, reason }),
+    let mut weight = 0;
+    for _ in 0..count {
+        let ace = next_ace(cursor, weight, profile)?;
+        weight += ace.mask.bits().count_ones();
     }
+    Ok(())
 }
 
+// The next ACE. Both ways are the same: behind the test that its four words are there, the compiler leaves out the test
+// of each.
 #[inline(always)]
-fn bytes<'a>(cursor: &mut Cursor<'a>, n: usize) -> Result<&'a [u8], Fault>
-    ensures { Gives (λ x. (x.now, place cursor.new)) result
-        (field n (λ bytes. Ok bytes) (place cursor.old)) }
+pub(crate) fn next_ace<'a>(
+    cursor: &mut Cursor<'a>,
+    weight: u32,
+    profile: Profile,
+) -> Result<AceRef<'a>, Fault>
+    requires { weight ≤ most_weight }
+    ensures exact { Gives (λ x. (ace x, place cursor.new)) result
+        (ace_at (profile_of profile) weight (place cursor.old)) }
+    ensures light { IfOk result (λ x. weight + count_ones x.mask.bits ≤ most_weight) }
 {
-    if cursor.rest.len() < n {
-        return Err(Fault {
-            offset: offset_of(cursor),
-            reason: Reason::Truncated,
-        });
+    if cursor.rest.len() < 16 {
+        return fields(cursor, weight, profile);
     }
-    let (front, rest) = cursor.rest.split_at(n);
-    cursor.rest = rest;
-    Ok(front)
+    fields(cursor, weight, profile)
 }
 
+#[tactic(auto, unfolding(crate::specs::internal::Reading::ace_at))]
 #[inline(always)]
-fn word(cursor: &mut Cursor<'_>) -> Result<u32, Fault>
-    ensures { Gives (λ x. (x, place cursor.new)) result
-        (word_field (λ n. Ok n) (place cursor.old)) }
+fn fields<'a>(cursor: &mut Cursor<'a>, weight: u32, profile: Profile) -> Result<AceRef<'a>, Fault>
+    requires { weight ≤ most_weight }
+    ensures exact { Gives (λ x. (ace x, place cursor.new)) result
+        (ace_at (profile_of profile) weight (place cursor.old)) }
+    ensures light { IfOk result (λ x. weight + count_ones x.mask.bits ≤ most_weight) }
 {
-    let front = bytes(cursor, 4)?;
-    Ok(BigEndian::read_u32(front))
+    let kind = kind(cursor)?;
+    let flags = flags(cursor, profile)?;
+    let mask = mask(cursor, weight, profile)?;
+    let len = who_len(cursor)?;
+    let who = who(cursor, len)?;
+    padding(cursor, len)?;
+    Ok(AceRef {
+        kind,
+        flags,
+        mask,
+        who,
+    })
 }
 
 #[inline(always)]
@@ -99,6 +118,15 @@ fn who_len(cursor: &mut Cursor<'_>) -> Result<usize, Fault>
 }
 
 #[inline(always)]
+fn word(cursor: &mut Cursor<'_>) -> Result<u32, Fault>
+    ensures { Gives (λ x. (x, place cursor.new)) result
+        (word_field (λ n. Ok n) (place cursor.old)) }
+{
+    let front = bytes(cursor, 4)?;
+    Ok(BigEndian::read_u32(front))
+}
+
+#[inline(always)]
 fn who<'a>(cursor: &mut Cursor<'a>, len: usize) -> Result<&'a [u8], Fault>
     requires { is_no_who_len len ≡ false }
     ensures { Gives (λ x. (x.now, place cursor.new)) result (field len who_of (place cursor.old)) }
@@ -119,65 +147,37 @@ fn padding(cursor: &mut Cursor<'_>, len: usize) -> Result<(), Fault>
     )
 }
 
-#[tactic(auto, unfolding(crate::specs::internal::Reading::ace_at))]
+// What a field gives, or its fault at its first byte.
 #[inline(always)]
-fn fields<'a>(cursor: &mut Cursor<'a>, weight: u32, profile: Profile) -> Result<AceRef<'a>, Fault>
-    requires { weight ≤ most_weight }
-    ensures exact { Gives (λ x. (ace x, place cursor.new)) result
-        (ace_at (profile_of profile) weight (place cursor.old)) }
-    ensures light { IfOk result (λ x. weight + count_ones x.mask.bits ≤ most_weight) }
+pub(crate) fn placed<T>(offset: u64, judged: Result<T, Reason>) -> Result<T, Fault>
+    ensures { Placed offset judged result }
 {
-    let kind = kind(cursor)?;
-    let flags = flags(cursor, profile)?;
-    let mask = mask(cursor, weight, profile)?;
-    let len = who_len(cursor)?;
-    let who = who(cursor, len)?;
-    padding(cursor, len)?;
-    Ok(AceRef {
-        kind,
-        flags,
-        mask,
-        who,
-    })
-}
-
-// The next ACE. Both ways are the same: behind the test that its four words are there, the compiler leaves out the test
-// of each.
-#[inline(always)]
-pub(crate) fn next_ace<'a>(
-    cursor: &mut Cursor<'a>,
-    weight: u32,
-    profile: Profile,
-) -> Result<AceRef<'a>, Fault>
-    requires { weight ≤ most_weight }
-    ensures exact { Gives (λ x. (ace x, place cursor.new)) result
-        (ace_at (profile_of profile) weight (place cursor.old)) }
-    ensures light { IfOk result (λ x. weight + count_ones x.mask.bits ≤ most_weight) }
-{
-    if cursor.rest.len() < 16 {
-        return fields(cursor, weight, profile);
+    match judged {
+        Ok(value) => Ok(value),
+        Err(reason) => Err(Fault { offset, reason }),
     }
-    fields(cursor, weight, profile)
-}
-
-pub(crate) fn count(cursor: &mut Cursor<'_>) -> Result<u32, Fault>
-    ensures exact { Gives (λ x. (x, place cursor.new)) result
-        (word_field count_of (place cursor.old)) }
-    ensures small { IfOk result (λ x. x ≤ most_aces) }
-{
-    let offset = offset_of(cursor);
-    placed(offset, judges::count_of(word(cursor)?))
 }
 
 #[inline(always)]
-pub(crate) fn skip_aces(cursor: &mut Cursor<'_>, count: u32, profile: Profile) -> Result<(), Fault>
-    ensures { Gives (λ _. place cursor.new) result
-        (ending (aces_at (profile_of profile) count 0 (place cursor.old))) }
+fn bytes<'a>(cursor: &mut Cursor<'a>, n: usize) -> Result<&'a [u8], Fault>
+    ensures { Gives (λ x. (x.now, place cursor.new)) result
+        (field n (λ bytes. Ok bytes) (place cursor.old)) }
 {
-    let mut weight = 0;
-    for _ in 0..count {
-        let ace = next_ace(cursor, weight, profile)?;
-        weight += ace.mask.bits().count_ones();
+    if cursor.rest.len() < n {
+        return Err(Fault {
+            offset: offset_of(cursor),
+            reason: Reason::Truncated,
+        });
     }
-    Ok(())
+    let (front, rest) = cursor.rest.split_at(n);
+    cursor.rest = rest;
+    Ok(front)
+}
+
+// How many bytes were read. No cursor keeps it, since only a fault wants it.
+#[inline(always)]
+fn offset_of(cursor: &Cursor<'_>) -> u64
+    ensures { result ≡ (place cursor.now).at }
+{
+    (cursor.len - cursor.rest.len()) as u64
 }

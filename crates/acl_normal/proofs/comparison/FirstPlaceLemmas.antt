@@ -10,8 +10,8 @@ use Rattle.acl_nfs4.specs.Ace.{Ace, ace}
 use Rattle.acl_nfs4.specs.Who.{principal_of}
 use Rattle.acl_nfs4.specs.declared.ace.AceRef.{AceRef}
 use Rattle.acl_normal.proofs.comparison.SetEvaluation.{granted_to-cons}
+use Rattle.acl_normal.specs.internal.Shown.{aces_in}
 use Rattle.acl_normal.specs.internal.FirstPlaces.{AreFirstFrom, AreWhoms, IsFirstFrom, IsWhom, IsWithin, first_place, is_of, no_ace, no_first, put, stops, stops_at}
-use Rattle.acl_normal.specs.internal.Passes.{list_of}
 use Rattle.acl_normal.specs.internal.SetSearch.{is_granted_to}
 use Rattle.acl_normal.specs.SmallSituations.{is_among}
 use Rattle.acl_normal.specs.declared.comparison.standing.First.{First}
@@ -28,9 +28,9 @@ zip_length R (x ∷ xs) (y ∷ ys) z = ap suc (zip_length R xs ys z.1)
 zip_length R _ _ z = absurd z
 
 -- as many are named as there are ACEs
-pub whoms_length : (ps : List Principal) (aces : List AceRef) (ws : List Whom) → AreWhoms ps (list_of aces) ws
+pub whoms_length : (ps : List Principal) (aces : List AceRef) (ws : List Whom) → AreWhoms ps (aces_in aces) ws
     → length ws ≡ length aces
-whoms_length ps aces ws z = zip_length (IsWhom ps) (list_of aces) ws z ∙ length-map aces ace
+whoms_length ps aces ws z = zip_length (IsWhom ps) (aces_in aces) ws z ∙ length-map aces ace
 
 -- whom the ACE of a place names
 pub whom_at : (ps : List Principal) (xs : List Ace) (ws : List Whom) (i : ℕ) → i < length xs → AreWhoms ps xs ws
@@ -178,24 +178,24 @@ firsts_step ps xs a (One j) b i old is s h later = go (has_bit a.mask b) refl
 -- the loop's step, from place n to the one before
 pub firsts_more : (ps : List Principal) (aces : List AceRef) (d : AceRef) (ws : List Whom) (b e n i : ℕ)
     (old new : List First) → n ≡ i + 1 → n ≤ e → e ≤ length aces
-    → ((k : ℕ) → k < e → stops_at (list_of aces) ws b k ≡ false) → AreWhoms ps (list_of aces) ws
+    → ((k : ℕ) → k < e → stops_at (aces_in aces) ws b k ≡ false) → AreWhoms ps (aces_in aces) ws
     → d ≡ slice_index_or aces i d → new ≡ put old (ace d) (slice_index_or ws i Nobody) i b
-    → AreFirstFrom ps (list_of aces) b n old → AreFirstFrom ps (list_of aces) b i new
+    → AreFirstFrom ps (aces_in aces) b n old → AreFirstFrom ps (aces_in aces) b i new
 firsts_more ps aces d ws b e n i old new next le within stops all at given later =
     let is : new ≡ put old (ace (slice_index_or aces i d)) (slice_index_or ws i Nobody) i b =
     subst (λ v. new ≡ put old (ace v) (slice_index_or ws i Nobody) i b) at given in
-    let lt : i < length (list_of aces) = omega (arith, length-map aces ace) in
-    let same : slice_index_or (list_of aces) i no_ace ≡ ace (slice_index_or aces i d) =
+    let lt : i < length (aces_in aces) = omega (arith, length-map aces ace) in
+    let same : slice_index_or (aces_in aces) i no_ace ≡ ace (slice_index_or aces i d) =
     get_or-map ace aces i d no_ace (omega arith) in
-    subst (λ v. AreFirstFrom ps (list_of aces) b i v)
+    subst (λ v. AreFirstFrom ps (aces_in aces) b i v)
     (sym (is ∙ ap (λ v. put old v (slice_index_or ws i Nobody) i b) (sym same)))
-    (firsts_step ps (list_of aces) (slice_index_or (list_of aces) i no_ace) (slice_index_or ws i Nobody) b i old
-    (drop_more (list_of aces) i no_ace lt) (stops i (omega arith)) (whom_at ps (list_of aces) ws i lt all)
-    (subst (λ v. AreFirstFrom ps (list_of aces) b v old) next later))
+    (firsts_step ps (aces_in aces) (slice_index_or (aces_in aces) i no_ace) (slice_index_or ws i Nobody) b i old
+    (drop_more (aces_in aces) i no_ace lt) (stops i (omega arith)) (whom_at ps (aces_in aces) ws i lt all)
+    (subst (λ v. AreFirstFrom ps (aces_in aces) b v old) next later))
 
 -- the number that an ACE names is one of a principal
 pub whom_within : (ps : List Principal) (aces : List AceRef) (ws : List Whom) (i n : ℕ) → i < length aces
-    → n ≡ length ps → AreWhoms ps (list_of aces) ws → IsWithin (slice_index_or ws i Nobody) n
+    → n ≡ length ps → AreWhoms ps (aces_in aces) ws → IsWithin (slice_index_or ws i Nobody) n
 whom_within ps aces ws i n lt e all =
     subst (λ v. IsWithin (slice_index_or ws i Nobody) v) (sym e)
-    (whom_at ps (list_of aces) ws i (omega (arith, length-map aces ace)) all).within
+    (whom_at ps (aces_in aces) ws i (omega (arith, length-map aces ace)) all).within

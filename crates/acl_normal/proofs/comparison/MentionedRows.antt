@@ -24,9 +24,9 @@ use Rattle.acl_normal.specs.Keys.{principal_eq}
 use Rattle.acl_normal.specs.Places.{key_here}
 use Rattle.acl_normal.specs.SmallSets.{is_mentioning, mentioned, mentioned_with}
 use Rattle.acl_normal.specs.SmallSituations.{is_among}
+use Rattle.acl_normal.specs.internal.Shown.{aces_in}
 use Rattle.acl_normal.specs.internal.FirstPlaces.{AreWhoms, IsWhom, no_ace}
 use Rattle.acl_normal.specs.internal.MentionedRows.{AreByRow, AreMentioned, AreMentionedRows, AreNumbers, HasNumber, IsMentionedAt, at_row, held, mentioned_by, noted, whom_of, with_found}
-use Rattle.acl_normal.specs.internal.Passes.{list_of}
 use Rattle.acl_normal.specs.internal.Rows.{AreRowNumbers, is_named, row_of}
 use Rattle.acl_normal.specs.internal.SetSearch.{IsRising, principals}
 use Rattle.acl_normal.specs.internal.TwoLists.{all_mentioned, two_lists}
@@ -46,7 +46,7 @@ ace_at xs i = slice_index_or xs i no_ace
 
 -- the code's ACE at a place
 ace_here : (aces : List AceRef) (a z : AceRef) (i : ℕ) → i < length aces → a ≡ slice_index_or aces i z
-    → ace a ≡ ace_at (list_of aces) i
+    → ace a ≡ ace_at (aces_in aces) i
 ace_here aces a z i l e = ap ace e ∙ sym (get_or-map ace aces i z no_ace l)
 
 key_is : (xs : List Ace) (i : ℕ) → i < length xs → (key_here xs i).0 ≡ principal_of (ace_at xs i)
@@ -171,39 +171,39 @@ table_more xs rows table p i row r l at mentions t = record {
 
 -- one more, in the code
 pub table_noted : (aces : List AceRef) (rows : List ℕ) (old new : List (Option PrincipalRef))
-    (found : Option PrincipalRef) (a z : AceRef) (i row d : ℕ) → AreRowNumbers (list_of aces) rows → i < length aces
+    (found : Option PrincipalRef) (a z : AceRef) (i row d : ℕ) → AreRowNumbers (aces_in aces) rows → i < length aces
     → row ≡ slice_index_or rows i d → a ≡ slice_index_or aces i z → option_map principal found ≡ mentioned_by (ace a)
-    → new ≡ noted old row found → AreByRow (list_of aces) i old → AreByRow (list_of aces) (i + 1) new
+    → new ≡ noted old row found → AreByRow (aces_in aces) i old → AreByRow (aces_in aces) (i + 1) new
 table_noted aces rows old new found a z i row d r l ri at mentions is t =
-    subst (AreByRow (list_of aces) (i + 1)) (sym is) (go found (mentions ∙ ap mentioned_by (ace_here aces a z i l at)))
+    subst (AreByRow (aces_in aces) (i + 1)) (sym is) (go found (mentions ∙ ap mentioned_by (ace_here aces a z i l at)))
   where
-    inside : i < length (list_of aces)
+    inside : i < length (aces_in aces)
     inside = omega (arith, l, length-map aces ace)
 
     row_is : row ≡ slice_index_or rows i 0
     row_is = ri ∙ get_or_default rows i d 0 (omega (arith, inside, r.count))
 
-    go : (found : Option PrincipalRef) → option_map principal found ≡ mentioned_by (ace_at (list_of aces) i)
-        → AreByRow (list_of aces) (i + 1) (noted old row found)
-    go None m = table_skip (list_of aces) old i (sym m) t
-    go (Some p) m = table_more (list_of aces) rows old p i row r inside row_is m t
+    go : (found : Option PrincipalRef) → option_map principal found ≡ mentioned_by (ace_at (aces_in aces) i)
+        → AreByRow (aces_in aces) (i + 1) (noted old row found)
+    go None m = table_skip (aces_in aces) old i (sym m) t
+    go (Some p) m = table_more (aces_in aces) rows old p i row r inside row_is m t
 
 -- its row is one of the table
 pub row_inside : (aces : List AceRef) (rows : List ℕ) (table : List (Option PrincipalRef)) (i row d end : ℕ)
-    → AreRowNumbers (list_of aces) rows → i < length aces → row ≡ slice_index_or rows i d → end ≡ length table
-    → AreByRow (list_of aces) i table → row < end
+    → AreRowNumbers (aces_in aces) rows → i < length aces → row ≡ slice_index_or rows i d → end ≡ length table
+    → AreByRow (aces_in aces) i table → row < end
 row_inside aces rows table i row d end r l ri e t =
     omega (
       arith,
       ri,
       get_or_default rows i d 0 (omega (arith, inside, r.count)),
-      row_there (list_of aces) rows i r inside,
-      row_fits (list_of aces) i inside,
+      row_there (aces_in aces) rows i r inside,
+      row_fits (aces_in aces) i inside,
       e,
       t.count,
     )
   where
-    inside : i < length (list_of aces)
+    inside : i < length (aces_in aces)
     inside = omega (arith, l, length-map aces ace)
 
 -- the steps of the table
@@ -406,20 +406,20 @@ mentioned_both xs ys all table whole numbers e t n =
 -- whom one more ACE names
 pub whoms_more : (ps : List Principal) (refs : List AceRef) (a z : AceRef) (rows numbers : List ℕ) (ws new : List Whom)
     (w : Whom) (number row i d e : ℕ) → i < length refs → a ≡ slice_index_or refs i z
-    → AreMentionedRows (list_of refs) rows ps numbers → row ≡ slice_index_or rows i d
+    → AreMentionedRows (aces_in refs) rows ps numbers → row ≡ slice_index_or rows i d
     → number ≡ slice_index_or numbers row e → w ≡ whom_of (ace a) number → new ≡ ws ++ w ∷ []
-    → AreWhoms ps (list_of (take i refs)) ws → AreWhoms ps (list_of (take (i + 1) refs)) new
+    → AreWhoms ps (aces_in (take i refs)) ws → AreWhoms ps (aces_in (take (i + 1) refs)) new
 whoms_more ps refs a z rows numbers ws new w number row i d e lt at r ri ni wi is all =
-    subst (λ v. AreWhoms ps (list_of (take (i + 1) refs)) v) (sym is)
+    subst (λ v. AreWhoms ps (aces_in (take (i + 1) refs)) v) (sym is)
     (subst (λ v. AreWhoms ps v (ws ++ w ∷ []))
-    (sym (ap list_of (take_more refs i z lt) ∙ map-append ace (take i refs) (slice_index_or refs i z ∷ [])))
-    (zip_push (IsWhom ps) (list_of (take i refs)) ws (ace (slice_index_or refs i z)) w all
+    (sym (ap aces_in (take_more refs i z lt) ∙ map-append ace (take i refs) (slice_index_or refs i z ∷ [])))
+    (zip_push (IsWhom ps) (aces_in (take i refs)) ws (ace (slice_index_or refs i z)) w all
     (subst (λ v. IsWhom ps (ace v) w) at named)))
   where
-    inside : i < length (list_of refs)
+    inside : i < length (aces_in refs)
     inside = omega (arith, lt, length-map refs ace)
 
-    here : ace a ≡ ace_at (list_of refs) i
+    here : ace a ≡ ace_at (aces_in refs) i
     here = ace_here refs a z i lt at
 
     row_is : row ≡ slice_index_or rows i 0
@@ -454,52 +454,52 @@ whoms_back ps (a ∷ xs) ys (w ∷ ws) h = whoms_back ps xs ys ws h.1
 -- rows and numbers are ready for the whoms
 pub whoms_ready : (aces a b c : List AceRef) (rows r : List ℕ) (table t : List (Option PrincipalRef))
     (whole : List Principal) (numbers : List ℕ) → a ≡ aces → b ≡ aces → c ≡ aces → r ≡ rows → t ≡ table
-    → AreRowNumbers (list_of a) rows → AreByRow (list_of b) (length b) table
-    → AreNumbers t (length t) whole numbers → AreMentionedRows (list_of c) r whole numbers
+    → AreRowNumbers (aces_in a) rows → AreByRow (aces_in b) (length b) table
+    → AreNumbers t (length t) whole numbers → AreMentionedRows (aces_in c) r whole numbers
 whoms_ready aces a b c rows r table t whole numbers ae be ce re te rn by n =
-    subst (λ v. AreMentionedRows (list_of v) r whole numbers) (sym ce)
-    (subst (λ v. AreMentionedRows (list_of aces) v whole numbers) (sym re)
-    (rows_mentioned (list_of aces) rows table whole numbers (subst (λ v. AreRowNumbers (list_of v) rows) ae rn)
-    (subst (λ v. AreByRow (list_of aces) v table) (sym (length-map aces ace))
-    (subst (λ v. AreByRow (list_of v) (length v) table) be by))
+    subst (λ v. AreMentionedRows (aces_in v) r whole numbers) (sym ce)
+    (subst (λ v. AreMentionedRows (aces_in aces) v whole numbers) (sym re)
+    (rows_mentioned (aces_in aces) rows table whole numbers (subst (λ v. AreRowNumbers (aces_in v) rows) ae rn)
+    (subst (λ v. AreByRow (aces_in aces) v table) (sym (length-map aces ace))
+    (subst (λ v. AreByRow (aces_in v) (length v) table) be by))
     (subst (λ v. AreNumbers v (length v) whole numbers) te n)))
 
 -- the principals are those that both lists mention
 pub whole_ready : (list other aces b : List AceRef) (table t : List (Option PrincipalRef)) (whole : List Principal)
-    (numbers : List ℕ) → aces ≡ list ++ other → b ≡ aces → t ≡ table → AreByRow (list_of b) (length b) table
-    → AreNumbers t (length t) whole numbers → whole ≡ mentioned (list_of list) (list_of other)
+    (numbers : List ℕ) → aces ≡ list ++ other → b ≡ aces → t ≡ table → AreByRow (aces_in b) (length b) table
+    → AreNumbers t (length t) whole numbers → whole ≡ mentioned (aces_in list) (aces_in other)
 whole_ready list other aces b table t whole numbers e be te by n =
-    mentioned_both (list_of list) (list_of other) (list_of aces) table whole numbers
-    (ap list_of e ∙ map-append ace list other)
-    (subst (λ v. AreByRow (list_of aces) v table) (sym (length-map aces ace))
-    (subst (λ v. AreByRow (list_of v) (length v) table) be by))
+    mentioned_both (aces_in list) (aces_in other) (aces_in aces) table whole numbers
+    (ap aces_in e ∙ map-append ace list other)
+    (subst (λ v. AreByRow (aces_in aces) v table) (sym (length-map aces ace))
+    (subst (λ v. AreByRow (aces_in v) (length v) table) be by))
     (subst (λ v. AreNumbers v (length v) whole numbers) te n)
 
 -- whom two lists mention, in the code's other borrows of the same lists
 pub mentions_same : (list other a b c d : List AceRef) (m : Mentions) → a ≡ list → b ≡ other → c ≡ list → d ≡ other
-    → AreMentioned (two_lists (list_of a) (list_of b)) m → AreMentioned (two_lists (list_of c) (list_of d)) m
+    → AreMentioned (two_lists (aces_in a) (aces_in b)) m → AreMentioned (two_lists (aces_in c) (aces_in d)) m
 mentions_same list other a b c d m ae be ce de h =
-    subst (λ v. AreMentioned (two_lists (list_of v) (list_of d)) m) (ae ∙ sym ce)
-    (subst (λ v. AreMentioned (two_lists (list_of a) (list_of v)) m) (be ∙ sym de) h)
+    subst (λ v. AreMentioned (two_lists (aces_in v) (aces_in d)) m) (ae ∙ sym ce)
+    (subst (λ v. AreMentioned (two_lists (aces_in a) (aces_in v)) m) (be ∙ sym de) h)
 
 -- whom the first list's ACEs name
 pub whoms_first : (ps : List Principal) (list other : List AceRef) (ws part : List Whom) (n : ℕ) → n ≡ length list
-    → part ≡ take n ws → AreWhoms ps (list_of list ++ list_of other) ws → AreWhoms ps (list_of list) part
+    → part ≡ take n ws → AreWhoms ps (aces_in list ++ aces_in other) ws → AreWhoms ps (aces_in list) part
 whoms_first ps list other ws part n is e h =
-    subst (AreWhoms ps (list_of list)) (sym (e ∙ ap (λ v. take v ws) (is ∙ sym (length-map list ace))))
-    (whoms_front ps (list_of list) (list_of other) ws h)
+    subst (AreWhoms ps (aces_in list)) (sym (e ∙ ap (λ v. take v ws) (is ∙ sym (length-map list ace))))
+    (whoms_front ps (aces_in list) (aces_in other) ws h)
 
 -- and the second's
 pub whoms_second : (ps : List Principal) (list other : List AceRef) (ws part : List Whom) (n : ℕ) → n ≡ length list
-    → part ≡ drop n ws → AreWhoms ps (list_of list ++ list_of other) ws → AreWhoms ps (list_of other) part
+    → part ≡ drop n ws → AreWhoms ps (aces_in list ++ aces_in other) ws → AreWhoms ps (aces_in other) part
 whoms_second ps list other ws part n is e h =
-    subst (AreWhoms ps (list_of other)) (sym (e ∙ ap (λ v. drop v ws) (is ∙ sym (length-map list ace))))
-    (whoms_back ps (list_of list) (list_of other) ws h)
+    subst (AreWhoms ps (aces_in other)) (sym (e ∙ ap (λ v. drop v ws) (is ∙ sym (length-map list ace))))
+    (whoms_back ps (aces_in list) (aces_in other) ws h)
 
 -- they are at least as many as the first list's ACEs
 pub whoms_cover : (ps : List Principal) (list other : List AceRef) (ws : List Whom)
-    → AreWhoms ps (list_of list ++ list_of other) ws → length list ≤ length ws
-whoms_cover ps list other ws h = omega (arith, go (list_of list) (list_of other) ws h, length-map list ace)
+    → AreWhoms ps (aces_in list ++ aces_in other) ws → length list ≤ length ws
+whoms_cover ps list other ws h = omega (arith, go (aces_in list) (aces_in other) ws h, length-map list ace)
   where
     go : (xs ys : List Ace) (ws : List Whom) → AreWhoms ps (xs ++ ys) ws → length xs ≤ length ws
     go [] ys ws h = omega arith

@@ -14,8 +14,8 @@ use Rattle.acl_nfs4.specs.declared.ace.AceRef.{AceRef}
 use Rattle.acl_normal.proofs.unique.Bits.{has_power, power_has}
 use Rattle.acl_normal.proofs.unique.Realised.{same_answers}
 use Rattle.acl_normal.proofs.unique.SameKeys.{alike}
-use Rattle.acl_normal.specs.internal.Passes.{list_of}
-use Rattle.acl_normal.specs.internal.SetSearch.{AreDiffering, AreGranted, AreRightsOf, GrantAlikeTo, HasBitsOf, IsLowest, IsLowestDifference, differ, is_granted_to}
+use Rattle.acl_normal.specs.internal.Shown.{aces_in}
+use Rattle.acl_normal.specs.internal.SetSearch.{AreDiffering, AreGranted, AreRightsOf, GrantAlikeTo, HasBitsOf, IsLowestBit, IsLowestDifference, differ, is_granted_to}
 use Rattle.acl_normal.specs.SmallSituations.{is_among}
 use Rattle.acl_perm.proofs.Sets.{IsMask-lt, bits_from_mask, mask_from_bits, no_bit, same_set}
 use Rattle.acl_perm.specs.Bits.{IsDifference, IsMask, IsSubset, IsUnion, all_rights, has_bit}
@@ -93,7 +93,7 @@ step_deny a rest set granted decided own more bit v h k =
 
 -- after the first i ACEs, what is granted and decided, with the rest, decides as the whole list
 pub record DecidesAll (refs : List AceRef) (set : List Principal) (i granted decided : ℕ) : Type 0 where
-  pub bits : (bit : ℕ) → decides granted decided (list_of (drop i refs)) set bit ≡ is_granted_to (list_of refs) set bit
+  pub bits : (bit : ℕ) → decides granted decided (aces_in (drop i refs)) set bit ≡ is_granted_to (aces_in refs) set bit
 
 -- the step at an ACE that allows
 pub loop_allow : (refs : List AceRef) (x : AceRef) (set : List Principal)
@@ -103,12 +103,12 @@ pub loop_allow : (refs : List AceRef) (x : AceRef) (set : List Principal)
     → DecidesAll refs set i granted decided → DecidesAll refs set (i + 1) now more
 loop_allow refs x set granted decided was own less new now more i lt at old later d u v h k inv = record {
   bits = λ bit.
-      ap (λ m. decides m more (list_of (drop (i + 1) refs)) set bit) later
-      ∙ step_allow (ace (slice_index_or refs i x)) (list_of (drop (i + 1) refs)) set granted decided own less new more
+      ap (λ m. decides m more (aces_in (drop (i + 1) refs)) set bit) later
+      ∙ step_allow (ace (slice_index_or refs i x)) (aces_in (drop (i + 1) refs)) set granted decided own less new more
       bit
       d u (subst (λ m. IsUnion m own more) old v) (subst (λ a. HasBitsOf (ace a) set own) at h)
       (sym (ap (λ (a : AceRef). a.kind) at) ∙ k)
-      ∙ sym (at_drop_more (λ r. decides granted decided (list_of r) set bit) refs i x lt) ∙ inv.bits bit;
+      ∙ sym (at_drop_more (λ r. decides granted decided (aces_in r) set bit) refs i x lt) ∙ inv.bits bit;
 }
 
 -- the step at one that denies
@@ -118,11 +118,11 @@ pub loop_deny : (refs : List AceRef) (x : AceRef) (set : List Principal) (grante
     → DecidesAll refs set i granted decided → DecidesAll refs set (i + 1) now more
 loop_deny refs x set granted decided was own now more i lt at old later v h k inv = record {
   bits = λ bit.
-      ap (λ m. decides m more (list_of (drop (i + 1) refs)) set bit) later
-      ∙ step_deny (ace (slice_index_or refs i x)) (list_of (drop (i + 1) refs)) set granted decided own more bit
+      ap (λ m. decides m more (aces_in (drop (i + 1) refs)) set bit) later
+      ∙ step_deny (ace (slice_index_or refs i x)) (aces_in (drop (i + 1) refs)) set granted decided own more bit
       (subst (λ m. IsUnion m own more) old v) (subst (λ a. HasBitsOf (ace a) set own) at h)
       (sym (ap (λ (a : AceRef). a.kind) at) ∙ k)
-      ∙ sym (at_drop_more (λ r. decides granted decided (list_of r) set bit) refs i x lt) ∙ inv.bits bit;
+      ∙ sym (at_drop_more (λ r. decides granted decided (aces_in r) set bit) refs i x lt) ∙ inv.bits bit;
 }
 
 -- before the first ACE nothing is granted or decided
@@ -131,11 +131,11 @@ loop_starts refs set = record { bits = λ bit. rw (no_bit bit) refl }
 
 -- after the last the list is decided
 pub loop_ends : (refs : List AceRef) (set : List Principal) (granted decided i : ℕ) → length refs ≤ i
-    → DecidesAll refs set i granted decided → AreGranted (list_of refs) set granted
+    → DecidesAll refs set i granted decided → AreGranted (aces_in refs) set granted
 loop_ends refs set granted decided i le inv = record {
   bits = λ bit.
       sym (nothing (has_bit granted bit) (not (has_bit decided bit)))
-      ∙ sym (ap (λ r. decides granted decided (list_of r) set bit) (drop_all i refs le)) ∙ inv.bits bit;
+      ∙ sym (ap (λ r. decides granted decided (aces_in r) set bit) (drop_all i refs le)) ∙ inv.bits bit;
 }
   where
     nothing : (x y : Bool) → (x || (y && false)) ≡ x
@@ -201,7 +201,7 @@ tells_unlike list other set rights within h = go (rights == 0) refl
     go false e = λ alike. false≢true (sym e ∙ eq-eqb rights 0 ((none_differ list other set rights within h).1 alike))
 
 -- the number of zeros at the end of a set that isn't empty is its lowest bit
-pub lowest_is : (rights : ℕ) → rights ≢ 0 → IsMask rights → IsLowest rights (trailing_zeros w32 rights)
+pub lowest_is : (rights : ℕ) → rights ≢ 0 → IsMask rights → IsLowestBit rights (trailing_zeros w32 rights)
 lowest_is rights ne within =
     let t = bit_at-trailing_zeros w32 rights (omega arith) (IsMask-lt rights within) in
     record {
@@ -226,7 +226,7 @@ has_part mask granted k part is h = same_answers part (has_bit granted k)
 
 -- the lowest of the rights on which the lists differ
 pub lowest_difference : (list other : List Ace) (set : List Principal) (rights mask granted k : ℕ) (first : Bool)
-    → IsMask rights → AreDiffering list other set rights → IsLowest rights k → mask ≡ 2 ^ k
+    → IsMask rights → AreDiffering list other set rights → IsLowestBit rights k → mask ≡ 2 ^ k
     → AreGranted list set granted → IsTrue first ↔ IsSubset mask granted
     → IsLowestDifference list other set mask first
 lowest_difference list other set rights mask granted k first within d l is g f = record {
@@ -242,7 +242,7 @@ lowest_difference list other set rights mask granted k first within d l is g f =
 -- without the rights so far, the rest of the list has the columns of the whole
 pub record Covers (refs : List AceRef) (i rights : ℕ) : Type 0 where
   pub columns : (bit : ℕ) → has_bit rights bit ≡ false
-      → column (list_of (drop i refs)) bit ≡ column (list_of refs) bit
+      → column (aces_in (drop i refs)) bit ≡ column (aces_in refs) bit
 
 -- the step at an ACE
 pub covers_more : (refs : List AceRef) (x : AceRef) (i rights more : ℕ) → i < length refs
@@ -250,9 +250,9 @@ pub covers_more : (refs : List AceRef) (x : AceRef) (i rights more : ℕ) → i 
 covers_more refs x i rights more lt at u h = record {
   columns = λ bit absent.
       let parts = or_parts (has_bit rights bit) (has_bit x.mask.bits bit) (sym (u bit) ∙ absent) in
-      sym (first_lacks (ace (slice_index_or refs i x)) (list_of (drop (i + 1) refs)) bit
+      sym (first_lacks (ace (slice_index_or refs i x)) (aces_in (drop (i + 1) refs)) bit
       (ap (λ (a : AceRef). has_bit a.mask.bits bit) (sym at) ∙ parts.1))
-      ∙ sym (at_drop_more (λ r. column (list_of r) bit) refs i x lt) ∙ h.columns bit parts.0;
+      ∙ sym (at_drop_more (λ r. column (aces_in r) bit) refs i x lt) ∙ h.columns bit parts.0;
 }
   where
     first_lacks : (a : Ace) (rest : List Ace) (bit : ℕ) → has_bit a.mask bit ≡ false
@@ -261,9 +261,9 @@ covers_more refs x i rights more lt at u h = record {
 
 -- after the last ACE no right is left out
 pub covers_all : (refs : List AceRef) (i rights : ℕ) → length refs ≤ i → Covers refs i rights
-    → AreRightsOf (list_of refs) rights
+    → AreRightsOf (aces_in refs) rights
 covers_all refs i rights le h = record {
-  unused = λ bit absent. sym (h.columns bit absent) ∙ ap (λ r. column (list_of r) bit) (drop_all i refs le);
+  unused = λ bit absent. sym (h.columns bit absent) ∙ ap (λ r. column (aces_in r) bit) (drop_all i refs le);
 }
 
 -- rights of more are rights of the list

@@ -213,7 +213,7 @@ situation_is_set n set xs b pos small short =
     (first_kind_alike (matches (small_situation n set)) (λ r. is_among r (everyone ∷ set)) (column xs b) n
     (λ r l. small_matches n set (small_short n set small) (small_one_user _ set small) pos r l) short)
 
--- types that both allow, or both don't, are the same
+-- kinds that both allow, or both don't, are the same
 pub kinds_from_allow : (j k : Kind) → is_allow j ≡ is_allow k → j ≡ k
 kinds_from_allow Deny Deny h = refl
 kinds_from_allow Allow Allow h = refl

@@ -12,7 +12,7 @@ use Rattle.acl_nfs4.specs.Ace.{Ace}
 use Rattle.acl_nfs4.specs.Who.{principal_of}
 use Rattle.acl_normal.specs.internal.FirstPlaces.{IsStanding, first_place, inverts, inverts_any, no_standing}
 use Rattle.acl_normal.specs.internal.Classes.{is_users}
-use Rattle.acl_normal.specs.internal.PlaceTables.{HasPlaces, IsFirstOf, IsScattered, IsTable, Raises, is_counted, is_of_camp, is_told, most_at, most_before, other_place, place_of}
+use Rattle.acl_normal.specs.internal.PlaceTables.{HasPlaces, IsFirstOf, IsScattered, IsPlaceTable, Raises, is_counted, is_of_camp, is_told, most_at, most_before, other_place, place_of}
 use Rattle.acl_normal.specs.internal.SetSearch.{differ}
 use Rattle.acl_normal.specs.internal.TwoLists.{AreWithin, StandAs, TwoLists, all_mentioned}
 use Rattle.acl_normal.specs.SmallSituations.{is_among}
@@ -261,7 +261,7 @@ summed_more q w size k x y rows old new pos lt xi yi is h = record {
 
 -- after the last place the table is done
 pub summed_done : (q : Camp) (w : Side) (size k : ℕ) (rows : List Standing) (table : List ℕ) → size + 2 ≤ k
-    → IsSummed q w size k rows table → IsTable q w size rows table
+    → IsSummed q w size k rows table → IsPlaceTable q w size rows table
 summed_done q w size k rows table le h = record { count = h.count; each = λ j lt. h.done j (omega arith) }
 
 -- the places of one of the standings
@@ -272,7 +272,7 @@ places_at size i [] d lt h = absurd (omega arith)
 places_at size zero (r ∷ rows) d lt h = h.0
 places_at size (suc i) (r ∷ rows) d lt h = places_at size i rows d (omega arith) h.1
 
--- types that don't differ are the same
+-- kinds that don't differ are the same
 same_kind : (k l : Kind) → not (differ (is_allow k) (is_allow l)) ≡ true → k ≡ l
 same_kind Deny Deny h = refl
 same_kind Allow Allow h = refl
@@ -296,7 +296,7 @@ camp_is q r h = let p = and_parts (not (differ (is_allow q.kind) (is_allow r.her
 -- what the two tables say of a standing of their camp
 pub by_camp : (q : Camp) (size : ℕ) (rows : List Standing) (r : Standing) (forward back : List ℕ)
     → is_of_camp q r ≡ true
-    → HasPlaces size r → IsTable q Here size rows forward → IsTable q There size rows back
+    → HasPlaces size r → IsPlaceTable q Here size rows forward → IsPlaceTable q There size rows back
     → inverts_any r rows ≡ (nat_lt r.there.place (slice_index_or forward r.here.place 0) || nat_lt r.here.place
     (slice_index_or back r.there.place 0))
 by_camp q size rows r forward back k p f b =
@@ -309,8 +309,8 @@ by_camp q size rows r forward back k p f b =
 
 -- a standing that is told inverts another
 pub found_true : (q : Camp) (size : ℕ) (rows : List Standing) (r : Standing) (forward back : List ℕ) (t : Bool)
-    → t ≡ is_told q r forward back → t ≡ true → HasPlaces size r → IsTable q Here size rows forward
-    → IsTable q There size rows back → inverts_any r rows ≡ true
+    → t ≡ is_told q r forward back → t ≡ true → HasPlaces size r → IsPlaceTable q Here size rows forward
+    → IsPlaceTable q There size rows back → inverts_any r rows ≡ true
 found_true q size rows r forward back t h e p f b =
     let parts = and_parts (is_of_camp q r)
     (nat_lt r.there.place (slice_index_or forward r.here.place 0) || nat_lt r.here.place
@@ -319,8 +319,8 @@ found_true q size rows r forward back t h e p f b =
 
 -- one of the camp that is not told inverts none
 pub found_false : (q : Camp) (size : ℕ) (rows : List Standing) (r : Standing) (forward back : List ℕ) (t : Bool)
-    → t ≡ is_told q r forward back → t ≡ false → HasPlaces size r → IsTable q Here size rows forward
-    → IsTable q There size rows back → is_of_camp q r ≡ true → inverts_any r rows ≡ false
+    → t ≡ is_told q r forward back → t ≡ false → HasPlaces size r → IsPlaceTable q Here size rows forward
+    → IsPlaceTable q There size rows back → is_of_camp q r ≡ true → inverts_any r rows ≡ false
 found_false q size rows r forward back t h e p f b k =
     by_camp q size rows r forward back k p f b
     ∙ sym (ap (λ v. v && (nat_lt r.there.place (slice_index_or forward r.here.place 0) || nat_lt r.here.place
@@ -363,27 +363,27 @@ pub first_of_camp : (q : Camp) (size limit k : ℕ) (rows : List Standing) (forw
     → k < limit → limit ≤ length rows
     → ((j : ℕ) → j < k → is_of_camp q (slice_index_or rows j no_standing) ≡ true
     → inverts_any (slice_index_or rows j no_standing) rows ≡ false) → AllByRecursion (HasPlaces size) rows
-    → IsTable q Here size rows forward → IsTable q There size rows back → fs ≡ forward → bs ≡ back
+    → IsPlaceTable q Here size rows forward → IsPlaceTable q There size rows back → fs ≡ forward → bs ≡ back
     → t ≡ is_told q (slice_index_or rows k no_standing) fs bs → t ≡ true → IsFirstOf q rows limit k
 first_of_camp q size limit k rows forward back fs bs t lt le before places f b fe be h e = record {
   within = omega arith;
   before = before;
   at = λ _. found_true q size rows (slice_index_or rows k no_standing) fs bs t h e
-      (places_at size k rows no_standing (omega arith) places) (subst (λ v. IsTable q Here size rows v) (sym fe) f)
-      (subst (λ v. IsTable q There size rows v) (sym be) b);
+      (places_at size k rows no_standing (omega arith) places) (subst (λ v. IsPlaceTable q Here size rows v) (sym fe) f)
+      (subst (λ v. IsPlaceTable q There size rows v) (sym be) b);
 }
 
 -- one more standing of which none is told
 pub not_of_camp : (q : Camp) (size k : ℕ) (rows : List Standing) (forward back fs bs : List ℕ) (t : Bool)
-    → k < length rows → AllByRecursion (HasPlaces size) rows → IsTable q Here size rows forward
-    → IsTable q There size rows back → fs ≡ forward → bs ≡ back
+    → k < length rows → AllByRecursion (HasPlaces size) rows → IsPlaceTable q Here size rows forward
+    → IsPlaceTable q There size rows back → fs ≡ forward → bs ≡ back
     → t ≡ is_told q (slice_index_or rows k no_standing) fs bs → t ≡ false
     → is_of_camp q (slice_index_or rows k no_standing) ≡ true
     → inverts_any (slice_index_or rows k no_standing) rows ≡ false
 not_of_camp q size k rows forward back fs bs t lt places f b fe be h e =
     found_false q size rows (slice_index_or rows k no_standing) fs bs t h e
     (places_at size k rows no_standing lt places)
-    (subst (λ v. IsTable q Here size rows v) (sym fe) f) (subst (λ v. IsTable q There size rows v) (sym be) b)
+    (subst (λ v. IsPlaceTable q Here size rows v) (sym fe) f) (subst (λ v. IsPlaceTable q There size rows v) (sym be) b)
 
 -- a standing raises the table, or leaves it
 pub ruleset raising = (raises_set, raises_none)

@@ -24,7 +24,7 @@ use Rattle.acl_normal.specs.Normal.{is_free, flags_for}
 use Rattle.acl_normal.specs.internal.Plain.{without_principal}
 use Rattle.acl_normal.specs.internal.Emissions.{IsOnce, HasOnceColumns, IsStep, IsEmission}
 use Rattle.acl_normal.specs.internal.Ready.{Marked, key_eq, marks, FitsKeys, IsKeyNumber, IsLeastReady, Frees, HoldsFree, Popped, Takes, who_for, emitted}
-use Rattle.acl_normal.specs.internal.Rows.{IsRow, is_named, key_number}
+use Rattle.acl_normal.specs.internal.Rows.{IsRowOf, is_named, key_number}
 use Rattle.acl_normal.specs.internal.Counts.{count_left}
 use Rattle.acl_normal.proofs.unique.Names.{principal_eq_same, principal_eq_itself, overlaps_itself, bytes_eq_same, bytes_eq_itself}
 use Rattle.acl_normal.proofs.unique.Free.{kind_eq_same, kind_eq_itself, ahead_from_free, no_conflict, some_same}
@@ -235,7 +235,7 @@ takes xs old new n m q f l set whose = go (f.sound n (λ none. l.some (l.is ∙ 
         let same : k.key ≡ q = sym (whose k.key named is) in
         record {
           at_row =
-              subst (λ (e : Key). IsRow (n / 2) e.0 xs) same (record {
+              subst (λ (e : Key). IsRowOf (n / 2) e.0 xs) same (record {
                 named = named;
                 is = number_row k.key xs n is;
               });

@@ -5,7 +5,7 @@ use Rattle.acl_nfs4.specs.Ace.{Ace}
 use Rattle.acl_nfs4.specs.declared.ace.AceRef.{AceRef}
 use Rattle.acl_normal.specs.internal.Remaining.{IsRemaining, masks_left, remaining_of}
 use Rattle.acl_normal.specs.internal.Shown.{bits_in, with_masks}
-use Rattle.acl_normal.specs.declared.emit.remaining.Remaining.TheInside.{Inside}
+use Rattle.acl_normal.specs.declared.rows.remaining.Remaining.TheInside.{Inside}
 
 no_more : (aces : List AceRef) (masks : List ℕ) → length (with_masks aces masks) ≤ length aces
 no_more [] masks = omega arith

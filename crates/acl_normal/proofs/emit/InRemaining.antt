@@ -15,11 +15,11 @@ use Rattle.acl_eval.specs.Column.{column}
 use Rattle.acl_eval.specs.Scan.{without}
 use Rattle.acl_normal.specs.Left.{IsTidy}
 use Rattle.acl_normal.specs.Places.{key_here, mask_here, nothing_left, slot_of, take_out}
-use Rattle.acl_normal.specs.declared.emit.remaining.Queue.{Queue}
-use Rattle.acl_normal.specs.declared.emit.remaining.Remaining.TheInside.{Inside}
+use Rattle.acl_normal.specs.declared.rows.remaining.Queue.{Queue}
+use Rattle.acl_normal.specs.declared.rows.remaining.Remaining.TheInside.{Inside}
 use Rattle.acl_normal.specs.internal.Emissions.{IsOnce}
 use Rattle.acl_normal.specs.internal.Remaining.{AreQueues, IsQueue, IsQueueFrom, IsNumbered, IsRemaining, first_in, masks_left, places_in, remaining_of}
-use Rattle.acl_normal.specs.internal.Rows.{AreRowNumbers, IsRow, row_of}
+use Rattle.acl_normal.specs.internal.Rows.{AreRowNumbers, IsRowOf, row_of}
 use Rattle.acl_normal.specs.internal.Shown.{aces_in, bits_in, with_masks}
 use Rattle.acl_normal.specs.internal.Waiting.{HoldWaiting}
 use Rattle.acl_normal.proofs.rows.WaitingPlaces.{all_places}
@@ -61,7 +61,7 @@ row_of_place s i right l =
     omega (arith, right.list.rows.at i l, below, length_remaining s right, right.left, s.left.ok)
 
 -- and so is that of whom an ACE names
-pub row_of_named : (s : Inside) (row : ℕ) (p : Principal) → IsRemaining s → IsRow row p (remaining_of s)
+pub row_of_named : (s : Inside) (row : ℕ) (p : Principal) → IsRemaining s → IsRowOf row p (remaining_of s)
     → row < length s.left.items
 row_of_named s row p right at_row =
     let below = row_below p (remaining_of s) at_row.named in
@@ -93,7 +93,7 @@ mask_remaining s i right l =
     (omega (arith, l, length_remaining s right, masks_count s right))
 
 -- the list, where bits of a row are left out
-pub taken_view : (s : Inside) (row m : ℕ) (p : Principal) → IsRemaining s → IsRow row p (remaining_of s)
+pub taken_view : (s : Inside) (row m : ℕ) (p : Principal) → IsRemaining s → IsRowOf row p (remaining_of s)
     → with_masks s.aces.items (masks_left (bits_in s.masks.items) s.rows.items
     (slice_set (bits_in s.left.items) row (without (slice_index_or (bits_in s.left.items) row 0) m)))
     ≡ take_out p m (remaining_of s)
@@ -109,7 +109,8 @@ taken_view s row m p right at_row =
     xs = remaining_of s
 
 -- what is left is right then
-pub taken_right : (s : Inside) (row m : ℕ) (mask : Mask) (p : Principal) → IsRemaining s → IsRow row p (remaining_of s)
+pub taken_right : (s : Inside) (row m : ℕ) (mask : Mask) (p : Principal) → IsRemaining s
+    → IsRowOf row p (remaining_of s)
     → mask.bits ≡ without (slice_index_or (bits_in s.left.items) row 0) m
     → IsRemaining (record {
       aces = s.aces;

@@ -8,7 +8,7 @@ use Rattle.acl_normal.specs.Keys.{Key}
 use Rattle.acl_normal.specs.Places.{nothing_left, take_out}
 use Rattle.acl_normal.specs.declared.emit.emission.Emitted.{Emitted}
 use Rattle.acl_normal.specs.internal.Emitted.{StandInRows, emitted_ace}
-use Rattle.acl_normal.specs.internal.Rows.{IsRow}
+use Rattle.acl_normal.specs.internal.Rows.{IsRowOf}
 use Rattle.acl_normal.proofs.emit.Drained.{outline_left}
 use Rattle.acl_normal.proofs.rows.Rows.{is_row_alike}
 
@@ -23,12 +23,12 @@ no_rows whole = record { outline = refl; rows = λ k d l. absurd (omega (arith, 
 
 -- a turn
 pub rows_turn : (whole xs next : List Ace) (out new : List Emitted) (e : Emitted) (q : Key) (m : ℕ)
-    → KeepsRows whole xs out → new ≡ out ++ e ∷ [] → IsRow e.row (principal_of (emitted_ace e)) xs
+    → KeepsRows whole xs out → new ≡ out ++ e ∷ [] → IsRowOf e.row (principal_of (emitted_ace e)) xs
     → next ≡ take_out q.0 m xs → KeepsRows whole next new
 rows_turn whole xs next out new e q m keeps pushed row taken = record {
   outline = outline_left q.0 m xs next taken ∙ keeps.outline;
   rows =
       subst (λ v. StandInRows whole v) (sym pushed)
-      (All-push (λ a. IsRow a.row (principal_of (emitted_ace a)) whole) out e keeps.rows
+      (All-push (λ a. IsRowOf a.row (principal_of (emitted_ace a)) whole) out e keeps.rows
       (is_row_alike e.row (principal_of (emitted_ace e)) xs whole keeps.outline row));
 }

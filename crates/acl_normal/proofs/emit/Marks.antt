@@ -17,7 +17,7 @@ use Rattle.acl_nfs4.specs.Ace.{Ace}
 use Rattle.acl_normal.specs.Keys.{principal_eq, Key, compare_keys, kind_eq}
 use Rattle.acl_normal.specs.Places.{nothing_left}
 use Rattle.acl_normal.specs.internal.Ready.{key_eq, marks, IsKeyNumber, FitsKeys, Adds}
-use Rattle.acl_normal.specs.internal.Rows.{IsRow, is_named, key_number, row_of}
+use Rattle.acl_normal.specs.internal.Rows.{IsRowOf, is_named, key_number, row_of}
 use Rattle.acl_normal.proofs.unique.Names.{principal_eq_same, principal_eq_itself}
 use Rattle.acl_normal.proofs.unique.Free.{kind_eq_same, kind_eq_itself}
 use Rattle.acl_normal.proofs.unique.Bits.{has_power}
@@ -54,14 +54,14 @@ number_same k l xs h i e =
     let kinds : kind_rank k.1 ≡ kind_rank l.1 = omega (arith, e, rows) in
     ap (λ v. (v, k.1)) (row_same k.0 l.0 xs h i rows) ∙ ap (λ v. (l.0, v)) (rank_same k.1 l.1 kinds)
 
--- what twice a row and a type come to
+-- what twice a row and a kind come to
 pub record IsNumberOf (k : Key) (xs : List Ace) (number : ℕ) : Type 0 where
   pub below : number < 2 * length xs
   pub named : is_named k.0 (nothing_left xs) ≡ true
   pub is : number ≡ key_number k (nothing_left xs)
 
 -- the number of a key, whatever masks there are
-pub number_at : (k : Key) (xs : List Ace) (row rank : ℕ) → IsRow row k.0 xs → rank ≡ kind_rank k.1
+pub number_at : (k : Key) (xs : List Ace) (row rank : ℕ) → IsRowOf row k.0 xs → rank ≡ kind_rank k.1
     → IsNumberOf k xs (2 * row + rank)
 number_at k xs row rank r is = record {
   below = omega (arith, row_below k.0 xs r.named, r.is, is, rank_below k.1);
@@ -73,7 +73,7 @@ number_at k xs row rank r is = record {
 pub number_row : (k : Key) (xs : List Ace) (n : ℕ) → n ≡ key_number k xs → n / 2 ≡ row_of k.0 xs
 number_row k xs n is = omega (arith, is, rank_below k.1)
 
--- and what is over is the type
+-- and what is over is the kind
 pub number_rank : (k : Key) (xs : List Ace) (n : ℕ) → n ≡ key_number k xs → n % 2 ≡ kind_rank k.1
 number_rank k xs n is = omega (arith, is, rank_below k.1)
 

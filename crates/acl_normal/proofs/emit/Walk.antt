@@ -225,7 +225,7 @@ pub head_waits : (k : Kind) (u : Bool) (b : ℕ) (xs : List Ace) (i : ℕ) (all 
 head_waits k u b xs i all rest old new w e has =
     w.listed i (ap (list_any (is_at (nat_cmp i))) e ∙ head_in i rest) ∙ has
 
--- and is then of the type
+-- and is then of the kind
 pub head_kind : (k : Kind) (u : Bool) (b : ℕ) (xs : List Ace) (i : ℕ) (all rest : List ℕ) (old new : Marked)
     → IsOnce (column xs b) → Walks k u b xs all old new → all ≡ i ∷ rest → has_bit (mask_here xs i) b ≡ true
     → (key_here xs i).1 ≡ k

@@ -5,7 +5,8 @@ use Rattle.std.proofs.lemmas.List.{map-append, take_more, take_all}
 use Rattle.acl_perm.specs.Profile.{full}
 use Rattle.acl_nfs4.specs.Ace.{Ace}
 use Rattle.acl_nfs4.specs.Spelling.{IsAccepted}
-use Rattle.acl_eval.proofs.Children.{front_accepted, moved}
+use Rattle.acl_nfs4.proofs.Lists.{front_accepted}
+use Rattle.acl_eval.proofs.Children.{moved}
 use Rattle.acl_normal.specs.internal.Emitted.{emitted_ace, emitted_aces}
 use Rattle.acl_normal.specs.declared.emit.emission.Emitted.{Emitted}
 

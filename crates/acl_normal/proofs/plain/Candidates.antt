@@ -21,7 +21,7 @@ use Rattle.acl_eval.specs.Column.{Column, column}
 use Rattle.acl_normal.specs.Keys.{Key, ace_key, key_record, compare_keys, principal_eq, kind_eq, conflicts}
 use Rattle.acl_normal.specs.Normal.{is_free, flags_for, counts}
 use Rattle.acl_normal.specs.internal.Emissions.{HasEmptyColumns}
-use Rattle.acl_normal.specs.internal.Passes.{IsNowhereFree, IsCandidate, IsBelow, AreNowhereFree, IsWithinAs, IsLeast, Best, lesser}
+use Rattle.acl_normal.specs.internal.Passes.{IsNowhereFree, IsCandidate, IsBelow, AreNowhereFree, IsWithinAs, IsLeastCandidate, Best, lesser}
 use Rattle.acl_normal.proofs.unique.Names.{principal_eq_same}
 use Rattle.acl_normal.proofs.unique.Free.{kind_eq_same}
 use Rattle.acl_normal.proofs.unique.Bits.{power_has}
@@ -117,7 +117,7 @@ best_without list seen item (Some a) h none = record {
 -- one more that is free somewhere: the lesser of its candidate and the best so far is the best
 pub best_with : (list seen : List Ace) (item next : Ace) (best : Option Ace) → Best list seen best
     → IsCandidate list next → IsWithinAs list next → ace_key next ≡ ace_key item
-    → IsLeast list (seen ++ item ∷ []) (lesser best next)
+    → IsLeastCandidate list (seen ++ item ∷ []) (lesser best next)
 best_with list seen item next None h candidate within key = record {
   candidate = candidate;
   below = each_more (IsBelow list next) seen item
@@ -130,7 +130,7 @@ best_with list seen item next (Some a) h candidate within key =
     go (is_le (compare_keys (ace_key a) (ace_key next))) refl
   where
     go : (t : Bool) → is_le (compare_keys (ace_key a) (ace_key next)) ≡ t
-        → IsLeast list (seen ++ item ∷ []) (lesser (Some a) next)
+        → IsLeastCandidate list (seen ++ item ∷ []) (lesser (Some a) next)
     go true e = rw e (record {
       candidate = h.candidate;
       below = each_more (IsBelow list a) seen item h.below

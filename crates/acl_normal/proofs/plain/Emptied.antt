@@ -10,7 +10,7 @@ use Rattle.acl_nfs4.specs.declared.ace.AceRef.{AceRef}
 use Rattle.acl_eval.specs.Column.{Column, column}
 use Rattle.acl_normal.specs.Keys.{ace_key, principal_eq}
 use Rattle.acl_normal.specs.Normal.{is_inherit_only}
-use Rattle.acl_normal.specs.internal.Passes.{list_of}
+use Rattle.acl_normal.specs.internal.Shown.{aces_in}
 use Rattle.acl_normal.specs.internal.Plain.{without_principal}
 use Rattle.acl_normal.proofs.unique.Columns.{column_lacks}
 use Rattle.acl_normal.proofs.unique.ListColumns.{column-append}
@@ -80,17 +80,17 @@ pub emptied_more : (xs : List AceRef) (y : AceRef) (rest : List AceRef) (r : Ace
     → is_inherit_only (ace r) ≡ is_inherit_only (ace y)
     → ((bit : ℕ) → has_bit m bit ≡ (principal_eq (principal_of (ace y)) p && has_bit taken bit))
     → IsDifference y.mask.bits m r.mask.bits
-    → ((bit : ℕ) → column (list_of rest) bit ≡ emptied p (has_bit taken bit) (column (list_of (take i xs)) bit))
-    → (bit : ℕ) → column (list_of (rest ++ r ∷ [])) bit
-    ≡ emptied p (has_bit taken bit) (column (list_of (take (i + 1) xs)) bit)
+    → ((bit : ℕ) → column (aces_in rest) bit ≡ emptied p (has_bit taken bit) (column (aces_in (take i xs)) bit))
+    → (bit : ℕ) → column (aces_in (rest ++ r ∷ [])) bit
+    ≡ emptied p (has_bit taken bit) (column (aces_in (take (i + 1) xs)) bit)
 emptied_more xs y rest r p taken i m lt is entry part marks mask so_far bit =
     ap (λ v. column v bit) (list_of-append rest (r ∷ []))
-    ∙ column-append bit (list_of rest) (ace r ∷ [])
+    ∙ column-append bit (aces_in rest) (ace r ∷ [])
     ∙ rw (
       so_far bit,
       one_emptied (ace y) (ace r) p taken bit entry part
           (mask bit ∙ ap (λ b. has_bit y.mask.bits bit && not b) (marks bit)),
     )
-    (sym (emptied-append p (has_bit taken bit) (column (list_of (take i xs)) bit) (column (ace y ∷ []) bit)))
-    ∙ ap (emptied p (has_bit taken bit)) (sym (column-append bit (list_of (take i xs)) (ace y ∷ [])))
+    (sym (emptied-append p (has_bit taken bit) (column (aces_in (take i xs)) bit) (column (ace y ∷ []) bit)))
+    ∙ ap (emptied p (has_bit taken bit)) (sym (column-append bit (aces_in (take i xs)) (ace y ∷ [])))
     ∙ ap (λ v. emptied p (has_bit taken bit) (column v bit)) (sym (list_of-more xs y i lt is))

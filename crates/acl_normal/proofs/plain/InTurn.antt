@@ -17,7 +17,7 @@ use Rattle.acl_normal.specs.internal.Counts.{count_left}
 use Rattle.acl_normal.specs.internal.Emissions.{IsEmission, IsStep, HasEmptyColumns, HasOnceColumns}
 use Rattle.acl_normal.specs.Keys.{ace_key}
 use Rattle.acl_normal.specs.Normal.{HasNoEmptyMask, HasNormalFlags, flags_for, is_free}
-use Rattle.acl_normal.specs.internal.Passes.{IsLeast, KeepsProfiles}
+use Rattle.acl_normal.specs.internal.Passes.{IsLeastCandidate, KeepsProfiles}
 use Rattle.acl_normal.specs.internal.Plain.{without_principal}
 use Rattle.acl_normal.proofs.unique.Names.{overlaps_itself}
 use Rattle.acl_normal.proofs.unique.Free.{ahead_from_free}
@@ -60,7 +60,7 @@ pub record Taken (left : List Ace) (a : Ace) (rest : List Ace) : Type 0 where
   pub untouched : (bit : ℕ) → has_bit a.mask bit ≡ false → column rest bit ≡ column left bit
   pub profiles : KeepsProfiles left rest
 
-module _ (left rest : List Ace) (a : Ace) (least : IsLeast left left a) (t : Taken left a rest) where
+module _ (left rest : List Ace) (a : Ace) (least : IsLeastCandidate left left a) (t : Taken left a rest) where
   step : IsStep left a rest
   step = record {
     flags = least.candidate.flags;
@@ -133,7 +133,7 @@ emitting_all whole out left empty h =
     }))
 
 -- what has come of a list that is small enough is accepted with the ACE that comes next
-pub coming_accepted : (left : List Ace) (a : Ace) → IsLeast left left a → (whole out : List Ace)
+pub coming_accepted : (left : List Ace) (a : Ace) → IsLeastCandidate left left a → (whole out : List Ace)
     → AllByRecursion (IsAce full) whole → count_left 32 whole ≤ most_weight → Emitting whole out left
     → IsAccepted full (out ++ a ∷ [])
 coming_accepted left a least whole out each small h =

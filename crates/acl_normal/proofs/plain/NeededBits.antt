@@ -12,7 +12,8 @@ use Rattle.acl_nfs4.specs.declared.ace.AceRef.{AceRef}
 use Rattle.acl_eval.specs.Column.{Column, column}
 use Rattle.acl_normal.specs.Keys.{ace_key, kind_eq}
 use Rattle.acl_normal.specs.Normal.{is_inherit_only}
-use Rattle.acl_normal.specs.internal.Passes.{list_of, default_in}
+use Rattle.acl_normal.specs.internal.Needed.{default_at}
+use Rattle.acl_normal.specs.internal.Shown.{aces_in}
 use Rattle.acl_normal.specs.internal.Plain.{default, is_needed, needed_keys}
 use Rattle.acl_normal.proofs.unique.Columns.{column_lacks}
 use Rattle.acl_normal.proofs.unique.ListColumns.{column-append}
@@ -20,10 +21,10 @@ use Rattle.acl_normal.proofs.plain.Passes.{Marks, list_of-append}
 
 -- the default, by the set of the bits that it allows
 pub default_is : (allowed bit : ℕ) (c : Column) → has_bit allowed bit ≡ kind_eq (default c) Allow
-    → default_in allowed bit ≡ default c
+    → default_at allowed bit ≡ default c
 default_is allowed bit c is = go (has_bit allowed bit) refl (default c) refl
   where
-    go : (t : Bool) → has_bit allowed bit ≡ t → (k : Kind) → default c ≡ k → default_in allowed bit ≡ default c
+    go : (t : Bool) → has_bit allowed bit ≡ t → (k : Kind) → default c ≡ k → default_at allowed bit ≡ default c
     go true e Allow f = rw (e, f) refl
     go true e Deny f = absurd (cc (rw (e, f) at is))
     go false e Allow f = absurd (cc (rw (e, f) at is))
@@ -56,32 +57,32 @@ one_needed y r d c bit entry part bits =
 
 -- the list of the ACEs from a place on
 pub list_of-from : (xs : List AceRef) (x : AceRef) (i : ℕ) → i < length xs → x ≡ slice_index_or xs i x
-    → list_of (drop i xs) ≡ ace x ∷ list_of (drop (i + 1) xs)
+    → aces_in (drop i xs) ≡ ace x ∷ aces_in (drop (i + 1) xs)
 list_of-from xs x i lt is =
-    ap list_of (drop_more xs i x lt) ∙ ap (λ y. ace y ∷ list_of (drop (i + 1) xs)) (sym is)
+    ap aces_in (drop_more xs i x lt) ∙ ap (λ y. ace y ∷ aces_in (drop (i + 1) xs)) (sym is)
 
 -- one more ACE
 pub needed_more : (xs : List AceRef) (y : AceRef) (kept : List AceRef) (r : AceRef) (i allowed : ℕ) → i < length xs
     → y ≡ slice_index_or xs i y → ace_key (ace r) ≡ ace_key (ace y)
     → is_inherit_only (ace r) ≡ is_inherit_only (ace y)
-    → Marks allowed (λ bit. kind_eq (default (column (list_of xs) bit)) Allow)
+    → Marks allowed (λ bit. kind_eq (default (column (aces_in xs) bit)) Allow)
     → Marks r.mask.bits (λ bit. has_bit y.mask.bits bit
-    && is_needed (default_in allowed bit) (principal_of (ace y)) y.kind (column (list_of (drop (i + 1) xs)) bit))
+    && is_needed (default_at allowed bit) (principal_of (ace y)) y.kind (column (aces_in (drop (i + 1) xs)) bit))
     → (bit : ℕ) (whole : Column)
-    → column (list_of kept) bit ++ needed_keys (default (column (list_of xs) bit)) (column (list_of (drop i xs)) bit)
+    → column (aces_in kept) bit ++ needed_keys (default (column (aces_in xs) bit)) (column (aces_in (drop i xs)) bit)
     ≡ whole
-    → column (list_of (kept ++ r ∷ [])) bit
-    ++ needed_keys (default (column (list_of xs) bit)) (column (list_of (drop (i + 1) xs)) bit) ≡ whole
+    → column (aces_in (kept ++ r ∷ [])) bit
+    ++ needed_keys (default (column (aces_in xs) bit)) (column (aces_in (drop (i + 1) xs)) bit) ≡ whole
 needed_more xs y kept r i allowed lt is entry part marks mask bit whole so_far =
-    let d = default (column (list_of xs) bit) in
-    let rest = column (list_of (drop (i + 1) xs)) bit in
-    let known = default_is allowed bit (column (list_of xs) bit) (marks bit) in
+    let d = default (column (aces_in xs) bit) in
+    let rest = column (aces_in (drop (i + 1) xs)) bit in
+    let known = default_is allowed bit (column (aces_in xs) bit) (marks bit) in
     ap (λ v. column v bit ++ needed_keys d rest) (list_of-append kept (r ∷ []))
-    ∙ ap (λ v. v ++ needed_keys d rest) (column-append bit (list_of kept) (ace r ∷ []))
-    ∙ append_assoc (column (list_of kept) bit) (column (ace r ∷ []) bit) (needed_keys d rest)
-    ∙ ap (λ v. column (list_of kept) bit ++ v) (one_needed (ace y) (ace r) d rest bit entry part
+    ∙ ap (λ v. v ++ needed_keys d rest) (column-append bit (aces_in kept) (ace r ∷ []))
+    ∙ append_assoc (column (aces_in kept) bit) (column (ace r ∷ []) bit) (needed_keys d rest)
+    ∙ ap (λ v. column (aces_in kept) bit ++ v) (one_needed (ace y) (ace r) d rest bit entry part
     (mask bit ∙ ap (λ k. has_bit y.mask.bits bit && is_needed k (principal_of (ace y)) y.kind rest) known))
-    ∙ ap (λ v. column (list_of kept) bit ++ needed_keys d v)
-    (sym (column-append bit (ace y ∷ []) (list_of (drop (i + 1) xs)))
+    ∙ ap (λ v. column (aces_in kept) bit ++ needed_keys d v)
+    (sym (column-append bit (ace y ∷ []) (aces_in (drop (i + 1) xs)))
     ∙ ap (λ v. column v bit) (sym (list_of-from xs y i lt is)))
     ∙ so_far

@@ -13,25 +13,26 @@ use Rattle.acl_nfs4.specs.declared.ace.AceRef.{AceRef}
 use Rattle.acl_perm.specs.declared.kind.Kind.TheVariants.{Deny, Allow}
 use Rattle.acl_perm.proofs.Bools.{and_true_right, and_false_right}
 use Rattle.acl_eval.specs.Column.{Column, column, first_kind, verdict}
+use Rattle.acl_normal.specs.internal.Shown.{aces_in}
 use Rattle.acl_normal.specs.internal.Alike.{is_either}
 use Rattle.acl_normal.specs.Keys.{Key, principal_eq, kind_eq, conflicts}
 use Rattle.acl_normal.specs.Normal.{is_free, counts}
-use Rattle.acl_normal.specs.internal.Passes.{list_of, is_shadowed, is_blocked}
+use Rattle.acl_normal.specs.internal.Passes.{is_shadowed, conflicts_before}
 use Rattle.acl_normal.specs.internal.Plain.{default, has_opposite}
 use Rattle.acl_normal.proofs.unique.ListColumns.{column-append}
 
 -- the list of ACEs and one more
-pub list_of-append : (xs ys : List AceRef) → list_of (xs ++ ys) ≡ list_of xs ++ list_of ys
+pub list_of-append : (xs ys : List AceRef) → aces_in (xs ++ ys) ≡ aces_in xs ++ aces_in ys
 list_of-append [] ys = refl
 list_of-append (x ∷ xs) ys = ap (λ v. ace x ∷ v) (list_of-append xs ys)
 
 -- the list of the ACEs before a place, and of that at the place
 pub list_of-more : (xs : List AceRef) (x : AceRef) (i : ℕ) → i < length xs → x ≡ slice_index_or xs i x
-    → list_of (take (i + 1) xs) ≡ list_of (take i xs) ++ ace x ∷ []
+    → aces_in (take (i + 1) xs) ≡ aces_in (take i xs) ++ ace x ∷ []
 list_of-more xs x i lt is =
-    ap list_of (take_more xs i x lt)
+    ap aces_in (take_more xs i x lt)
     ∙ list_of-append (take i xs) (slice_index_or xs i x ∷ [])
-    ∙ ap (λ y. list_of (take i xs) ++ ace y ∷ []) (sym is)
+    ∙ ap (λ y. aces_in (take i xs) ++ ace y ∷ []) (sym is)
 
 -- the set has the bits at which the test holds
 abbrev pub Marks : ℕ → (ℕ → Bool) → Type 0
@@ -43,11 +44,11 @@ IsGathered test = (xs ys : List Ace) (bit : ℕ) → test (xs ++ ys) bit ≡ (te
 
 -- one more ACE adds its bits
 pub union_more : (test : List Ace → ℕ → Bool) → IsGathered test → (xs : List AceRef) (x : AceRef) (i m n u : ℕ)
-    → i < length xs → x ≡ slice_index_or xs i x → Marks m (test (list_of (take i xs))) → Marks n (test (ace x ∷ []))
-    → IsUnion m n u → Marks u (test (list_of (take (i + 1) xs)))
+    → i < length xs → x ≡ slice_index_or xs i x → Marks m (test (aces_in (take i xs))) → Marks n (test (ace x ∷ []))
+    → IsUnion m n u → Marks u (test (aces_in (take (i + 1) xs)))
 union_more test gathered xs x i m n u lt is before here both bit =
     both bit
-    ∙ rw (before bit, here bit) (sym (gathered (list_of (take i xs)) (ace x ∷ []) bit))
+    ∙ rw (before bit, here bit) (sym (gathered (aces_in (take i xs)) (ace x ∷ []) bit))
     ∙ ap (λ v. test v bit) (sym (list_of-more xs x i lt is))
 
 is_some-append : (m : Principal → Bool) (l r : Column)
@@ -80,16 +81,16 @@ pub opposites_gathered : (d : Kind) (p : Principal) → IsGathered (λ list bit.
 opposites_gathered d p xs ys bit =
     ap (has_opposite d p) (column-append bit xs ys) ∙ opposite-append d p (column xs bit) (column ys bit)
 
-blocked-append : (e : Key) (l r : Column) → is_blocked (l ++ r) e ≡ (is_blocked l e || is_blocked r e)
+blocked-append : (e : Key) (l r : Column) → conflicts_before (l ++ r) e ≡ (conflicts_before l e || conflicts_before r e)
 blocked-append e [] r = refl
 blocked-append e (f ∷ l) r =
     ap (λ b. conflicts f e || b) (blocked-append e l r)
-    ∙ sym (or_assoc (conflicts f e) (is_blocked l e) (is_blocked r e))
+    ∙ sym (or_assoc (conflicts f e) (conflicts_before l e) (conflicts_before r e))
 
 -- and the bits at which a key is kept from coming first
-pub blocks_gathered : (e : Key) → IsGathered (λ list bit. is_blocked (column list bit) e)
+pub blocks_gathered : (e : Key) → IsGathered (λ list bit. conflicts_before (column list bit) e)
 blocks_gathered e xs ys bit =
-    ap (λ c. is_blocked c e) (column-append bit xs ys) ∙ blocked-append e (column xs bit) (column ys bit)
+    ap (λ c. conflicts_before c e) (column-append bit xs ys) ∙ blocked-append e (column xs bit) (column ys bit)
 
 -- ---- what everyone is allowed
 
@@ -109,15 +110,15 @@ decided-append m ((p, k) ∷ l) r = go (m p) refl k (decided-append m l r)
 
 -- one more ACE adds what it allows everyone, where none before it decides
 pub allowed_more : (xs : List AceRef) (x : AceRef) (i m n s u : ℕ) → i < length xs → x ≡ slice_index_or xs i x
-    → Marks m (λ bit. kind_eq (default (column (list_of (take i xs)) bit)) Allow)
-    → Marks s (is_shadowed everyone (list_of (take i xs)))
+    → Marks m (λ bit. kind_eq (default (column (aces_in (take i xs)) bit)) Allow)
+    → Marks s (is_shadowed everyone (aces_in (take i xs)))
     → Marks n (λ bit. kind_eq (default (column (ace x ∷ []) bit)) Allow && not (has_bit s bit))
-    → IsUnion m n u → Marks u (λ bit. kind_eq (default (column (list_of (take (i + 1) xs)) bit)) Allow)
+    → IsUnion m n u → Marks u (λ bit. kind_eq (default (column (aces_in (take (i + 1) xs)) bit)) Allow)
 allowed_more xs x i m n s u lt is before seen here both bit =
     both bit
     ∙ rw (before bit, here bit, seen bit)
-    (sym (decided-append (is_either everyone everyone) (column (list_of (take i xs)) bit) (column (ace x ∷ []) bit)))
-    ∙ ap (λ c. kind_eq (default c) Allow) (sym (column-append bit (list_of (take i xs)) (ace x ∷ [])))
+    (sym (decided-append (is_either everyone everyone) (column (aces_in (take i xs)) bit) (column (ace x ∷ []) bit)))
+    ∙ ap (λ c. kind_eq (default c) Allow) (sym (column-append bit (aces_in (take i xs)) (ace x ∷ [])))
     ∙ ap (λ v. kind_eq (default (column v bit)) Allow) (sym (list_of-more xs x i lt is))
 
 -- ---- where a key is free
@@ -128,23 +129,25 @@ free_parts true k f b g = refl
 free_parts false true f b g = sym (and_false_right g)
 free_parts false false f b g = refl
 
-free-append : (e : Key) (l r : Column) → is_free (l ++ r) e ≡ (is_free l e || (is_free r e && not (is_blocked l e)))
+free-append : (e : Key) (l r : Column)
+    → is_free (l ++ r) e ≡ (is_free l e || (is_free r e && not (conflicts_before l e)))
 free-append e [] r = sym (and_true_right (is_free r e))
 free-append e (f ∷ l) r =
     ap (λ b. (principal_eq f.0 e.0 && kind_eq f.1 e.1) || (not (conflicts f e) && b)) (free-append e l r)
-    ∙ free_parts (principal_eq f.0 e.0 && kind_eq f.1 e.1) (conflicts f e) (is_free l e) (is_blocked l e) (is_free r e)
+    ∙ free_parts (principal_eq f.0 e.0 && kind_eq f.1 e.1) (conflicts f e) (is_free l e) (conflicts_before l e)
+    (is_free r e)
 
 -- one more ACE adds its bits of that key, where none before it conflicts
 pub free_more : (e : Key) (xs : List AceRef) (x : AceRef) (i m n s u : ℕ) → i < length xs
-    → x ≡ slice_index_or xs i x → Marks m (λ bit. is_free (column (list_of (take i xs)) bit) e)
-    → Marks s (λ bit. is_blocked (column (list_of (take i xs)) bit) e)
+    → x ≡ slice_index_or xs i x → Marks m (λ bit. is_free (column (aces_in (take i xs)) bit) e)
+    → Marks s (λ bit. conflicts_before (column (aces_in (take i xs)) bit) e)
     → Marks n (λ bit. is_free (column (ace x ∷ []) bit) e && not (has_bit s bit))
-    → IsUnion m n u → Marks u (λ bit. is_free (column (list_of (take (i + 1) xs)) bit) e)
+    → IsUnion m n u → Marks u (λ bit. is_free (column (aces_in (take (i + 1) xs)) bit) e)
 free_more e xs x i m n s u lt is before blocked here both bit =
     both bit
     ∙ rw (before bit, here bit, blocked bit)
-    (sym (free-append e (column (list_of (take i xs)) bit) (column (ace x ∷ []) bit)))
-    ∙ ap (λ c. is_free c e) (sym (column-append bit (list_of (take i xs)) (ace x ∷ [])))
+    (sym (free-append e (column (aces_in (take i xs)) bit) (column (ace x ∷ []) bit)))
+    ∙ ap (λ c. is_free c e) (sym (column-append bit (aces_in (take i xs)) (ace x ∷ [])))
     ∙ ap (λ v. is_free (column v bit) e) (sym (list_of-more xs x i lt is))
 
 -- in the column of one ACE, just its own key is free

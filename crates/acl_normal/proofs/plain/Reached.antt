@@ -8,10 +8,11 @@ use Rattle.acl_nfs4.specs.Ace.{Ace, ace}
 use Rattle.acl_nfs4.specs.Who.{principal_of}
 use Rattle.acl_nfs4.specs.declared.ace.AceRef.{AceRef}
 use Rattle.acl_eval.specs.Column.{Column, column, first_kind}
+use Rattle.acl_normal.specs.internal.Shown.{aces_in}
 use Rattle.acl_normal.specs.internal.Alike.{is_either}
 use Rattle.acl_normal.specs.Keys.{ace_key}
 use Rattle.acl_normal.specs.Normal.{is_inherit_only}
-use Rattle.acl_normal.specs.internal.Passes.{list_of, is_shadowed}
+use Rattle.acl_normal.specs.internal.Passes.{is_shadowed}
 use Rattle.acl_normal.specs.internal.Plain.{unshadowed}
 use Rattle.acl_perm.proofs.Bools.{and_false_right}
 use Rattle.acl_normal.proofs.unique.Columns.{column_lacks}
@@ -63,17 +64,17 @@ one_reached y r before bit entry part bits =
 pub reached_more : (xs : List AceRef) (y : AceRef) (kept : List AceRef) (r : AceRef) (i s : ℕ) → i < length xs
     → y ≡ slice_index_or xs i y → ace_key (ace r) ≡ ace_key (ace y)
     → is_inherit_only (ace r) ≡ is_inherit_only (ace y)
-    → Marks s (is_shadowed (principal_of (ace y)) (list_of (take i xs))) → IsDifference y.mask.bits s r.mask.bits
-    → ((bit : ℕ) → column (list_of kept) bit ≡ unshadowed [] (column (list_of (take i xs)) bit))
-    → (bit : ℕ) → column (list_of (kept ++ r ∷ [])) bit ≡ unshadowed [] (column (list_of (take (i + 1) xs)) bit)
+    → Marks s (is_shadowed (principal_of (ace y)) (aces_in (take i xs))) → IsDifference y.mask.bits s r.mask.bits
+    → ((bit : ℕ) → column (aces_in kept) bit ≡ unshadowed [] (column (aces_in (take i xs)) bit))
+    → (bit : ℕ) → column (aces_in (kept ++ r ∷ [])) bit ≡ unshadowed [] (column (aces_in (take (i + 1) xs)) bit)
 reached_more xs y kept r i s lt is entry part shadow mask so_far bit =
     ap (λ v. column v bit) (list_of-append kept (r ∷ []))
-    ∙ column-append bit (list_of kept) (ace r ∷ [])
+    ∙ column-append bit (aces_in kept) (ace r ∷ [])
     ∙ rw (
       so_far bit,
-      one_reached (ace y) (ace r) (list_of (take i xs)) bit entry part
+      one_reached (ace y) (ace r) (aces_in (take i xs)) bit entry part
           (mask bit ∙ ap (λ b. has_bit y.mask.bits bit && not b) (shadow bit)),
     )
-    (sym (unshadowed-append [] (column (list_of (take i xs)) bit) (column (ace y ∷ []) bit)))
-    ∙ ap (unshadowed []) (sym (column-append bit (list_of (take i xs)) (ace y ∷ [])))
+    (sym (unshadowed-append [] (column (aces_in (take i xs)) bit) (column (ace y ∷ []) bit)))
+    ∙ ap (unshadowed []) (sym (column-append bit (aces_in (take i xs)) (ace y ∷ [])))
     ∙ ap (λ v. unshadowed [] (column v bit)) (sym (list_of-more xs y i lt is))

@@ -40,20 +40,20 @@ has_bit-and m n b = go (has_bit m b) refl (has_bit n b) refl
         (omega (arith, g, bit_at_and m n b, eqb-true (bit_at m b) 1 e, no_bit n b f))))
     go false e t f = rw e (ne_eqb _ _ (λ g. absurd (omega (arith, g, bit_at_and m n b, no_bit m b e, bit_at-lt n b))))
 
--- ---- the masks by type and class
+-- ---- the masks by kind and class
 
 same_bit : (t : Bool) → t ≡ (t || false)
 same_bit true = refl
 same_bit false = refl
 
--- the bits of a class that an ACE of another type has nothing to say of
+-- the bits of a class that an ACE of another kind has nothing to say of
 pub noted_other : (c : ByClass) (users : Bool) (b : ℕ)
     → has_bit (class_mask c users) b ≡ (has_bit (class_mask c users) b || false)
 noted_other c users b = same_bit (has_bit (class_mask c users) b)
 
 -- ---- the default
 
--- the type of a cell
+-- the kind of a cell
 abbrev pub kind_in : Option (Kind × ℕ) → Option Kind
 kind_in None = None
 kind_in (Some e) = Some e.0

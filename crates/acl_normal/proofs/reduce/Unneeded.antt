@@ -337,7 +337,7 @@ drops_start ys l h = record {
   later = λ k u b. h k u b;
 }
 
--- nor does any type, flag or who
+-- nor does any kind, flag or who
 pub drops_outline : (ys : List Ace) (n : ℕ) (xs : List Ace) (l : Later) → Drops ys n xs l
     → nothing_left xs ≡ nothing_left ys
 drops_outline ys n xs l d =

@@ -17,7 +17,7 @@ use Rattle.acl_perm.specs.Bits.{has_bit}
 use Rattle.acl_normal.specs.Keys.{kind_eq}
 use Rattle.acl_normal.specs.Places.{waits, first_at, slot_of, take_out, same_class}
 use Rattle.acl_normal.specs.declared.rows.merged.MergedRows.TheInside.{Inside}
-use Rattle.acl_normal.specs.internal.Merged.{IsRight}
+use Rattle.acl_normal.specs.internal.Merged.{IsMerged}
 use Rattle.acl_normal.proofs.unique.Free.{kind_eq_same}
 use Rattle.acl_normal.proofs.unique.Bits.{has_power, power_has}
 use Rattle.std.proofs.lemmas.Map.Lookups.{exact_unsigned}
@@ -44,7 +44,7 @@ kinds_apart false true b c h = omega arith
 kinds_apart true false b c h = omega arith
 kinds_apart true true b c h = omega arith
 
--- a slot tells its type, class and bit
+-- a slot tells its kind, class and bit
 pub slot_same : (k j : Kind) (u v : Bool) (b c : ℕ) → slot_of k u b ≡ slot_of j v c → (k ≡ j) × (u ≡ v) × (b ≡ c)
 slot_same Deny Deny false false b c h = (refl, refl, omega arith)
 slot_same Deny Deny true true b c h = (refl, refl, omega arith)
@@ -109,10 +109,10 @@ abbrev pub NoKeys : BTreeSet ℕ Global
 NoKeys = record { keys = [] }
 
 -- the sets of places are right without the bit
-pub emit_right : (s : Inside) (p : Principal) (b : ℕ) (j : Kind) (i : ℕ) (set : BTreeSet ℕ Global) → IsRight s → b < 21
+pub emit_right : (s : Inside) (p : Principal) (b : ℕ) (j : Kind) (i : ℕ) (set : BTreeSet ℕ Global) → IsMerged s → b < 21
     → first_at b p s.rest ≡ Some (j, i)
     → Without i (slice_index_or s.waiting.items (slot_of j (is_user p) b) NoKeys).keys set.keys
-    → IsRight (record {
+    → IsMerged (record {
       rest = take_out p (2 ^ b) s.rest;
       waiting = with_item s.waiting (slot_of j (is_user p) b) set;
     })

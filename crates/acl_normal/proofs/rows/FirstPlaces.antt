@@ -18,15 +18,15 @@ use Rattle.acl_normal.specs.Keys.{Key, kind_eq}
 use Rattle.acl_normal.specs.Normal.{IsQuiet, counts}
 use Rattle.acl_normal.specs.Places.{first_at, key_here, mask_here, principal_here, same_class, waits}
 use Rattle.acl_normal.specs.internal.Emissions.{IsOnce}
-use Rattle.acl_normal.specs.internal.Rows.{AreRowNumbers, IsByPrincipal, IsRow, first_place, row_of}
+use Rattle.acl_normal.specs.internal.Rows.{AreRowNumbers, IsByPrincipal, IsRowOf, first_place_of, row_of}
 use Rattle.acl_normal.proofs.emit.Walk.{key_from_first, same_class_itself, stands_at}
 use Rattle.acl_normal.proofs.rows.Rows.{named_here, row_same}
 use Rattle.acl_normal.proofs.rows.TakeOut.{IsHere, IsThere, first_cases}
 use Rattle.acl_normal.proofs.rows.WaitingPlaces.{quiet_counts}
 use Rattle.acl_normal.proofs.unique.Free.{kind_eq_itself}
 
--- the first ACE of a principal with the bit has the type of the ACE at its place
-pub first_by_place : (b : ℕ) (p : Principal) (xs : List Ace) (i : ℕ) → first_place b p xs ≡ Some i
+-- the first ACE of a principal with the bit has the kind of the ACE at its place
+pub first_by_place : (b : ℕ) (p : Principal) (xs : List Ace) (i : ℕ) → first_place_of b p xs ≡ Some i
     → first_at b p xs ≡ Some ((key_here xs i).1, i)
 first_by_place b p xs i h = go (first_at b p xs) refl
   where
@@ -48,14 +48,14 @@ first_in b p (a ∷ xs) (j, i) h = go (first_cases b p a xs j i h) (λ l. first_
     go (inr there) ih = omega (arith, there.place, ih there.before there.first)
 
 -- without a place there is no such ACE
-pub first_by_none : (b : ℕ) (p : Principal) (xs : List Ace) → first_place b p xs ≡ None → first_at b p xs ≡ None
+pub first_by_none : (b : ℕ) (p : Principal) (xs : List Ace) → first_place_of b p xs ≡ None → first_at b p xs ≡ None
 first_by_none b p xs h = go (first_at b p xs) refl
   where
     go : (o : Option (Kind × ℕ)) → first_at b p xs ≡ o → first_at b p xs ≡ None
     go None e = e
     go (Some (j, l)) e = cc (rw e at h)
 
--- what has the bit waits in its type and class
+-- what has the bit waits in its kind and class
 waits_here : (b : ℕ) (xs : List Ace) (i : ℕ) → IsQuiet xs → has_bit (mask_here xs i) b ≡ true → i < length xs
     → waits (key_here xs i).1 (is_user (key_here xs i).0) b xs i ≡ true
 waits_here b [] i quiet has l = absurd (omega (arith, l))
@@ -68,7 +68,7 @@ waits_here b (a ∷ xs) (suc i) quiet has l = waits_here b xs i quiet.1 has (ome
 
 -- and is the first of its principal, in a column with each principal once
 first_here : (b : ℕ) (xs : List Ace) (i : ℕ) → IsOnce (column xs b) → IsQuiet xs → has_bit (mask_here xs i) b ≡ true
-    → i < length xs → first_place b (principal_here xs i) xs ≡ Some i
+    → i < length xs → first_place_of b (principal_here xs i) xs ≡ Some i
 first_here b xs i once quiet has l =
     ap (option_map (λ (e : Kind × ℕ). e.1)) (stands_at (key_here xs i).1 (is_user (key_here xs i).0) b xs i once
     (waits_here b xs i quiet has l)).first
@@ -86,7 +86,7 @@ has_first b p (a ∷ xs) j i h = go (first_cases b p a xs j i h) (has_first b p 
     go (inr there) ih = rw there.place (ih there.before there.first)
 
 -- the ACE at a place that is first of a principal names it
-named_there : (b : ℕ) (p : Principal) (xs : List Ace) (i : ℕ) → first_place b p xs ≡ Some i → principal_here xs i ≡ p
+named_there : (b : ℕ) (p : Principal) (xs : List Ace) (i : ℕ) → first_place_of b p xs ≡ Some i → principal_here xs i ≡ p
 named_there b p xs i h = ap (λ (k : Key). k.0) (key_from_first b p xs _ i (first_by_place b p xs i h))
 
 -- ---- the places of a row, in the order of the principals
@@ -120,11 +120,11 @@ ArePassed b xs order from to =
 
 -- where none of the places of a row had the bit up to one of another row, or to the last, its principal has none
 pub row_passed : (b : ℕ) (xs : List Ace) (rows order : List ℕ) (row to : ℕ) (p : Principal) → AreRowNumbers xs rows
-    → IsByPrincipal xs order → IsRow row p xs → row ≤ to → ArePassed b xs order row to
-    → (to < length xs → slice_index_or rows (slice_index_or order to 0) 0 ≡ row → ⊥) → first_place b p xs ≡ None
-row_passed b xs rows order row to p numbers by at from passed other = go (first_place b p xs) refl
+    → IsByPrincipal xs order → IsRowOf row p xs → row ≤ to → ArePassed b xs order row to
+    → (to < length xs → slice_index_or rows (slice_index_or order to 0) 0 ≡ row → ⊥) → first_place_of b p xs ≡ None
+row_passed b xs rows order row to p numbers by at from passed other = go (first_place_of b p xs) refl
   where
-    go : (o : Option ℕ) → first_place b p xs ≡ o → first_place b p xs ≡ None
+    go : (o : Option ℕ) → first_place_of b p xs ≡ o → first_place_of b p xs ≡ None
     go None e = e
     go (Some i) e =
         let first = first_by_place b p xs i e in
@@ -147,9 +147,9 @@ row_passed b xs rows order row to p numbers by at from passed other = go (first_
 
 -- a place of the row that has the bit is that of its principal's first ACE with it
 pub row_has : (b : ℕ) (xs : List Ace) (rows : List ℕ) (row i : ℕ) (p : Principal) → AreRowNumbers xs rows
-    → IsRow row p xs → IsOnce (column xs b) → IsQuiet xs → i < length xs → slice_index_or rows i 0 ≡ row
-    → has_bit (mask_here xs i) b ≡ true → first_place b p xs ≡ Some i
+    → IsRowOf row p xs → IsOnce (column xs b) → IsQuiet xs → i < length xs → slice_index_or rows i 0 ≡ row
+    → has_bit (mask_here xs i) b ≡ true → first_place_of b p xs ≡ Some i
 row_has b xs rows row i p numbers at once quiet l is has =
     let whose : principal_here xs i ≡ p =
     row_same (principal_here xs i) p xs (named_here xs i l) at.named (sym (numbers.at i l) ∙ is ∙ at.is) in
-    subst (λ v. first_place b v xs ≡ Some i) whose (first_here b xs i once quiet has l)
+    subst (λ v. first_place_of b v xs ≡ Some i) whose (first_here b xs i once quiet has l)

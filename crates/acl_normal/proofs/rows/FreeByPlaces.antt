@@ -23,7 +23,7 @@ pub conflict_is : (s p : Principal) (j k : Kind) → principal_eq s p ≡ false
     || (not (is_user p) && (kind_eq j (other_kind k) && same_class (is_user s) true)))
 conflict_is s p j k h = go s p h j k
   where
-    -- one that is no user conflicts with each of the other type
+    -- one that is no user conflicts with each of the other kind
     other : (j k : Kind) (t : Bool)
         → (true && not (kind_eq j k)) ≡ ((kind_eq j (other_kind k) && true)
         || (not t && (kind_eq j (other_kind k) && false)))

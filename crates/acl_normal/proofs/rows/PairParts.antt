@@ -1,4 +1,4 @@
--- Pairs of a type and a place.
+-- Pairs of a kind and a place.
 use Rattle.std.specs.Prelude.{◌≡◌, ℕ, Option, Some, unwrap_or}
 use Rattle.std.proofs.Common.{ap}
 use Rattle.acl_perm.specs.declared.kind.Kind.{Kind}

@@ -26,7 +26,7 @@ no_right_above bits is b l = false_from_ne_true _ (λ h. absurd (omega (arith, l
 
 -- ---- whether a right is free
 
--- whether the principal is free at a bit, with either type
+-- whether the principal is free at a bit, with either kind
 abbrev pub free_either : List Ace → Principal → ℕ → Bool
 free_either list p b = is_free (column list b) (p, Deny) || is_free (column list b) (p, Allow)
 

@@ -20,7 +20,7 @@ use Rattle.acl_nfs4.specs.Who.{principal_of}
 use Rattle.acl_nfs4.specs.declared.ace.AceRef.{AceRef}
 use Rattle.acl_normal.specs.Places.{key_here}
 use Rattle.acl_normal.specs.internal.RowNumbers.{AreSortedNames, named_from, named_of}
-use Rattle.acl_normal.specs.internal.Rows.{AreRowNumbers, IsByPrincipal, IsRow, is_named, row_of}
+use Rattle.acl_normal.specs.internal.Rows.{AreRowNumbers, IsByPrincipal, IsRowOf, is_named, row_of}
 use Rattle.acl_normal.specs.internal.Shown.{aces_in}
 use Rattle.acl_normal.specs.declared.rows.numbers.NamedPlace.{NamedPlace}
 use Rattle.acl_normal.proofs.rows.HeadOrder.{owner_head}
@@ -561,7 +561,7 @@ search_rises xs order p o =
 pub found_row : (xs : List Ace) (rows order : List ℕ) (p : Principal) (i : ℕ) → AreRowNumbers xs rows
     → IsByPrincipal xs order → i < length order
     → HoldsAt (λ y. principal_cmp (key_here xs y).0 p ≡ Equal) order i
-    → IsRow (slice_index_or rows (slice_index_or order i 0) 0) p xs
+    → IsRowOf (slice_index_or rows (slice_index_or order i 0) 0) p xs
 found_row xs rows order p i r o l h =
     let place : slice_index_or order i 0 < length xs = o.within i (omega (arith, l, o.count)) in
     let is : (key_here xs (slice_index_or order i 0)).0 ≡ p =

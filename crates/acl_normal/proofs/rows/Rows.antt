@@ -13,7 +13,7 @@ use Rattle.acl_nfs4.specs.Who.{principal_of}
 use Rattle.acl_normal.specs.Keys.{Key, principal_eq}
 use Rattle.acl_normal.specs.Normal.{is_inherit_only, counts}
 use Rattle.acl_normal.specs.Places.{key_here, first_at, nothing_left, take_out, without_bits}
-use Rattle.acl_normal.specs.internal.Rows.{AreRowNumbers, IsByPrincipal, IsRow, is_named, row_of}
+use Rattle.acl_normal.specs.internal.Rows.{AreRowNumbers, IsByPrincipal, IsRowOf, is_named, row_of}
 use Rattle.acl_normal.proofs.unique.Names.{principal_eq_same, principal_eq_itself}
 use Rattle.acl_normal.proofs.unique.Outline.{key_alike, length_alike}
 
@@ -257,8 +257,8 @@ order_alike xs ys order e o = record {
         ap (λ n. (key_here ys (slice_index_or order n 0)).0) (sym r) ∙ sym (at (row_of p xs)) ∙ o.first p h
 
 -- and the row of a principal
-pub is_row_alike : (row : ℕ) (p : Principal) (xs ys : List Ace) → nothing_left xs ≡ nothing_left ys → IsRow row p xs
-    → IsRow row p ys
+pub is_row_alike : (row : ℕ) (p : Principal) (xs ys : List Ace) → nothing_left xs ≡ nothing_left ys → IsRowOf row p xs
+    → IsRowOf row p ys
 is_row_alike row p xs ys e r = record {
   named = sym (named_alike p xs ys e) ∙ r.named;
   is = r.is ∙ row_alike p xs ys e;
@@ -266,7 +266,7 @@ is_row_alike row p xs ys e r = record {
 
 -- a row that was found
 pub found_row : (p : Principal) (xs ys : List Ace) (o : Option ℕ) → nothing_left xs ≡ nothing_left ys
-    → IfSome o (λ row. IsRow row p xs) → IfSome o (λ row. IsRow row p ys)
+    → IfSome o (λ row. IsRowOf row p xs) → IfSome o (λ row. IsRowOf row p ys)
 found_row p xs ys None e h = h
 found_row p xs ys (Some row) e h = is_row_alike row p xs ys e h
 

@@ -33,7 +33,7 @@ principal_kept p m a = go (principal_eq (principal_of a) p && not (is_inherit_on
     go true e = rw e refl
     go false e = rw e refl
 
--- and their types
+-- and their kinds
 pub kind_kept : (p : Principal) (m : ℕ) (a : Ace) → (without_bits p m a).kind ≡ a.kind
 kind_kept p m a = go (principal_eq (principal_of a) p && not (is_inherit_only a)) refl
   where
@@ -220,7 +220,7 @@ pub waiting_left : (k : Kind) (u : Bool) (b : ℕ) (p : Principal) (m : ℕ) (a 
 waiting_left k u b p m a =
     waiting_step k u b p m a (without_bits p m a) (counts_left b p m a) (principal_kept p m a) (kind_kept p m a)
 
--- at other types, classes and bits
+-- at other kinds, classes and bits
 pub waits_kept : (k : Kind) (u : Bool) (b : ℕ) (p : Principal) (m : ℕ) (xs : List Ace) (i : ℕ) → has_bit m b ≡ false
     → waits k u b (take_out p m xs) i ≡ waits k u b xs i
 waits_kept k u b p m [] i h = refl

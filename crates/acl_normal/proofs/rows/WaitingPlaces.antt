@@ -181,7 +181,7 @@ notes_on place kind user mask old lists n at v f has low slots slot more = recor
     itself true = refl
     itself false = refl
 
-    -- where the slot is another, the bit, the type or the class is
+    -- where the slot is another, the bit, the kind or the class is
     apart : (k : Kind) (u : Bool) (b : ℕ) → (slot_of k u b ≡ at → ⊥)
         → (nat_lt b n && (has_bit mask b && (kind_eq kind k && same_class user u)))
         ≡ (nat_lt b (n + 1) && (has_bit mask b && (kind_eq kind k && same_class user u)))

@@ -111,7 +111,7 @@ long_enough (a ∷ xs) h = omega (arith, long_enough xs h.1, some (count_ones a.
     some zero e = absurd (h.0 (zero_from_ones a.mask e))
     some (suc n) e = omega (arith, e)
 
--- a bit of an ACE of the result is one of an ACE of the source, of the same principal and type
+-- a bit of an ACE of the result is one of an ACE of the source, of the same principal and kind
 bit_source : (source xs l : List Ace) (a : Ace) (r : List Ace) (b : ℕ) → IsTaken source xs → xs ≡ l ++ a ∷ r
     → has_bit a.mask b ≡ true → IsSource b source (ace_key a)
 bit_source source xs l a r b t is has = source_of b source (ace_key a) (t.comes b (ace_key a) (record {

@@ -15,13 +15,13 @@ use Rattle.acl_normal.proofs.unique.Names.{principal_eq_same, either_second, ove
 use Rattle.acl_perm.proofs.Bools.{same_answers}
 use Rattle.acl_normal.proofs.unique.Irreducible.{IsClean, either_is, first_kind_without}
 
--- types that are told to be the same are
+-- kinds that are told to be the same are
 pub kind_eq_same : (j k : Kind) → kind_eq j k ≡ true → j ≡ k
 kind_eq_same Deny Deny h = refl
 kind_eq_same Allow Allow h = refl
 kind_eq_same _ _ h = cc
 
--- a type is the same as itself
+-- a kind is the same as itself
 pub kind_eq_itself : (j : Kind) → kind_eq j j ≡ true
 kind_eq_itself Deny = refl
 kind_eq_itself Allow = refl

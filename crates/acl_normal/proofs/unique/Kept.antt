@@ -10,7 +10,8 @@ use Rattle.acl_nfs4.specs.Spelling.{IsAce}
 use Rattle.acl_nfs4.specs.Within.{IsWithin}
 use Rattle.acl_nfs4.specs.declared.ace.AceRef.{AceRef}
 use Rattle.acl_nfs4.proofs.Push.{each_push}
-use Rattle.acl_normal.specs.internal.Passes.{KeepsProfiles, IsWithinAs, list_of}
+use Rattle.acl_normal.specs.internal.Shown.{aces_in}
+use Rattle.acl_normal.specs.internal.Passes.{KeepsProfiles, IsWithinAs}
 use Rattle.acl_normal.proofs.plain.Passes.{list_of-append}
 
 -- a set whose bits are bits of another is within that other
@@ -50,17 +51,17 @@ fewer_bits p a r flags who fewer h = record {
 
 -- what holds of each ACE of a list holds of that at a place
 pub ace_at : (xs : List AceRef) (x : AceRef) (i : ℕ) → i < length xs → x ≡ slice_index_or xs i x
-    → IsWithinAs (list_of xs) (ace x)
+    → IsWithinAs (aces_in xs) (ace x)
 ace_at xs x i lt is = λ q h. go q xs i lt is h
   where
     go : (q : Profile) (xs : List AceRef) (i : ℕ) → i < length xs → x ≡ slice_index_or xs i x
-        → AllByRecursion (IsAce q) (list_of xs) → IsAce q (ace x)
+        → AllByRecursion (IsAce q) (aces_in xs) → IsAce q (ace x)
     go q [] i lt is h = absurd (omega (arith, lt))
     go q (y ∷ xs) zero lt is h = subst (λ v. IsAce q (ace v)) (sym is) h.0
     go q (y ∷ xs) (suc i) lt is h = go q xs i (omega (arith, lt)) is h.1
 
 -- one more ACE that is within what the list is within
-pub keeps_more : (whole : List Ace) (kept : List AceRef) (x : AceRef) → KeepsProfiles whole (list_of kept)
-    → IsWithinAs whole (ace x) → KeepsProfiles whole (list_of (kept ++ x ∷ []))
+pub keeps_more : (whole : List Ace) (kept : List AceRef) (x : AceRef) → KeepsProfiles whole (aces_in kept)
+    → IsWithinAs whole (ace x) → KeepsProfiles whole (aces_in (kept ++ x ∷ []))
 keeps_more whole kept x keeps within p h =
-    rw (list_of-append kept (x ∷ [])) (each_push p (list_of kept) (ace x) (keeps p h) (within p h))
+    rw (list_of-append kept (x ∷ [])) (each_push p (aces_in kept) (ace x) (keeps p h) (within p h))

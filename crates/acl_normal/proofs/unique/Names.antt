@@ -23,7 +23,7 @@ everyone_test group = refl
 everyone_test (group_named name) = refl
 everyone_test everyone = refl
 
--- the test for ALLOW is that for the same type
+-- the test for ALLOW is that for the same kind
 pub allow_test : (k : Kind) → is_allow k ≡ kind_eq k Allow
 allow_test Deny = refl
 allow_test Allow = refl

@@ -11,7 +11,7 @@ pub outline_length : (xs : List Ace) → length (nothing_left xs) ≡ length xs
 outline_length [] = refl
 outline_length (a ∷ xs) = ap suc (outline_length xs)
 
--- whom an ACE names, and its type
+-- whom an ACE names, and its kind
 pub outline_key : (xs : List Ace) (i : ℕ) → key_here (nothing_left xs) i ≡ key_here xs i
 outline_key [] i = refl
 outline_key (a ∷ xs) zero = refl

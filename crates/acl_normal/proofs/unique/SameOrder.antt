@@ -64,7 +64,7 @@ has_once c p k h =
     let same : s.principal ≡ p = either_same p s.principal s.passes in
     record { before = s.before; after = s.after; is = s.is ∙ ap (λ v. s.before ++ (v, k) ∷ s.after) same }
 
--- irreducible lists that grant the same have the same bits with the same types
+-- irreducible lists that grant the same have the same bits with the same kinds
 pub same_bits : (xs ys : List Ace) → IsIrreducibleList xs → IsIrreducibleList ys → SameGrants all_rights xs ys
     → (b : ℕ) (e : Key) → Has (column xs b) e → Has (column ys b) e
 same_bits xs ys ix iy same b e h =

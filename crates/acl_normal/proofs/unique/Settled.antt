@@ -20,7 +20,7 @@ use Rattle.acl_normal.proofs.unique.FirstAndRest.{first_kind_same}
 use Rattle.acl_normal.proofs.unique.SameOrder.{once_before, once_has, has_once}
 use Rattle.acl_normal.proofs.unique.Realised.{pairs_from_situations}
 
--- the other type
+-- the other kind
 abbrev pub opposite : Kind → Kind
 opposite Deny = Allow
 opposite Allow = Deny
@@ -175,7 +175,7 @@ kinds_clash : (k : Kind) → opposite k ≡ k → ⊥
 kinds_clash Deny h = cc
 kinds_clash Allow h = cc
 
--- one type or the other
+-- one kind or the other
 pub two_kinds : (j k : Kind) → (j ≡ k) ⊎ (j ≡ opposite k)
 two_kinds Deny Deny = inl refl
 two_kinds Deny Allow = inr refl

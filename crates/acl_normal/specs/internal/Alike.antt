@@ -19,7 +19,7 @@ is_either p q x = principal_eq x p || principal_eq x q
 abbrev pub is_either_or_everyone : Principal → Principal → Principal → Bool
 is_either_or_everyone p q x = is_either p q x || principal_eq x everyone
 
--- of each two principals that overlap, the one that comes first has the same type in both columns; so both have the
+-- of each two principals that overlap, the one that comes first has the same kind in both columns; so both have the
 -- same keys, and those that conflict in the same order
 abbrev pub IsAlike : Column → Column → Type 0
 IsAlike c d = (p q : Principal) → may_overlap p q ≡ true

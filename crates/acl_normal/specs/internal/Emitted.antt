@@ -4,7 +4,7 @@ use Rattle.acl_nfs4.specs.Ace.{Ace}
 use Rattle.acl_nfs4.specs.Who.{principal_of}
 use Rattle.acl_normal.specs.Keys.{plain_key}
 use Rattle.acl_normal.specs.internal.Ready.{emitted}
-use Rattle.acl_normal.specs.internal.Rows.{IsRow}
+use Rattle.acl_normal.specs.internal.Rows.{IsRowOf}
 use Rattle.acl_normal.specs.declared.emit.emission.Emitted.{Emitted}
 
 -- the ACE of a key and its rights
@@ -13,7 +13,7 @@ emitted_ace e = emitted (plain_key e.key) e.mask.bits
 
 -- the row of each is that of the principal in the list
 abbrev pub StandInRows : List Ace → List Emitted → Type 0
-StandInRows xs es = All (λ e. IsRow e.row (principal_of (emitted_ace e)) xs) es
+StandInRows xs es = All (λ e. IsRowOf e.row (principal_of (emitted_ace e)) xs) es
 
 -- the list of the ACEs of these
 abbrev pub emitted_aces : List Emitted → List Ace

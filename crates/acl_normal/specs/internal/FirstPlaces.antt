@@ -1,5 +1,4 @@
--- Where two lists first speak of each principal, and what they say there (this library's own): words that only code
--- needs.
+-- Where two lists first speak of each principal, and what they say there (this library's own).
 use Rattle.std.specs.Prelude.{◌≡◌, ℕ, ◌<◌, ◌≤◌, ◌+◌, Bool, true, false, not, ◌&&◌, if◌then◌else◌, nat_lt, ◌==◌, drop, slice_index_or, slice_set, List, [], ◌∷◌, length}
 use Rattle.std.specs.List.{AllByRecursion, AllZip, list_any}
 use Rattle.acl_eval.specs.Column.{takes_part}
@@ -38,7 +37,7 @@ pub record IsStanding (list other : List Ace) (bit : ℕ) (p : Principal) (r : S
   pub there : IsFirst other bit p r.there
   pub class : is_users r.class ≡ is_user p
 
--- of two that may overlap and are of different types, the one comes first in one list, and not in the other
+-- of two that may overlap and are of different kinds, the one comes first in one list, and not in the other
 abbrev pub inverts : Standing → Standing → Bool
 inverts r s = (not (is_users r.class && is_users s.class) && differ (is_allow r.here.kind) (is_allow s.here.kind))
     && differ (nat_lt s.here.place r.here.place) (nat_lt s.there.place r.there.place)
@@ -52,7 +51,7 @@ abbrev pub AgreesAt : List Ace → List Ace → List Principal → ℕ → Princ
 AgreesAt list other whole bit p = AllByRecursion (λ q. may_overlap p q ≡ true
     → is_granted_to list (p ∷ q ∷ []) bit ≡ is_granted_to other (p ∷ q ∷ []) bit) whole
 
--- and on all rights
+-- on all rights, the lists grant alike wherever this principal and another that may overlap match
 abbrev pub Agrees : List Ace → List Ace → List Principal → Principal → Type 0
 Agrees list other whole p =
     AllByRecursion (λ q. may_overlap p q ≡ true → GrantAlikeTo list other (p ∷ q ∷ [])) whole
@@ -91,7 +90,7 @@ pub record IsFirstFrom (list : List Ace) (bit i : ℕ) (p : Principal) (f : Firs
   pub place : f.place ≡ first_place (p ∷ []) bit (drop i list) + i
   pub allows : is_allow f.kind ≡ is_granted_to (drop i list) (p ∷ []) bit
 
--- of each principal
+-- what the ACEs from a place on say first of each principal
 pub record AreFirstFrom (whole : List Principal) (list : List Ace) (bit i : ℕ) (firsts : List First) : Type 0 where
   pub count : length firsts ≡ length whole
   pub each : (k : ℕ) → k < length whole
@@ -112,7 +111,7 @@ stops bit a Nobody = false
 stops bit a (One i) = false
 stops bit a Everyone = has_bit a.mask bit
 
--- the ACE at a place does
+-- the ACE at a place has the bit, and is of everyone
 abbrev pub stops_at : List Ace → List Whom → ℕ → ℕ → Bool
 stops_at list ws bit k = stops bit (slice_index_or list k no_ace) (slice_index_or ws k Nobody)
 

@@ -1,5 +1,4 @@
--- Heads of principals (this library's own): a number each, of which two are compared in place of two names. Words that
--- only code needs.
+-- Heads of principals (this library's own): a number each, of which two are compared in place of two names.
 use Rattle.std.specs.Prelude.{◌≡◌, ℕ, ◌+◌, ◌*◌, zero, suc, List, drop, get_or}
 use Rattle.acl_perm.specs.Order.{principal_name, principal_rank}
 use Rattle.acl_perm.specs.Principal.{Principal, principal}

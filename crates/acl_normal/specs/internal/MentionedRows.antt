@@ -1,4 +1,4 @@
--- The principals that lists mention, by row and by number (this library's own): words that only code needs.
+-- The principals that lists mention, by row and by number (this library's own).
 use Rattle.std.specs.Prelude.{◌≡◌, ℕ, ◌<◌, true, if◌then◌else◌, List, [], ◌∷◌, ◌++◌, Option, Some, None, length, option_map, slice_index_or, slice_set, take}
 use Rattle.acl_perm.specs.Principal.{Principal, everyone, principal}
 use Rattle.acl_perm.specs.declared.principal.Principal.{Principal as PrincipalRef}

@@ -1,20 +1,17 @@
 -- What the sets of places of merged rows are to the list that is left (this library's own).
-use Rattle.std.specs.Prelude.{◌≡◌, ℕ, ◌<◌, [], Bool, false, vec_len, slice_index_or}
-use Rattle.std.specs.Ordering.{nat_cmp}
-use Rattle.std.specs.List.{list_any}
-use Rattle.std.specs.BTreeMap.{is_at}
+use Rattle.std.specs.Prelude.{◌≡◌, ℕ, ◌<◌, [], Bool, false, vec_len}
 use Rattle.acl_perm.specs.Bits.{all_rights, has_bit}
 use Rattle.acl_perm.specs.declared.kind.Kind.{Kind}
 use Rattle.acl_eval.specs.Column.{column}
 use Rattle.acl_normal.specs.internal.Emissions.{HasOnceColumns}
 use Rattle.acl_normal.specs.Places.{waits, slot_of}
+use Rattle.acl_normal.specs.internal.Waiting.{has_place}
 use Rattle.acl_normal.specs.declared.rows.merged.MergedRows.TheInside.{Inside}
 
 -- the sets of places tell what waits of what is left
-pub record IsRight (a : Inside) : Type 0 where
+pub record IsMerged (a : Inside) : Type 0 where
   pub sets : vec_len a.waiting ≡ 84
   pub once : HasOnceColumns a.rest
   pub rights : (b : ℕ) → has_bit all_rights b ≡ false → column a.rest b ≡ []
   pub waiting : (k : Kind) (users : Bool) (b i : ℕ) → b < 21
-      → list_any (is_at (nat_cmp i)) (slice_index_or a.waiting.items (slot_of k users b) (record { keys = [] })).keys
-      ≡ waits k users b a.rest i
+      → has_place a.waiting.items (slot_of k users b) i ≡ waits k users b a.rest i

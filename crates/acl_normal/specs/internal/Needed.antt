@@ -1,4 +1,4 @@
--- Which bits are needed, told from masks (this library's own): words that only code needs.
+-- Which bits are needed, told from masks (this library's own).
 use Rattle.std.specs.Prelude.{ℕ, Bool, true, false, cond, not, ◌||◌, ◌&&◌, [], ◌∷◌}
 use Rattle.acl_perm.specs.Principal.{everyone, is_user}
 use Rattle.acl_perm.specs.declared.kind.Kind.{Kind}
@@ -15,10 +15,14 @@ use Rattle.acl_normal.specs.declared.reduce.needless.Later.{Later}
 abbrev pub default_at : ℕ → ℕ → Kind
 default_at allowed b = cond (has_bit allowed b) Allow Deny
 
+-- a key is of a kind and a class
+abbrev pub is_of_kind_and_class : Kind → Bool → Key → Bool
+is_of_kind_and_class k users key = kind_eq key.1 k && same_class (is_user key.0) users
+
 -- a key of a kind and a class is in the column
 abbrev pub some_of : Kind → Bool → Column → Bool
 some_of k users [] = false
-some_of k users ((q, j) ∷ c) = (kind_eq j k && same_class (is_user q) users) || some_of k users c
+some_of k users (key ∷ c) = is_of_kind_and_class k users key || some_of k users c
 
 -- the bits of a class: of users, or of others
 abbrev pub class_mask : ByClass → Bool → ℕ

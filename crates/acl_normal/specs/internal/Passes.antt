@@ -1,4 +1,4 @@
--- The plain way to the normal form, pass by pass (this library's own): words that only code needs.
+-- The plain way to the normal form, pass by pass (this library's own).
 use Rattle.std.specs.Prelude.{◌≡◌, ◌≢◌, ℕ, Bool, true, false, ◌||◌, if◌then◌else◌, List, [], ◌∷◌, map, is_some, Option, None, Some}
 use Rattle.std.specs.List.{AllByRecursion}
 use Rattle.std.specs.Ordering.{is_le}
@@ -17,17 +17,9 @@ use Rattle.acl_normal.specs.Keys.{Key, ace_key, compare_keys, conflicts}
 use Rattle.acl_normal.specs.internal.Plain.{reduced}
 use Rattle.acl_normal.specs.Normal.{is_free, flags_for}
 
--- the list that ACEs in memory show
-abbrev pub list_of : List AceRef → List Ace
-list_of aces = map ace aces
-
 -- an ACE of the list that has the bit and takes part names the principal, or everyone
 abbrev pub is_shadowed : Principal → List Ace → ℕ → Bool
 is_shadowed p list bit = is_some (first_kind (is_either p everyone) (column list bit))
-
--- what a column decides where nobody matches by name, by the set of the bits that it allows
-abbrev pub default_in : ℕ → ℕ → Kind
-default_in allowed bit = if has_bit allowed bit then Allow else Deny
 
 -- what is within a profile stays within it
 abbrev pub KeepsProfiles : List Ace → List Ace → Type 0
@@ -39,9 +31,9 @@ pub record IsPlainReduction (list needed : List Ace) : Type 0 where
   pub profiles : KeepsProfiles list needed
 
 -- a key before the given one conflicts with it
-abbrev pub is_blocked : Column → Key → Bool
-is_blocked [] e = false
-is_blocked (first ∷ c) e = conflicts first e || is_blocked c e
+abbrev pub conflicts_before : Column → Key → Bool
+conflicts_before [] e = false
+conflicts_before (first ∷ c) e = conflicts first e || conflicts_before c e
 
 -- at no bit is the key of the ACE free in the list
 abbrev pub IsNowhereFree : List Ace → Ace → Type 0
@@ -67,7 +59,7 @@ abbrev pub IsWithinAs : List Ace → Ace → Type 0
 IsWithinAs list a = (p : Profile) → AllByRecursion (IsAce p) list → IsAce p a
 
 -- the ACE is a candidate, and below all of the others that are free
-pub record IsLeast (list aces : List Ace) (a : Ace) : Type 0 where
+pub record IsLeastCandidate (list aces : List Ace) (a : Ace) : Type 0 where
   pub candidate : IsCandidate list a
   pub below : AllByRecursion (IsBelow list a) aces
   pub within : IsWithinAs list a
@@ -80,4 +72,4 @@ lesser (Some a) b = if is_le (compare_keys (ace_key a) (ace_key b)) then a else 
 -- of some ACEs, the least that is free in the list, or none where none is
 abbrev pub Best : List Ace → List Ace → Option Ace → Type 0
 Best list aces None = AreNowhereFree list aces
-Best list aces (Some a) = IsLeast list aces a
+Best list aces (Some a) = IsLeastCandidate list aces a

@@ -1,4 +1,4 @@
--- Tables that tell at once whether a principal inverts another (this library's own): words that only code needs.
+-- Tables that tell at once whether a principal inverts another (this library's own).
 use Rattle.std.specs.Prelude.{◌≡◌, ℕ, ◌<◌, ◌≤◌, ◌+◌, Bool, true, false, not, ◌&&◌, ◌||◌, ◌==◌, if◌then◌else◌, nat_lt, List, [], ◌∷◌, max, length, slice_index_or}
 use Rattle.acl_normal.specs.internal.FirstPlaces.{inverts_any, no_standing}
 use Rattle.acl_normal.specs.internal.SetSearch.{differ}
@@ -9,7 +9,7 @@ use Rattle.acl_normal.specs.declared.comparison.inversions.Side.{Side}
 use Rattle.acl_normal.specs.declared.comparison.inversions.Side.TheVariants.{Here, There}
 use Rattle.acl_normal.specs.declared.comparison.standing.Standing.{Standing}
 
--- a principal is of the other type, and may overlap with those of the camp
+-- a principal is of the other kind, and may overlap with those of the camp
 abbrev pub is_counted : Camp → Standing → Bool
 is_counted camp r = not (is_users camp.class && is_users r.class) && differ (is_allow camp.kind) (is_allow r.here.kind)
 
@@ -30,7 +30,7 @@ most_before camp side k (r ∷ standings) =
     max (if is_counted camp r && nat_lt (place_of side r) k then other_place side r + 1 else 0)
     (most_before camp side k standings)
 
--- of those that stand just before it
+-- one more than the greatest place, in the other list, of those that count and stand just before a place in the one
 abbrev pub most_at : Camp → Side → ℕ → List Standing → ℕ
 most_at camp side k [] = 0
 most_at camp side k (r ∷ standings) =
@@ -43,7 +43,8 @@ pub record HasPlaces (size : ℕ) (r : Standing) : Type 0 where
   pub there : r.there.place ≤ size
 
 -- at each place the greatest of those before it
-pub record IsTable (camp : Camp) (side : Side) (size : ℕ) (standings : List Standing) (table : List ℕ) : Type 0 where
+pub record IsPlaceTable (camp : Camp) (side : Side) (size : ℕ) (standings : List Standing) (table : List ℕ)
+    : Type 0 where
   pub count : length table ≡ size + 2
   pub each : (k : ℕ) → k < size + 2 → slice_index_or table k 0 ≡ most_before camp side k standings
 

@@ -11,7 +11,7 @@ use Rattle.acl_normal.specs.Keys.{principal_eq, Key, compare_keys, kind_eq}
 use Rattle.acl_perm.specs.Kind.{other_kind}
 use Rattle.acl_normal.specs.Normal.{is_free, flags_for}
 use Rattle.acl_normal.specs.Places.{nothing_left}
-use Rattle.acl_normal.specs.internal.Rows.{IsRow, is_named, key_number}
+use Rattle.acl_normal.specs.internal.Rows.{IsRowOf, is_named, key_number}
 
 -- the marked bits of each key of a column
 abbrev pub Marked : Type 0
@@ -52,7 +52,7 @@ pub record Grows (xs : List Ace) (old new : Marked) : Type 0 where
   pub sound : (k : Key) (b : ℕ) → has_bit (new k) b ≡ true
       → (has_bit (old k) b ≡ true) ⊎ (is_free (column xs b) k ≡ true)
 
--- and all of a kind and a class are there
+-- only free bits were added, and each free key of a kind and a class is marked at the bit
 pub record Enters (kind : Kind) (users : Bool) (bit : ℕ) (xs : List Ace) (old new : Marked) : Type 0 where
   pub grows : Grows xs old new
   pub all : (q : Principal) → is_user q ≡ users → is_free (column xs bit) (q, kind) ≡ true
@@ -75,9 +75,9 @@ pub record Popped (old : Marked) (k : Key) (bits : ℕ) (new : Marked) : Type 0 
   pub after : (l : Key) → new l ≡ cond (key_eq l k) 0 (old l)
   pub least : (l : Key) → old l ≢ 0 → is_le (compare_keys k l) ≡ true
 
--- and it is a key of that row
+-- the least of the marked keys was taken, with its bits, and it is a key of that row
 pub record Takes (xs : List Ace) (old new : List ℕ) (row : ℕ) (k : Key) (bits : ℕ) : Type 0 where
-  pub at_row : IsRow row k.0 xs
+  pub at_row : IsRowOf row k.0 xs
   pub popped : Popped (marks (nothing_left xs) old) k bits (marks (nothing_left xs) new)
   pub fits : FitsKeys (nothing_left xs) new
 

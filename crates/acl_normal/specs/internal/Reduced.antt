@@ -1,4 +1,4 @@
--- What is left of a list without bits that play no part (this library's own): words that only code needs.
+-- What is left of a list without bits that play no part (this library's own).
 use Rattle.std.specs.Prelude.{◌≡◌, ℕ, ◌<◌, false, List, []}
 use Rattle.acl_perm.specs.Bits.{all_rights, has_bit}
 use Rattle.acl_eval.specs.Column.{column}

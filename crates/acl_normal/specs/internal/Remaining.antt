@@ -1,4 +1,4 @@
--- What is left of a list while it is emitted (this library's own): by row a mask, and by type, class and right a queue
+-- What is left of a list while it is emitted (this library's own): by row a mask, and by kind, class and right a queue
 -- of places.
 use Rattle.std.specs.Prelude.{◌≡◌, ℕ, ◌<◌, ◌^◌, Bool, true, false, List, [], ◌∷◌, map, bit_and, vec_len, length, slice_index_or}
 use Rattle.std.specs.Ordering.{nat_cmp}
@@ -13,8 +13,8 @@ use Rattle.acl_normal.specs.Left.{IsTidy}
 use Rattle.acl_normal.specs.internal.Shown.{bits_in, with_masks}
 use Rattle.acl_normal.specs.Places.{mask_here, slot_of, waits}
 use Rattle.acl_normal.specs.internal.Rows.{AreRowNumbers, IsByPrincipal}
-use Rattle.acl_normal.specs.declared.emit.remaining.Queue.{Queue}
-use Rattle.acl_normal.specs.declared.emit.remaining.Remaining.TheInside.{Inside}
+use Rattle.acl_normal.specs.declared.rows.remaining.Queue.{Queue}
+use Rattle.acl_normal.specs.declared.rows.remaining.Remaining.TheInside.{Inside}
 
 -- the masks by place, each without what has left its row
 abbrev pub masks_left : List ℕ → List ℕ → List ℕ → List ℕ
@@ -27,7 +27,7 @@ abbrev pub remaining_of : Inside → List Ace
 remaining_of a =
     with_masks a.aces.items (masks_left (bits_in a.masks.items) a.rows.items (bits_in a.left.items))
 
--- the places, in order, are those of ACEs of the type and the class; all that wait with the bit are among them, and of
+-- the places, in order, are those of ACEs of the kind and the class; all that wait with the bit are among them, and of
 -- these each waits whose mask still has the bit
 pub record IsQueue (k : Kind) (users : Bool) (b : ℕ) (xs : List Ace) (places : List ℕ) : Type 0 where
   pub sorted : IsStrictlySortedBy nat_cmp places
@@ -48,7 +48,7 @@ pub record IsQueueFrom (k : Kind) (users : Bool) (b : ℕ) (xs : List Ace) (plac
   pub queue : IsQueue k users b xs places
   pub passed : (j : ℕ) → j < first → j < length places → has_bit (mask_here xs (slice_index_or places j 0)) b ≡ false
 
--- the queues of all types, classes and rights
+-- the queues of all kinds, classes and rights
 pub record AreQueues (xs : List Ace) (queues : List Queue) : Type 0 where
   pub slots : length queues ≡ 84
   pub each : (k : Kind) (users : Bool) (b : ℕ) → b < 21

@@ -1,4 +1,4 @@
--- Rows of principals by number (this library's own): what is sorted for them. Words that only code needs.
+-- Rows of principals by number (this library's own): what is sorted for them.
 use Rattle.std.specs.Prelude.{ℕ, suc, List, [], ◌∷◌}
 use Rattle.std.specs.List.Sorted.{IsPermutation, IsSortedByKey}
 use Rattle.acl_perm.specs.Order.{principal_cmp}

@@ -1,5 +1,4 @@
--- Rows of principals (this library's own): how they are numbered in a list, and where each of their
--- rights stands. Words that only code needs.
+-- Rows of principals (this library's own): how they are numbered in a list, and where each of their rights stands.
 use Rattle.std.specs.Prelude.{◌≡◌, ℕ, ◌+◌, ◌*◌, ◌<◌, ◌≤◌, suc, Bool, true, false, cond, ◌||◌, List, [], ◌∷◌, Option, None, option_map, length, slice_index_or}
 use Rattle.std.specs.Ordering.{is_le, is_lt}
 use Rattle.acl_perm.specs.Order.{principal_cmp, kind_rank}
@@ -19,7 +18,7 @@ abbrev pub row_of : Principal → List Ace → ℕ
 row_of p [] = 0
 row_of p (a ∷ xs) = cond (is_lt (principal_cmp (principal_of a) p)) (suc (row_of p xs)) (row_of p xs)
 
--- the number of a key: by row, and then by type
+-- the number of a key: by row, and then by kind
 abbrev pub key_number : Key → List Ace → ℕ
 key_number k xs = 2 * row_of k.0 xs + kind_rank k.1
 
@@ -28,7 +27,7 @@ abbrev pub IsNumberOf : List Ace → ℕ → Key → Type 0
 IsNumberOf xs number found = (k : Key) → is_named k.0 xs ≡ true → number ≡ key_number k xs → found ≡ k
 
 -- the principal is named, and this is its row
-pub record IsRow (row : ℕ) (p : Principal) (xs : List Ace) : Type 0 where
+pub record IsRowOf (row : ℕ) (p : Principal) (xs : List Ace) : Type 0 where
   pub named : is_named p xs ≡ true
   pub is : row ≡ row_of p xs
 
@@ -51,10 +50,10 @@ pub record IsByPrincipal (xs : List Ace) (order : List ℕ) : Type 0 where
       → (k : ℕ) × (row_of (key_here xs i).0 xs ≤ k) × (k < length xs) × (slice_index_or order k 0 ≡ i)
 
 -- the place of the first ACE of a principal with the bit
-abbrev pub first_place : ℕ → Principal → List Ace → Option ℕ
-first_place b p xs = option_map (λ e. e.1) (first_at b p xs)
+abbrev pub first_place_of : ℕ → Principal → List Ace → Option ℕ
+first_place_of b p xs = option_map (λ e. e.1) (first_at b p xs)
 
 -- by row, the place of the first ACE of the row's principal with the bit
 abbrev pub ArePlaces : ℕ → List Ace → List (Option ℕ) → Type 0
 ArePlaces b xs places =
-    (row : ℕ) (p : Principal) → IsRow row p xs → slice_index_or places row None ≡ first_place b p xs
+    (row : ℕ) (p : Principal) → IsRowOf row p xs → slice_index_or places row None ≡ first_place_of b p xs

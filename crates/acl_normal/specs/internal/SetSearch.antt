@@ -1,5 +1,4 @@
--- The search for the first small set of principals at which two lists grant otherwise (this library's own): words that
--- only code needs.
+-- The search for the first small set of principals at which two lists grant otherwise (this library's own).
 use Rattle.std.specs.Prelude.{◌≡◌, ◌≢◌, ℕ, ◌<◌, ◌^◌, Bool, true, false, not, ◌&&◌, IsTrue, List, [], ◌∷◌, Option, Some, None, map, ◌⊎◌}
 use Rattle.std.specs.List.{AllByRecursion}
 use Rattle.std.specs.declared.cmp.Ordering.TheVariants.{Less}
@@ -37,7 +36,8 @@ FindsFirst list other [] found = found ≡ None
 FindsFirst list other (set ∷ sets) found = (GrantAlikeTo list other set × FindsFirst list other sets found)
     ⊎ ((GrantAlikeTo list other set → ⊥) × (found ≡ Some set))
 
--- the same as a record
+-- what `FindsFirst` says, as a record, which stays one fact where the sets are known and `FindsFirst` unfolds into its
+-- cases
 pub record Finds (list other : List Ace) (sets : List (List Principal)) (found : Option (List Principal)) : Type 0 where
   pub first : FindsFirst list other sets found
 
@@ -60,7 +60,7 @@ pub record AreDiffering (list other : List Ace) (set : List Principal) (mask : �
   pub bits : (bit : ℕ) → has_bit mask bit ≡ differ (is_granted_to list set bit) (is_granted_to other set bit)
 
 -- the bit is the lowest of the set
-pub record IsLowest (mask bit : ℕ) : Type 0 where
+pub record IsLowestBit (mask bit : ℕ) : Type 0 where
   pub has : IsTrue (has_bit mask bit)
   pub below : (b : ℕ) → b < bit → has_bit mask b ≡ false
 

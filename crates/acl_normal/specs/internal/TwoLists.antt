@@ -1,5 +1,4 @@
--- Two lists that are compared, and what is asked of them, right by right (this library's own): words that only code
--- needs.
+-- Two lists that are compared, and what is asked of them, right by right (this library's own).
 use Rattle.std.specs.Prelude.{◌≡◌, ℕ, ◌<◌, ◌≤◌, ◌+◌, List, [], Option, drop, length, slice_index_or}
 use Rattle.acl_eval.specs.Column.{column}
 use Rattle.acl_nfs4.specs.Ace.{Ace}

@@ -4,9 +4,9 @@ ghost use Rattle.std.specs.Prelude.{◌≡◌, ◌<◌, ◌^◌, IfOk, false, le
 ghost use Rattle.std.specs.Bool.{OnFalse, OnTrue};
 ghost use Rattle.acl_perm.specs.Bits.{all_rights, has_bit};
 ghost use Rattle.acl_perm.specs.Principal.{principal};
+ghost use Rattle.acl_normal.specs.internal.Shown.{aces_in};
 ghost use Rattle.acl_normal.specs.internal.CodeSets.{set_of};
 ghost use Rattle.acl_normal.specs.internal.MentionedRows.{AreMentioned};
-ghost use Rattle.acl_normal.specs.internal.Passes.{list_of};
 ghost use Rattle.acl_normal.specs.internal.TwoLists.{AreAlikeTo, AreWithin, IsUnused, StandAs, all_mentioned, principal_at, two_lists};
 
 use super::evaluation::{grant_alike, rights_of};
@@ -53,8 +53,8 @@ impl<'a, 'b> Compared<'a, 'b> {
         second: &'b [AceRef<'a>],
         mentions: &'b Mentions<'a>,
     ) -> Compared<'a, 'b>
-        requires { AreMentioned (two_lists (list_of first.now) (list_of second.now)) mentions.now }
-        ensures { result ≡ two_lists (list_of first.now) (list_of second.now) }
+        requires { AreMentioned (two_lists (aces_in first.now) (aces_in second.now)) mentions.now }
+        ensures { result ≡ two_lists (aces_in first.now) (aces_in second.now) }
     {
         let (first_whoms, second_whoms) = mentions.whoms.as_slice().split_at(first.len());
         Compared {

@@ -4,28 +4,35 @@ ghost use Rattle.std.specs.Bool.{OnFalse, OnTrue};
 ghost use Rattle.std.specs.Int.{trailing_zeros, w32};
 ghost use Rattle.acl_nfs4.specs.Ace.{ace};
 ghost use Rattle.acl_perm.specs.Bits.{has_bit};
+ghost use Rattle.acl_normal.specs.internal.Shown.{aces_in};
 ghost use Rattle.acl_normal.specs.internal.CodeSets.{set_of};
-ghost use Rattle.acl_normal.specs.internal.Passes.{list_of};
-ghost use Rattle.acl_normal.specs.internal.SetSearch.{AreGranted, AreRightsOf, GrantAlikeTo, HasBitsOf, IsLowest, differ};
+ghost use Rattle.acl_normal.specs.internal.SetSearch.{AreGranted, AreRightsOf, GrantAlikeTo, HasBitsOf, IsLowestBit, differ};
 
 use super::small_set::SmallSet;
 use acl_nfs4::AceRef;
 use acl_perm::{Kind, Mask};
 
-// The rights of an ACE that takes part and whose principal is of the set or everyone, and else none.
-fn own_rights(item: &AceRef<'_>, set: SmallSet<'_>) -> Mask
-    ensures { HasBitsOf (ace item.now) (set_of set.entry) result.bits }
+/// Whether two lists grant alike where just the principals of a set match, and everyone.
+pub(crate) fn grant_alike(list: &[AceRef<'_>], other: &[AceRef<'_>], set: SmallSet<'_>) -> bool
+    ensures alike { OnTrue result
+        (GrantAlikeTo (aces_in list.now) (aces_in other.now) (set_of set.entry)) }
+    ensures differ { OnFalse result
+        (GrantAlikeTo (aces_in list.now) (aces_in other.now) (set_of set.entry) → ⊥) }
 {
-    if item.takes_part() && set.matches(item.principal()) {
-        item.mask
-    } else {
-        Mask::NONE
-    }
+    unlike(granted(list, set), granted(other, set)).bits() == 0
+}
+
+/// The rights that just one of two masks has.
+pub(crate) fn unlike(here: Mask, there: Mask) -> Mask
+    ensures { (bit : ℕ) → has_bit result.bits bit
+        ≡ differ (has_bit here.bits bit) (has_bit there.bits bit) }
+{
+    here.difference(there).union(there.difference(here))
 }
 
 /// The rights that a list grants where just the principals of a set match, and everyone.
 pub(crate) fn granted(list: &[AceRef<'_>], set: SmallSet<'_>) -> Mask
-    ensures { AreGranted (list_of list.now) (set_of set.entry) result.bits }
+    ensures { AreGranted (aces_in list.now) (set_of set.entry) result.bits }
 {
     let mut decided = Mask::NONE;
     let mut granted = Mask::NONE;
@@ -40,22 +47,26 @@ pub(crate) fn granted(list: &[AceRef<'_>], set: SmallSet<'_>) -> Mask
     granted
 }
 
-/// The rights that just one of two masks has.
-pub(crate) fn unlike(here: Mask, there: Mask) -> Mask
-    ensures { (bit : ℕ) → has_bit result.bits bit
-        ≡ differ (has_bit here.bits bit) (has_bit there.bits bit) }
+// The rights of an ACE that takes part and whose principal is of the set or everyone, and else none.
+fn own_rights(item: &AceRef<'_>, set: SmallSet<'_>) -> Mask
+    ensures { HasBitsOf (ace item.now) (set_of set.entry) result.bits }
 {
-    here.difference(there).union(there.difference(here))
+    if item.takes_part() && set.matches(item.principal()) {
+        item.mask
+    } else {
+        Mask::NONE
+    }
 }
 
-/// Whether two lists grant alike where just the principals of a set match, and everyone.
-pub(crate) fn grant_alike(list: &[AceRef<'_>], other: &[AceRef<'_>], set: SmallSet<'_>) -> bool
-    ensures alike { OnTrue result
-        (GrantAlikeTo (list_of list.now) (list_of other.now) (set_of set.entry)) }
-    ensures differ { OnFalse result
-        (GrantAlikeTo (list_of list.now) (list_of other.now) (set_of set.entry) → ⊥) }
+/// The lowest of some rights.
+pub(crate) fn lowest(rights: Mask) -> Mask
+    requires { rights.bits ≢ 0 }
+    ensures value { result.bits ≡ 2 ^ trailing_zeros w32 rights.bits }
+    ensures lowest { IsLowestBit rights.bits (trailing_zeros w32 rights.bits) }
 {
-    unlike(granted(list, set), granted(other, set)).bits() == 0
+    Mask {
+        bits: lowest_bit(rights.bits()),
+    }
 }
 
 // The lowest bit of a number that has one.
@@ -66,20 +77,9 @@ fn lowest_bit(bits: u32) -> u32
     1 << bits.trailing_zeros()
 }
 
-/// The lowest of some rights.
-pub(crate) fn lowest(rights: Mask) -> Mask
-    requires { rights.bits ≢ 0 }
-    ensures value { result.bits ≡ 2 ^ trailing_zeros w32 rights.bits }
-    ensures lowest { IsLowest rights.bits (trailing_zeros w32 rights.bits) }
-{
-    Mask {
-        bits: lowest_bit(rights.bits()),
-    }
-}
-
 /// The rights that some ACE of the list has.
 pub(crate) fn rights_of(list: &[AceRef<'_>]) -> Mask
-    ensures { AreRightsOf (list_of list.now) result.bits }
+    ensures { AreRightsOf (aces_in list.now) result.bits }
 {
     let mut rights = Mask::NONE;
     for item in list {

@@ -3,7 +3,7 @@ ghost use Rattle.std.specs.Prelude.{◌≡◌, ◌&&◌, ◌+◌, ◌<◌, ◌�
 ghost use Rattle.std.specs.List.{AllByRecursion};
 ghost use Rattle.acl_normal.specs.internal.Classes.{is_users};
 ghost use Rattle.acl_normal.specs.internal.FirstPlaces.{IsFirstInverted, IsFirstInverting, IsFirstUnlike, inverts};
-ghost use Rattle.acl_normal.specs.internal.PlaceTables.{HasPlaces, IsFirstOf, IsScattered, IsTable, Raises, is_counted, is_told, other_place, place_of};
+ghost use Rattle.acl_normal.specs.internal.PlaceTables.{HasPlaces, IsFirstOf, IsScattered, IsPlaceTable, Raises, is_counted, is_told, other_place, place_of};
 
 use super::standing::Standing;
 use crate::class::Class;
@@ -23,23 +23,49 @@ pub(crate) fn first_unlike(standings: &[Standing], limit: usize) -> usize
     limit
 }
 
-// Whether different principals of two classes may overlap: all but two users do.
-fn may_overlap(class: Class, other: Class) -> bool
-    ensures { result ≡ not (is_users class && is_users other) }
+/// The first principal, below a limit, that inverts another. The tables of a camp count the principals that those of
+/// the camp can invert, so that there is one search for each camp.
+pub(crate) fn first_inverting(
+    alloc: Global,
+    standings: &[Standing],
+    size: usize,
+    limit: usize,
+) -> Result<usize, AllocError>
+    requires limit { limit ≤ length standings.now }
+    requires places { AllByRecursion (HasPlaces size) standings.now }
+    requires size { size < 2 ^ 63 }
+    ensures { IfOk result (IsFirstInverting standings.now limit) }
 {
-    !(class.is_users() && other.is_users())
+    let allowed_users = first_of(alloc, standings, size, limit, Camp::ALLOWED_USERS)?;
+    let allowed = first_of(alloc, standings, size, allowed_users, Camp::ALLOWED_OTHERS)?;
+    let users = first_of(alloc, standings, size, allowed, Camp::DENIED_USERS)?;
+    first_of(alloc, standings, size, users, Camp::DENIED_OTHERS)
 }
 
-// Whether of two principals of different types that may overlap one comes first in one list, and not in the other.
-fn is_inverted(standing: Standing, other: Standing) -> bool
-    ensures { result ≡ inverts standing other }
+// The first of a camp, below a limit, that inverts another.
+fn first_of(
+    alloc: Global,
+    standings: &[Standing],
+    size: usize,
+    limit: usize,
+    camp: Camp,
+) -> Result<usize, AllocError>
+    requires limit { limit ≤ length standings.now }
+    requires places { AllByRecursion (HasPlaces size) standings.now }
+    requires size { size < 2 ^ 63 }
+    ensures { IfOk result (λ v. IsFirstOf camp standings.now limit v) }
 {
-    may_overlap(standing.class, other.class)
-        && standing.here.allows() != other.here.allows()
-        && (other.here.place < standing.here.place) != (other.there.place < standing.there.place)
+    let forward = table(alloc, standings, size, camp, Side::Here)?;
+    let back = table(alloc, standings, size, camp, Side::There)?;
+    for k in 0..limit {
+        if is_told(standings[k], camp, &forward, &back) {
+            return Ok(k);
+        }
+    }
+    Ok(limit)
 }
 
-/// A camp of principals: those of a class whose first ACE is of a type.
+/// A camp of principals: those of a class whose first ACE is of a kind.
 #[derive(Clone, Copy)]
 pub(crate) struct Camp {
     pub kind: Kind,
@@ -68,11 +94,25 @@ impl Camp {
     };
 }
 
-// Whether a principal is of the other type than a camp, and may overlap with those of it.
-fn is_counted(camp: Camp, standing: Standing) -> bool
-    ensures { result ≡ is_counted camp standing }
+// For each place in one list one more than the greatest place, in the other, of all who stand before it and count.
+#[tactic(auto, using(crate::proofs::comparison::TableFacts::summed_done))]
+fn table(
+    alloc: Global,
+    standings: &[Standing],
+    size: usize,
+    camp: Camp,
+    side: Side,
+) -> Result<Vec<usize>, AllocError>
+    requires places { AllByRecursion (HasPlaces size) standings.now }
+    requires size { size < 2 ^ 63 }
+    ensures { IfOk result (λ v. IsPlaceTable camp side size standings.now v.items) }
 {
-    may_overlap(camp.class, standing.class) && camp.kind.is_allow() != standing.here.allows()
+    let mut table = scattered(alloc, standings, size, camp, side)?;
+    for k in 1..size + 2 {
+        let most = table[k].max(table[k - 1]);
+        table[k] = most;
+    }
+    Ok(table)
 }
 
 /// One of the two lists.
@@ -80,40 +120,6 @@ fn is_counted(camp: Camp, standing: Standing) -> bool
 pub(crate) enum Side {
     Here,
     There,
-}
-
-// Where a principal stands first in the list of a side.
-fn place_of(standing: Standing, side: Side) -> usize
-    ensures { result ≡ place_of side standing }
-{
-    match side {
-        Side::Here => standing.here.place,
-        Side::There => standing.there.place,
-    }
-}
-
-// Where a principal stands first in the list of the other side.
-fn other_place(standing: Standing, side: Side) -> usize
-    ensures { result ≡ other_place side standing }
-{
-    match side {
-        Side::Here => standing.there.place,
-        Side::There => standing.here.place,
-    }
-}
-
-// Raises what stands behind a principal's place in the one list to its place in the other, if it is counted.
-#[tactic(auto, using(crate::proofs::comparison::TableFacts::raising))]
-fn raise(table: &mut Vec<usize>, standing: Standing, camp: Camp, side: Side)
-    requires within { place_of side standing + 1 < vec_len table.old }
-    requires small { other_place side standing < 2 ^ 63 }
-    ensures { Raises camp side standing table.old.items table.new.items }
-{
-    if is_counted(camp, standing) {
-        let at = place_of(standing, side) + 1;
-        let most = table[at].max(other_place(standing, side) + 1);
-        table[at] = most;
-    }
 }
 
 // For each place in one list one more than the greatest place, in the other, of those who stand just before it and
@@ -137,25 +143,45 @@ fn scattered(
     Ok(table)
 }
 
-// For each place in one list one more than the greatest place, in the other, of all who stand before it and count.
-#[tactic(auto, using(crate::proofs::comparison::TableFacts::summed_done))]
-fn table(
-    alloc: Global,
-    standings: &[Standing],
-    size: usize,
-    camp: Camp,
-    side: Side,
-) -> Result<Vec<usize>, AllocError>
-    requires places { AllByRecursion (HasPlaces size) standings.now }
-    requires size { size < 2 ^ 63 }
-    ensures { IfOk result (λ v. IsTable camp side size standings.now v.items) }
+// Raises what stands behind a principal's place in the one list to its place in the other, if it is counted.
+#[tactic(auto, using(crate::proofs::comparison::TableFacts::raising))]
+fn raise(table: &mut Vec<usize>, standing: Standing, camp: Camp, side: Side)
+    requires within { place_of side standing + 1 < vec_len table.old }
+    requires small { other_place side standing < 2 ^ 63 }
+    ensures { Raises camp side standing table.old.items table.new.items }
 {
-    let mut table = scattered(alloc, standings, size, camp, side)?;
-    for k in 1..size + 2 {
-        let most = table[k].max(table[k - 1]);
-        table[k] = most;
+    if is_counted(camp, standing) {
+        let at = place_of(standing, side) + 1;
+        let most = table[at].max(other_place(standing, side) + 1);
+        table[at] = most;
     }
-    Ok(table)
+}
+
+// Whether a principal is of the other kind than a camp, and may overlap with those of it.
+fn is_counted(camp: Camp, standing: Standing) -> bool
+    ensures { result ≡ is_counted camp standing }
+{
+    may_overlap(camp.class, standing.class) && camp.kind.is_allow() != standing.here.allows()
+}
+
+// Where a principal stands first in the list of a side.
+fn place_of(standing: Standing, side: Side) -> usize
+    ensures { result ≡ place_of side standing }
+{
+    match side {
+        Side::Here => standing.here.place,
+        Side::There => standing.there.place,
+    }
+}
+
+// Where a principal stands first in the list of the other side.
+fn other_place(standing: Standing, side: Side) -> usize
+    ensures { result ≡ other_place side standing }
+{
+    match side {
+        Side::Here => standing.there.place,
+        Side::There => standing.here.place,
+    }
 }
 
 // Whether a principal is of a camp and, by the tables of that camp, inverts another.
@@ -170,48 +196,6 @@ fn is_told(standing: Standing, camp: Camp, forward: &[usize], back: &[usize]) ->
             || standing.here.place < back[standing.there.place])
 }
 
-// The first of a camp, below a limit, that inverts another.
-fn first_of(
-    alloc: Global,
-    standings: &[Standing],
-    size: usize,
-    limit: usize,
-    camp: Camp,
-) -> Result<usize, AllocError>
-    requires limit { limit ≤ length standings.now }
-    requires places { AllByRecursion (HasPlaces size) standings.now }
-    requires size { size < 2 ^ 63 }
-    ensures { IfOk result (λ v. IsFirstOf camp standings.now limit v) }
-{
-    let forward = table(alloc, standings, size, camp, Side::Here)?;
-    let back = table(alloc, standings, size, camp, Side::There)?;
-    for k in 0..limit {
-        if is_told(standings[k], camp, &forward, &back) {
-            return Ok(k);
-        }
-    }
-    Ok(limit)
-}
-
-/// The first principal, below a limit, that inverts another. The tables of a camp count the principals that those of
-/// the camp can invert, so that there is one search for each camp.
-pub(crate) fn first_inverting(
-    alloc: Global,
-    standings: &[Standing],
-    size: usize,
-    limit: usize,
-) -> Result<usize, AllocError>
-    requires limit { limit ≤ length standings.now }
-    requires places { AllByRecursion (HasPlaces size) standings.now }
-    requires size { size < 2 ^ 63 }
-    ensures { IfOk result (IsFirstInverting standings.now limit) }
-{
-    let allowed_users = first_of(alloc, standings, size, limit, Camp::ALLOWED_USERS)?;
-    let allowed = first_of(alloc, standings, size, allowed_users, Camp::ALLOWED_OTHERS)?;
-    let users = first_of(alloc, standings, size, allowed, Camp::DENIED_USERS)?;
-    first_of(alloc, standings, size, users, Camp::DENIED_OTHERS)
-}
-
 /// The first of the others, below a limit, that the principal inverts.
 pub(crate) fn first_inverted(standing: Standing, others: &[Standing], limit: usize) -> usize
     requires { limit ≤ length others.now }
@@ -223,4 +207,20 @@ pub(crate) fn first_inverted(standing: Standing, others: &[Standing], limit: usi
         }
     }
     limit
+}
+
+// Whether of two principals of different kinds that may overlap one comes first in one list, and not in the other.
+fn is_inverted(standing: Standing, other: Standing) -> bool
+    ensures { result ≡ inverts standing other }
+{
+    may_overlap(standing.class, other.class)
+        && standing.here.allows() != other.here.allows()
+        && (other.here.place < standing.here.place) != (other.there.place < standing.there.place)
+}
+
+// Whether different principals of two classes may overlap: all but two users do.
+fn may_overlap(class: Class, other: Class) -> bool
+    ensures { result ≡ not (is_users class && is_users other) }
+{
+    !(class.is_users() && other.is_users())
 }

@@ -4,9 +4,9 @@ ghost use Rattle.acl_perm.specs.Order.{principal_name};
 ghost use Rattle.acl_perm.specs.Principal.{principal};
 ghost use Rattle.acl_nfs4.specs.Ace.{ace};
 ghost use Rattle.acl_normal.specs.SmallSets.{longest};
+ghost use Rattle.acl_normal.specs.internal.Shown.{aces_in};
 ghost use Rattle.acl_normal.specs.internal.FirstPlaces.{AreWhoms};
 ghost use Rattle.acl_normal.specs.internal.MentionedRows.{AreByRow, AreMentioned, AreMentionedRows, AreNumbers, mentioned_by, noted, whom_of, with_found};
-ghost use Rattle.acl_normal.specs.internal.Passes.{list_of};
 ghost use Rattle.acl_normal.specs.internal.Rows.{AreRowNumbers};
 ghost use Rattle.acl_normal.specs.internal.SetSearch.{principals};
 ghost use Rattle.acl_normal.specs.internal.TwoLists.{two_lists};
@@ -24,103 +24,23 @@ struct Numbers<'a> {
     by_row: Vec<usize>,
 }
 
-// Whom an ACE mentions: its principal, if it takes part and that isn't everyone.
-#[tactic(auto, using(crate::proofs::unique::Names::everyone_test))]
-fn mentioned_by<'a>(item: &AceRef<'a>) -> Option<Principal<'a>>
-    ensures { option_map principal result ≡ mentioned_by (ace item.now) }
-{
-    let p = item.principal();
-    if item.takes_part() && !p.is_everyone() {
-        Some(p)
-    } else {
-        None
-    }
-}
-
-// Notes who is found in a row, if anyone is.
-fn note<'a>(table: &mut Vec<Option<Principal<'a>>>, row: usize, found: Option<Principal<'a>>)
-    requires { row < vec_len table.old }
-    ensures { table.new.items ≡ noted table.old.items row found.entry }
-{
-    if let Some(p) = found {
-        table[row] = Some(p);
-    }
-}
-
-// By row, the principals that the ACEs mention.
-#[tactic(auto, using(crate::proofs::comparison::MentionedRows::table_steps))]
-fn by_row<'a>(
+/// Whom two lists mention. One sort puts all ACEs in the order of whom they name, so that no principal is looked up.
+pub(crate) fn mentioned<'a>(
     alloc: Global,
-    aces: &[AceRef<'a>],
-    rows: &[usize],
-) -> Result<Vec<Option<Principal<'a>>>, AllocError>
-    requires { AreRowNumbers (list_of aces.now) rows.now }
-    ensures { IfOk result (λ table. AreByRow (list_of aces.now) (length aces.now) table.items) }
+    list: &[AceRef<'a>],
+    other: &[AceRef<'a>],
+) -> Result<Mentions<'a>, AllocError>
+    ensures { IfOk result (AreMentioned (two_lists (aces_in list.now) (aces_in other.now))) }
 {
-    let mut table = vec![in alloc; None; aces.len()]?;
-    for place in 0..aces.len() {
-        note(&mut table, rows[place], mentioned_by(&aces[place]));
-    }
-    Ok(table)
-}
-
-// Adds who is found, if anyone is.
-fn add<'a>(whole: &mut Vec<Principal<'a>>, found: Option<Principal<'a>>) -> Result<(), AllocError>
-    ensures { OnOk result (whole.new.items ≡ with_found whole.old.items found.entry) }
-{
-    if let Some(p) = found {
-        whole.push(p)?;
-    }
-    Ok(())
-}
-
-// The principals of a table, by number.
-fn numbers_of<'a>(alloc: Global, table: &[Option<Principal<'a>>]) -> Result<Numbers<'a>, AllocError>
-    ensures { IfOk result (λ n. AreNumbers table.now (length table.now)
-        (principals n.whole.items) n.by_row.items) }
-{
-    let mut whole = Vec::new(alloc);
-    let mut by_row = Vec::with_capacity(alloc, table.len())?;
-    for row in 0..table.len() {
-        by_row.push(whole.len())?;
-        add(&mut whole, table[row])?;
-    }
-    Ok(Numbers { whole, by_row })
-}
-
-// Whom an ACE names, where that number is its principal's.
-#[tactic(auto, using(crate::proofs::unique::Names::everyone_test))]
-fn whom(item: &AceRef<'_>, number: usize) -> Whom
-    ensures { result ≡ whom_of (ace item.now) number }
-{
-    if !item.takes_part() {
-        Whom::Nobody
-    } else if item.principal().is_everyone() {
-        Whom::Everyone
-    } else {
-        Whom::One(number)
-    }
-}
-
-// Whom each ACE names.
-#[tactic(auto, using(crate::proofs::comparison::MentionedRows::whoms_more))]
-fn whoms(
-    alloc: Global,
-    aces: &[AceRef<'_>],
-    rows: &[usize],
-    numbers: &Numbers<'_>,
-) -> Result<Vec<Whom>, AllocError>
-    requires { AreMentionedRows (list_of aces.now) rows.now
-        (principals numbers.now.whole.items) numbers.now.by_row.items }
-    ensures { IfOk result (λ whoms. AreWhoms (principals numbers.now.whole.items)
-        (list_of aces.now) whoms.items) }
-{
-    let mut whoms = Vec::with_capacity(alloc, aces.len())?;
-    for place in 0..aces.len() {
-        let number = numbers.by_row[rows[place]];
-        whoms.push(whom(&aces[place], number))?;
-    }
-    Ok(whoms)
+    let aces = joined(alloc, list, other)?;
+    let sorted = row_numbers(alloc, &aces)?;
+    let table = by_row(alloc, &aces, &sorted.rows)?;
+    let numbers = numbers_of(alloc, &table)?;
+    let whoms = whoms(alloc, &aces, &sorted.rows, &numbers)?;
+    Ok(Mentions {
+        principals: numbers.whole,
+        whoms,
+    })
 }
 
 // The ACEs of both lists.
@@ -137,6 +57,91 @@ fn joined<'a>(
     Ok(aces)
 }
 
+// By row, the principals that the ACEs mention.
+#[tactic(auto, using(crate::proofs::comparison::MentionedRows::table_steps))]
+fn by_row<'a>(
+    alloc: Global,
+    aces: &[AceRef<'a>],
+    rows: &[usize],
+) -> Result<Vec<Option<Principal<'a>>>, AllocError>
+    requires { AreRowNumbers (aces_in aces.now) rows.now }
+    ensures { IfOk result (λ table. AreByRow (aces_in aces.now) (length aces.now) table.items) }
+{
+    let mut table = vec![in alloc; None; aces.len()]?;
+    for place in 0..aces.len() {
+        note(&mut table, rows[place], mentioned_by(&aces[place]));
+    }
+    Ok(table)
+}
+
+// Notes who is found in a row, if anyone is.
+fn note<'a>(table: &mut Vec<Option<Principal<'a>>>, row: usize, found: Option<Principal<'a>>)
+    requires { row < vec_len table.old }
+    ensures { table.new.items ≡ noted table.old.items row found.entry }
+{
+    if let Some(p) = found {
+        table[row] = Some(p);
+    }
+}
+
+// Whom an ACE mentions: its principal, if it takes part and that isn't everyone.
+#[tactic(auto, using(crate::proofs::unique::Names::everyone_test))]
+fn mentioned_by<'a>(item: &AceRef<'a>) -> Option<Principal<'a>>
+    ensures { option_map principal result ≡ mentioned_by (ace item.now) }
+{
+    let p = item.principal();
+    if item.takes_part() && !p.is_everyone() {
+        Some(p)
+    } else {
+        None
+    }
+}
+
+// The principals of a table, by number.
+fn numbers_of<'a>(alloc: Global, table: &[Option<Principal<'a>>]) -> Result<Numbers<'a>, AllocError>
+    ensures { IfOk result (λ n. AreNumbers table.now (length table.now)
+        (principals n.whole.items) n.by_row.items) }
+{
+    let mut whole = Vec::new(alloc);
+    let mut by_row = Vec::with_capacity(alloc, table.len())?;
+    for row in 0..table.len() {
+        by_row.push(whole.len())?;
+        add(&mut whole, table[row])?;
+    }
+    Ok(Numbers { whole, by_row })
+}
+
+// Adds who is found, if anyone is.
+fn add<'a>(whole: &mut Vec<Principal<'a>>, found: Option<Principal<'a>>) -> Result<(), AllocError>
+    ensures { OnOk result (whole.new.items ≡ with_found whole.old.items found.entry) }
+{
+    if let Some(p) = found {
+        whole.push(p)?;
+    }
+    Ok(())
+}
+
+// Whom each ACE names.
+#[tactic(auto, using(crate::proofs::comparison::MentionedRows::whoms_more))]
+fn whoms(
+    alloc: Global,
+    aces: &[AceRef<'_>],
+    rows: &[usize],
+    numbers: &Numbers<'_>,
+) -> Result<Vec<Whom>, AllocError>
+    requires { AreMentionedRows (aces_in aces.now) rows.now
+        (principals numbers.now.whole.items) numbers.now.by_row.items }
+    ensures { IfOk result (λ whoms. AreWhoms (principals numbers.now.whole.items)
+        (aces_in aces.now) whoms.items) }
+{
+    let mut whoms = Vec::with_capacity(alloc, aces.len())?;
+    for place in 0..aces.len() {
+        let number = numbers.by_row[rows[place]];
+        whoms.push(whom(&aces[place], number))?;
+    }
+    Ok(whoms)
+}
+
 /// The principals that two lists mention, in order, and whom of these each ACE names: of the first list, and then of
 /// the second.
 #[derive(Drop)]
@@ -145,33 +150,17 @@ pub(crate) struct Mentions<'a> {
     pub(crate) whoms: Vec<Whom>,
 }
 
-/// Whom two lists mention. One sort puts all ACEs in the order of whom they name, so that no principal is looked up.
-pub(crate) fn mentioned<'a>(
-    alloc: Global,
-    list: &[AceRef<'a>],
-    other: &[AceRef<'a>],
-) -> Result<Mentions<'a>, AllocError>
-    ensures { IfOk result (AreMentioned (two_lists (list_of list.now) (list_of other.now))) }
+// Whom an ACE names, where that number is its principal's.
+#[tactic(auto, using(crate::proofs::unique::Names::everyone_test))]
+fn whom(item: &AceRef<'_>, number: usize) -> Whom
+    ensures { result ≡ whom_of (ace item.now) number }
 {
-    let aces = joined(alloc, list, other)?;
-    let sorted = row_numbers(alloc, &aces)?;
-    let table = by_row(alloc, &aces, &sorted.rows)?;
-    let numbers = numbers_of(alloc, &table)?;
-    let whoms = whoms(alloc, &aces, &sorted.rows, &numbers)?;
-    Ok(Mentions {
-        principals: numbers.whole,
-        whoms,
-    })
-}
-
-// The length of a name, and 0 where there is none.
-fn name_length(p: Principal<'_>) -> usize
-    ensures value { result ≡ length (principal_name (principal p.entry)) }
-    ensures small { result < 2 ^ 63 }
-{
-    match p {
-        Principal::User(name) | Principal::GroupNamed(name) => name.len(),
-        _ => 0,
+    if !item.takes_part() {
+        Whom::Nobody
+    } else if item.principal().is_everyone() {
+        Whom::Everyone
+    } else {
+        Whom::One(number)
     }
 }
 
@@ -186,4 +175,15 @@ pub(crate) fn longest_of(whole: &[Principal<'_>]) -> usize
         most = name_length(*p).max(most);
     }
     most
+}
+
+// The length of a name, and 0 where there is none.
+fn name_length(p: Principal<'_>) -> usize
+    ensures value { result ≡ length (principal_name (principal p.entry)) }
+    ensures small { result < 2 ^ 63 }
+{
+    match p {
+        Principal::User(name) | Principal::GroupNamed(name) => name.len(),
+        _ => 0,
+    }
 }

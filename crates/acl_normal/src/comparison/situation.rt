@@ -8,23 +8,6 @@ use super::small_set::SmallSet;
 use acl_perm::Principal;
 use std::alloc::{AllocError, Global};
 
-// A strange name: one byte, n times.
-fn strange(alloc: Global, byte: u8, n: usize) -> Result<Vec<u8>, AllocError>
-    ensures { IfOk result (λ v. v.items ≡ replicate n byte) }
-{
-    vec![in alloc; byte; n]
-}
-
-/// The user in the small situation of a set.
-pub(crate) fn user_in(alloc: Global, set: SmallSet<'_>, n: usize) -> Result<Vec<u8>, AllocError>
-    ensures { IfOk result (λ v. v.items ≡ (small_situation n (set_of set.entry)).user_name) }
-{
-    match set.user() {
-        Some(name) => Vec::from_slice(alloc, name),
-        None => strange(alloc, b'u', n),
-    }
-}
-
 /// The object's owner in the small situation of a set.
 pub(crate) fn owner_in(alloc: Global, set: SmallSet<'_>, n: usize) -> Result<Vec<u8>, AllocError>
     ensures { IfOk result (λ v. v.items ≡ (small_situation n (set_of set.entry)).owner_name) }
@@ -36,31 +19,14 @@ pub(crate) fn owner_in(alloc: Global, set: SmallSet<'_>, n: usize) -> Result<Vec
     }
 }
 
-// Adds the name of a group.
-fn add_group(alloc: Global, groups: &mut Vec<Vec<u8>>, p: Principal<'_>) -> Result<(), AllocError>
-    ensures { OnOk result (map (λ g. g.items) groups.new.items
-        ≡ map (λ g. g.items) groups.old.items ++ group_names (principal p.entry ∷ [])) }
+/// The user in the small situation of a set.
+pub(crate) fn user_in(alloc: Global, set: SmallSet<'_>, n: usize) -> Result<Vec<u8>, AllocError>
+    ensures { IfOk result (λ v. v.items ≡ (small_situation n (set_of set.entry)).user_name) }
 {
-    if let Principal::GroupNamed(name) = p {
-        groups.push(Vec::from_slice(alloc, name)?)?;
+    match set.user() {
+        Some(name) => Vec::from_slice(alloc, name),
+        None => strange(alloc, b'u', n),
     }
-    Ok(())
-}
-
-// The group names of a set.
-fn groups_of(alloc: Global, set: SmallSet<'_>) -> Result<Vec<Vec<u8>>, AllocError>
-    ensures { IfOk result (λ v. map (λ g. g.items) v.items ≡ group_names (set_of set.entry)) }
-{
-    let mut groups = Vec::new(alloc);
-    match set {
-        SmallSet::Empty => {}
-        SmallSet::One(p) => add_group(alloc, &mut groups, p)?,
-        SmallSet::Two(p, q) => {
-            add_group(alloc, &mut groups, p)?;
-            add_group(alloc, &mut groups, q)?;
-        }
-    }
-    Ok(groups)
 }
 
 /// The object's owning group in the small situation of a set.
@@ -94,4 +60,38 @@ pub(crate) fn groups_in(
         groups.push(strange(alloc, b'g', n)?)?;
     }
     Ok(groups)
+}
+
+// The group names of a set.
+fn groups_of(alloc: Global, set: SmallSet<'_>) -> Result<Vec<Vec<u8>>, AllocError>
+    ensures { IfOk result (λ v. map (λ g. g.items) v.items ≡ group_names (set_of set.entry)) }
+{
+    let mut groups = Vec::new(alloc);
+    match set {
+        SmallSet::Empty => {}
+        SmallSet::One(p) => add_group(alloc, &mut groups, p)?,
+        SmallSet::Two(p, q) => {
+            add_group(alloc, &mut groups, p)?;
+            add_group(alloc, &mut groups, q)?;
+        }
+    }
+    Ok(groups)
+}
+
+// Adds the name of a group.
+fn add_group(alloc: Global, groups: &mut Vec<Vec<u8>>, p: Principal<'_>) -> Result<(), AllocError>
+    ensures { OnOk result (map (λ g. g.items) groups.new.items
+        ≡ map (λ g. g.items) groups.old.items ++ group_names (principal p.entry ∷ [])) }
+{
+    if let Principal::GroupNamed(name) = p {
+        groups.push(Vec::from_slice(alloc, name)?)?;
+    }
+    Ok(())
+}
+
+// A strange name: one byte, n times.
+fn strange(alloc: Global, byte: u8, n: usize) -> Result<Vec<u8>, AllocError>
+    ensures { IfOk result (λ v. v.items ≡ replicate n byte) }
+{
+    vec![in alloc; byte; n]
 }

@@ -2,8 +2,8 @@
 ghost use Rattle.std.specs.Prelude.{◌≡◌, ◌<◌, ◌≤◌, ℕ, IfOk, false, length, slice_index_or, true, vec_len};
 ghost use Rattle.acl_perm.specs.Kind.{is_allow};
 ghost use Rattle.acl_nfs4.specs.Ace.{ace};
+ghost use Rattle.acl_normal.specs.internal.Shown.{aces_in};
 ghost use Rattle.acl_normal.specs.internal.FirstPlaces.{AreFirstFrom, AreWhoms, IsWithin, no_ace, put, stops, stops_at};
-ghost use Rattle.acl_normal.specs.internal.Passes.{list_of};
 ghost use Rattle.acl_normal.specs.internal.SetSearch.{principals};
 
 use crate::class::Class;
@@ -11,7 +11,7 @@ use acl_nfs4::AceRef;
 use acl_perm::{Kind, Principal, Right};
 use std::alloc::{AllocError, Global};
 
-/// The first ACE that speaks of a principal and has some right: its place in the list, and its type. An ACE of everyone
+/// The first ACE that speaks of a principal and has some right: its place in the list, and its kind. An ACE of everyone
 /// speaks of each principal.
 #[derive(Clone, Copy)]
 pub(crate) struct First {
@@ -44,6 +44,47 @@ pub(crate) enum Whom {
     Everyone,
 }
 
+/// What a list says first, on a right, of each of so many principals. All begin with what everyone is told, and the
+/// ACEs before that are put from the last to the first, so that the first of each principal stays.
+pub(crate) fn firsts(
+    alloc: Global,
+    whole: &[Principal<'_>],
+    list: &[AceRef<'_>],
+    whoms: &[Whom],
+    right: Right,
+) -> Result<Vec<First>, AllocError>
+    requires { AreWhoms (principals whole.now) (aces_in list.now) whoms.now }
+    ensures { IfOk result (λ v. AreFirstFrom (principals whole.now)
+        (aces_in list.now) right.bit 0 v.items) }
+{
+    let end = place_of_everyone(list, whoms, right);
+    let kind = kind_at(list, end);
+    let mut out = vec![in alloc; First { place: end, kind }; whole.len()]?;
+    let mut place = end;
+    while place > 0 {
+        place -= 1;
+        put_first(&mut out, &list[place], whoms[place], place, right);
+    }
+    Ok(out)
+}
+
+// The place of the first ACE of everyone with the right, or the number of ACEs.
+fn place_of_everyone(list: &[AceRef<'_>], whoms: &[Whom], right: Right) -> usize
+    requires { length whoms.now ≡ length list.now }
+    ensures within { result ≤ length list.now }
+    ensures before { (k : ℕ) → k < result
+        → stops_at (aces_in list.now) whoms.now right.bit k ≡ false }
+    ensures at { result < length list.now
+        → stops_at (aces_in list.now) whoms.now right.bit result ≡ true }
+{
+    for i in 0..list.len() {
+        if is_end(&list[i], whoms[i], right) {
+            return i;
+        }
+    }
+    list.len()
+}
+
 // Whether the ACE has the right, and is of everyone.
 fn is_end(item: &AceRef<'_>, whom: Whom, right: Right) -> bool
     ensures { result ≡ stops right.bit (ace item.now) whom }
@@ -54,26 +95,9 @@ fn is_end(item: &AceRef<'_>, whom: Whom, right: Right) -> bool
     }
 }
 
-// The place of the first ACE of everyone with the right, or the number of ACEs.
-fn place_of_everyone(list: &[AceRef<'_>], whoms: &[Whom], right: Right) -> usize
-    requires { length whoms.now ≡ length list.now }
-    ensures within { result ≤ length list.now }
-    ensures before { (k : ℕ) → k < result
-        → stops_at (list_of list.now) whoms.now right.bit k ≡ false }
-    ensures at { result < length list.now
-        → stops_at (list_of list.now) whoms.now right.bit result ≡ true }
-{
-    for i in 0..list.len() {
-        if is_end(&list[i], whoms[i], right) {
-            return i;
-        }
-    }
-    list.len()
-}
-
-// The type of the ACE at a place. Behind the list everything is denied.
+// The kind of the ACE at a place. Behind the list everything is denied.
 fn kind_at(list: &[AceRef<'_>], place: usize) -> Kind
-    ensures { result ≡ (slice_index_or (list_of list.now) place no_ace).kind }
+    ensures { result ≡ (slice_index_or (aces_in list.now) place no_ace).kind }
 {
     match list.get(place) {
         Some(item) => item.kind,
@@ -94,28 +118,4 @@ fn put_first(out: &mut Vec<First>, item: &AceRef<'_>, whom: Whom, place: usize, 
             };
         }
     }
-}
-
-/// What a list says first, on a right, of each of so many principals. All begin with what everyone is told, and the
-/// ACEs before that are put from the last to the first, so that the first of each principal stays.
-pub(crate) fn firsts(
-    alloc: Global,
-    whole: &[Principal<'_>],
-    list: &[AceRef<'_>],
-    whoms: &[Whom],
-    right: Right,
-) -> Result<Vec<First>, AllocError>
-    requires { AreWhoms (principals whole.now) (list_of list.now) whoms.now }
-    ensures { IfOk result (λ v. AreFirstFrom (principals whole.now)
-        (list_of list.now) right.bit 0 v.items) }
-{
-    let end = place_of_everyone(list, whoms, right);
-    let kind = kind_at(list, end);
-    let mut out = vec![in alloc; First { place: end, kind }; whole.len()]?;
-    let mut place = end;
-    while place > 0 {
-        place -= 1;
-        put_first(&mut out, &list[place], whoms[place], place, right);
-    }
-    Ok(out)
 }

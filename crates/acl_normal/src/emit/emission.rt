@@ -17,7 +17,7 @@ ghost use Rattle.acl_normal.specs.internal.Counts.{count_left};
 use crate::bits::next_right;
 use crate::class::Class;
 use crate::emit::ready::Ready;
-use crate::emit::remaining::Remaining;
+use crate::rows::remaining::Remaining;
 use acl_perm::{Key, Kind, Mask, Right};
 use std::alloc::{AllocError, Global};
 
@@ -29,93 +29,46 @@ pub(crate) struct Emitted<'a> {
     pub(crate) row: usize,
 }
 
-// The number of a type, in the order of types.
-fn rank(kind: Kind) -> usize
-    ensures { result ≡ kind_rank kind }
+/// The normal form of an irreducible list: it grants the same, and no other normal list does.
+pub(crate) fn normalize_left<'a>(
+    alloc: Global,
+    rows: &mut Remaining<'a>,
+) -> Result<Vec<Emitted<'a>>, AllocError>
+    requires { IsIrreducibleList (left rows.old) }
+    ensures normal { IfOk result (λ v. IsNormal (emitted_aces v.items)) }
+    ensures grants { IfOk result (λ v. SameGrants all_rights rows.old (emitted_aces v.items)) }
+    ensures only { IfOk result (λ v. (ns : List Ace) → IsNormal ns
+        → SameGrants all_rights rows.old ns
+        → ns ≡ emitted_aces v.items) }
+    ensures rows { IfOk result (λ v. StandInRows rows.old v.items) }
+    ensures weight { IfOk result (λ v. count_left 21 (emitted_aces v.items)
+        ≡ count_left 21 rows.old) }
 {
-    match kind {
-        Kind::Deny => 0,
-        Kind::Allow => 1,
-    }
+    // The look at a field gives the proof the invariant of `rows`, here and in the bodies below. It does nothing.
+    let _ = &rows.masks;
+    let out = drain(alloc, rows)?;
+    Ok(out)
 }
 
-/// Marks a right of the ACE of a type at a place as free.
-fn add(
-    rows: &Remaining<'_>,
-    place: usize,
-    kind: Kind,
-    right: Right,
-    ready: &mut Ready,
-) -> Result<(), AllocError>
-    requires place { place < length rows.now }
-    requires kind { kind_here rows.now place ≡ kind }
-    requires keys { FitsKeys (nothing_left rows.now) ready.old }
-    ensures keys { OnOk result (FitsKeys (nothing_left rows.now) ready.new) }
-    ensures marks { OnOk result (Adds (key_here rows.now place) right.bit
-        (marks (nothing_left rows.now) ready.old)
-        (marks (nothing_left rows.now) ready.new)) }
+/// Emits what is left: at each step the least key that has a free bit, with all its free bits.
+pub(crate) fn drain<'a>(
+    alloc: Global,
+    rows: &mut Remaining<'a>,
+) -> Result<Vec<Emitted<'a>>, AllocError>
+    ensures emission { IfOk result (λ v. IsEmission rows.old (emitted_aces v.items)) }
+    ensures rows { IfOk result (λ v. StandInRows rows.old v.items) }
 {
     let _ = &rows.masks;
-    let number = 2 * rows.row_at(place) + rank(kind);
-    ready.add(number, right)
-}
-
-/// Marks what is free of the ACEs that wait in a type and a class with a right: the places before the first that
-/// something blocks.
-fn enter(
-    rows: &Remaining<'_>,
-    kind: Kind,
-    class: Class,
-    right: Right,
-    ready: &mut Ready,
-) -> Result<(), AllocError>
-    requires { FitsKeys (nothing_left rows.now) ready.old }
-    ensures keys { OnOk result (FitsKeys (nothing_left rows.now) ready.new) }
-    ensures marks { OnOk result (Enters kind (is_users class) right.bit rows.now
-        (marks (nothing_left rows.now) ready.old)
-        (marks (nothing_left rows.now) ready.new)) }
-{
-    let _ = &rows.masks;
-    let queue = rows.queue(kind, class, right);
-    // Mostly none waits, which is known without a look at what is before it.
-    if queue.is_empty() {
-        return Ok(());
+    let mut ready = Ready::new(alloc, rows.len())?;
+    fill(rows, &mut ready)?;
+    let mut out = Vec::new(alloc);
+    // The label names the loop for its proof.
+    'emitted: while let Some(next) = pop(rows, &mut ready) {
+        out.push(next)?;
+        rows.emit(next.row, next.key, next.mask);
+        free_after(rows, next.key, next.mask, &mut ready)?;
     }
-    let last = rows.last_clear(kind, class, right);
-    for place in queue {
-        if *place > last {
-            return Ok(());
-        }
-        if rows.has(*place, right) {
-            add(rows, *place, kind, right, ready)?;
-        }
-    }
-    Ok(())
-}
-
-/// Marks what became free when rights of a key were taken out.
-fn free_after<'a>(
-    rows: &Remaining<'a>,
-    at: Key<'a>,
-    mask: Mask,
-    ready: &mut Ready,
-) -> Result<(), AllocError>
-    requires { FitsKeys (nothing_left rows.now) ready.old }
-    ensures keys { OnOk result (FitsKeys (nothing_left rows.now) ready.new) }
-    ensures marks { OnOk result (Frees (plain_key at.entry) mask.bits rows.now
-        (marks (nothing_left rows.now) ready.old)
-        (marks (nothing_left rows.now) ready.new)) }
-{
-    let opposite = at.kind.other();
-    let mut from = 0;
-    while let Some(right) = next_right(mask, from) {
-        enter(rows, opposite, Class::Others, right, ready)?;
-        if !at.principal.is_user() {
-            enter(rows, opposite, Class::Users, right, ready)?;
-        }
-        from = right.bit + 1;
-    }
-    Ok(())
+    Ok(out)
 }
 
 /// Marks all that is free.
@@ -152,43 +105,91 @@ fn pop<'a>(rows: &Remaining<'a>, ready: &mut Ready) -> Option<Emitted<'a>>
     Some(Emitted { key, mask, row })
 }
 
-/// Emits what is left: at each step the least key that has a free bit, with all its free bits.
-pub(crate) fn drain<'a>(
-    alloc: Global,
-    rows: &mut Remaining<'a>,
-) -> Result<Vec<Emitted<'a>>, AllocError>
-    ensures emission { IfOk result (λ v. IsEmission rows.old (emitted_aces v.items)) }
-    ensures rows { IfOk result (λ v. StandInRows rows.old v.items) }
+/// Marks what became free when rights of a key were taken out.
+fn free_after<'a>(
+    rows: &Remaining<'a>,
+    at: Key<'a>,
+    mask: Mask,
+    ready: &mut Ready,
+) -> Result<(), AllocError>
+    requires { FitsKeys (nothing_left rows.now) ready.old }
+    ensures keys { OnOk result (FitsKeys (nothing_left rows.now) ready.new) }
+    ensures marks { OnOk result (Frees (plain_key at.entry) mask.bits rows.now
+        (marks (nothing_left rows.now) ready.old)
+        (marks (nothing_left rows.now) ready.new)) }
 {
-    let _ = &rows.masks;
-    let mut ready = Ready::new(alloc, rows.len())?;
-    fill(rows, &mut ready)?;
-    let mut out = Vec::new(alloc);
-    // The label names the loop for its proof.
-    'emitted: while let Some(next) = pop(rows, &mut ready) {
-        out.push(next)?;
-        rows.emit(next.row, next.key, next.mask);
-        free_after(rows, next.key, next.mask, &mut ready)?;
+    let opposite = at.kind.other();
+    let mut from = 0;
+    while let Some(right) = next_right(mask, from) {
+        enter(rows, opposite, Class::Others, right, ready)?;
+        if !at.principal.is_user() {
+            enter(rows, opposite, Class::Users, right, ready)?;
+        }
+        from = right.bit + 1;
     }
-    Ok(out)
+    Ok(())
 }
 
-/// The normal form of an irreducible list: it grants the same, and no other normal list does.
-pub(crate) fn normalize_left<'a>(
-    alloc: Global,
-    rows: &mut Remaining<'a>,
-) -> Result<Vec<Emitted<'a>>, AllocError>
-    requires { IsIrreducibleList (left rows.old) }
-    ensures normal { IfOk result (λ v. IsNormal (emitted_aces v.items)) }
-    ensures grants { IfOk result (λ v. SameGrants all_rights rows.old (emitted_aces v.items)) }
-    ensures only { IfOk result (λ v. (ns : List Ace) → IsNormal ns
-        → SameGrants all_rights rows.old ns
-        → ns ≡ emitted_aces v.items) }
-    ensures rows { IfOk result (λ v. StandInRows rows.old v.items) }
-    ensures weight { IfOk result (λ v. count_left 21 (emitted_aces v.items)
-        ≡ count_left 21 rows.old) }
+/// Marks what is free of the ACEs that wait in a kind and a class with a right: the places before the first that
+/// something blocks.
+fn enter(
+    rows: &Remaining<'_>,
+    kind: Kind,
+    class: Class,
+    right: Right,
+    ready: &mut Ready,
+) -> Result<(), AllocError>
+    requires { FitsKeys (nothing_left rows.now) ready.old }
+    ensures keys { OnOk result (FitsKeys (nothing_left rows.now) ready.new) }
+    ensures marks { OnOk result (Enters kind (is_users class) right.bit rows.now
+        (marks (nothing_left rows.now) ready.old)
+        (marks (nothing_left rows.now) ready.new)) }
 {
     let _ = &rows.masks;
-    let out = drain(alloc, rows)?;
-    Ok(out)
+    let queue = rows.queue(kind, class, right);
+    // Mostly none waits, which is known without a look at what is before it.
+    if queue.is_empty() {
+        return Ok(());
+    }
+    let last = rows.last_clear(kind, class, right);
+    for place in queue {
+        if *place > last {
+            return Ok(());
+        }
+        if rows.has(*place, right) {
+            add(rows, *place, kind, right, ready)?;
+        }
+    }
+    Ok(())
+}
+
+/// Marks a right of the ACE of a kind at a place as free.
+fn add(
+    rows: &Remaining<'_>,
+    place: usize,
+    kind: Kind,
+    right: Right,
+    ready: &mut Ready,
+) -> Result<(), AllocError>
+    requires place { place < length rows.now }
+    requires kind { kind_here rows.now place ≡ kind }
+    requires keys { FitsKeys (nothing_left rows.now) ready.old }
+    ensures keys { OnOk result (FitsKeys (nothing_left rows.now) ready.new) }
+    ensures marks { OnOk result (Adds (key_here rows.now place) right.bit
+        (marks (nothing_left rows.now) ready.old)
+        (marks (nothing_left rows.now) ready.new)) }
+{
+    let _ = &rows.masks;
+    let number = 2 * rows.row_at(place) + rank(kind);
+    ready.add(number, right)
+}
+
+// The number of a kind, in the order of kinds.
+fn rank(kind: Kind) -> usize
+    ensures { result ≡ kind_rank kind }
+{
+    match kind {
+        Kind::Deny => 0,
+        Kind::Allow => 1,
+    }
 }

@@ -10,11 +10,12 @@ ghost use Rattle.acl_nfs4.specs.Limits.{most_weight};
 ghost use Rattle.acl_nfs4.specs.Spelling.{IsAce};
 ghost use Rattle.acl_nfs4.specs.Who.{principal_of};
 ghost use Rattle.acl_eval.specs.Column.{column};
+ghost use Rattle.acl_normal.specs.internal.Shown.{aces_in};
 ghost use Rattle.acl_normal.specs.internal.Counts.{count_left};
 ghost use Rattle.acl_normal.specs.internal.Emissions.{HasOnceColumns, IsEmission};
 ghost use Rattle.acl_normal.specs.Keys.{compare_keys, ace_key, kind_eq, principal_eq};
 ghost use Rattle.acl_normal.specs.Normal.{is_free};
-ghost use Rattle.acl_normal.specs.internal.Passes.{Best, is_blocked, IsCandidate, IsNowhereFree, IsWithinAs, KeepsProfiles, lesser, list_of};
+ghost use Rattle.acl_normal.specs.internal.Passes.{Best, conflicts_before, IsCandidate, IsNowhereFree, IsWithinAs, KeepsProfiles, lesser};
 ghost use Rattle.acl_normal.specs.internal.Plain.{without_principal};
 
 use super::reduction::is_same;
@@ -26,13 +27,13 @@ use std::alloc::{AllocError, Global};
 
 /// The list of the ACEs in the order of the normal form.
 pub(super) fn emit(alloc: Global, aces: Vec<AceRef<'_>>) -> Result<Acl, AllocError>
-    requires once { HasOnceColumns (list_of aces.items) }
-    requires each { AllByRecursion (IsAce full) (list_of aces.items) }
-    requires small { count_left 32 (list_of aces.items) ≤ most_weight }
-    ensures emission { IfOk result (λ list. IsEmission (list_of aces.entry.items) list) }
+    requires once { HasOnceColumns (aces_in aces.items) }
+    requires each { AllByRecursion (IsAce full) (aces_in aces.items) }
+    requires small { count_left 32 (aces_in aces.items) ≤ most_weight }
+    ensures emission { IfOk result (λ list. IsEmission (aces_in aces.entry.items) list) }
     ensures shorter { IfOk result (λ list. (bit : ℕ)
-        → length (column list bit) ≤ length (column (list_of aces.entry.items) bit)) }
-    ensures profiles { IfOk result (λ list. KeepsProfiles (list_of aces.entry.items) list) }
+        → length (column list bit) ≤ length (column (aces_in aces.entry.items) bit)) }
+    ensures profiles { IfOk result (λ list. KeepsProfiles (aces_in aces.entry.items) list) }
 {
     let mut list = Acl::new(alloc);
     let mut left = aces;
@@ -43,60 +44,40 @@ pub(super) fn emit(alloc: Global, aces: Vec<AceRef<'_>>) -> Result<Acl, AllocErr
     Ok(list)
 }
 
-// Whether the ACEs have one key.
-fn has_key(other: &AceRef<'_>, item: &AceRef<'_>) -> bool
-    ensures { result ≡ (principal_eq (principal_of (ace other.now)) (principal_of (ace item.now))
-        && kind_eq other.now.kind item.now.kind) }
+// The ACE that comes first: of those whose key is free somewhere, the one with the least key.
+fn least<'a>(left: &[AceRef<'a>]) -> Option<AceRef<'a>>
+    ensures { Best (aces_in left.now) (aces_in left.now) (option_map ace result) }
 {
-    is_same(other.principal(), item.principal()) && other.kind == item.kind
+    let mut best: Option<AceRef<'a>> = None;
+    for item in left {
+        best = better(left, best, item);
+    }
+    best
 }
 
-// The bits at which the other ACE has the key of the ACE, but for those that are blocked.
-#[tactic(auto, using(crate::proofs::plain::Passes::free_alone))]
-fn own_free(other: &AceRef<'_>, item: &AceRef<'_>, blocked: Mask) -> Mask
-    ensures { (bit : ℕ) → has_bit result.bits bit
-        ≡ (is_free (column (ace other.now ∷ []) bit) (ace_key (ace item.now)) && not (has_bit blocked.bits bit)) }
+// The best of some ACEs and one more.
+fn better<'a>(
+    left: &[AceRef<'a>],
+    best: Option<AceRef<'a>>,
+    item: &AceRef<'a>,
+) -> Option<AceRef<'a>>
+    ensures { (seen : List Ace) → Best (aces_in left.now) seen (option_map ace best.entry)
+        → IsWithinAs (aces_in left.now) (ace item.now)
+        → Best (aces_in left.now) (seen ++ ace item.now ∷ []) (option_map ace result) }
 {
-    if has_key(other, item) {
-        active(*other).difference(blocked)
-    } else {
-        Mask::NONE
+    match candidate(left, item) {
+        None => best,
+        Some(next) => Some(lesser(best, next)),
     }
-}
-
-// The bits at which the other ACE conflicts with the ACE.
-fn own_conflict(other: &AceRef<'_>, item: &AceRef<'_>) -> Mask
-    ensures { (bit : ℕ) → has_bit result.bits bit
-        ≡ is_blocked (column (ace other.now ∷ []) bit) (ace_key (ace item.now)) }
-{
-    if other.kind != item.kind && overlaps(other.principal(), item.principal()) {
-        active(*other)
-    } else {
-        Mask::NONE
-    }
-}
-
-// The bits at which the key of the ACE is free.
-fn free_bits(left: &[AceRef<'_>], item: &AceRef<'_>) -> Mask
-    ensures { (bit : ℕ) → has_bit result.bits bit
-        ≡ is_free (column (list_of left.now) bit) (ace_key (ace item.now)) }
-{
-    let mut free = Mask::NONE;
-    let mut blocked = Mask::NONE;
-    for other in left {
-        free = free.union(own_free(other, item, blocked));
-        blocked = blocked.union(own_conflict(other, item));
-    }
-    free
 }
 
 // The ACE with all bits at which its key is free.
 fn candidate<'a>(left: &[AceRef<'a>], item: &AceRef<'a>) -> Option<AceRef<'a>>
-    ensures some { IfSome result (λ a. IsCandidate (list_of left.now) (ace a)) }
+    ensures some { IfSome result (λ a. IsCandidate (aces_in left.now) (ace a)) }
     ensures key { IfSome result (λ a. ace_key (ace a) ≡ ace_key (ace item.now)) }
-    ensures within { IsWithinAs (list_of left.now) (ace item.now)
-        → IfSome result (λ a. IsWithinAs (list_of left.now) (ace a)) }
-    ensures none { IfNone result (IsNowhereFree (list_of left.now) (ace item.now)) }
+    ensures within { IsWithinAs (aces_in left.now) (ace item.now)
+        → IfSome result (λ a. IsWithinAs (aces_in left.now) (ace a)) }
+    ensures none { IfNone result (IsNowhereFree (aces_in left.now) (ace item.now)) }
 {
     let mask = free_bits(left, item);
     if mask.bits() == 0 {
@@ -109,11 +90,52 @@ fn candidate<'a>(left: &[AceRef<'a>], item: &AceRef<'a>) -> Option<AceRef<'a>>
     })
 }
 
-// Whether the key of the first ACE is not greater.
-fn is_first(first: &AceRef<'_>, second: &AceRef<'_>) -> bool
-    ensures { result ≡ is_le (compare_keys (ace_key (ace first.now)) (ace_key (ace second.now))) }
+// The bits at which the key of the ACE is free.
+fn free_bits(left: &[AceRef<'_>], item: &AceRef<'_>) -> Mask
+    ensures { (bit : ℕ) → has_bit result.bits bit
+        ≡ is_free (column (aces_in left.now) bit) (ace_key (ace item.now)) }
 {
-    first.key() <= second.key()
+    let mut free = Mask::NONE;
+    let mut blocked = Mask::NONE;
+    for other in left {
+        free = free.union(own_free(other, item, blocked));
+        blocked = blocked.union(own_conflict(other, item));
+    }
+    free
+}
+
+// The bits at which the other ACE has the key of the ACE, but for those that are blocked.
+#[tactic(auto, using(crate::proofs::plain::Passes::free_alone))]
+fn own_free(other: &AceRef<'_>, item: &AceRef<'_>, blocked: Mask) -> Mask
+    ensures { (bit : ℕ) → has_bit result.bits bit
+        ≡ (is_free (column (ace other.now ∷ []) bit) (ace_key (ace item.now))
+        && not (has_bit blocked.bits bit)) }
+{
+    if has_key(other, item) {
+        active(*other).difference(blocked)
+    } else {
+        Mask::NONE
+    }
+}
+
+// Whether the ACEs have one key.
+fn has_key(other: &AceRef<'_>, item: &AceRef<'_>) -> bool
+    ensures { result ≡ (principal_eq (principal_of (ace other.now)) (principal_of (ace item.now))
+        && kind_eq other.now.kind item.now.kind) }
+{
+    is_same(other.principal(), item.principal()) && other.kind == item.kind
+}
+
+// The bits at which the other ACE conflicts with the ACE.
+fn own_conflict(other: &AceRef<'_>, item: &AceRef<'_>) -> Mask
+    ensures { (bit : ℕ) → has_bit result.bits bit
+        ≡ conflicts_before (column (ace other.now ∷ []) bit) (ace_key (ace item.now)) }
+{
+    if other.kind != item.kind && overlaps(other.principal(), item.principal()) {
+        active(*other)
+    } else {
+        Mask::NONE
+    }
 }
 
 // The lesser of two candidates, the first where both have one key.
@@ -126,31 +148,32 @@ fn lesser<'a>(best: Option<AceRef<'a>>, next: AceRef<'a>) -> AceRef<'a>
     }
 }
 
-// The best of some ACEs and one more.
-fn better<'a>(
-    left: &[AceRef<'a>],
-    best: Option<AceRef<'a>>,
-    item: &AceRef<'a>,
-) -> Option<AceRef<'a>>
-    ensures { (seen : List Ace) → Best (list_of left.now) seen (option_map ace best.entry)
-        → IsWithinAs (list_of left.now) (ace item.now)
-        → Best (list_of left.now) (seen ++ ace item.now ∷ []) (option_map ace result) }
+// Whether the key of the first ACE is not greater.
+fn is_first(first: &AceRef<'_>, second: &AceRef<'_>) -> bool
+    ensures { result ≡ is_le (compare_keys (ace_key (ace first.now)) (ace_key (ace second.now))) }
 {
-    match candidate(left, item) {
-        None => best,
-        Some(next) => Some(lesser(best, next)),
-    }
+    first.key() <= second.key()
 }
 
-// The ACE that comes first: of those whose key is free somewhere, the one with the least key.
-fn least<'a>(left: &[AceRef<'a>]) -> Option<AceRef<'a>>
-    ensures { Best (list_of left.now) (list_of left.now) (option_map ace result) }
+// The ACEs without the bits of the one that has come first.
+fn without<'a>(
+    alloc: Global,
+    left: &[AceRef<'a>],
+    first: &AceRef<'a>,
+) -> Result<Vec<AceRef<'a>>, AllocError>
+    ensures taken { IfOk result (λ rest. (bit : ℕ) → has_bit first.now.mask.bits bit ≡ true
+        → column (aces_in rest.items) bit
+        ≡ without_principal (principal_of (ace first.now)) (column (aces_in left.now) bit)) }
+    ensures kept { IfOk result (λ rest. (bit : ℕ) → has_bit first.now.mask.bits bit ≡ false
+        → column (aces_in rest.items) bit ≡ column (aces_in left.now) bit) }
+    ensures profiles { IfOk result (λ rest. KeepsProfiles (aces_in left.now) (aces_in rest.items)) }
 {
-    let mut best: Option<AceRef<'a>> = None;
+    let mut rest = Vec::new(alloc);
     for item in left {
-        best = better(left, best, item);
+        let mask = item.mask.difference(own_taken(item, first));
+        rest.push(AceRef { mask, ..*item })?;
     }
-    best
+    Ok(rest)
 }
 
 // The bits of the first ACE, where the other has the same principal.
@@ -163,25 +186,4 @@ fn own_taken(item: &AceRef<'_>, first: &AceRef<'_>) -> Mask
     } else {
         Mask::NONE
     }
-}
-
-// The ACEs without the bits of the one that has come first.
-fn without<'a>(
-    alloc: Global,
-    left: &[AceRef<'a>],
-    first: &AceRef<'a>,
-) -> Result<Vec<AceRef<'a>>, AllocError>
-    ensures taken { IfOk result (λ rest. (bit : ℕ) → has_bit first.now.mask.bits bit ≡ true
-        → column (list_of rest.items) bit
-        ≡ without_principal (principal_of (ace first.now)) (column (list_of left.now) bit)) }
-    ensures kept { IfOk result (λ rest. (bit : ℕ) → has_bit first.now.mask.bits bit ≡ false
-        → column (list_of rest.items) bit ≡ column (list_of left.now) bit) }
-    ensures profiles { IfOk result (λ rest. KeepsProfiles (list_of left.now) (list_of rest.items)) }
-{
-    let mut rest = Vec::new(alloc);
-    for item in left {
-        let mask = item.mask.difference(own_taken(item, first));
-        rest.push(AceRef { mask, ..*item })?;
-    }
-    Ok(rest)
 }

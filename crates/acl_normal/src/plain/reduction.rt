@@ -8,7 +8,9 @@ ghost use Rattle.acl_nfs4.specs.Ace.{ace};
 ghost use Rattle.acl_nfs4.specs.Who.{principal_of};
 ghost use Rattle.acl_eval.specs.Column.{column};
 ghost use Rattle.acl_normal.specs.Keys.{kind_eq, principal_eq};
-ghost use Rattle.acl_normal.specs.internal.Passes.{KeepsProfiles, default_in, is_shadowed, list_of};
+ghost use Rattle.acl_normal.specs.internal.Needed.{default_at};
+ghost use Rattle.acl_normal.specs.internal.Shown.{aces_in};
+ghost use Rattle.acl_normal.specs.internal.Passes.{KeepsProfiles, is_shadowed};
 ghost use Rattle.acl_normal.specs.internal.Plain.{default, has_opposite, is_needed, needed_keys, unshadowed};
 
 use crate::bits::active;
@@ -16,11 +18,81 @@ use acl_nfs4::{AceRef, Kind, Mask, Principal};
 use acl_perm::overlaps;
 use std::alloc::{AllocError, Global};
 
-/// Whether both are one principal.
-pub(super) fn is_same(first: Principal<'_>, second: Principal<'_>) -> bool
-    ensures { result ≡ principal_eq (principal first.entry) (principal second.entry) }
+/// The ACEs without the bits that an earlier one of their principal, or of everyone, has.
+pub(super) fn drop_shadowed<'a>(
+    alloc: Global,
+    aces: &[AceRef<'a>],
+) -> Result<Vec<AceRef<'a>>, AllocError>
+    ensures columns { IfOk result (λ kept. (bit : ℕ)
+        → column (aces_in kept.items) bit ≡ unshadowed [] (column (aces_in aces.now) bit)) }
+    ensures profiles { IfOk result (λ kept. KeepsProfiles (aces_in aces.now) (aces_in kept.items)) }
 {
-    first == second
+    let mut kept = Vec::new(alloc);
+    for place in 0..aces.len() {
+        let item = aces[place];
+        let (before, _) = aces.split_at(place);
+        let mask = item.mask.difference(shadow(before, item.principal()));
+        kept.push(AceRef { mask, ..item })?;
+    }
+    Ok(kept)
+}
+
+// The bits with which some of the ACEs names the principal, or everyone.
+fn shadow(before: &[AceRef<'_>], of: Principal<'_>) -> Mask
+    ensures { (bit : ℕ) → has_bit result.bits bit
+        ≡ is_shadowed (principal of.entry) (aces_in before.now) bit }
+{
+    let mut bits = Mask::NONE;
+    for item in before {
+        bits = bits.union(own_shadow(item, of));
+    }
+    bits
+}
+
+/// The ACEs without the bits that change nothing: what decides alike where they are gone.
+pub(super) fn drop_needless<'a>(
+    alloc: Global,
+    aces: &[AceRef<'a>],
+) -> Result<Vec<AceRef<'a>>, AllocError>
+    ensures columns { IfOk result (λ kept. (bit : ℕ) → column (aces_in kept.items) bit
+        ≡ needed_keys (default (column (aces_in aces.now) bit)) (column (aces_in aces.now) bit)) }
+    ensures profiles { IfOk result (λ kept. KeepsProfiles (aces_in aces.now) (aces_in kept.items)) }
+{
+    let allowed = allowed_to_everyone(aces);
+    let mut kept = Vec::new(alloc);
+    for place in 0..aces.len() {
+        let item = aces[place];
+        let (_, later) = aces.split_at(place + 1);
+        let mask = needed(&item, allowed, later);
+        kept.push(AceRef { mask, ..item })?;
+    }
+    Ok(kept)
+}
+
+// The bits that an ACE of everyone allows, and no earlier one of everyone denies.
+fn allowed_to_everyone(aces: &[AceRef<'_>]) -> Mask
+    ensures { (bit : ℕ) → has_bit result.bits bit
+        ≡ kind_eq (default (column (aces_in aces.now) bit)) Allow }
+{
+    let mut allowed = Mask::NONE;
+    let mut seen = Mask::NONE;
+    for item in aces {
+        allowed = allowed.union(own_allowed(item, seen));
+        seen = seen.union(own_shadow(item, Principal::Everyone));
+    }
+    allowed
+}
+
+// The bits that the ACE allows everyone, and that were not decided before.
+fn own_allowed(item: &AceRef<'_>, seen: Mask) -> Mask
+    ensures { (bit : ℕ) → has_bit result.bits bit
+        ≡ (kind_eq (default (column (ace item.now ∷ []) bit)) Allow
+        && not (has_bit seen.bits bit)) }
+{
+    match item.kind {
+        Kind::Allow => own_shadow(item, Principal::Everyone).difference(seen),
+        Kind::Deny => Mask::NONE,
+    }
 }
 
 // The bits with which the ACE shadows later ones of the principal.
@@ -36,91 +108,11 @@ fn own_shadow(item: &AceRef<'_>, of: Principal<'_>) -> Mask
     }
 }
 
-// The bits with which some of the ACEs names the principal, or everyone.
-fn shadow(before: &[AceRef<'_>], of: Principal<'_>) -> Mask
-    ensures { (bit : ℕ) → has_bit result.bits bit
-        ≡ is_shadowed (principal of.entry) (list_of before.now) bit }
-{
-    let mut bits = Mask::NONE;
-    for item in before {
-        bits = bits.union(own_shadow(item, of));
-    }
-    bits
-}
-
-/// The ACEs without the bits that an earlier one of their principal, or of everyone, has.
-pub(super) fn drop_shadowed<'a>(
-    alloc: Global,
-    aces: &[AceRef<'a>],
-) -> Result<Vec<AceRef<'a>>, AllocError>
-    ensures columns { IfOk result (λ kept. (bit : ℕ)
-        → column (list_of kept.items) bit ≡ unshadowed [] (column (list_of aces.now) bit)) }
-    ensures profiles { IfOk result (λ kept. KeepsProfiles (list_of aces.now) (list_of kept.items)) }
-{
-    let mut kept = Vec::new(alloc);
-    for place in 0..aces.len() {
-        let item = aces[place];
-        let (before, _) = aces.split_at(place);
-        let mask = item.mask.difference(shadow(before, item.principal()));
-        kept.push(AceRef { mask, ..item })?;
-    }
-    Ok(kept)
-}
-
-// The bits that the ACE allows everyone, and that were not decided before.
-fn own_allowed(item: &AceRef<'_>, seen: Mask) -> Mask
-    ensures { (bit : ℕ) → has_bit result.bits bit
-        ≡ (kind_eq (default (column (ace item.now ∷ []) bit)) Allow && not (has_bit seen.bits bit)) }
-{
-    match item.kind {
-        Kind::Allow => own_shadow(item, Principal::Everyone).difference(seen),
-        Kind::Deny => Mask::NONE,
-    }
-}
-
-// The bits that an ACE of everyone allows, and no earlier one of everyone denies.
-fn allowed_to_everyone(aces: &[AceRef<'_>]) -> Mask
-    ensures { (bit : ℕ) → has_bit result.bits bit
-        ≡ kind_eq (default (column (list_of aces.now) bit)) Allow }
-{
-    let mut allowed = Mask::NONE;
-    let mut seen = Mask::NONE;
-    for item in aces {
-        allowed = allowed.union(own_allowed(item, seen));
-        seen = seen.union(own_shadow(item, Principal::Everyone));
-    }
-    allowed
-}
-
-// The bits with which the later ACE opposes the one that is given.
-fn own_opposite(item: &AceRef<'_>, later: &AceRef<'_>) -> Mask
-    ensures { (bit : ℕ) → has_bit result.bits bit
-        ≡ has_opposite item.now.kind (principal_of (ace item.now)) (column (ace later.now ∷ []) bit) }
-{
-    if later.kind != item.kind && overlaps(item.principal(), later.principal()) {
-        active(*later)
-    } else {
-        Mask::NONE
-    }
-}
-
-// The bits that a later ACE of the other type has whose principal overlaps.
-fn opposite(item: &AceRef<'_>, later: &[AceRef<'_>]) -> Mask
-    ensures { (bit : ℕ) → has_bit result.bits bit
-        ≡ has_opposite item.now.kind (principal_of (ace item.now)) (column (list_of later.now) bit) }
-{
-    let mut bits = Mask::NONE;
-    for other in later {
-        bits = bits.union(own_opposite(item, other));
-    }
-    bits
-}
-
 // The bits of the ACE that are needed before the later ones, where everyone is allowed the given ones.
 fn needed(item: &AceRef<'_>, allowed: Mask, later: &[AceRef<'_>]) -> Mask
     ensures { (bit : ℕ) → has_bit result.bits bit ≡ (has_bit item.now.mask.bits bit
-        && is_needed (default_in allowed.bits bit) (principal_of (ace item.now)) item.now.kind
-        (column (list_of later.now) bit)) }
+        && is_needed (default_at allowed.bits bit) (principal_of (ace item.now)) item.now.kind
+        (column (aces_in later.now) bit)) }
 {
     let opposed = item.mask.intersection(opposite(item, later));
     match (is_same(item.principal(), Principal::Everyone), item.kind) {
@@ -131,22 +123,35 @@ fn needed(item: &AceRef<'_>, allowed: Mask, later: &[AceRef<'_>]) -> Mask
     }
 }
 
-/// The ACEs without the bits that change nothing: what decides alike where they are gone.
-pub(super) fn drop_needless<'a>(
-    alloc: Global,
-    aces: &[AceRef<'a>],
-) -> Result<Vec<AceRef<'a>>, AllocError>
-    ensures columns { IfOk result (λ kept. (bit : ℕ) → column (list_of kept.items) bit
-        ≡ needed_keys (default (column (list_of aces.now) bit)) (column (list_of aces.now) bit)) }
-    ensures profiles { IfOk result (λ kept. KeepsProfiles (list_of aces.now) (list_of kept.items)) }
+// The bits that a later ACE of the other kind has whose principal overlaps.
+fn opposite(item: &AceRef<'_>, later: &[AceRef<'_>]) -> Mask
+    ensures { (bit : ℕ) → has_bit result.bits bit
+        ≡ has_opposite item.now.kind (principal_of (ace item.now))
+        (column (aces_in later.now) bit) }
 {
-    let allowed = allowed_to_everyone(aces);
-    let mut kept = Vec::new(alloc);
-    for place in 0..aces.len() {
-        let item = aces[place];
-        let (_, later) = aces.split_at(place + 1);
-        let mask = needed(&item, allowed, later);
-        kept.push(AceRef { mask, ..item })?;
+    let mut bits = Mask::NONE;
+    for other in later {
+        bits = bits.union(own_opposite(item, other));
     }
-    Ok(kept)
+    bits
+}
+
+// The bits with which the later ACE opposes the one that is given.
+fn own_opposite(item: &AceRef<'_>, later: &AceRef<'_>) -> Mask
+    ensures { (bit : ℕ) → has_bit result.bits bit
+        ≡ has_opposite item.now.kind (principal_of (ace item.now))
+        (column (ace later.now ∷ []) bit) }
+{
+    if later.kind != item.kind && overlaps(item.principal(), later.principal()) {
+        active(*later)
+    } else {
+        Mask::NONE
+    }
+}
+
+/// Whether both are one principal.
+pub(super) fn is_same(first: Principal<'_>, second: Principal<'_>) -> bool
+    ensures { result ≡ principal_eq (principal first.entry) (principal second.entry) }
+{
+    first == second
 }

@@ -5,8 +5,8 @@ ghost use Rattle.acl_perm.specs.Overlap.{may_overlap};
 ghost use Rattle.acl_perm.specs.Principal.{principal};
 ghost use Rattle.acl_normal.specs.Difference.{IsComparison};
 ghost use Rattle.acl_normal.specs.SmallSets.{pairs, partners, singles, small_sets};
+ghost use Rattle.acl_normal.specs.internal.Shown.{aces_in};
 ghost use Rattle.acl_normal.specs.internal.CodeSets.{set_or_none};
-ghost use Rattle.acl_normal.specs.internal.Passes.{list_of};
 ghost use Rattle.acl_normal.specs.internal.SetSearch.{Finds, GrantAlikeTo, principals};
 
 use crate::comparison::Difference;
@@ -18,98 +18,6 @@ use crate::reduce::collected::collect;
 use acl_nfs4::{AceRef, Acl};
 use acl_perm::{Principal, overlaps};
 use std::alloc::{AllocError, Global};
-
-// The first of the principals at which alone the lists differ.
-#[tactic(auto, using(crate::proofs::comparison::SetSearchLemmas::single_ends))]
-fn first_single<'a>(
-    list: &[AceRef<'_>],
-    other: &[AceRef<'_>],
-    whole: &[Principal<'a>],
-) -> Option<SmallSet<'a>>
-    ensures { Finds (list_of list.now) (list_of other.now) (singles (principals whole.now))
-        (set_or_none result) }
-{
-    for p in whole {
-        let set = SmallSet::One(*p);
-        if !grant_alike(list, other, set) {
-            return Some(set);
-        }
-    }
-    None
-}
-
-// Whether the principals may overlap, and the lists differ at the two.
-fn pair_differs(
-    list: &[AceRef<'_>],
-    other: &[AceRef<'_>],
-    p: Principal<'_>,
-    q: Principal<'_>,
-) -> bool
-    ensures overlap { OnTrue result (may_overlap (principal p.entry) (principal q.entry) ≡ true) }
-    ensures differ { OnTrue result (GrantAlikeTo (list_of list.now) (list_of other.now)
-        (principal p.entry ∷ principal q.entry ∷ []) → ⊥) }
-    ensures agree { OnFalse result (may_overlap (principal p.entry) (principal q.entry) ≡ true
-        → GrantAlikeTo (list_of list.now) (list_of other.now) (principal p.entry ∷ principal q.entry ∷ [])) }
-{
-    overlaps(p, q) && !grant_alike(list, other, SmallSet::Two(p, q))
-}
-
-// The first of the rest with which the principal is a pair at which the lists differ.
-#[tactic(auto, using(crate::proofs::comparison::SetSearchLemmas::partner_ends))]
-fn first_partner<'a>(
-    list: &[AceRef<'_>],
-    other: &[AceRef<'_>],
-    p: Principal<'a>,
-    rest: &[Principal<'a>],
-) -> Option<SmallSet<'a>>
-    ensures { Finds (list_of list.now) (list_of other.now)
-        (partners (principal p.entry) (principals rest.now)) (set_or_none result) }
-{
-    for q in rest {
-        if pair_differs(list, other, p, *q) {
-            return Some(SmallSet::Two(p, *q));
-        }
-    }
-    None
-}
-
-// The first pair at which the lists differ.
-#[tactic(auto, using(crate::proofs::comparison::SetSearchLemmas::pair_ends))]
-fn first_pair<'a>(
-    list: &[AceRef<'_>],
-    other: &[AceRef<'_>],
-    whole: &[Principal<'a>],
-) -> Option<SmallSet<'a>>
-    ensures { Finds (list_of list.now) (list_of other.now) (pairs (principals whole.now))
-        (set_or_none result) }
-{
-    for i in 0..whole.len() {
-        let (_, rest) = whole.split_at(i + 1);
-        if let Some(set) = first_partner(list, other, whole[i], rest) {
-            return Some(set);
-        }
-    }
-    None
-}
-
-// The first small set at which the lists differ.
-#[tactic(auto, using(crate::proofs::comparison::SetSearchLemmas::empty_differs))]
-fn first_set<'a>(
-    list: &[AceRef<'_>],
-    other: &[AceRef<'_>],
-    whole: &[Principal<'a>],
-) -> Option<SmallSet<'a>>
-    ensures { Finds (list_of list.now) (list_of other.now) (small_sets (principals whole.now))
-        (set_or_none result) }
-{
-    if !grant_alike(list, other, SmallSet::Empty) {
-        return Some(SmallSet::Empty);
-    }
-    if let Some(set) = first_single(list, other, whole) {
-        return Some(set);
-    }
-    first_pair(list, other, whole)
-}
 
 /// The same as [`crate::compare`], by going over all small situations: its cost is cubic in the number of principals.
 pub fn compare(alloc: Global, first: &Acl, second: &Acl) -> Result<Option<Difference>, AllocError>
@@ -132,4 +40,97 @@ fn first_difference<'a>(
     let mentions = mentioned(alloc, &list, &other)?;
     let found = first_set(&list, &other, &mentions.principals);
     Compared::of(&list, &other, &mentions).difference(alloc, found)
+}
+
+// The first small set at which the lists differ.
+#[tactic(auto, using(crate::proofs::comparison::SetSearchLemmas::empty_differs))]
+fn first_set<'a>(
+    list: &[AceRef<'_>],
+    other: &[AceRef<'_>],
+    whole: &[Principal<'a>],
+) -> Option<SmallSet<'a>>
+    ensures { Finds (aces_in list.now) (aces_in other.now) (small_sets (principals whole.now))
+        (set_or_none result) }
+{
+    if !grant_alike(list, other, SmallSet::Empty) {
+        return Some(SmallSet::Empty);
+    }
+    if let Some(set) = first_single(list, other, whole) {
+        return Some(set);
+    }
+    first_pair(list, other, whole)
+}
+
+// The first of the principals at which alone the lists differ.
+#[tactic(auto, using(crate::proofs::comparison::SetSearchLemmas::single_ends))]
+fn first_single<'a>(
+    list: &[AceRef<'_>],
+    other: &[AceRef<'_>],
+    whole: &[Principal<'a>],
+) -> Option<SmallSet<'a>>
+    ensures { Finds (aces_in list.now) (aces_in other.now) (singles (principals whole.now))
+        (set_or_none result) }
+{
+    for p in whole {
+        let set = SmallSet::One(*p);
+        if !grant_alike(list, other, set) {
+            return Some(set);
+        }
+    }
+    None
+}
+
+// The first pair at which the lists differ.
+#[tactic(auto, using(crate::proofs::comparison::SetSearchLemmas::pair_ends))]
+fn first_pair<'a>(
+    list: &[AceRef<'_>],
+    other: &[AceRef<'_>],
+    whole: &[Principal<'a>],
+) -> Option<SmallSet<'a>>
+    ensures { Finds (aces_in list.now) (aces_in other.now) (pairs (principals whole.now))
+        (set_or_none result) }
+{
+    for i in 0..whole.len() {
+        let (_, rest) = whole.split_at(i + 1);
+        if let Some(set) = first_partner(list, other, whole[i], rest) {
+            return Some(set);
+        }
+    }
+    None
+}
+
+// The first of the rest with which the principal is a pair at which the lists differ.
+#[tactic(auto, using(crate::proofs::comparison::SetSearchLemmas::partner_ends))]
+fn first_partner<'a>(
+    list: &[AceRef<'_>],
+    other: &[AceRef<'_>],
+    p: Principal<'a>,
+    rest: &[Principal<'a>],
+) -> Option<SmallSet<'a>>
+    ensures { Finds (aces_in list.now) (aces_in other.now)
+        (partners (principal p.entry) (principals rest.now)) (set_or_none result) }
+{
+    for q in rest {
+        if pair_differs(list, other, p, *q) {
+            return Some(SmallSet::Two(p, *q));
+        }
+    }
+    None
+}
+
+// Whether the principals may overlap, and the lists differ at the two.
+fn pair_differs(
+    list: &[AceRef<'_>],
+    other: &[AceRef<'_>],
+    p: Principal<'_>,
+    q: Principal<'_>,
+) -> bool
+    ensures overlap { OnTrue result (may_overlap (principal p.entry) (principal q.entry) ≡ true) }
+    ensures differ { OnTrue result (GrantAlikeTo (aces_in list.now) (aces_in other.now)
+        (principal p.entry ∷ principal q.entry ∷ []) → ⊥) }
+    ensures agree { OnFalse result (may_overlap (principal p.entry) (principal q.entry) ≡ true
+        → GrantAlikeTo (aces_in list.now) (aces_in other.now)
+        (principal p.entry ∷ principal q.entry ∷ [])) }
+{
+    overlaps(p, q) && !grant_alike(list, other, SmallSet::Two(p, q))
 }

@@ -1,15 +1,15 @@
 //! The ACEs of a list, to go over them by their places.
+ghost use Rattle.acl_normal.specs.internal.Shown.{aces_in};
 ghost use Rattle.std.specs.Prelude.{◌≡◌, IfOk};
 ghost use Rattle.acl_perm.specs.Profile.{full};
 ghost use Rattle.acl_nfs4.specs.Spelling.{IsAccepted};
-ghost use Rattle.acl_normal.specs.internal.Passes.{list_of};
 
 use acl_nfs4::{AceRef, Acl};
 use std::alloc::{AllocError, Global};
 
 /// The ACEs of the list.
 pub(crate) fn collect(alloc: Global, source: &Acl) -> Result<Vec<AceRef<'_>>, AllocError>
-    ensures aces { IfOk result (λ aces. list_of aces.items ≡ source.now) }
+    ensures aces { IfOk result (λ aces. aces_in aces.items ≡ source.now) }
     ensures accepted { IsAccepted full source.now }
 {
     let items = source.aces();

@@ -26,7 +26,8 @@ pub(crate) fn first_masks(
     ensures thinned { IfOk result (λ masks. IsThinned (aces_in aces.now)
         (with_masks aces.now (bits_in masks.items))) }
     ensures columns { IfOk result (λ masks. (b : ℕ)
-        → column (with_masks aces.now (bits_in masks.items)) b ≡ unshadowed [] (column (aces_in aces.now) b)) }
+        → column (with_masks aces.now (bits_in masks.items)) b
+        ≡ unshadowed [] (column (aces_in aces.now) b)) }
 {
     let mut seen = vec![in alloc; Mask::NONE; aces.len()]?;
     let mut everyone = Mask::NONE;

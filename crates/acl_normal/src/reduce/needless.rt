@@ -6,9 +6,9 @@ ghost use Rattle.acl_eval.specs.Column.{column};
 ghost use Rattle.acl_normal.specs.Left.{IsTidy};
 ghost use Rattle.acl_normal.specs.Keys.{kind_eq, plain_key, principal_eq};
 ghost use Rattle.acl_normal.specs.internal.Classes.{is_users};
-ghost use Rattle.acl_normal.specs.internal.Needed.{class_mask, default_at, is_kept, later_mask, opposes};
+ghost use Rattle.acl_normal.specs.internal.Needed.{class_mask, default_at, is_kept, is_of_kind_and_class, later_mask, opposes};
 ghost use Rattle.acl_normal.specs.Places.{same_class};
-ghost use Rattle.acl_perm.specs.Principal.{everyone, is_user};
+ghost use Rattle.acl_perm.specs.Principal.{everyone};
 ghost use Rattle.acl_perm.specs.declared.kind.Kind.TheVariants.{Allow};
 ghost use Rattle.acl_nfs4.specs.Ace.{ace};
 ghost use Rattle.acl_nfs4.specs.Who.{principal_of};
@@ -37,7 +37,8 @@ impl ByClass {
     /// With more bits of one class.
     fn with(self, class: Class, mask: Mask) -> ByClass
         ensures { (users : Bool) (b : ℕ) → has_bit (class_mask result users) b
-            ≡ (has_bit (class_mask self users) b || (same_class (is_users class) users && has_bit mask.bits b)) }
+            ≡ (has_bit (class_mask self users) b
+            || (same_class (is_users class) users && has_bit mask.bits b)) }
     {
         match class {
             Class::Users => ByClass {
@@ -54,7 +55,8 @@ impl ByClass {
     /// The bits of those that may overlap with a principal of a class: with a user, others alone.
     fn beside(self, class: Class) -> Mask
         ensures { (b : ℕ) → has_bit result.bits b
-            ≡ (has_bit (class_mask self false) b || (not (is_users class) && has_bit (class_mask self true) b)) }
+            ≡ (has_bit (class_mask self false) b
+            || (not (is_users class) && has_bit (class_mask self true) b)) }
     {
         match class {
             Class::Users => self.others,
@@ -63,96 +65,11 @@ impl ByClass {
     }
 }
 
-/// The bits that later ACEs have, by type and class.
+/// The bits that later ACEs have, by kind and class.
 #[derive(Clone, Copy, Drop)]
 pub(crate) struct Later {
     pub(crate) deny: ByClass,
     pub(crate) allow: ByClass,
-}
-
-/// The bits that ACEs behind the last have: none.
-fn no_later() -> Later
-    ensures { (k : Sort) (users : Bool) (b : ℕ) → has_bit (later_mask result k users) b ≡ false }
-{
-    Later {
-        deny: ByClass::NONE,
-        allow: ByClass::NONE,
-    }
-}
-
-/// The bits that later ACEs have that may conflict with a key.
-fn opposite(later: Later, at: Key<'_>) -> Mask
-    ensures { (b : ℕ) → has_bit result.bits b ≡ opposes later (plain_key at.entry) b }
-{
-    let class = Class::of(at.principal);
-    match at.kind {
-        Kind::Deny => later.allow.beside(class),
-        Kind::Allow => later.deny.beside(class),
-    }
-}
-
-/// With the bits of one more ACE.
-fn noted(later: Later, at: Key<'_>, mask: Mask) -> Later
-    ensures { (k : Sort) (users : Bool) (b : ℕ) → has_bit (later_mask result k users) b
-        ≡ (has_bit (later_mask later k users) b
-        || ((kind_eq (plain_key at.entry).1 k && same_class (is_user (plain_key at.entry).0) users)
-        && has_bit mask.bits b)) }
-{
-    let class = Class::of(at.principal);
-    match at.kind {
-        Kind::Deny => Later {
-            deny: later.deny.with(class, mask),
-            ..later
-        },
-        Kind::Allow => Later {
-            allow: later.allow.with(class, mask),
-            ..later
-        },
-    }
-}
-
-/// The bits of a mask that its ACE doesn't need.
-#[tactic(auto, using(crate::proofs::unique::Names::everyone_test))]
-fn needless(at: Key<'_>, mask: Mask, allowed: Mask, opposite: Mask) -> Mask
-    ensures { (b : ℕ) → has_bit result.bits b ≡ (has_bit mask.bits b
-        && not (is_kept (default_at allowed.bits b) (plain_key at.entry) (has_bit opposite.bits b))) }
-{
-    if at.principal.is_everyone() {
-        match at.kind {
-            Kind::Allow => Mask::NONE,
-            Kind::Deny => mask,
-        }
-    } else {
-        match at.kind {
-            Kind::Allow => mask.intersection(allowed).difference(opposite),
-            Kind::Deny => mask.difference(allowed.union(opposite)),
-        }
-    }
-}
-
-/// The bits of the mask, where its ACE allows everyone.
-fn allowed_by(item: AceRef<'_>, mask: Mask) -> Mask
-    ensures { (b : ℕ) → has_bit result.bits b ≡ (has_bit mask.bits b
-        && (principal_eq (principal_of (ace item.entry)) everyone && kind_eq item.entry.kind Allow)) }
-{
-    match item.kind {
-        Kind::Allow => of_everyone(item, mask),
-        Kind::Deny => Mask::NONE,
-    }
-}
-
-/// The bits that everyone is allowed by the ACEs, with these masks.
-fn allowed_to_everyone(aces: &[AceRef<'_>], masks: &[Mask]) -> Mask
-    requires places { length masks.now ≡ length aces.now }
-    requires tidy { IsTidy (with_masks aces.now (bits_in masks.now)) }
-    ensures { (b : ℕ) → default_at result.bits b
-        ≡ default (column (with_masks aces.now (bits_in masks.now)) b) }
-{
-    let mut allowed = Mask::NONE;
-    for place in 0..aces.len() {
-        allowed = allowed.union(allowed_by(aces[place], masks[place]));
-    }
-    allowed
 }
 
 /// Drops the bits that no situation needs from the masks of first ACEs: one pass, from the last ACE to the first.
@@ -176,5 +93,90 @@ pub(crate) fn drop_needless(aces: &[AceRef<'_>], masks: &mut [Mask])
         let dropped = needless(at, mask, allowed, opposite(later, at));
         masks[place] = mask.difference(dropped);
         later = noted(later, at, mask);
+    }
+}
+
+/// The bits that everyone is allowed by the ACEs, with these masks.
+fn allowed_to_everyone(aces: &[AceRef<'_>], masks: &[Mask]) -> Mask
+    requires places { length masks.now ≡ length aces.now }
+    requires tidy { IsTidy (with_masks aces.now (bits_in masks.now)) }
+    ensures { (b : ℕ) → default_at result.bits b
+        ≡ default (column (with_masks aces.now (bits_in masks.now)) b) }
+{
+    let mut allowed = Mask::NONE;
+    for place in 0..aces.len() {
+        allowed = allowed.union(allowed_by(aces[place], masks[place]));
+    }
+    allowed
+}
+
+/// The bits of the mask, where its ACE allows everyone.
+fn allowed_by(item: AceRef<'_>, mask: Mask) -> Mask
+    ensures { (b : ℕ) → has_bit result.bits b ≡ (has_bit mask.bits b
+        && (principal_eq (principal_of (ace item.entry)) everyone
+        && kind_eq item.entry.kind Allow)) }
+{
+    match item.kind {
+        Kind::Allow => of_everyone(item, mask),
+        Kind::Deny => Mask::NONE,
+    }
+}
+
+/// The bits that ACEs behind the last have: none.
+fn no_later() -> Later
+    ensures { (k : Sort) (users : Bool) (b : ℕ) → has_bit (later_mask result k users) b ≡ false }
+{
+    Later {
+        deny: ByClass::NONE,
+        allow: ByClass::NONE,
+    }
+}
+
+/// The bits of a mask that its ACE doesn't need.
+#[tactic(auto, using(crate::proofs::unique::Names::everyone_test))]
+fn needless(at: Key<'_>, mask: Mask, allowed: Mask, opposite: Mask) -> Mask
+    ensures { (b : ℕ) → has_bit result.bits b ≡ (has_bit mask.bits b && not
+        (is_kept (default_at allowed.bits b) (plain_key at.entry) (has_bit opposite.bits b))) }
+{
+    if at.principal.is_everyone() {
+        match at.kind {
+            Kind::Allow => Mask::NONE,
+            Kind::Deny => mask,
+        }
+    } else {
+        match at.kind {
+            Kind::Allow => mask.intersection(allowed).difference(opposite),
+            Kind::Deny => mask.difference(allowed.union(opposite)),
+        }
+    }
+}
+
+/// The bits that later ACEs have that may conflict with a key.
+fn opposite(later: Later, at: Key<'_>) -> Mask
+    ensures { (b : ℕ) → has_bit result.bits b ≡ opposes later (plain_key at.entry) b }
+{
+    let class = Class::of(at.principal);
+    match at.kind {
+        Kind::Deny => later.allow.beside(class),
+        Kind::Allow => later.deny.beside(class),
+    }
+}
+
+/// With the bits of one more ACE.
+fn noted(later: Later, at: Key<'_>, mask: Mask) -> Later
+    ensures { (k : Sort) (users : Bool) (b : ℕ) → has_bit (later_mask result k users) b
+        ≡ (has_bit (later_mask later k users) b
+        || (is_of_kind_and_class k users (plain_key at.entry) && has_bit mask.bits b)) }
+{
+    let class = Class::of(at.principal);
+    match at.kind {
+        Kind::Deny => Later {
+            deny: later.deny.with(class, mask),
+            ..later
+        },
+        Kind::Allow => Later {
+            allow: later.allow.with(class, mask),
+            ..later
+        },
     }
 }

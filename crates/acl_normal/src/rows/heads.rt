@@ -40,8 +40,8 @@ impl<'a> HeadedPrincipal<'a> {
 
     /// Whether both are of one principal.
     pub(crate) fn is_same(&self, other: &HeadedPrincipal<'_>) -> bool
-        ensures { result
-            ≡ eq_by_cmp principal_cmp (principal self.now.principal) (principal other.now.principal) }
+        ensures { result ≡ eq_by_cmp principal_cmp
+            (principal self.now.principal) (principal other.now.principal) }
     {
         self.head == other.head && self.principal == other.principal
     }

@@ -9,11 +9,11 @@ ghost use Rattle.acl_normal.specs.internal.Classes.{is_users};
 ghost use Rattle.acl_normal.specs.Left.{HasFree, IsLowest, KeepsFirsts, left};
 ghost use Rattle.acl_normal.specs.Normal.{IsIrreducibleList};
 ghost use Rattle.acl_normal.specs.Places.{nothing_left, take_out, waits};
-ghost use Rattle.acl_normal.specs.internal.Rows.{IsRow};
+ghost use Rattle.acl_normal.specs.internal.Rows.{IsRowOf};
 
 use crate::bits::{alone, next_right};
 use crate::class::Class;
-use crate::emit::remaining::Remaining;
+use crate::rows::remaining::Remaining;
 use crate::reduce::reduced_list;
 use crate::rows::waiting::{slot, waiting_sets};
 use acl_nfs4::Acl;
@@ -22,25 +22,25 @@ use std::alloc::{AllocError, Global};
 use std::collections::BTreeSet;
 use std::marker::Model;
 
-/// What is left of a list while its normal form is made: the needed bits that were not emitted yet, by principal, and
-/// by the places in the given list that still wait with them.
+/// What is left of a list while its normal form is made (this library's own, over RFC 8881, section 6.2.1): the needed
+/// bits that were not emitted yet, by principal, and by the places in the given list that still wait with them.
 #[derive(Drop)]
 pub struct MergedRows<'a> {
     pub(crate) rest: Remaining<'a>,
-    /// By type, class and right, the places that wait.
+    /// By kind, class and right, the places that wait.
     pub(crate) waiting: Vec<BTreeSet<usize>>,
 }
 
 impl<'a> Model for MergedRows<'a> {
     ghost use Rattle.std.specs.Prelude.{List};
     ghost use Rattle.acl_nfs4.specs.Ace.{Ace};
-    ghost use Rattle.acl_normal.specs.internal.Merged.{IsRight};
+    ghost use Rattle.acl_normal.specs.internal.Merged.{IsMerged};
 
     ghost Value = { List Ace };
 
     ghost view = { λ s. s.rest };
 
-    ghost invariant = { IsRight };
+    ghost invariant = { IsMerged };
 }
 
 // A bit below 21 that is in no mask.
@@ -58,7 +58,7 @@ pub(crate) fn lowest(bits: Mask) -> Option<Right>
 impl<'a> MergedRows<'a> {
     /// A list without the bits that play no part, in time that is nearly linear in its bytes.
     pub fn new(alloc: Global, list: &'a Acl) -> Result<MergedRows<'a>, AllocError>
-        // The places are those of the given list, with their types, flags and whos.
+        // The places are those of the given list, with their kinds, flags and whos.
         ensures places { IfOk result (λ rows. nothing_left rows ≡ nothing_left list.now) }
         // What is left of a principal at a bit stands where its first ACE with the bit stands in the given list.
         ensures firsts { IfOk result (λ rows. KeepsFirsts list.now rows) }
@@ -90,7 +90,7 @@ impl<'a> MergedRows<'a> {
         self.rest.is_free(p, bits)
     }
 
-    /// The places that wait with a right: those of the ACEs of what is left that have it, are of the type, and name a
+    /// The places that wait with a right: those of the ACEs of what is left that have it, are of the kind, and name a
     /// user (`users`) or another principal. Of several rights it is the lowest, and of none no place waits. It takes no
     /// memory.
     pub fn waiting(&self, kind: Kind, users: bool, bits: Mask) -> &BTreeSet<usize>
@@ -99,6 +99,7 @@ impl<'a> MergedRows<'a> {
         // Of no right it is empty.
         ensures none { bits.bits ≡ 0 → (place : ℕ) → contains nat_cmp result.now place ≡ false }
     {
+        // The look at the field gives the proof the invariant of the type. It does nothing.
         let _ = &self.waiting;
         let class = Class::from_users(users);
         match lowest(bits) {
@@ -107,7 +108,7 @@ impl<'a> MergedRows<'a> {
         }
     }
 
-    /// The places of the ACEs of a type and a class that wait with a right.
+    /// The places of the ACEs of a kind and a class that wait with a right.
     fn waiting_at(&self, kind: Kind, class: Class, right: Right) -> &BTreeSet<usize>
         ensures { (i : ℕ) → contains nat_cmp result.now i
             ≡ waits kind (is_users class) right.bit self.now i }
@@ -117,7 +118,7 @@ impl<'a> MergedRows<'a> {
 
     /// Takes rights of the principal of a row out.
     fn emit_row(&mut self, row: usize, p: Principal<'_>, mask: Mask)
-        requires { IsRow row (principal p) self.old }
+        requires { IsRowOf row (principal p) self.old }
         ensures { self.new ≡ take_out (principal p.entry) mask.bits self.old }
     {
         let mut from = 0;
@@ -129,7 +130,7 @@ impl<'a> MergedRows<'a> {
 
     /// Takes one right of the principal of a row out.
     fn emit_bit(&mut self, row: usize, p: Principal<'_>, right: Right)
-        requires { IsRow row (principal p) self.old }
+        requires { IsRowOf row (principal p) self.old }
         ensures { self.new ≡ take_out (principal p.entry) (2 ^ right.bit) self.old }
     {
         if let Some(place) = self.rest.place_in(row, right) {

@@ -4,7 +4,7 @@ ghost use Rattle.acl_perm.specs.Order.{principal_cmp};
 ghost use Rattle.acl_perm.specs.Principal.{principal};
 ghost use Rattle.acl_normal.specs.Places.{principal_here};
 ghost use Rattle.acl_normal.specs.internal.RowNumbers.{AreSortedNames, named_from, named_of};
-ghost use Rattle.acl_normal.specs.internal.Rows.{AreRowNumbers, IsByPrincipal, IsRow, is_named};
+ghost use Rattle.acl_normal.specs.internal.Rows.{AreRowNumbers, IsByPrincipal, IsRowOf, is_named};
 ghost use Rattle.acl_normal.specs.internal.Shown.{aces_in};
 
 use super::heads::HeadedPrincipal;
@@ -38,32 +38,13 @@ pub(crate) fn row_numbers(alloc: Global, aces: &[AceRef<'_>]) -> Result<RowNumbe
     Ok(RowNumbers { rows, order })
 }
 
-/// The row of a principal, if an ACE names it, by halving.
-pub(crate) fn find_row(
-    aces: &[AceRef<'_>],
-    rows: &[usize],
-    order: &[usize],
-    p: Principal<'_>,
-) -> Option<usize>
-    requires rows { AreRowNumbers (aces_in aces.now) rows.now }
-    requires order { IsByPrincipal (aces_in aces.now) order.now }
-    ensures found { IfSome result (λ row. IsRow row (principal p.entry) (aces_in aces.now)) }
-    ensures missing { IfNone result (is_named (principal p.entry) (aces_in aces.now) ≡ false) }
+// Whom each ACE names, with its place, in the order of the principals.
+fn by_principal<'a>(alloc: Global, aces: &[AceRef<'a>]) -> Result<Vec<NamedPlace<'a>>, AllocError>
+    ensures { IfOk result (λ v. AreSortedNames (aces_in aces.now) (map named_of v.items)) }
 {
-    match order.binary_search_by(|place| compared(aces, *place, p)) {
-        Ok(found) => Some(rows[order[found]]),
-        Err(_) => None,
-    }
-}
-
-// How whom the ACE at a place names stands to a principal. A search may ask of any place: past the last it is everyone.
-fn compared(aces: &[AceRef<'_>], place: usize, p: Principal<'_>) -> Ordering
-    ensures { result ≡ principal_cmp (principal_here (aces_in aces.now) place) (principal p.entry) }
-{
-    match aces.get(place) {
-        Some(ace) => ace.principal().cmp(&p),
-        None => Principal::Everyone.cmp(&p),
-    }
+    let mut named = named_places(alloc, aces)?;
+    named.sort_by(|at, other| at.named.compared(&other.named))?;
+    Ok(named)
 }
 
 // Whom each ACE names, with its place.
@@ -77,15 +58,6 @@ fn named_places<'a>(alloc: Global, aces: &[AceRef<'a>]) -> Result<Vec<NamedPlace
             place,
         })?;
     }
-    Ok(named)
-}
-
-// The same in the order of the principals.
-fn by_principal<'a>(alloc: Global, aces: &[AceRef<'a>]) -> Result<Vec<NamedPlace<'a>>, AllocError>
-    ensures { IfOk result (λ v. AreSortedNames (aces_in aces.now) (map named_of v.items)) }
-{
-    let mut named = named_places(alloc, aces)?;
-    named.sort_by(|at, other| at.named.compared(&other.named))?;
     Ok(named)
 }
 
@@ -115,4 +87,32 @@ fn places_of(alloc: Global, named: &[NamedPlace<'_>]) -> Result<Vec<usize>, Allo
     ensures { IfOk result (λ v. v.items ≡ map (λ n. n.place) named.now) }
 {
     named.iter().map(|at| at.place).collect(alloc)
+}
+
+/// The row of a principal, if an ACE names it, by halving.
+pub(crate) fn find_row(
+    aces: &[AceRef<'_>],
+    rows: &[usize],
+    order: &[usize],
+    p: Principal<'_>,
+) -> Option<usize>
+    requires rows { AreRowNumbers (aces_in aces.now) rows.now }
+    requires order { IsByPrincipal (aces_in aces.now) order.now }
+    ensures found { IfSome result (λ row. IsRowOf row (principal p.entry) (aces_in aces.now)) }
+    ensures missing { IfNone result (is_named (principal p.entry) (aces_in aces.now) ≡ false) }
+{
+    match order.binary_search_by(|place| compared(aces, *place, p)) {
+        Ok(found) => Some(rows[order[found]]),
+        Err(_) => None,
+    }
+}
+
+// How whom the ACE at a place names stands to a principal. A search may ask of any place: past the last it is everyone.
+fn compared(aces: &[AceRef<'_>], place: usize, p: Principal<'_>) -> Ordering
+    ensures { result ≡ principal_cmp (principal_here (aces_in aces.now) place) (principal p.entry) }
+{
+    match aces.get(place) {
+        Some(ace) => ace.principal().cmp(&p),
+        None => Principal::Everyone.cmp(&p),
+    }
 }

@@ -10,7 +10,7 @@ use acl_perm::{Kind, Mask};
 use std::alloc::{AllocError, Global};
 use std::process::Abort;
 
-// Of a list and a right, the rows: the place, the type, the who, and whether it is the name of a group.
+// Of a list and a right, the rows: the place, the kind, the who, and whether it is the name of a group.
 type Shown = (usize, Kind, &'static [u8], bool);
 
 static TABLES: [(&[AceRow], u32, &[Shown]); 6] = [

@@ -20,7 +20,7 @@ use Rattle.acl_posix.specs.Entries.{pair_of, pairs}
 use Rattle.acl_posix.specs.Valid.{IsFaultOf}
 use Rattle.acl_posix.specs.Names.{Table, Ids, is_number}
 use Rattle.acl_posix.specs.Fields.{word_of, id_of, permissions_of}
-use Rattle.acl_posix.specs.Grammar.{TextPiece, EntryFields, fields_of, PartEntry, pieces_from, colon}
+use Rattle.acl_posix.specs.Grammar.{TextPiece, EntryFields, fields_of, PartEntry, line_pieces, numbered, pieces_from, colon}
 use Rattle.acl_posix.specs.TextFault.{acl_fault}
 
 -- the tag word of a field, or its fault
@@ -122,6 +122,10 @@ read_pieces names lists [] = Ok lists
 read_pieces names lists (piece ∷ pieces) = do
   entry ← read_piece names piece.line piece.span
   read_pieces names (added lists entry) pieces
+
+-- the entries of a line behind those read so far, or the first fault
+abbrev pub read_entries : Table → Lists → ℕ → List ℕ → Result Lists TextFault
+read_entries names lists number line = read_pieces names lists (numbered number (line_pieces line))
 
 -- what code failed with is the fault that is told, unless memory ran out
 abbrev pub Fails : {Y : Type 0} → TextFault → Result Y TextFault → Type 0

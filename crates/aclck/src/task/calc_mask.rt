@@ -12,7 +12,8 @@ use std::alloc::Global;
 pub(crate) const WORD: &str = "calc-mask";
 
 /// Writes the canonical text of the file whose text the input is, with the mask of its access ACL calculated, and added
-/// where there is none; the default ACL stays. Nothing is written before the input is accepted.
+/// where there is none (POSIX.1e draft 17, section 23.4); the default ACL stays. Nothing is written before the input is
+/// accepted.
 pub fn run_calc_mask<S: Source, K: Sink>(
     alloc: Global,
     source: &mut S,

@@ -22,7 +22,7 @@ use std::alloc::{AllocError, Global};
 /// The word that names the command.
 pub(crate) const WORD: &str = "check-nfs";
 
-/// Its arguments.
+/// The arguments of `check-nfs`.
 pub(crate) const ARGUMENTS: [Argument; 6] = [
     Argument::Required("owner"),
     Argument::Required("group"),
@@ -120,9 +120,9 @@ fn mask_value(word: &str) -> Option<Mask>
     }
 }
 
-/// Writes whether the list that the whole input spells grants the requester the mask on the object: `granted`, or
-/// `denied` and No. Nothing is written before the input is accepted, as one that keeps to the profile. Nothing is read
-/// after a refusal.
+/// Writes whether the list that the whole input spells grants the requester the mask on the object (RFC 8881, section
+/// 6.2.1): `granted`, or `denied` and No. Nothing is written before the input is accepted, as one that keeps to the
+/// profile. Nothing is read after a refusal.
 pub fn run_check_nfs<S: Source, K: Sink>(
     alloc: Global,
     source: &mut S,

@@ -21,7 +21,7 @@ use std::alloc::{AllocError, Global};
 /// The word that names the command.
 pub(crate) const WORD: &str = "check-posix";
 
-/// Its arguments.
+/// The arguments of `check-posix`.
 pub(crate) const ARGUMENTS: [Argument; 6] = [
     Argument::Required("owner"),
     Argument::Required("group"),
@@ -139,8 +139,8 @@ fn count(bytes: &[u8], letter: u8) -> usize
 }
 
 /// Writes whether the access ACL of the file whose text the input is grants the user, who is in these groups, the
-/// permissions on an object of this owner and group: `granted`, or `denied` and No. Nothing is written before the input
-/// is accepted, the default part too.
+/// permissions on an object of this owner and group (acl(5), "ACCESS CHECK ALGORITHM"; POSIX.1e draft 17, section 23):
+/// `granted`, or `denied` and No. Nothing is written before the input is accepted, the default part too.
 pub fn run_check_posix<S: Source, K: Sink>(
     alloc: Global,
     source: &mut S,

@@ -17,7 +17,7 @@ use std::alloc::Global;
 /// The word that names the command.
 pub(crate) const WORD: &str = "child";
 
-/// Its arguments.
+/// The arguments of `child`.
 pub(crate) const ARGUMENTS: [Argument; 2] = [
     Argument::Required("kind"),
     Argument::Default("profile", "full"),
@@ -44,6 +44,7 @@ pub(crate) fn read(matches: &ArgMatches<'_>) -> Result<Child, LineFault>
     })
 }
 
+// The value of `--kind`: `file` or `dir`. None where the word is neither.
 #[tactic(auto, unfolding(crate::specs::Child::kind_value))]
 fn kind_value(word: &str) -> Option<ChildKind>
     ensures { result ≡ kind_value word.now }
@@ -56,8 +57,8 @@ fn kind_value(word: &str) -> Option<ChildKind>
 }
 
 /// Writes the bytes that spell the list that a new file or directory takes from that of its directory, which the whole
-/// input spells. Nothing is written before the input is accepted, as a list that keeps to the profile. Nothing is read
-/// after a refusal.
+/// input spells (this library's own, in the manner of RFC 8881, section 6.4). Nothing is written before the input is
+/// accepted, as a list that keeps to the profile. Nothing is read after a refusal.
 pub fn run_child<S: Source, K: Sink>(
     alloc: Global,
     source: &mut S,

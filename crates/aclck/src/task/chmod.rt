@@ -16,7 +16,7 @@ use std::alloc::Global;
 /// The word that names the command.
 pub(crate) const WORD: &str = "chmod";
 
-/// Its arguments.
+/// The arguments of `chmod`.
 pub(crate) const ARGUMENTS: [Argument; 2] = [Argument::Required("mode"), Argument::Words];
 
 /// The mode, and which names a text may have.
@@ -38,8 +38,9 @@ pub(crate) fn read(alloc: Global, matches: &ArgMatches<'_>) -> Result<Chmod, Lin
     })
 }
 
-/// Writes the canonical text of the file whose text the input is, with the mode of its access ACL set; the default ACL
-/// stays. Nothing is written before the input is accepted.
+/// Writes the canonical text of the file whose text the input is, with the mode of its access ACL set (acl(5),
+/// "CORRESPONDENCE BETWEEN ACL ENTRIES AND FILE PERMISSION BITS"); the default ACL stays. Nothing is written before the
+/// input is accepted.
 pub fn run_chmod<S: Source, K: Sink>(
     alloc: Global,
     source: &mut S,

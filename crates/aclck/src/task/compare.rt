@@ -18,10 +18,10 @@ use std::alloc::{AllocError, Global};
 /// The word that names the command.
 pub(crate) const WORD: &str = "compare";
 
-/// Writes whether the two lists that the whole input spells, one after the other, grant the same: `same`, or the first
-/// small situation in which they don't, the lowest right on which they differ there, what both answer, and No. A fault
-/// counts from the start of the input. Nothing is written before the input is accepted, as lists that keep to the
-/// profile. Nothing is read after a refusal.
+/// Writes whether the two lists that the whole input spells, one after the other, grant the same (this library's own,
+/// over RFC 8881, section 6.2.1): `same`, or the first small situation in which they don't, the lowest right on which
+/// they differ there, what both answer, and No. A fault counts from the start of the input. Nothing is written before
+/// the input is accepted, as lists that keep to the profile. Nothing is read after a refusal.
 pub fn run_compare<S: Source, K: Sink>(
     alloc: Global,
     source: &mut S,
@@ -55,16 +55,6 @@ fn answer_of(alloc: Global, lists: &TwoLists) -> Result<Compared, AllocError>
     Ok(Compared { outcome, text })
 }
 
-// Yes where there is no difference.
-fn outcome_of(difference: &Option<Difference>) -> Outcome
-    ensures { result ≡ compared_outcome difference.now }
-{
-    match difference {
-        None => Outcome::Yes,
-        Some(_) => Outcome::No,
-    }
-}
-
 // The text of an answer.
 fn text_of_answer(alloc: Global, difference: &Option<Difference>) -> Result<Vec<u8>, AllocError>
     ensures { IfOk result (λ text. text.items ≡ compared_text difference.now) }
@@ -90,17 +80,6 @@ fn text_of_difference(alloc: Global, found: &Difference) -> Result<Vec<u8>, Allo
     Ok(text)
 }
 
-// A line of a word and what it is followed by.
-fn add_line(text: &mut Vec<u8>, word: &[u8], value: &[u8]) -> Result<(), AllocError>
-    ensures { OnOk result (text.new.items ≡ text.old.items ++ line word.now value.now) }
-{
-    text.extend_from_slice(word)?;
-    text.push(b' ')?;
-    text.extend_from_slice(value)?;
-    text.push(b'\n')?;
-    Ok(())
-}
-
 // A line for each group.
 fn add_members(text: &mut Vec<u8>, groups: &[Vec<u8>]) -> Result<(), AllocError>
     ensures { OnOk result (text.new.items
@@ -109,6 +88,17 @@ fn add_members(text: &mut Vec<u8>, groups: &[Vec<u8>]) -> Result<(), AllocError>
     for group in groups {
         add_line(text, b"member", group)?;
     }
+    Ok(())
+}
+
+// A line of a word and what it is followed by.
+fn add_line(text: &mut Vec<u8>, word: &[u8], value: &[u8]) -> Result<(), AllocError>
+    ensures { OnOk result (text.new.items ≡ text.old.items ++ line word.now value.now) }
+{
+    text.extend_from_slice(word)?;
+    text.push(b' ')?;
+    text.extend_from_slice(value)?;
+    text.push(b'\n')?;
     Ok(())
 }
 
@@ -126,4 +116,14 @@ fn decision(is_granted: bool) -> &'static [u8]
     ensures { result.now ≡ decision is_granted }
 {
     if is_granted { b"granted" } else { b"denied" }
+}
+
+// Yes where there is no difference.
+fn outcome_of(difference: &Option<Difference>) -> Outcome
+    ensures { result ≡ compared_outcome difference.now }
+{
+    match difference {
+        None => Outcome::Yes,
+        Some(_) => Outcome::No,
+    }
 }

@@ -16,7 +16,7 @@ use std::alloc::Global;
 /// The word that names the command.
 pub(crate) const WORD: &str = "create";
 
-/// Its arguments.
+/// The arguments of `create`.
 pub(crate) const ARGUMENTS: [Argument; 4] = [
     Argument::Required("mode"),
     Argument::Required("umask"),
@@ -47,8 +47,8 @@ pub(crate) fn read(alloc: Global, matches: &ArgMatches<'_>) -> Result<Create, Li
 }
 
 /// Writes the canonical text of a new object in a directory, whose text the input is: of a file, or of a directory
-/// where `dir` is true. The umask has no part where the directory has a default ACL. Nothing is written before the
-/// input is accepted.
+/// where `dir` is true (acl(5), "OBJECT CREATION AND DEFAULT ACLs"). The umask has no part where the directory has a
+/// default ACL. Nothing is written before the input is accepted.
 pub fn run_create<S: Source, K: Sink>(
     alloc: Global,
     source: &mut S,

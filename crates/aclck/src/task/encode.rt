@@ -14,8 +14,9 @@ use std::alloc::Global;
 /// The word that names the command.
 pub(crate) const WORD: &str = "encode";
 
-/// Writes the bytes that spell the list whose text the whole input is. Nothing is written before the input is accepted,
-/// as the text of a list that keeps to the profile.
+/// Writes the bytes that spell the list whose text the whole input is (RFC 4506 over RFC 8881, section 6.2.1; the text
+/// is this library's own). Nothing is written before the input is accepted, as the text of a list that keeps to the
+/// profile.
 pub fn run_encode<S: Source, K: Sink>(
     alloc: Global,
     source: &mut S,

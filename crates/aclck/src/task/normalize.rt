@@ -17,7 +17,7 @@ use std::alloc::Global;
 /// The word that names the command.
 pub(crate) const WORD: &str = "normalize";
 
-/// Its arguments.
+/// The arguments of `normalize`.
 pub(crate) const ARGUMENTS: [Argument; 2] = [
     Argument::Flag("inherit"),
     Argument::Default("profile", "full"),
@@ -59,8 +59,8 @@ pub(crate) fn run<S: Source, K: Sink>(
 }
 
 /// Writes the bytes that spell the normal form of the list that the whole input spells: the one list that grants the
-/// same in every situation and is normal. Nothing is written before the input is accepted, as a list that keeps to the
-/// profile. Nothing is read after a refusal.
+/// same in every situation and is normal (this library's own, over RFC 8881, section 6.2.1). Nothing is written before
+/// the input is accepted, as a list that keeps to the profile. Nothing is read after a refusal.
 pub fn run_normalize<S: Source, K: Sink>(
     alloc: Global,
     source: &mut S,
@@ -79,9 +79,9 @@ pub fn run_normalize<S: Source, K: Sink>(
 }
 
 /// Writes the bytes that spell the five normal forms of the list that the whole input spells, one behind the other: of
-/// the list itself, of a new file, of a new directory, and of a new file and a new directory in that. Nothing is
-/// written before the input is accepted, as a list that keeps to the profile, and all five are made. Nothing is read
-/// after a refusal.
+/// the list itself, of a new file, of a new directory, and of a new file and a new directory in that (this library's
+/// own, over RFC 8881, section 6.2.1). Nothing is written before the input is accepted, as a list that keeps to the
+/// profile, and all five are made. Nothing is read after a refusal.
 pub fn run_normalize_inherit<S: Source, K: Sink>(
     alloc: Global,
     source: &mut S,

@@ -16,7 +16,7 @@ use std::alloc::Global;
 /// The word that names the command.
 pub(crate) const WORD: &str = "show-posix";
 
-/// Its arguments.
+/// The arguments of `show-posix`.
 pub(crate) const ARGUMENTS: [Argument; 2] = [
     Argument::Default("form", "canonical"),
     Argument::Words,
@@ -43,6 +43,7 @@ pub(crate) fn read(alloc: Global, matches: &ArgMatches<'_>) -> Result<ShowPosix,
     })
 }
 
+// The value of `--form`: `canonical`, `shown` or `short`. None where the word is none of these.
 #[tactic(auto, unfolding(crate::specs::ShowPosix::form_value))]
 fn form_value(word: &str) -> Option<Form>
     ensures { result ≡ form_value word.now }
@@ -55,8 +56,8 @@ fn form_value(word: &str) -> Option<Form>
     }
 }
 
-/// Writes the text in a form of the file whose text the input is; the short text has a line feed after it. Nothing is
-/// written before the input is accepted.
+/// Writes the text in a form of the file whose text the input is (acl(5), "LONG TEXT FORM", "SHORT TEXT FORM"); the
+/// short text has a line feed after it. Nothing is written before the input is accepted.
 pub fn run_show_posix<S: Source, K: Sink>(
     alloc: Global,
     source: &mut S,

@@ -21,7 +21,7 @@ use std::alloc::{AllocError, Global};
 /// The word that names the command.
 pub(crate) const WORD: &str = "table";
 
-/// Its arguments.
+/// The arguments of `table`.
 pub(crate) const ARGUMENTS: [Argument; 2] = [
     Argument::Required("bit"),
     Argument::Default("profile", "full"),
@@ -75,8 +75,9 @@ fn right_named(word: &[u8]) -> Option<Mask>
 }
 
 /// Writes the rows of one right of the list that the whole input spells: a line for each ACE of its normal form that
-/// has the right, in order, with the place in the given list from which it comes. Nothing is written before the input
-/// is accepted, as a list that keeps to the profile. Nothing is read after a refusal.
+/// has the right, in order, with the place in the given list from which it comes (this library's own, over RFC 8881,
+/// section 6.2.1). Nothing is written before the input is accepted, as a list that keeps to the profile. Nothing is
+/// read after a refusal.
 pub fn run_table<S: Source, K: Sink>(
     alloc: Global,
     source: &mut S,

@@ -36,7 +36,7 @@ const NARROW: &str =
 
 // ---- rows
 
-// That list without its last two bytes.
+// `READ_OF_ALL` without its last two bytes.
 const CUT: &[u8; 30] = b"\0\0\0\x01\0\0\0\0\0\0\0\0\0\0\0\x01\0\0\0\x09EVERYONE@\0";
 
 // Lists that grant what the line asks for, and lists that do not; faults of the input; and lines that ask for nothing,

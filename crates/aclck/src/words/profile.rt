@@ -8,7 +8,7 @@ use crate::line::{Argument, LineFault, text_of};
 use acl_perm::Profile;
 use clap::ArgMatches;
 
-/// The arguments of such a command.
+/// The arguments of a command that takes `--profile` and no other.
 pub(crate) const ARGUMENTS: [Argument; 1] = [Argument::Default("profile", "full")];
 
 /// The profile that a list has to keep to.

@@ -4,8 +4,9 @@ use Rattle.std.proofs.lemmas.List.{append-nil}
 use Rattle.acl_perm.specs.Profile.{full}
 use Rattle.acl_nfs4.specs.Ace.{Ace, ace}
 use Rattle.acl_nfs4.specs.Spelling.{IsAccepted}
+use Rattle.acl_nfs4.proofs.Lists.{front_accepted}
 use Rattle.acl_eval.specs.Inheritance.{children, with_flags}
-use Rattle.acl_eval.proofs.Children.{child_has, child_lacks, child_accepted, child_fits, front_accepted, moved}
+use Rattle.acl_eval.proofs.Children.{child_has, child_lacks, child_accepted, child_fits, moved}
 use Rattle.acl_eval.proofs.inherit.child.Goals as goal
 
 pub loop-ace-init : goal.loop-ace-init

@@ -1,11 +1,11 @@
+use Rattle.acl_normal.specs.internal.Shown.{aces_in}
 use Rattle.std.proofs.Common.{ap, ◌∙◌}
-use Rattle.acl_normal.specs.internal.Passes.{list_of}
 use Rattle.acl_normal.proofs.plain.PlainForm.{passes_reduce}
 use Rattle.acl_normal.proofs.plain.reduce.Goals as goal
 
 pub returns-clause-reduced : goal.returns-clause-reduced
 returns-clause-reduced c =
-    passes_reduce (λ needed. list_of needed.items) c.args.source.now _ _ _ _
-    (ap list_of c.deref.ensures.value ∙ c.in_ok-aces.ensures.aces) c.in_ok-reached.ensures.columns
-    c.in_ok-reached.ensures.profiles (ap list_of c.deref-2.ensures.value) c.drop_needless.ensures.columns
+    passes_reduce (λ needed. aces_in needed.items) c.args.source.now _ _ _ _
+    (ap aces_in c.deref.ensures.value ∙ c.in_ok-aces.ensures.aces) c.in_ok-reached.ensures.columns
+    c.in_ok-reached.ensures.profiles (ap aces_in c.deref-2.ensures.value) c.drop_needless.ensures.columns
     c.drop_needless.ensures.profiles

@@ -3,8 +3,8 @@ use Rattle.std.proofs.lemmas.List.{map-append}
 use Rattle.acl_nfs4.specs.Ace.{ace}
 use Rattle.acl_normal.proofs.comparison.MentionedRows.{whole_ready, whoms_ready}
 use Rattle.acl_normal.proofs.comparison.mentioned.mentioned.Goals as goal
+use Rattle.acl_normal.specs.internal.Shown.{aces_in}
 use Rattle.acl_normal.specs.internal.FirstPlaces.{AreWhoms}
-use Rattle.acl_normal.specs.internal.Passes.{list_of}
 use Rattle.acl_normal.specs.internal.SetSearch.{principals}
 
 pub whoms-requires : goal.whoms-requires
@@ -14,7 +14,7 @@ whoms-requires c = whoms_ready _ _ _ _ _ _ _ _ _ _ c.deref.ensures.value c.deref
 
 pub returns : goal.returns
 returns c =
-    let both = ap list_of (c.deref-5.ensures.value ∙ c.in_ok-aces.ensures)
+    let both = ap aces_in (c.deref-5.ensures.value ∙ c.in_ok-aces.ensures)
     ∙ map-append ace c.args.list.now c.args.other.now in
     record {
       in_order =

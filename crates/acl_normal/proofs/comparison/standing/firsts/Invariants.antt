@@ -1,13 +1,13 @@
 use Rattle.std.specs.Prelude.{◌≤◌}
 use Rattle.acl_normal.proofs.comparison.standing.firsts.Given as goal
+use Rattle.acl_normal.specs.internal.Shown.{aces_in}
 use Rattle.acl_normal.specs.internal.FirstPlaces.{AreFirstFrom}
-use Rattle.acl_normal.specs.internal.Passes.{list_of}
 use Rattle.acl_normal.specs.internal.SetSearch.{principals}
 
 abbrev pub invariant-loop-place : goal.invariant-loop-place
 invariant-loop-place l = record {
   within : l.place ≤ l.end;
-  first : AreFirstFrom (principals l.whole) (list_of l.list) l.right.bit l.place
+  first : AreFirstFrom (principals l.whole) (aces_in l.list) l.right.bit l.place
       l.out.items;
 }
 

@@ -1,7 +1,7 @@
 use Rattle.std.specs.Prelude.{◌≡◌, ℕ, ◌<◌, false}
 use Rattle.acl_normal.proofs.comparison.standing.place_of_everyone.Given as goal
+use Rattle.acl_normal.specs.internal.Shown.{aces_in}
 use Rattle.acl_normal.specs.internal.FirstPlaces.{stops_at}
-use Rattle.acl_normal.specs.internal.Passes.{list_of}
 
 abbrev pub invariant-loop-i : goal.invariant-loop-i
-invariant-loop-i l = (k : ℕ) → k < l.i → stops_at (list_of l.list) l.whoms l.right.bit k ≡ false
+invariant-loop-i l = (k : ℕ) → k < l.i → stops_at (aces_in l.list) l.whoms l.right.bit k ≡ false

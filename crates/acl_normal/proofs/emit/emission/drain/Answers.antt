@@ -9,7 +9,7 @@ use Rattle.acl_normal.proofs.emit.InRemaining.{remaining_once}
 use Rattle.acl_normal.proofs.emit.Few.{remaining_few}
 use Rattle.acl_normal.proofs.emit.Marks.{nothing_marked}
 use Rattle.acl_normal.proofs.emit.InRows.{no_rows, rows_turn}
-use Rattle.acl_normal.specs.internal.Rows.{IsRow}
+use Rattle.acl_normal.specs.internal.Rows.{IsRowOf}
 use Rattle.acl_normal.proofs.emit.emission.drain.Goals as goal
 
 pub new-requires : goal.new-requires
@@ -58,7 +58,8 @@ emitted-preserved c =
       c.in_ok-free_after.ensures.keys,
       rows_turn c.args.rows.now c.emitted.rows c.emit.new.self c.emitted.out.items c.push.new.self.items _ key bits
           c.emitted.invariant.2 c.in_ok-push.ensures.items
-          (subst (λ p. IsRow c.in-Some.next.row p c.emitted.rows) (sym (emitted_principal key bits named)) takes.at_row)
+          (subst (λ p. IsRowOf c.in-Some.next.row p c.emitted.rows) (sym (emitted_principal key bits named))
+          takes.at_row)
           c.emit.ensures,
     )
 

@@ -1,31 +1,33 @@
 use Rattle.std.proofs.Common.{sym, subst}
 use Rattle.acl_perm.specs.Profile.{full}
 use Rattle.acl_nfs4.specs.Ace.{ace}
-use Rattle.acl_normal.specs.internal.Passes.{AreNowhereFree, IsLeast, list_of}
+use Rattle.acl_normal.specs.internal.Shown.{aces_in}
+use Rattle.acl_normal.specs.internal.Passes.{AreNowhereFree, IsLeastCandidate}
 use Rattle.acl_normal.proofs.plain.Candidates.{none_free}
 use Rattle.acl_normal.proofs.plain.InTurn.{Emitting, Taken, coming_accepted, emitting_all, emitting_more, emitting_none, fewer_left}
 use Rattle.acl_normal.proofs.plain.emission.emit.Goals as goal
 
 pub loop-first-init : goal.loop-first-init
 loop-first-init c =
-    subst (λ v. Emitting (list_of c.args.aces.items) v (list_of c.args.aces.items)) (sym c.new-list.ensures)
-    (emitting_none (list_of c.args.aces.items) c.requires.once)
+    subst (λ v. Emitting (aces_in c.args.aces.items) v (aces_in c.args.aces.items)) (sym c.new-list.ensures)
+    (emitting_none (aces_in c.args.aces.items) c.requires.once)
 
 pub push_accepted-requires : goal.push_accepted-requires
 push_accepted-requires c =
-    let left = list_of c.loop-first.left.items in
+    let left = aces_in c.loop-first.left.items in
     let a = ace c.in-Some.first in
-    coming_accepted left a (subst (λ v. IsLeast (list_of v) (list_of v) a) c.deref.ensures.value c.in-Some.ensures)
-    (list_of c.args.aces.items) c.loop-first.list c.requires.each c.requires.small c.loop-first.invariant
+    coming_accepted left a
+    (subst (λ v. IsLeastCandidate (aces_in v) (aces_in v) a) c.deref.ensures.value c.in-Some.ensures)
+    (aces_in c.args.aces.items) c.loop-first.list c.requires.each c.requires.small c.loop-first.invariant
 
 pub loop-first-smaller : goal.loop-first-smaller
 loop-first-smaller c =
-    let left = list_of c.loop-first.left.items in
+    let left = aces_in c.loop-first.left.items in
     let a = ace c.in-Some.first in
-    let rest = list_of c.in_ok-left.left.items in
+    let rest = aces_in c.in_ok-left.left.items in
     fewer_left left rest a
-    (subst (λ v. IsLeast (list_of v) (list_of v) a) c.deref.ensures.value c.in-Some.ensures)
-    (subst (λ v. Taken (list_of v) a rest) c.deref-in-Some.ensures.value (record {
+    (subst (λ v. IsLeastCandidate (aces_in v) (aces_in v) a) c.deref.ensures.value c.in-Some.ensures)
+    (subst (λ v. Taken (aces_in v) a rest) c.deref-in-Some.ensures.value (record {
       taken = c.in_ok-left.ensures.taken;
       untouched = c.in_ok-left.ensures.kept;
       profiles = c.in_ok-left.ensures.profiles;
@@ -34,14 +36,14 @@ loop-first-smaller c =
 
 pub loop-first-preserved : goal.loop-first-preserved
 loop-first-preserved c =
-    let whole = list_of c.args.aces.items in
-    let left = list_of c.loop-first.left.items in
+    let whole = aces_in c.args.aces.items in
+    let left = aces_in c.loop-first.left.items in
     let a = ace c.in-Some.first in
-    let rest = list_of c.in_ok-left.left.items in
+    let rest = aces_in c.in_ok-left.left.items in
     subst (λ v. Emitting whole v rest) (sym c.in_ok-push_accepted.ensures.ok)
     (emitting_more left rest a
-    (subst (λ v. IsLeast (list_of v) (list_of v) a) c.deref.ensures.value c.in-Some.ensures)
-    (subst (λ v. Taken (list_of v) a rest) c.deref-in-Some.ensures.value (record {
+    (subst (λ v. IsLeastCandidate (aces_in v) (aces_in v) a) c.deref.ensures.value c.in-Some.ensures)
+    (subst (λ v. Taken (aces_in v) a rest) c.deref-in-Some.ensures.value (record {
       taken = c.in_ok-left.ensures.taken;
       untouched = c.in_ok-left.ensures.kept;
       profiles = c.in_ok-left.ensures.profiles;
@@ -50,7 +52,7 @@ loop-first-preserved c =
 
 pub returns-clause-emission : goal.returns-clause-emission
 returns-clause-emission c =
-    emitting_all (list_of c.args.aces.items) c.loop-first.list (list_of c.loop-first.left.items)
-    (none_free (list_of c.loop-first.left.items)
-    (subst (λ v. AreNowhereFree (list_of v) (list_of v)) c.deref.ensures.value c.in_default.ensures))
+    emitting_all (aces_in c.args.aces.items) c.loop-first.list (aces_in c.loop-first.left.items)
+    (none_free (aces_in c.loop-first.left.items)
+    (subst (λ v. AreNowhereFree (aces_in v) (aces_in v)) c.deref.ensures.value c.in_default.ensures))
     c.loop-first.invariant

@@ -2,7 +2,7 @@ use Rattle.std.proofs.Common.{arith}
 use Rattle.acl_nfs4.specs.Ace.{ace}
 use Rattle.acl_eval.specs.Column.{column}
 use Rattle.acl_normal.specs.Keys.{ace_key}
-use Rattle.acl_normal.specs.internal.Passes.{is_blocked}
+use Rattle.acl_normal.specs.internal.Passes.{conflicts_before}
 use Rattle.acl_normal.proofs.plain.Passes.{free_more, union_more, blocks_gathered}
 use Rattle.acl_normal.proofs.plain.emission.free_bits.Goals as goal
 
@@ -10,8 +10,9 @@ pub loop-other-preserved : goal.loop-other-preserved
 loop-other-preserved c =
     let e = ace_key (ace c.args.item.now) in record {
       within = (c.union-free.result.within, c.union-blocked.result.within);
-      blocked = union_more (λ list bit. is_blocked (column list bit) e) (blocks_gathered e) _ _ _ _ _ _ (omega arith)
-          c.other-item.is c.loop-other.invariant.blocked c.own_conflict.ensures c.union-blocked.ensures.meaning;
+      blocked = union_more (λ list bit. conflicts_before (column list bit) e) (blocks_gathered e) _ _ _ _ _ _
+          (omega arith) c.other-item.is c.loop-other.invariant.blocked c.own_conflict.ensures
+          c.union-blocked.ensures.meaning;
       free = free_more e _ _ _ _ _ _ _ (omega arith) c.other-item.is c.loop-other.invariant.free
           c.loop-other.invariant.blocked c.own_free.ensures c.union-free.ensures.meaning;
     }

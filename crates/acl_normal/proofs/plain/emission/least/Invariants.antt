@@ -1,8 +1,9 @@
 use Rattle.std.specs.Prelude.{option_map, take}
 use Rattle.acl_nfs4.specs.Ace.{ace}
-use Rattle.acl_normal.specs.internal.Passes.{Best, list_of}
+use Rattle.acl_normal.specs.internal.Shown.{aces_in}
+use Rattle.acl_normal.specs.internal.Passes.{Best}
 use Rattle.acl_normal.proofs.plain.emission.least.Given as goal
 
 -- the best of the ACEs so far
 abbrev pub invariant-loop-item : goal.invariant-loop-item
-invariant-loop-item l = Best (list_of l.left) (list_of (take l.item-index l.left)) (option_map ace l.best)
+invariant-loop-item l = Best (aces_in l.left) (aces_in (take l.item-index l.left)) (option_map ace l.best)

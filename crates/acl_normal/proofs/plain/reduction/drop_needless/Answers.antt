@@ -4,7 +4,9 @@ use Rattle.acl_perm.specs.Bits.{has_bit}
 use Rattle.acl_nfs4.specs.Ace.{ace}
 use Rattle.acl_nfs4.specs.Who.{principal_of}
 use Rattle.acl_eval.specs.Column.{column}
-use Rattle.acl_normal.specs.internal.Passes.{KeepsProfiles, default_in, list_of}
+use Rattle.acl_normal.specs.internal.Needed.{default_at}
+use Rattle.acl_normal.specs.internal.Shown.{aces_in}
+use Rattle.acl_normal.specs.internal.Passes.{KeepsProfiles}
 use Rattle.acl_normal.specs.internal.Plain.{default, is_needed, needed_keys}
 use Rattle.acl_normal.proofs.plain.Passes.{Marks}
 use Rattle.acl_normal.proofs.unique.Kept.{ace_at, front_true, fewer_bits, keeps_more}
@@ -16,21 +18,21 @@ loop-place-preserved c =
     let y = c.index-aces-place.result in
     let later = drop (c.loop-place.place + 1) c.args.aces.now in
     let mask : Marks c.needed-mask.result.bits (λ bit. has_bit y.mask.bits bit
-    && is_needed (default_in c.allowed_to_everyone-allowed.result.bits bit) (principal_of (ace y)) y.kind
-    (column (list_of later) bit)) =
+    && is_needed (default_at c.allowed_to_everyone-allowed.result.bits bit) (principal_of (ace y)) y.kind
+    (column (aces_in later) bit)) =
     λ bit. c.needed-mask.ensures bit
     ∙ ap (λ v. has_bit y.mask.bits bit
-    && is_needed (default_in c.allowed_to_everyone-allowed.result.bits bit) (principal_of (ace y)) y.kind
-    (column (list_of v) bit)) c.split_at.ensures.back in
+    && is_needed (default_at c.allowed_to_everyone-allowed.result.bits bit) (principal_of (ace y)) y.kind
+    (column (aces_in v) bit)) c.split_at.ensures.back in
     record {
       columns = λ bit.
-          ap (λ v. column (list_of v) bit ++ needed_keys (default (column (list_of c.args.aces.now) bit))
-          (column (list_of later) bit)) c.in_ok-push.ensures.items
+          ap (λ v. column (aces_in v) bit ++ needed_keys (default (column (aces_in c.args.aces.now) bit))
+          (column (aces_in later) bit)) c.in_ok-push.ensures.items
           ∙ needed_more c.args.aces.now y c.loop-place.kept.items _ c.loop-place.place
           c.allowed_to_everyone-allowed.result.bits (omega arith) c.index-aces-place.is refl refl
           c.allowed_to_everyone-allowed.ensures mask bit _ (c.loop-place.invariant.columns bit);
-      profiles = subst (λ v. KeepsProfiles (list_of c.args.aces.now) (list_of v)) (sym c.in_ok-push.ensures.items)
-          (keeps_more (list_of c.args.aces.now) c.loop-place.kept.items _ c.loop-place.invariant.profiles
+      profiles = subst (λ v. KeepsProfiles (aces_in c.args.aces.now) (aces_in v)) (sym c.in_ok-push.ensures.items)
+          (keeps_more (aces_in c.args.aces.now) c.loop-place.kept.items _ c.loop-place.invariant.profiles
           (λ p h. fewer_bits p (ace y) _ refl refl (λ k has. front_true _ _ (sym (mask k) ∙ has))
           (ace_at c.args.aces.now y c.loop-place.place (omega arith) c.index-aces-place.is p h)));
     }

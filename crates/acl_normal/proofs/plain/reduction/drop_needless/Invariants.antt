@@ -1,14 +1,15 @@
 use Rattle.std.specs.Prelude.{◌≡◌, ℕ, ◌++◌, drop}
 use Rattle.acl_eval.specs.Column.{column}
-use Rattle.acl_normal.specs.internal.Passes.{KeepsProfiles, list_of}
+use Rattle.acl_normal.specs.internal.Shown.{aces_in}
+use Rattle.acl_normal.specs.internal.Passes.{KeepsProfiles}
 use Rattle.acl_normal.specs.internal.Plain.{default, needed_keys}
 use Rattle.acl_normal.proofs.plain.reduction.drop_needless.Given as goal
 
 -- what is kept so far, and what is needed of the rest, is what is needed of all
 abbrev pub invariant-loop-place : goal.invariant-loop-place
 invariant-loop-place l = record {
-  columns : (bit : ℕ) → column (list_of l.kept.items) bit
-      ++ needed_keys (default (column (list_of l.aces) bit)) (column (list_of (drop l.place l.aces)) bit)
-      ≡ needed_keys (default (column (list_of l.aces) bit)) (column (list_of l.aces) bit);
-  profiles : KeepsProfiles (list_of l.aces) (list_of l.kept.items);
+  columns : (bit : ℕ) → column (aces_in l.kept.items) bit
+      ++ needed_keys (default (column (aces_in l.aces) bit)) (column (aces_in (drop l.place l.aces)) bit)
+      ≡ needed_keys (default (column (aces_in l.aces) bit)) (column (aces_in l.aces) bit);
+  profiles : KeepsProfiles (aces_in l.aces) (aces_in l.kept.items);
 }

@@ -3,7 +3,8 @@ use Rattle.std.specs.Prelude.{take}
 use Rattle.acl_nfs4.specs.Ace.{ace}
 use Rattle.acl_nfs4.specs.Who.{principal_of}
 use Rattle.acl_eval.specs.Column.{column}
-use Rattle.acl_normal.specs.internal.Passes.{KeepsProfiles, is_shadowed, list_of}
+use Rattle.acl_normal.specs.internal.Shown.{aces_in}
+use Rattle.acl_normal.specs.internal.Passes.{KeepsProfiles, is_shadowed}
 use Rattle.acl_normal.proofs.plain.Passes.{Marks}
 use Rattle.acl_normal.proofs.unique.Kept.{ace_at, difference_fewer, fewer_bits, keeps_more}
 use Rattle.acl_normal.proofs.plain.Reached.{reached_more}
@@ -13,16 +14,16 @@ pub loop-place-preserved : goal.loop-place-preserved
 loop-place-preserved c =
     let before = take c.loop-place.place c.args.aces.now in
     let p = principal_of (ace c.index-aces-place.result) in
-    let shadow : Marks c.shadow.result.bits (is_shadowed p (list_of before)) =
-    λ bit. c.shadow.ensures bit ∙ ap (λ p. is_shadowed p (list_of c.split_at.result.0.now) bit) c.principal.ensures
-    ∙ ap (λ v. is_shadowed p (list_of v) bit) c.split_at.ensures.front in
+    let shadow : Marks c.shadow.result.bits (is_shadowed p (aces_in before)) =
+    λ bit. c.shadow.ensures bit ∙ ap (λ p. is_shadowed p (aces_in c.split_at.result.0.now) bit) c.principal.ensures
+    ∙ ap (λ v. is_shadowed p (aces_in v) bit) c.split_at.ensures.front in
     record {
-      columns = λ bit. ap (λ v. column (list_of v) bit) c.in_ok-push.ensures.items
+      columns = λ bit. ap (λ v. column (aces_in v) bit) c.in_ok-push.ensures.items
           ∙ reached_more c.args.aces.now c.index-aces-place.result c.loop-place.kept.items _ c.loop-place.place _
           (omega arith) c.index-aces-place.is refl refl shadow c.difference-mask.ensures.meaning
           c.loop-place.invariant.columns bit;
-      profiles = subst (λ v. KeepsProfiles (list_of c.args.aces.now) (list_of v)) (sym c.in_ok-push.ensures.items)
-          (keeps_more (list_of c.args.aces.now) c.loop-place.kept.items _ c.loop-place.invariant.profiles
+      profiles = subst (λ v. KeepsProfiles (aces_in c.args.aces.now) (aces_in v)) (sym c.in_ok-push.ensures.items)
+          (keeps_more (aces_in c.args.aces.now) c.loop-place.kept.items _ c.loop-place.invariant.profiles
           (λ p h. fewer_bits p (ace c.index-aces-place.result) _ refl refl
           (difference_fewer _ _ _ c.difference-mask.ensures.meaning)
           (ace_at c.args.aces.now c.index-aces-place.result c.loop-place.place (omega arith)

@@ -2,7 +2,7 @@ use Rattle.std.specs.Prelude.{take}
 use Rattle.acl_nfs4.specs.Ace.{ace}
 use Rattle.acl_nfs4.specs.Who.{principal_of}
 use Rattle.acl_eval.specs.Column.{column}
-use Rattle.acl_normal.specs.internal.Passes.{list_of}
+use Rattle.acl_normal.specs.internal.Shown.{aces_in}
 use Rattle.acl_normal.specs.internal.Plain.{has_opposite}
 use Rattle.acl_perm.specs.Bits.{IsMask}
 use Rattle.acl_normal.proofs.plain.Passes.{Marks}
@@ -13,5 +13,5 @@ abbrev pub invariant-loop-other : goal.invariant-loop-other
 invariant-loop-other l = record {
   within : IsMask l.bits.0;
   marks : Marks l.bits.0 (λ bit. has_opposite l.item.kind (principal_of (ace l.item))
-      (column (list_of (take l.other-index l.later)) bit));
+      (column (aces_in (take l.other-index l.later)) bit));
 }

@@ -1,6 +1,7 @@
 use Rattle.std.specs.Prelude.{take}
 use Rattle.acl_perm.specs.Principal.{principal}
-use Rattle.acl_normal.specs.internal.Passes.{list_of, is_shadowed}
+use Rattle.acl_normal.specs.internal.Shown.{aces_in}
+use Rattle.acl_normal.specs.internal.Passes.{is_shadowed}
 use Rattle.acl_perm.specs.Bits.{IsMask}
 use Rattle.acl_normal.proofs.plain.Passes.{Marks}
 use Rattle.acl_normal.proofs.plain.reduction.shadow.Given as goal
@@ -9,5 +10,5 @@ use Rattle.acl_normal.proofs.plain.reduction.shadow.Given as goal
 abbrev pub invariant-loop-item : goal.invariant-loop-item
 invariant-loop-item l = record {
   within : IsMask l.bits.0;
-  marks : Marks l.bits.0 (is_shadowed (principal l.of) (list_of (take l.item-index l.before)));
+  marks : Marks l.bits.0 (is_shadowed (principal l.of) (aces_in (take l.item-index l.before)));
 }

@@ -1,5 +1,5 @@
+use Rattle.acl_normal.specs.internal.Shown.{aces_in}
 use Rattle.std.specs.Prelude.{◌≡◌, ◌++◌}
-use Rattle.acl_normal.specs.internal.Passes.{list_of}
 use Rattle.acl_normal.proofs.reduce.collected.collect.Given as goal
 
 -- the ACEs so far and those that are left are the list
@@ -7,4 +7,4 @@ abbrev pub invariant-loop-ace : goal.invariant-loop-ace
 invariant-loop-ace l =
     (goal.iterator-loop-ace).can_next l.ace-iterator ×
     (goal.iterator-loop-ace).is_finite l.ace-iterator ×
-    (list_of l.aces.items ++ l.ace-iterator ≡ l.source)
+    (aces_in l.aces.items ++ l.ace-iterator ≡ l.source)

@@ -1,7 +1,7 @@
 use Rattle.std.proofs.Common.{◌≡◌, ◌<◌, ◌^◌, Some, length, slice_index_or, ◌∙◌, sym, ap, subst, arith}
 use Rattle.acl_perm.specs.Principal.{principal, is_user}
 use Rattle.acl_normal.specs.Places.{first_at, slot_of, take_out}
-use Rattle.acl_normal.specs.internal.Rows.{IsRow}
+use Rattle.acl_normal.specs.internal.Rows.{IsRowOf}
 use Rattle.acl_normal.proofs.rows.BitTaken.{emit_right, same_default, NoKeys, slot_below, Without}
 use Rattle.acl_normal.proofs.rows.FirstPlaces.{first_by_none, first_by_place, first_in}
 use Rattle.acl_normal.proofs.rows.Rows.{row_below}
@@ -11,18 +11,18 @@ use Rattle.acl_normal.proofs.rows.merged.MergedRows.emit_bit.Goals as goal
 
 pub place_in-requires : goal.place_in-requires
 place_in-requires c =
-    let at_row = subst (IsRow c.args.row (principal c.args.p)) (sym c.self.view_is) c.requires in
+    let at_row = subst (IsRowOf c.args.row (principal c.args.p)) (sym c.self.view_is) c.requires in
     omega (arith, at_row.is, row_below (principal c.args.p) c.self.inside.rest at_row.named)
 
 pub kind_at-kind-requires : goal.kind_at-kind-requires
 kind_at-kind-requires c =
     let xs = c.self.inside.rest in
     let p = principal c.args.p in
-    let at_row = subst (IsRow c.args.row p) (sym c.self.view_is) c.requires in
+    let at_row = subst (IsRowOf c.args.row p) (sym c.self.view_is) c.requires in
     first_in c.args.right.bit p xs _ (first_by_place c.args.right.bit p xs _ (sym (c.in-Some.ensures p at_row)))
 
 pub emit-requires : goal.emit-requires
-emit-requires c = subst (IsRow c.args.row (principal c.args.p)) (sym c.self.view_is) c.requires
+emit-requires c = subst (IsRowOf c.args.row (principal c.args.p)) (sym c.self.view_is) c.requires
 
 pub invariant_of-self : goal.invariant_of-self
 invariant_of-self c =
@@ -30,7 +30,7 @@ invariant_of-self c =
     let xs = s.rest in
     let p = principal c.args.p in
     let b = c.args.right.bit in
-    let at_row = subst (IsRow c.args.row p) (sym c.self.view_is) c.requires in
+    let at_row = subst (IsRowOf c.args.row p) (sym c.self.view_is) c.requires in
     let first : first_at b p xs ≡ Some (c.kind_at-kind.result, c.in-Some.place) =
     first_by_place b p xs _ (sym (c.in-Some.ensures p at_row))
     ∙ ap (λ k. Some (k, c.in-Some.place)) (sym c.kind_at-kind.ensures) in
@@ -62,7 +62,7 @@ returns-in-Some c =
     let xs = c.self.inside.rest in
     let p = principal c.args.p in
     let b = c.args.right.bit in
-    let at_row = subst (IsRow c.args.row p) (sym c.self.view_is) c.requires in
+    let at_row = subst (IsRowOf c.args.row p) (sym c.self.view_is) c.requires in
     let first = first_by_place b p xs _ (sym (c.in-Some.ensures p at_row)) in
     c.emit.ensures
     ∙ ap (λ v. take_out p v xs) (c.alone.ensures (right_there b p xs _ first (c.self.invariant.rights b)))
@@ -72,6 +72,6 @@ pub returns-in_default : goal.returns-in_default
 returns-in_default c =
     let xs = c.self.inside.rest in
     let p = principal c.args.p in
-    let at_row = subst (IsRow c.args.row p) (sym c.self.view_is) c.requires in
+    let at_row = subst (IsRowOf c.args.row p) (sym c.self.view_is) c.requires in
     sym (subst (λ v. take_out p (2 ^ c.args.right.bit) v ≡ v) c.self.view_is
     (take_none c.args.right.bit p xs (first_by_none c.args.right.bit p xs (sym (c.in_default.ensures p at_row)))))

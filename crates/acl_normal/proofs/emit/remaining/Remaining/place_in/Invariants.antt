@@ -1,9 +1,0 @@
-use Rattle.std.specs.Prelude.{◌≤◌}
-use Rattle.acl_normal.specs.internal.Remaining.{remaining_of}
-use Rattle.acl_normal.proofs.rows.FirstPlaces.{ArePassed}
-use Rattle.acl_normal.proofs.emit.remaining.Remaining.place_in.Given as goal
-
--- none of the places so far has the right
-abbrev pub invariant-loop-at : goal.invariant-loop-at
-invariant-loop-at l = (l.row ≤ l.at)
-    × ArePassed l.right.bit (remaining_of l.self-inside) l.self-inside.order.items l.row l.at

@@ -1,0 +1,24 @@
+use Rattle.std.proofs.Common.{◌∙◌, ap, arith}
+use Rattle.acl_nfs4.specs.declared.ace.AceRef.{AceRef}
+use Rattle.acl_normal.specs.Keys.{Key}
+use Rattle.acl_normal.specs.internal.Remaining.{masks_left}
+use Rattle.acl_normal.specs.internal.Shown.{bits_in}
+use Rattle.acl_normal.proofs.rows.BitsTaken.{key_of_left, place_of_left}
+use Rattle.acl_normal.proofs.rows.remaining.Remaining.kind_at.Goals as goal
+
+pub index-requires : goal.index-requires
+index-requires c =
+    let s = c.self.inside in
+    omega (
+      arith,
+      s.aces.ok,
+      place_of_left s.aces.items (masks_left (bits_in s.masks.items) s.rows.items (bits_in s.left.items))
+          c.args.place _ c.self.view_is c.requires,
+    )
+
+pub returns : goal.returns
+returns c =
+    let s = c.self.inside in
+    ap (λ (v : AceRef). v.kind) c.index.ensures
+    ∙ ap (λ (k : Key). k.1) (key_of_left _
+    (masks_left (bits_in s.masks.items) s.rows.items (bits_in s.left.items)) _ _ _ c.self.view_is c.requires)

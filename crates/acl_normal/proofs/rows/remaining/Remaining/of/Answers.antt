@@ -1,0 +1,37 @@
+use Rattle.std.proofs.Common.{◌≡◌, ◌∙◌, ap, arith, length, slice_index_or, subst}
+use Rattle.std.proofs.lemmas.List.{get_or-replicate}
+use Rattle.acl_normal.specs.internal.Remaining.{AreQueues, masks_left}
+use Rattle.acl_normal.specs.internal.Shown.{bits_in, with_masks}
+use Rattle.acl_normal.proofs.emit.InRemaining.{all_remains, begins_right}
+use Rattle.acl_normal.proofs.unique.Bits.{bits_all, bits_length}
+use Rattle.acl_normal.proofs.rows.remaining.Remaining.of.Goals as goal
+
+-- all is left of the masks
+all : (c : goal.In_ok-left)
+    → masks_left (bits_in c.args.reduced.masks.items) c.args.reduced.numbers.rows.items
+    (bits_in c.in_ok-left.left.items) ≡ bits_in c.args.reduced.masks.items
+all c =
+    let r = c.args.reduced in
+    let count : length c.in_ok-left.left.items ≡ length r.aces.items =
+    omega (arith, c.in_ok-left.ensures.len, c.in_ok-left.left.ok, c.len.ensures, r.aces.ok) in
+    let kept : length (bits_in c.in_ok-left.left.items) ≡ length r.aces.items =
+    bits_length c.in_ok-left.left.items ∙ count in
+    all_remains r.aces.items r.masks.items r.numbers.rows.items (bits_in c.in_ok-left.left.items)
+    (omega (arith, c.requires.places, r.masks.ok, r.aces.ok)) kept c.requires.reduced.rows
+    (λ i l. ap (λ v. slice_index_or v i 0)
+    (ap bits_in (c.in_ok-left.ensures.items_if_clones_equal (λ y e. e)) ∙ bits_all _ _)
+    ∙ get_or-replicate _ i _ 0 (omega (arith, l, kept, c.len.ensures, r.aces.ok)))
+
+pub invariant_of-result : goal.invariant_of-result
+invariant_of-result c =
+    begins_right _ (omega (arith, c.requires.few, c.args.reduced.aces.ok))
+    (omega (arith, c.requires.places, c.args.reduced.aces.ok))
+    (omega (arith, c.in_ok-left.ensures.len, c.len.ensures, c.args.reduced.aces.ok))
+    c.requires.reduced
+    (subst (λ v. AreQueues (with_masks v (bits_in c.args.reduced.masks.items)) c.in_ok-queues.queues.items)
+    c.deref.ensures.value
+    (subst (λ v. AreQueues (with_masks c.deref.result.now (bits_in v)) c.in_ok-queues.queues.items)
+    c.deref-2.ensures.value c.in_ok-queues.ensures)) (all c)
+
+pub returns : goal.returns
+returns c = ap (with_masks c.args.reduced.aces.items) (all c)
