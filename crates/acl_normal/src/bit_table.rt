@@ -8,10 +8,10 @@ ghost use Rattle.acl_normal.specs.internal.Rows.{ArePlaces, first_place_of};
 ghost use Rattle.acl_normal.specs.Tables.{AddsRow, AreRows, HasKey, IsTable, with_bit};
 
 use crate::emit::emission::{Emitted, normalize_left};
-use crate::rows::remaining::Remaining;
 use crate::normal_form::ace_of;
 use crate::reduce::remaining;
 use crate::rows::merged::lowest;
+use crate::rows::remaining::Remaining;
 use acl_nfs4::Acl;
 use acl_perm::{Kind, Mask, Right};
 use std::alloc::{AllocError, Global};

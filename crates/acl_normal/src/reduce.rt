@@ -11,11 +11,11 @@ pub(crate) mod collected;
 mod first;
 mod needless;
 
-use crate::rows::remaining::Remaining;
 use crate::reduce::collected::collect;
 use crate::reduce::first::first_masks;
 use crate::reduce::needless::drop_needless;
 use crate::rows::numbers::{RowNumbers, row_numbers};
+use crate::rows::remaining::Remaining;
 use acl_nfs4::{AceRef, Acl};
 use acl_perm::Mask;
 use std::alloc::{AllocError, Global};

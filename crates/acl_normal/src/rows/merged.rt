@@ -13,8 +13,8 @@ ghost use Rattle.acl_normal.specs.internal.Rows.{IsRowOf};
 
 use crate::bits::{alone, next_right};
 use crate::class::Class;
-use crate::rows::remaining::Remaining;
 use crate::reduce::reduced_list;
+use crate::rows::remaining::Remaining;
 use crate::rows::waiting::{slot, waiting_sets};
 use acl_nfs4::Acl;
 use acl_perm::{Key, Kind, Mask, Principal, Right};
