@@ -2,7 +2,7 @@ pub mod Bits
 pub mod Members
 pub mod Columns
 pub mod Scans
-pub mod Decisions
+pub mod Deciders
 pub mod Same
 pub mod Children
 pub mod FlagByFlag

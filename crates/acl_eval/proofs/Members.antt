@@ -1,9 +1,11 @@
 -- Whether a name is one of a list: tests of references, and a search by halves among names in order.
-use Rattle.std.proofs.Common.{◌≡◌, ℕ, ◌+◌, ◌<◌, ◌≤◌, Bool, true, false, List, [], ◌∷◌, refl, sym, ◌∙◌, ap, arith, inl, inr, length}
+use Rattle.std.proofs.Common.{◌≡◌, ℕ, ◌+◌, ◌<◌, ◌≤◌, Bool, true, false, List, [], ◌∷◌, refl, sym, ◌∙◌, ap, subst, arith, inl, inr, length}
 use Rattle.std.proofs.lemmas.Bool.{cases_lt}
+use Rattle.std.proofs.lemmas.List.{get_or-map, length-map}
+use Rattle.std.proofs.lemmas.List.Elements.{All-map}
 use Rattle.std.proofs.lemmas.List.Folds.{list_any_at, list_any_none}
 use Rattle.std.proofs.lemmas.List.Sorted.{searchable_from_sorted}
-use Rattle.std.specs.Prelude.{map, ◌||◌, Result, Ok, Err, Some, is_ok, ◌⊎◌, slice_index_or}
+use Rattle.std.specs.Prelude.{All, map, ◌↔◌, ◌||◌, Result, Ok, Err, Some, is_ok, ◌⊎◌, slice_index_or}
 use Rattle.std.specs.Borrow.{Bor}
 use Rattle.std.specs.Cmp.Lexicographic.{lists_agrees, nat_list_cmp_total, nat_list_eq_equiv, slice_cmp, slice_partial_cmp, texts_ties}
 use Rattle.std.specs.List.{IsAllAdjacentAnswer, list_any}
@@ -19,6 +21,15 @@ pub any_now : (p : List ℕ → Bool) (xs : List (Bor (List ℕ)))
     → list_any p (map (λ g. g.now) xs) ≡ list_any (λ g. p g.now) xs
 any_now p [] = refl
 any_now p (x ∷ xs) = ap (λ (b : Bool). p x.now || b) (any_now p xs)
+
+-- no name is empty, said of the references and of what they point to
+pub all_named : (names : List (Bor (List ℕ)))
+    → All (λ g. 0 < length g.now) names ↔ All (λ g. 0 < length g) (map (λ g. g.now) names)
+all_named names = (
+  λ h. All-map (λ (g : List ℕ). 0 < length g) (λ (g : Bor (List ℕ)). g.now) names h,
+  λ h k d lt. subst (λ (g : List ℕ). 0 < length g)
+      (get_or-map (λ (g : Bor (List ℕ)). g.now) names k d d.now lt) (h k d.now (rw length-map lt)),
+)
 
 -- two names are equal exactly if neither comes first
 eq_as_cmp : (name group : List ℕ) (o : Ordering) → slice_cmp nat_cmp group name ≡ o → bytes_eq name group ≡ is_eq o

@@ -46,7 +46,7 @@ same_kind Deny Allow e = absurd cc
 same_kind Allow Deny e = absurd cc
 
 -- a request of one bit is granted exactly if the bit is
-grant_one : (list : List Ace) (s : Situation) (k : ℕ) → Grant list s (2 ^ k) ↔ (grants_bit list s k ≡ true)
+pub grant_one : (list : List Ace) (s : Situation) (k : ℕ) → Grant list s (2 ^ k) ↔ (grants_bit list s k ≡ true)
 grant_one list s k = (
   λ g. g k (one_bit k),
   λ g i h. subst (λ (n : ℕ). grants_bit list s n ≡ true) (sym (only_bit k i h)) g,

@@ -6,6 +6,8 @@ pub mod LastByte
 pub mod GroupOrder
 -- how a requester stands to an object, as a situation
 pub mod Asked
+-- what is known of the rights of a mask before the rest of a list is read
+pub mod GrantingBody
 -- going over a list for the ACE that decides
 pub mod DecidingBody
 -- what is known of a class of the mode before the rest of a list is gone over

@@ -13,7 +13,7 @@ use acl_nfs4::{AceRef, Acl, Flags, Kind, MOST_WEIGHT, Mask, PushFault};
 use acl_perm::Perm;
 use acl_posix::{Entry, PosixAcl, Tag};
 use itoa::Buffer;
-use std::alloc::Global;
+use std::alloc::{AllocError, Global};
 use thiserror::Error;
 
 /// Why there is no list for a POSIX ACL.
@@ -23,8 +23,20 @@ pub enum BridgeFault {
     #[error("Limits")]
     Limits,
     /// There is no memory for the list.
-    #[error("Memory")]
+    #[error("out of memory")]
     Memory,
+}
+
+impl From<AllocError> for BridgeFault {
+    ghost use Rattle.std.specs.Prelude.{◌≡◌};
+    ghost use Rattle.acl_eval.specs.declared.bridging.BridgeFault.TheVariants.{Memory};
+
+    ghost from_gives = { λ fault own. own ≡ Memory };
+
+    /// Returns `Memory`.
+    fn from(_fault: AllocError) -> BridgeFault {
+        BridgeFault::Memory
+    }
 }
 
 /// The parts of the list, each over all entries.
@@ -42,6 +54,12 @@ enum Part {
 /// any group's entry grants. Permissions are effective ones, read stands for READ_DATA, write for WRITE_DATA and
 /// APPEND_DATA, execute for EXECUTE, and names are decimal ids. `Limits` is judged before memory is asked for. Time is
 /// linear in the number of entries.
+///
+/// ```rust
+/// let file = parse(alloc, b"u::rw-,g::r--,o::---", &Names::new(alloc))?;
+/// let list = bridge(alloc, &file.access)?;
+/// assert_eq!(rt; mode_of(list.aces()).bits(), 0o640);
+/// ```
 pub fn bridge(alloc: Global, acl: &PosixAcl) -> Result<Acl, BridgeFault>
     ensures list { IfOk result (λ list. list ≡ bridge_list acl.now) }
     // A list is answered only where it is accepted.

@@ -22,7 +22,16 @@ pub struct Decision {
 /// The ACE that decides the right for the requester of the object, by RFC 8881, section 6.2.1: the first of those
 /// without INHERIT_ONLY that has it and speaks of the requester; none where no ACE does, which denies the right. It
 /// goes over the list once, ends at that ACE, and takes no memory.
-#[tactic(auto, using(crate::proofs::Decisions::decisions))]
+///
+/// ```rust
+/// let list = parse_text(alloc, b"ALLOW - READ_DATA bob\nDENY - WRITE_DATA bob")?;
+/// let object = Object::new(b"alice", b"staff").ok_or("a name is empty")?;
+/// let bob = Requester::new(b"bob", &[]).ok_or("a name is empty")?;
+/// let write = Right::new(1).ok_or("no such right")?;
+/// let decision = deciding_ace(list.aces(), &object, &bob, write).ok_or("no ACE decides")?;
+/// assert_eq!(rt; decision.place, 1);
+/// ```
+#[tactic(auto, using(crate::proofs::Deciders::decisions))]
 pub fn deciding_ace(
     aces: Aces<'_>,
     object: &Object<'_>,

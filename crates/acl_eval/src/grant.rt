@@ -16,6 +16,14 @@ use acl_perm::{Kind, Mask};
 /// An ACE of a group looks its name up among the requester's groups: by halves where these are more than 128 and stand
 /// in the order of their bytes, and else one by one, which at 1,000 groups costs up to a microsecond. So at worst the
 /// cost is the number of ACEs times that of groups.
+///
+/// ```rust
+/// let list = parse_text(alloc, b"ALLOW - READ_DATA|WRITE_DATA bob")?;
+/// let object = Object::new(b"alice", b"staff").ok_or("a name is empty")?;
+/// let bob = Requester::new(b"bob", &[]).ok_or("a name is empty")?;
+/// assert!(rt; grants(list.aces(), &object, &bob, Mask::WRITE_DATA));
+/// assert!(rt; !grants(list.aces(), &object, &bob, Mask::ALL));
+/// ```
 #[tactic(auto, using(crate::proofs::Scans::scan_is))]
 pub fn grants(aces: Aces<'_>, object: &Object<'_>, requester: &Requester<'_>, mask: Mask) -> bool
     ensures { IsTrue result ↔ Grant aces.entry (situation object.now requester.now) mask.bits }

@@ -6,7 +6,7 @@ ghost use Rattle.acl_nfs4.specs.Ace.{ace};
 ghost use Rattle.acl_nfs4.specs.Spelling.{Fits};
 ghost use Rattle.acl_eval.specs.Inheritance.{child_flags, children};
 
-use acl_nfs4::{AceRef, Acl, Flags};
+use acl_nfs4::{AceRef, Acl, AclView, Flags};
 use std::alloc::{AllocError, Global};
 
 /// What is created.
@@ -22,8 +22,29 @@ pub enum ChildKind {
 /// own, in the manner of RFC 8881, section 6.4). Its ACEs are those of the parent that are inherited, in order and as
 /// they were, but for the flags that speak of inheritance. Time is linear in the bytes of the parent, and only want of
 /// memory fails.
-#[tactic(auto)]
+///
+/// ```rust
+/// let parent = parse_text(alloc, b"ALLOW FILE READ_DATA bob\nDENY - WRITE_DATA bob")?;
+/// let list = child(alloc, &parent, ChildKind::File)?;
+/// assert!(rt; list == parse_text(alloc, b"ALLOW - READ_DATA bob")?);
+/// ```
 pub fn child(alloc: Global, parent: &Acl, kind: ChildKind) -> Result<Acl, AllocError>
+    ensures ok { IfOk result (λ list. list ≡ children kind parent.now) }
+    // A profile with INHERIT_ONLY that the parent fits, the child fits.
+    ensures fits { IfOk result (λ list. (p : Profile) → IsTrue (has_bit p.flags inherit_only)
+        → Fits p parent.now → Fits p list) }
+{
+    child_of_view(alloc, &parent.view(), kind)
+}
+
+/// Returns the list that `child` returns, for a parent whose list is still in its XDR bytes, without a copy of the parent.
+/// Returns `AllocError` only if memory runs out.
+#[tactic(auto)]
+pub fn child_of_view(
+    alloc: Global,
+    parent: &AclView<'_>,
+    kind: ChildKind,
+) -> Result<Acl, AllocError>
     ensures ok { IfOk result (λ list. list ≡ children kind parent.now) }
     // A profile with INHERIT_ONLY that the parent fits, the child fits.
     ensures fits { IfOk result (λ list. (p : Profile) → IsTrue (has_bit p.flags inherit_only)

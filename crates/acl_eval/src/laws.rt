@@ -1,7 +1,7 @@
 //! Laws of the evaluation, and of the list that stands for a POSIX ACL.
-ghost use Rattle.std.specs.Prelude.{◌≡◌, ◌↔◌, ℕ, List, IsTrue, None, Some, false, not, true};
+ghost use Rattle.std.specs.Prelude.{◌≡◌, ◌↔◌, ◌^◌, ℕ, List, IsTrue, None, Some, false, not, true};
 ghost use Rattle.acl_perm.specs.Bits.{has_bit, IsMask, inherit_only};
-ghost use Rattle.acl_perm.specs.Situation.{Situation};
+ghost use Rattle.acl_perm.specs.Situation.{Situation, is_one_of};
 ghost use Rattle.acl_perm.specs.Profile.{Profile};
 ghost use Rattle.acl_posix.specs.Check.{ids};
 ghost use Rattle.acl_nfs4.specs.Ace.{Ace};
@@ -10,7 +10,7 @@ ghost use Rattle.acl_eval.specs.BridgeLaws.{AnswersAlike, GrantsSingles, KeepsGr
 ghost use Rattle.acl_eval.specs.BridgeNames.{NamesDiffer, NamesStand, OnlyLimitsRefuse};
 ghost use Rattle.acl_eval.specs.Deciding.{deciding_kind};
 ghost use Rattle.acl_perm.specs.declared.kind.Kind.TheVariants.{Allow};
-ghost use Rattle.acl_eval.specs.Grant.{Grant, SameBits, SameColumns, SameGrants};
+ghost use Rattle.acl_eval.specs.Grant.{Grant, SameBits, SameColumns, SameGrants, grants_bit};
 ghost use Rattle.acl_eval.specs.Inheritance.{child_flags, children, directory_inherit, ends, file_inherit, goes_on, no_propagate_inherit, waits};
 ghost use Rattle.acl_eval.specs.InheritanceLaws.{IsByFlag};
 ghost use Rattle.acl_eval.specs.Laws.{IsEquivalence};
@@ -50,6 +50,25 @@ pub fn scan_is_bit_by_bit()
 pub fn allows_decide_what_is_granted()
     ensures { (list : List Ace) (s : Situation) (request : ℕ) → Grant list s request
         ↔ ((bit : ℕ) → IsTrue (has_bit request bit) → deciding_kind list s bit ≡ Some Allow) }
+{}
+
+/// A request for one right is granted if and only if that right is granted by itself, and if and only if the ACE that
+/// decides the right is an ALLOW.
+pub fn one_right()
+    ensures alone { (list : List Ace) (s : Situation) (bit : ℕ)
+        → Grant list s (2 ^ bit) ↔ IsTrue (grants_bit list s bit) }
+    ensures decided { (list : List Ace) (s : Situation) (bit : ℕ)
+        → IsTrue (grants_bit list s bit) ↔ (deciding_kind list s bit ≡ Some Allow) }
+{}
+
+/// Neither the order of a requester's groups nor a repeated group changes what a list grants: two requesters who differ
+/// only in that are granted the same requests.
+pub fn groups_are_a_set()
+    ensures { (list : List Ace) (s t : Situation) (request : ℕ)
+        → t.owner_name ≡ s.owner_name → t.owning_group ≡ s.owning_group
+        → t.user_name ≡ s.user_name
+        → ((name : List ℕ) → is_one_of name t.groups ≡ is_one_of name s.groups)
+        → Grant list s request ↔ Grant list t request }
 {}
 
 /// The flags of an ACE in a new file: none of inheritance, where the ACE has FILE_INHERIT, and else the ACE is absent.

@@ -2,10 +2,14 @@
 #![tactic(auto)]
 
 mod bridging;
+#[cfg(test)]
+mod decide;
 mod deciding;
+mod deciding_all;
 #[cfg(test)]
 mod example;
 mod grant;
+mod granting;
 mod groups;
 mod inherit;
 pub mod laws;
@@ -20,7 +24,9 @@ mod tests;
 
 pub use bridging::{BridgeFault, bridge};
 pub use deciding::{Decision, deciding_ace};
+pub use deciding_all::{Decisions, deciding_aces};
 pub use grant::grants;
-pub use inherit::{ChildKind, child};
+pub use granting::granted;
+pub use inherit::{ChildKind, child, child_of_view};
 pub use mode::mode_of;
 pub use situation::{Object, Requester};

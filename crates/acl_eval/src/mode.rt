@@ -15,6 +15,12 @@ use acl_perm::{Kind, Mask, Mode, Perm, Principal};
 /// The file mode bits of a list (RFC 8881, section 6.3.2): for the owner what the ACEs of `OWNER@` and `EVERYONE@`
 /// grant, for the group what those of `GROUP@` and `EVERYONE@` do, for others what those of `EVERYONE@` do. It goes
 /// over the list once, and takes no memory.
+///
+/// ```rust
+/// let list = parse_text(alloc, b"ALLOW - READ_DATA|EXECUTE EVERYONE@")?;
+/// let mode = mode_of(list.aces());
+/// assert_eq!(rt; mode.bits(), 0o555);
+/// ```
 pub fn mode_of(aces: Aces<'_>) -> Mode
     ensures { result.bits ≡ mode_of_list aces.entry }
 {

@@ -1,5 +1,5 @@
 //! Who asks, and of whose object: no name of these is empty.
-ghost use Rattle.std.specs.Prelude.{◌≡◌, ◌<◌, ◌↔◌, IfSome, IsSome, All, length, map};
+ghost use Rattle.std.specs.Prelude.{◌≡◌, ◌<◌, ◌↔◌, IfSome, IsSome, IsTrue, All, length, map};
 ghost use Rattle.std.specs.List.{list_any};
 ghost use Rattle.std.specs.Str.{bytes_eq};
 ghost use Rattle.acl_eval.specs.Situation.{groups_of, owner_of, owning_group_of, user_of};
@@ -15,6 +15,12 @@ pub struct Object<'a> {
 
 impl<'a> Object<'a> {
     /// An object of these names, which stay where they are. None where one is empty.
+    ///
+    /// ```rust
+    /// let object = Object::new(b"alice", b"staff");
+    /// assert!(rt; object.is_some());
+    /// assert!(rt; Object::new(b"alice", b"").is_none());
+    /// ```
     pub fn new(owner: &'a [u8], group: &'a [u8]) -> Option<Self>
         ensures named { IsSome result ↔ ((0 < length owner.now) × (0 < length group.now)) }
         ensures owner { IfSome result (λ object. owner_of object ≡ owner.now) }
@@ -51,18 +57,25 @@ impl<'a> Requester<'a> {
     /// A requester of these names, which stay where they are. None where one is empty. There may be no group; one
     /// that is named twice counts once. Many groups are looked up by halves if they stand in the order of their bytes,
     /// and others one by one.
+    ///
+    /// ```rust
+    /// let requester = Requester::new(b"bob", &[b"staff", b"users"]);
+    /// assert!(rt; requester.is_some());
+    /// assert!(rt; Requester::new(b"bob", &[b""]).is_none());
+    /// ```
     pub fn new(user: &'a [u8], groups: &'a [&'a [u8]]) -> Option<Self>
         ensures named { IsSome result
-            ↔ ((0 < length user.now) × All (λ g. 0 < length g.now) groups.now) }
+            ↔ ((0 < length user.now)
+            × All (λ g. 0 < length g) (map (λ g. g.now) groups.now)) }
         ensures user { IfSome result (λ requester. user_of requester ≡ user.now) }
         ensures groups { IfSome result (λ requester.
             groups_of requester ≡ map (λ g. g.now) groups.now) }
     {
-        if user.is_empty() || groups.iter().any(|group| group.is_empty()) {
-            None
-        } else {
+        if are_named(user, groups) {
             let groups = Groups::new(groups);
             Some(Requester { user, groups })
+        } else {
+            None
         }
     }
 
@@ -94,4 +107,12 @@ impl<'a> Requester<'a> {
     {
         self.groups.contains(name)
     }
+}
+
+// Whether none of the names is empty.
+fn are_named(user: &[u8], groups: &[&[u8]]) -> bool
+    ensures { IsTrue result
+        ↔ ((0 < length user.now) × All (λ g. 0 < length g.now) groups.now) }
+{
+    !user.is_empty() && groups.iter().all(|group| !group.is_empty())
 }

@@ -4,6 +4,7 @@ mod ample;
 mod bridging;
 mod creation;
 mod deciding;
+mod examples;
 mod granting;
 mod harness;
 mod lists;

@@ -127,3 +127,16 @@ small_after (done list) piece (fed.Refused f) new h = absurd h
 small_after (refused g) piece fed.More new h = absurd h
 small_after (refused g) piece (fed.Done t) new h = absurd h
 small_after (refused g) piece (fed.Refused f) new h = subst (λ (n : Standing). IsSmall n) (sym h.0) tt
+
+-- what belongs to the list is at most the piece
+pub taken_within : (old : Standing) (piece : List ℕ) (answer : Fed) (new : Standing) → Feeds old piece answer new
+    → (taken : ℕ) → answer ≡ fed.Done taken → taken ≤ length piece
+taken_within (more p s) piece fed.More new h taken e = absurd cc
+taken_within (more p s) piece (fed.Done t) new h taken e = let same : t ≡ taken = cc in omega (arith, h.2, same)
+taken_within (more p s) piece (fed.Refused f) new h taken e = absurd cc
+taken_within (done list) piece fed.More new h taken e = absurd cc
+taken_within (done list) piece (fed.Done t) new h taken e = let same : t ≡ taken = cc in omega (arith, h.1, same)
+taken_within (done list) piece (fed.Refused f) new h taken e = absurd cc
+taken_within (refused g) piece fed.More new h taken e = absurd cc
+taken_within (refused g) piece (fed.Done t) new h taken e = absurd h
+taken_within (refused g) piece (fed.Refused f) new h taken e = absurd cc

@@ -4,8 +4,7 @@ use Rattle.std.specs.List.{flat_map, AllByRecursion}
 use Rattle.std.proofs.lemmas.List.{length-append, length-replicate}
 use Rattle.acl_perm.specs.Profile.{Profile}
 use Rattle.acl_nfs4.specs.Ace.{Ace}
-use Rattle.acl_nfs4.specs.internal.Body.{aces_of}
-use Rattle.acl_nfs4.specs.Owned.{IsOwned}
+use Rattle.acl_nfs4.specs.internal.Body.{aces_of, IsList}
 use Rattle.acl_nfs4.specs.Spelling.{IsAce, IsAccepted, pad_len, piece, spelling, word}
 use Rattle.acl_nfs4.proofs.Fields.{who_bounds}
 
@@ -33,11 +32,11 @@ pieces_short p (a ∷ list) each = omega (
 pub spelling_short : (p : Profile) (list : List Ace) → IsAccepted p list → length (spelling list) < 2 ^ 31
 spelling_short p list is = omega (arith, pieces_short p list is.each, is.count)
 
--- the bytes of an owned list, with the word of its length before them
-pub owned_len : (count total : ℕ) (body : List ℕ) → IsOwned count total body
+-- the bytes of a list, with the word of its length before them
+pub list_len : (count : ℕ) (body : List ℕ) → IsList count body
     → 4 + length body ≡ length (spelling (aces_of count body))
-owned_len count total body is = omega (
+list_len count body is = omega (
   arith,
-  ap length is.spells.spells.spelled,
+  ap length is.body.spells.spelled,
   length-append (word (length (aces_of count body))) (flat_map piece (aces_of count body)),
 )

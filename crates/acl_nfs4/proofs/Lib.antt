@@ -1,5 +1,6 @@
 pub mod PlainLanes
 pub mod PlainText
+pub mod Shown
 pub mod Within
 pub mod Loop
 pub mod Fields
@@ -13,6 +14,7 @@ pub mod Push
 pub mod Completion
 pub mod Weights
 pub mod Lengths
+pub mod Ordered
 pub mod OneFault
 pub mod Scanning
 pub mod Streaming

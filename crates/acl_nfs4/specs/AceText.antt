@@ -1,10 +1,12 @@
 -- The text form of a list of ACEs, which is this library's own: a line an ACE, `TYPE FLAGS MASK WHO`.
 use Rattle.std.specs.Prelude.{◌≡◌, ◌+◌, ◌==◌, ◌||◌, ℕ, List, [], ◌∷◌, ◌++◌, Bool, true, not, codes, IsTrue, if◌then◌else◌}
 use Rattle.std.specs.List.{flat_map, list_all}
+use Rattle.std.specs.Str.{is_utf8}
+use Rattle.std.specs.Str.Lossy.{replacement_bytes}
 use Rattle.acl_perm.specs.Lines.{lines_of, is_all_blank, line_feed}
 use Rattle.acl_perm.specs.Profile.{Profile}
-use Rattle.acl_perm.specs.declared.kind.Kind.{Kind}
-use Rattle.acl_perm.specs.declared.kind.Kind.TheVariants.{Deny, Allow}
+-- the word of a type (RFC 8881, section 6.2.1.1)
+pub use Rattle.acl_perm.specs.Names.{kind_name}
 use Rattle.acl_nfs4.specs.Ace.{Ace}
 use Rattle.acl_nfs4.specs.BitNames.{set_text}
 use Rattle.acl_nfs4.specs.FlagNames.{flag_names, SpellsFlags}
@@ -18,11 +20,6 @@ space = 0x20
 -- the byte `#`, with which a comment begins
 abbrev pub comment_mark : ℕ
 comment_mark = 0x23
-
--- the word of a type (RFC 8881, section 6.2.1.1)
-abbrev pub kind_name : Kind → List ℕ
-kind_name Allow = codes "ALLOW"
-kind_name Deny = codes "DENY"
 
 -- ---- lines
 
@@ -94,6 +91,15 @@ pub record IsAceText (p : Profile) (list : List Ace) (text : List ℕ) : Type 0 
 unfoldable pub ace_line : Ace → List ℕ
 ace_line a = kind_name a.kind ++ space ∷ (set_text flag_names a.flags ++ space ∷ (set_text rights a.mask
     ++ space ∷ (a.who ++ line_feed ∷ [])))
+
+-- bytes as they are shown: themselves where they are UTF-8, and else U+FFFD, the replacement character, for all
+abbrev pub as_text : List ℕ → List ℕ
+as_text bytes = if is_utf8 bytes then bytes else replacement_bytes
+
+-- an ACE as it is shown: its line without the line feed
+abbrev pub ace_shown : Ace → List ℕ
+ace_shown a = kind_name a.kind ++ space ∷ (set_text flag_names a.flags ++ space ∷ (set_text rights a.mask
+    ++ space ∷ as_text a.who))
 
 -- the lines of the ACEs in order
 abbrev pub ace_text : List Ace → List ℕ

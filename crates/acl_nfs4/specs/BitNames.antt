@@ -1,23 +1,11 @@
 -- Tables that name bits, and the fields of the text form that name a set by them (RFC 8881, sections 6.2.1.3.1 and
 -- 6.2.1.4.1, has the names of the rights and the flags; the form of a field is this library's own).
-use Rattle.std.specs.Prelude.{◌≡◌, ◌≢◌, ◌⊎◌, ◌||◌, ℕ, List, [], ◌∷◌, Bool, false, Option, Some, None, codes, find, option_map, bit_and, bit_or, if◌then◌else◌, ◌==◌}
+use Rattle.std.specs.Prelude.{◌≡◌, ◌≢◌, ◌⊎◌, ◌||◌, ℕ, List, [], ◌∷◌, Bool, false, Option, Some, codes, find, option_map, bit_and, bit_or, if◌then◌else◌, ◌==◌}
 use Rattle.std.specs.List.{join_with_byte, slice_split}
 use Rattle.std.specs.Option.{option_and_then, option_map_or}
 use Rattle.std.specs.Str.{bytes_eq}
-
--- a row of a table: a bit, its name, and its second name, where it has two
-pub record BitName : Type 0 where
-  pub bit : ℕ
-  pub name : List ℕ
-  pub second : Option (List ℕ)
-
--- a row of one name
-abbrev pub one_name : ℕ → List ℕ → BitName
-one_name bit name = record { bit = bit; name = name; second = None }
-
--- a row of two names
-abbrev pub two_names : ℕ → List ℕ → List ℕ → BitName
-two_names bit name second = record { bit = bit; name = name; second = Some second }
+-- a row of a table: a bit, its name, and its second name, where it has two; and the first name of the row of a bit
+pub use Rattle.acl_perm.specs.Names.{BitName, one_name, two_names, first_name}
 
 -- ---- what a field names
 
@@ -65,7 +53,3 @@ names_of (row ∷ rows) set =
 -- the field of a set as it is written: `-` for the empty one, else these names with `|` between them
 unfoldable pub set_text : List BitName → ℕ → List ℕ
 set_text table set = if set == 0 then no_names else join_with_byte bar (names_of table set)
-
--- the first name of the row whose bit this is
-abbrev pub first_name : List BitName → ℕ → Option (List ℕ)
-first_name table bit = option_map (λ row. row.name) (find (λ row. row.bit == bit) table)

@@ -1,11 +1,15 @@
--- The owned list (RFC 8881, section 6.2.1): what its fields hold, and when two lists are equal.
-use Rattle.std.specs.Prelude.{◌≡◌, ℕ, ◌≤◌, List, Bool, nat_eq}
-use Rattle.std.specs.Cmp.{on_per, on_equiv, IsPartialEquivalence, IsEquivalence, partial_equiv_from_equiv}
-use Rattle.std.specs.Ordering.{on}
-use Rattle.std.specs.Cmp.Lexicographic.{pointwise, nat_list_eq_equiv}
+-- The owned list (RFC 8881, section 6.2.1): what its fields hold, and when two lists are equal; their order and what a
+-- hasher is fed are this library's own.
+use Rattle.std.specs.Prelude.{◌≡◌, ℕ, ◌≤◌, List, [], ◌∷◌, length, Bool, nat_eq}
+use Rattle.std.specs.Cmp.{on_per, on_equiv, on_po, on_total, IsPartialEquivalence, IsEquivalence, IsPartialOrder, IsTotalOrder, partial_equiv_from_equiv}
+use Rattle.std.specs.Ordering.{as_partial_cmp, eq_by_cmp, nat_cmp, on}
+use Rattle.std.specs.declared.cmp.Ordering.{Ordering}
+use Rattle.std.specs.Cmp.Lexicographic.{pointwise, slice_cmp, nat_list_eq_equiv, nat_list_cmp_total, texts_po, texts_ties}
+use Rattle.std.specs.Hash.{HashWrites}
+use Rattle.std.specs.List.{flat_map}
 use Rattle.acl_nfs4.specs.Ace.{Ace}
 use Rattle.acl_nfs4.specs.Limits.{most_aces}
-use Rattle.acl_nfs4.specs.Spelling.{spelling, weight}
+use Rattle.acl_nfs4.specs.Spelling.{piece, spelling, weight, word}
 use Rattle.acl_nfs4.specs.internal.Body.{aces_of, IsBody}
 
 -- the fields of a list: the pieces of so many ACEs of that weight, within the limit
@@ -25,3 +29,24 @@ same_list_laws = on_per spelling (partial_equiv_from_equiv nat_list_eq_equiv)
 -- lists are compared by an equivalence
 pub same_list_equiv : IsEquivalence same_list
 same_list_equiv = on_equiv spelling nat_list_eq_equiv
+
+-- lists are ordered by their spellings, byte by byte: by their lengths, and at one length by the first word in which
+-- their ACEs differ
+abbrev pub list_cmp : List Ace → List Ace → Ordering
+list_cmp = on spelling (slice_cmp nat_cmp)
+
+-- the order is total
+pub list_cmp_total : IsTotalOrder list_cmp
+list_cmp_total = on_total spelling nat_list_cmp_total
+
+-- the order goes with equality
+pub list_partial_order : IsPartialOrder same_list (as_partial_cmp list_cmp)
+list_partial_order = on_po spelling texts_po
+
+-- lists are equal exactly if neither comes before the other
+pub list_ties : (a b : List Ace) → same_list a b ≡ eq_by_cmp list_cmp a b
+list_ties a b = texts_ties (spelling a) (spelling b)
+
+-- what a hasher is fed of a list: the word of its length, and then the pieces of its ACEs
+abbrev pub list_writes : List Ace → HashWrites
+list_writes list = word (length list) ∷ flat_map piece list ∷ []

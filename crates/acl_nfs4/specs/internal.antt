@@ -16,3 +16,5 @@ pub mod Appending
 pub mod Progress
 -- fields that are pulled from a source
 pub mod Pulling
+-- equal lists are fed alike to a hasher
+pub mod FedAlike

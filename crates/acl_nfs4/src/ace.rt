@@ -6,7 +6,7 @@ ghost use Rattle.acl_perm.specs.Principal.{principal};
 use acl_perm::{Flags, Key, Kind, Mask, Principal};
 
 /// An ACE whose who lies elsewhere (RFC 8881, section 6.2.1).
-#[derive(Clone, Copy, Debug)]
+#[derive(Clone, Copy, Debug, PartialEq, Eq, Hash)]
 pub struct AceRef<'a> {
     /// Whether it allows or denies.
     pub kind: Kind,

@@ -9,6 +9,7 @@ ghost use Rattle.std.specs.Prelude.{◌≡◌, ℕ, ◌+◌, ◌≤◌, ◌<◌,
 ghost use Rattle.acl_perm.specs.Profile.{Profile as Allowed, full, profile_of};
 ghost use Rattle.acl_nfs4.specs.Stream.{FedExactly, Feeds, Finishes, IsCut, IsSmall, more};
 ghost use Rattle.acl_nfs4.specs.Fault.{IsFault};
+ghost use Rattle.acl_nfs4.specs.declared.feed.fed.Fed.TheVariants.{Done};
 ghost use Rattle.acl_nfs4.specs.declared.xdr.fault.Reason.TheVariants.{Truncated};
 
 use crate::feed::fed::Fed;
@@ -88,11 +89,21 @@ impl Feed {
 
     /// Takes the next piece of the stream. Beside the piece it takes the memory of what belongs to the list: no count
     /// and no length makes it ask for memory before the bytes are there. After `Done` and `Refused` nothing changes.
+    ///
+    /// ```rust
+    /// let mut feed = Feed::new(alloc);
+    /// assert!(rt; feed.feed(&[0, 0]) == Fed::More);
+    /// assert!(rt; feed.feed(&[0, 0, 0xff]) == Fed::Done { taken: 2 });
+    /// assert!(rt; feed.finish()?.is_empty());
+    /// ```
+    #[tactic(auto, using(crate::proofs::Held::taken_within))]
     pub fn feed(&mut self, piece: &[u8]) -> Fed
         ensures feeds { Feeds self.old piece.now result self.new }
         // The answer is told by what the stream is, however it is cut into pieces.
         ensures exactly { (p : Allowed) (s : List ℕ) → self.old ≡ more p s
             → FedExactly p (s ++ piece.now) (length s) result }
+        // No more bytes belong to the list than the piece has.
+        ensures within { (taken : ℕ) → result ≡ Done taken → taken ≤ length piece.now }
         // Where more is wanted, the stream so far is little beyond whole ACEs.
         ensures held { IsSmall self.new }
     {

@@ -2,6 +2,7 @@
 
 mod agreement;
 mod devices;
+mod examples;
 mod feeding;
 mod harness;
 mod list;

@@ -3,4 +3,5 @@
 pub(crate) mod fault;
 pub(crate) mod line;
 pub(crate) mod reader;
+pub(crate) mod shown;
 mod writer;

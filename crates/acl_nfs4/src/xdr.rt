@@ -2,7 +2,7 @@
 
 pub(crate) mod cursor;
 pub(crate) mod decoder;
-mod encode;
+pub(crate) mod encode;
 pub(crate) mod fault;
 pub(crate) mod judges;
 mod pulling;

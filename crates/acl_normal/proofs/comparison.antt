@@ -28,3 +28,5 @@ pub mod RowFacts
 pub mod TableFacts
 -- the first small set, by least numbers
 pub mod Assembly
+-- what a difference has to have, so that an object, a requester and a right can be made of it
+pub mod Asked

@@ -22,3 +22,7 @@ pub mod InRows
 pub mod RemainingLemmas
 -- what remains of a list, by its fields
 pub mod InRemaining
+-- a list whose keys rise stands in the order of its normal form
+pub mod RisingKeys
+-- the look at the numbers of the keys tells whether they rise
+pub mod Risen

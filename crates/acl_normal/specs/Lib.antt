@@ -9,5 +9,7 @@ pub mod Laws
 pub mod Places
 pub mod Left
 pub mod SmallSets
+pub mod OneRight
 pub mod Difference
+pub mod RequesterNames
 pub mod Tables

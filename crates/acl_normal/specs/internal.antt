@@ -52,3 +52,5 @@ pub mod PlaceTables
 pub mod MentionedRows
 -- the sets of principals that the code of a comparison holds
 pub mod CodeSets
+-- lists whose keys rise
+pub mod Rising

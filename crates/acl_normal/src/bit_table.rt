@@ -12,8 +12,9 @@ use crate::normal_form::ace_of;
 use crate::reduce::remaining;
 use crate::rows::merged::lowest;
 use crate::rows::remaining::Remaining;
-use acl_nfs4::Acl;
-use acl_perm::{Kind, Mask, Right};
+use acl_nfs4::{Acl, AclView};
+use acl_perm::internal::Bit;
+use acl_perm::{Kind, Mask};
 use std::alloc::{AllocError, Global};
 
 /// An ACE of the normal form: its kind, its who, whether that is the name of a group, and the place in the given list,
@@ -32,7 +33,23 @@ pub struct Row {
 
 /// The ACEs of the normal form of a list that have a right, in its order (this library's own, over RFC 8881, section
 /// 6.2.1). Of several rights it is the lowest; without a right there is no row. An error is want of memory.
+///
+/// ```rust
+/// let list = parse_text(alloc, b"DENY - WRITE_DATA bob\nALLOW - READ_DATA|WRITE_DATA OWNER@\n")?;
+/// let rows = table(alloc, &list, Mask::WRITE_DATA)?;
+/// assert!(rt; rows.len() == 2);
+/// assert!(rt; rows.first().is_some_and(|row| row.kind == Kind::Deny && row.source == 0));
+/// ```
 pub fn table(alloc: Global, list: &Acl, bit: Mask) -> Result<Vec<Row>, AllocError>
+    ensures rows { IfOk result (λ rows. (b : ℕ) → IsLowest b bit.bits
+        → IsTable b list.now rows.items) }
+    ensures none { bit.bits ≡ 0 → IsOkAnd result (λ rows. rows.items ≡ []) }
+{
+    table_of_view(alloc, &list.view(), bit)
+}
+
+/// Returns the rows of a right of the list of a view, as [`table`] does of an owned list. It does not copy the list.
+pub fn table_of_view(alloc: Global, list: &AclView<'_>, bit: Mask) -> Result<Vec<Row>, AllocError>
     ensures rows { IfOk result (λ rows. (b : ℕ) → IsLowest b bit.bits
         → IsTable b list.now rows.items) }
     ensures none { bit.bits ≡ 0 → IsOkAnd result (λ rows. rows.items ≡ []) }
@@ -50,11 +67,7 @@ pub fn table(alloc: Global, list: &Acl, bit: Mask) -> Result<Vec<Row>, AllocErro
 }
 
 // By row, the place of the ACE that has the right.
-fn places(
-    alloc: Global,
-    rows: &Remaining<'_>,
-    right: Right,
-) -> Result<Vec<Option<usize>>, AllocError>
+fn places(alloc: Global, rows: &Remaining<'_>, right: Bit) -> Result<Vec<Option<usize>>, AllocError>
     ensures count { IfOk result (λ places. vec_len places ≡ length rows.now) }
     ensures places { IfOk result (λ places. ArePlaces right.bit rows.now places.items) }
 {
@@ -70,7 +83,7 @@ fn rows_of(
     alloc: Global,
     places: &[Option<usize>],
     form: &[Emitted<'_>],
-    right: Right,
+    right: Bit,
 ) -> Result<Vec<Row>, AllocError>
     requires { All (λ e. e.row < length places.now) form.now }
     ensures { IfOk result (λ table. (list : List Ace) → ArePlaces right.bit list places.now
@@ -89,7 +102,7 @@ fn add_row(
     alloc: Global,
     place: Option<usize>,
     item: Emitted<'_>,
-    right: Right,
+    right: Bit,
     table: &mut Vec<Row>,
 ) -> Result<(), AllocError>
     ensures { OnOk result ((list : List Ace)
@@ -97,7 +110,7 @@ fn add_row(
         → HasKey right.bit list (emitted_ace item.entry)
         → AddsRow right.bit list (emitted_ace item.entry) table.old.items table.new.items) }
 {
-    if !item.mask.has(right) {
+    if !right.is_in(item.mask) {
         return Ok(());
     }
     match place {

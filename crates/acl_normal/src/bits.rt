@@ -1,5 +1,5 @@
 //! Rights of masks, and of ACEs.
-ghost use Rattle.std.specs.Prelude.{◌≡◌, ◌&&◌, ℕ, ◌^◌, ◌≤◌, bit_or, IfNone, IfSome, true};
+ghost use Rattle.std.specs.Prelude.{◌≡◌, ◌↔◌, ◌&&◌, ℕ, ◌^◌, ◌<◌, ◌≤◌, bit_or, IfNone, IfSome, IsSome, true};
 ghost use Rattle.acl_perm.specs.Bits.{all_rights, has_bit};
 ghost use Rattle.acl_perm.specs.Principal.{everyone};
 ghost use Rattle.acl_nfs4.specs.Ace.{ace};
@@ -9,7 +9,8 @@ ghost use Rattle.acl_normal.specs.Normal.{counts};
 ghost use Rattle.acl_normal.specs.internal.NextRight.{IsNextRight, LacksFrom};
 
 use acl_nfs4::AceRef;
-use acl_perm::{Mask, Right};
+use acl_perm::Mask;
+use acl_perm::internal::Bit;
 
 /// The rights with which the ACE takes part.
 pub(crate) fn active(item: AceRef<'_>) -> Mask
@@ -35,16 +36,28 @@ pub(crate) fn of_everyone(item: AceRef<'_>, mask: Mask) -> Mask
 }
 
 /// The first right of the mask at or above a bit.
-pub(crate) fn next_right(mask: Mask, from: usize) -> Option<Right>
+pub(crate) fn next_right(mask: Mask, from: usize) -> Option<Bit>
     requires { from ≤ 21 }
     ensures some { IfSome result (λ right. IsNextRight mask.bits from right.bit) }
     ensures none { IfNone result (LacksFrom mask.bits from 21) }
 {
-    Right::new(from + (mask.bits >> from).trailing_zeros() as usize)
+    numbered(from + (mask.bits >> from).trailing_zeros() as usize)
+}
+
+// The bit of a number; none above 20.
+fn numbered(bit: usize) -> Option<Bit>
+    ensures within { IsSome result ↔ (bit < 21) }
+    ensures value { IfSome result (λ right. right.bit ≡ bit) }
+{
+    if bit < Bit::COUNT {
+        Some(Bit { bit })
+    } else {
+        None
+    }
 }
 
 /// The mask of one right. Of a bit that is in no mask it is empty.
-pub(crate) fn alone(right: Right) -> Mask
+pub(crate) fn alone(right: Bit) -> Mask
     ensures { has_bit all_rights right.bit ≡ true → result.bits ≡ 2 ^ right.bit }
 {
     Mask {
@@ -53,7 +66,7 @@ pub(crate) fn alone(right: Right) -> Mask
 }
 
 /// The number of a set of bits with one more.
-pub(crate) fn with(bits: u32, right: Right) -> u32
+pub(crate) fn with(bits: u32, right: Bit) -> u32
     ensures { result ≡ bit_or bits (2 ^ right.bit) }
 {
     bits | (1 << right.bit)

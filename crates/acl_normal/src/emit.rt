@@ -2,3 +2,4 @@
 
 pub(crate) mod emission;
 pub(crate) mod ready;
+pub(crate) mod rising;

@@ -1,8 +1,7 @@
 //! The normal forms of what a directory's list grants in it and in all that will ever stand below it.
-ghost use Rattle.std.specs.Prelude.{◌≡◌, ◌+◌, ◌^◌, ◌<◌, ◌≤◌, ℕ, IfErr, IfOk, OnErr, OnOk, length, take};
-ghost use Rattle.std.specs.Io.KnownBytes.{Appends};
+ghost use Rattle.std.specs.Prelude.{◌≡◌, ◌+◌, ◌^◌, ◌<◌, ◌≤◌, ℕ, IfOk, OnErr, OnOk};
 ghost use Rattle.acl_perm.specs.Devices.{one_more};
-ghost use Rattle.acl_perm.specs.Pieces.{WritesFrom};
+ghost use Rattle.acl_perm.specs.Pieces.{Writes, WritesFrom};
 ghost use Rattle.acl_perm.specs.Profile.{Profile};
 ghost use Rattle.acl_nfs4.specs.Spelling.{IsAccepted, spelling};
 ghost use Rattle.acl_nfs4.specs.Within.{IsProfile};
@@ -53,15 +52,8 @@ impl FiveForms {
     /// section 6.2.1), without memory. The first write that fails ends it: `written` bytes went out, and nothing is
     /// tried again.
     pub fn encode<K: Sink>(&self, sink: &mut K) -> Result<(), WriteFault>
-        ensures ok { OnOk result (Appends (K.contents sink.old) (K.contents sink.new)
-            (five_spellings self.now)) }
-        ensures none_failed { OnOk result (K.failure_count sink.new ≡ K.failure_count sink.old) }
-
-        ensures err { IfErr result (λ fault. Appends (K.contents sink.old) (K.contents sink.new)
-            (take fault.written (five_spellings self.now))) }
-        ensures short { IfErr result (λ fault. fault.written < length (five_spellings self.now)) }
-        ensures failed { OnErr result (K.failure_count sink.new
-            ≡ one_more (K.failure_count sink.old)) }
+        ensures { Writes K.contents K.failure_count sink.old sink.new
+            (five_spellings self.now) result }
     {
         match put_forms(sink, self) {
             Ok(_) => Ok(()),
@@ -131,6 +123,14 @@ fn put_list<K: Sink>(sink: &mut K, done: u64, list: &Acl) -> Result<u64, WriteFa
 /// The five normal forms of a list, by this library's table of inheritance. Two lists have the same five exactly if
 /// they grant the same now, and their children do for ever. It takes time that is nearly linear in the bytes of the
 /// list.
+///
+/// ```rust
+/// let list = parse_text(alloc, b"ALLOW FILE READ_DATA amy")?;
+/// let forms = normalize_inherit(alloc, &list)?;
+/// assert!(rt; forms.file.len() == 1);
+/// assert!(rt; forms.directory.is_empty());
+/// assert!(rt; forms.file_in_directory == forms.file);
+/// ```
 #[tactic(auto, using(crate::proofs::five_forms::Paths::further))]
 pub fn normalize_inherit(alloc: Global, list: &Acl) -> Result<FiveForms, AllocError>
     ensures object { IfOk result (λ forms. IsNormalFormOf (at list.now here) forms.object) }

@@ -5,7 +5,7 @@ ghost use Rattle.acl_perm.specs.Bits.{all_rights, has_bit};
 ghost use Rattle.acl_perm.specs.Profile.{Profile};
 ghost use Rattle.acl_perm.specs.Situation.{Situation};
 ghost use Rattle.acl_nfs4.specs.Ace.{Ace};
-ghost use Rattle.acl_nfs4.specs.Spelling.{Fits, IsAccepted, spelling};
+ghost use Rattle.acl_nfs4.specs.Spelling.{Fits, IsAccepted, Xdr, spelling};
 ghost use Rattle.acl_nfs4.specs.Within.{IsProfile};
 ghost use Rattle.acl_eval.specs.Column.{column};
 ghost use Rattle.acl_eval.specs.Grant.{SameGrants, grants_bit};
@@ -13,7 +13,7 @@ ghost use Rattle.acl_normal.specs.Keys.{Key, conflicts};
 ghost use Rattle.acl_normal.specs.FiveForms.{AreSpelledAlike, TellApart, five_spellings};
 ghost use Rattle.acl_normal.specs.Laws.{Has, Precedes};
 ghost use Rattle.acl_normal.specs.Normal.{IsIrreducibleList, IsNormal};
-ghost use Rattle.acl_normal.specs.NormalForm.{IsNormalFormOf};
+ghost use Rattle.acl_normal.specs.NormalForm.{IsNormalFormOf, Normalises};
 ghost use Rattle.acl_normal.specs.Paths.{SameAtEveryPath, SameAtFive};
 ghost use Rattle.acl_normal.specs.SmallSets.{SmallSituationsSuffice};
 
@@ -60,6 +60,19 @@ pub fn equal_bytes()
         → IsAccepted p other → IsNormalFormOf other other_form
         → (spelling form ≡ spelling other_form) ↔ SameGrants p.masks source other }
 {}
+
+/// The bytes to which two spelled lists normalize are equal if and only if the lists grant the same, under every profile.
+/// Bytes that spell a normal form normalize to themselves.
+pub fn normal_bytes_tell_apart()
+    ensures apart { (p : Profile) (a b x y : List ℕ) (source other : List Ace) → IsProfile p
+        → Xdr p source a → Xdr p other b → Normalises p a x → Normalises p b y
+        → (x ≡ y) ↔ SameGrants p.masks source other }
+    ensures twice { (p : Profile) (a x y : List ℕ) → IsProfile p
+        → Normalises p a x → Normalises p x y → x ≡ y }
+{
+    equal_bytes();
+    acl_nfs4::laws::one_spelling();
+}
 
 /// Two lists that grant alike in each of their small situations grant the same in every situation.
 pub fn small_situations_suffice()

@@ -15,8 +15,8 @@ mod rows;
 #[cfg(test)]
 mod tests;
 
-pub use bit_table::{Row, table};
-pub use comparison::{Difference, compare};
+pub use bit_table::{Row, table, table_of_view};
+pub use comparison::{Difference, RequesterNames, compare, compare_views};
 pub use five_forms::{FiveForms, normalize_inherit};
-pub use normal_form::{is_normal, normal_bytes, normal_bytes_with, normalize};
+pub use normal_form::{is_normal, normal_bytes, normal_bytes_with, normalize, normalize_view};
 pub use rows::merged::MergedRows;

@@ -1,5 +1,5 @@
 //! The normal form of a list of ACEs.
-ghost use Rattle.std.specs.Prelude.{◌≡◌, ◌⊎◌, ◌↔◌, [], ℕ, List, Err, IfErr, IfOk, IsOk, IsTrue};
+ghost use Rattle.std.specs.Prelude.{◌≡◌, ◌<◌, ◌^◌, ◌⊎◌, ◌↔◌, [], ℕ, List, Err, IfErr, IfOk, IsOk, IsTrue, vec_len};
 ghost use Rattle.acl_perm.specs.Principal.{principal};
 ghost use Rattle.acl_perm.specs.Profile.{full, profile_of};
 ghost use Rattle.acl_nfs4.specs.Ace.{Ace, ace};
@@ -11,11 +11,18 @@ ghost use Rattle.acl_normal.specs.internal.Emitted.{emitted_ace, emitted_aces};
 ghost use Rattle.acl_normal.specs.Normal.{IsNormal, flags_for};
 ghost use Rattle.acl_normal.specs.NormalForm.{IsNormalFormOf, Normalises};
 ghost use Rattle.acl_normal.specs.internal.Ready.{who_for};
+ghost use Rattle.acl_normal.specs.Left.{left};
+ghost use Rattle.acl_normal.specs.internal.Reduced.{IsReducedOf};
+ghost use Rattle.acl_normal.specs.internal.Remaining.{IsNumbered};
+ghost use Rattle.acl_normal.specs.internal.Rising.{IsRising};
+ghost use Rattle.acl_normal.specs.internal.Shown.{bits_in, with_masks};
 
 use crate::emit::emission::{Emitted, normalize_left};
-use crate::reduce::remaining;
+use crate::emit::rising::{cleared, rises};
+use crate::reduce::{Reduced, reduced_list};
+use crate::rows::remaining::Remaining;
 use acl_nfs4::{AceRef, Acl, AclView, Fault, Reason};
-use acl_perm::{Counted, Flags, Principal, Profile};
+use acl_perm::{Flags, Principal, Profile};
 use std::alloc::{AllocError, Global};
 
 /// Whether a list is its own normal form.
@@ -29,6 +36,13 @@ pub fn is_normal(alloc: Global, list: &Acl) -> Result<bool, AllocError>
 }
 
 /// The bytes that spell the normal form of the list that the bytes spell, all of them.
+///
+/// ```rust
+/// let list = parse_text(alloc, b"ALLOW - READ_DATA amy\nALLOW - READ_DATA amy\n")?;
+/// let bytes = list.to_bytes(alloc)?;
+/// let form = normal_bytes(alloc, &bytes)?;
+/// assert!(rt; AclView::parse_whole(&form)?.len() == 1);
+/// ```
 pub fn normal_bytes(alloc: Global, bytes: &[u8]) -> Result<Vec<u8>, Fault>
     ensures ok { IfOk result (λ text. Normalises full bytes.now text.items) }
     // A fault is that of the bytes, or want of memory.
@@ -66,15 +80,31 @@ fn spelled_form(alloc: Global, view: &AclView<'_>) -> Result<Vec<u8>, AllocError
     ensures { IfOk result (λ text. (form : List Ace) × IsNormalFormOf view.now form
         × (text.items ≡ spelling form)) }
 {
-    let list = Acl::from_view(alloc, view)?;
-    let form = normalize(alloc, &list)?;
-    spelled(alloc, &form)
+    let form = normalize_view(alloc, view)?;
+    form.to_bytes(alloc)
 }
 
 /// The normal form of a list (this library's own, over RFC 8881, section 6.2.1): the one list that grants the same in
 /// every situation, in which each bit is needed, and which stands in one order. It takes time that is nearly linear in
 /// the bytes of the list. An error is want of memory.
+///
+/// ```rust
+/// let list = parse_text(alloc, b"DENY - WRITE_DATA bob\nALLOW - READ_DATA|WRITE_DATA OWNER@\n")?;
+/// let form = normalize(alloc, &list)?;
+/// assert!(rt; form.len() == 3);
+/// assert!(rt; is_normal(alloc, &form)?);
+/// ```
 pub fn normalize(alloc: Global, list: &Acl) -> Result<Acl, AllocError>
+    ensures form { IfOk result (λ form. IsNormalFormOf list.now form) }
+    // Of the empty list it never wants memory.
+    ensures empty { list.now ≡ [] → IsOk result }
+{
+    normalize_view(alloc, &list.view())
+}
+
+/// Returns the normal form of the list of a view, as [`normalize`] does of an owned list. It does not copy the list
+/// first. The only error is that memory runs out.
+pub fn normalize_view(alloc: Global, list: &AclView<'_>) -> Result<Acl, AllocError>
     ensures form { IfOk result (λ form. IsNormalFormOf list.now form) }
     // Of the empty list it never wants memory.
     ensures empty { list.now ≡ [] → IsOk result }
@@ -82,17 +112,46 @@ pub fn normalize(alloc: Global, list: &Acl) -> Result<Acl, AllocError>
     if list.is_empty() {
         return Ok(Acl::new(alloc));
     }
-    let form = form_of(alloc, list)?;
+    let reduced = reduced_list(alloc, list)?;
+    if rises(&reduced.aces, &reduced.masks, &reduced.numbers.rows) {
+        return risen(alloc, list, &reduced);
+    }
+    let form = form_of(alloc, list, reduced)?;
     written(alloc, &form)
 }
 
+// The normal form of a list whose keys rise when what no situation needs is out: only flags are to be cleared.
+#[tactic(auto, using(crate::proofs::emit::Risen::rising_form_of))]
+fn risen(alloc: Global, list: &AclView<'_>, reduced: &Reduced<'_>) -> Result<Acl, AllocError>
+    requires places { vec_len reduced.now.masks ≡ vec_len reduced.now.aces }
+    requires reduced { IsReducedOf list.now
+        (with_masks reduced.now.aces.items (bits_in reduced.now.masks.items)) }
+    requires rising { IsRising
+        (left (with_masks reduced.now.aces.items (bits_in reduced.now.masks.items))) }
+    ensures { IfOk result (λ form. IsNormalFormOf list.now form) }
+{
+    // The call is for its clause alone, that the list is accepted.
+    let _accepted = list.aces();
+    cleared(alloc, &reduced.aces, &reduced.masks)
+}
+
 // The ACEs of the normal form, in order.
-pub(crate) fn form_of<'a>(alloc: Global, list: &'a Acl) -> Result<Vec<Emitted<'a>>, AllocError>
+fn form_of<'a>(
+    alloc: Global,
+    list: &AclView<'_>,
+    reduced: Reduced<'a>,
+) -> Result<Vec<Emitted<'a>>, AllocError>
+    requires few { vec_len reduced.aces < 2 ^ 32 }
+    requires places { vec_len reduced.masks ≡ vec_len reduced.aces }
+    requires rows { IsNumbered (with_masks reduced.aces.items (bits_in reduced.masks.items))
+        reduced.numbers.rows.items reduced.numbers.order.items }
+    requires reduced { IsReducedOf list.now
+        (with_masks reduced.aces.items (bits_in reduced.masks.items)) }
     ensures { IfOk result (λ form. IsNormalFormOf list.now (emitted_aces form.items)) }
 {
     // The call is for its clause alone, that the list is accepted.
     let _accepted = list.aces();
-    let mut rows = remaining(alloc, list)?;
+    let mut rows = Remaining::of(alloc, reduced)?;
     let form = normalize_left(alloc, &mut rows)?;
     Ok(form)
 }
@@ -141,16 +200,5 @@ fn who_of<'a>(p: Principal<'a>) -> &'a [u8]
         Principal::User(name) | Principal::GroupNamed(name) => name,
         Principal::Group => b"GROUP@".as_slice(),
         Principal::Everyone => b"EVERYONE@".as_slice(),
-    }
-}
-
-// The bytes that spell a list.
-fn spelled(alloc: Global, list: &Acl) -> Result<Vec<u8>, AllocError>
-    ensures { IfOk result (λ text. text.items ≡ spelling list.now) }
-{
-    let mut text = Counted::new(Vec::new(alloc));
-    match list.encode(&mut text) {
-        Ok(()) => Ok(text.into_inner()),
-        Err(_) => Err(AllocError),
     }
 }

@@ -33,7 +33,7 @@ fn reduce(alloc: Global, source: &Acl) -> Result<Vec<AceRef<'_>>, AllocError>
     ensures reduced { IfOk result (λ needed. IsPlainReduction source.now (aces_in needed.items)) }
     ensures accepted { IsAccepted full source.now }
 {
-    let aces = collect(alloc, source)?;
+    let aces = collect(alloc, &source.view())?;
     let reached = drop_shadowed(alloc, &aces)?;
     drop_needless(alloc, &reached)
 }

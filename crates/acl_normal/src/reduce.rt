@@ -16,12 +16,12 @@ use crate::reduce::first::first_masks;
 use crate::reduce::needless::drop_needless;
 use crate::rows::numbers::{RowNumbers, row_numbers};
 use crate::rows::remaining::Remaining;
-use acl_nfs4::{AceRef, Acl};
+use acl_nfs4::{AceRef, AclView};
 use acl_perm::Mask;
 use std::alloc::{AllocError, Global};
 
 /// What is to be emitted of a list: all of it but what no situation needs.
-pub(crate) fn remaining<'a>(alloc: Global, list: &'a Acl) -> Result<Remaining<'a>, AllocError>
+pub(crate) fn remaining<'a>(alloc: Global, list: &AclView<'a>) -> Result<Remaining<'a>, AllocError>
     ensures { IfOk result (λ rows. IsReducedOf list.now rows) }
 {
     Remaining::of(alloc, reduced_list(alloc, list)?)
@@ -36,7 +36,7 @@ pub(crate) struct Reduced<'a> {
 }
 
 /// A list, without what no situation needs.
-pub(crate) fn reduced_list<'a>(alloc: Global, list: &'a Acl) -> Result<Reduced<'a>, AllocError>
+pub(crate) fn reduced_list<'a>(alloc: Global, list: &AclView<'a>) -> Result<Reduced<'a>, AllocError>
     ensures few { IfOk result (λ r. vec_len r.aces < 2 ^ 32) }
     ensures places { IfOk result (λ r. vec_len r.masks ≡ vec_len r.aces) }
     ensures rows { IfOk result (λ r. IsNumbered (with_masks r.aces.items (bits_in r.masks.items))

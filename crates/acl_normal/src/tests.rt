@@ -3,6 +3,7 @@
 mod ample;
 mod bytes;
 mod differences;
+mod examples;
 mod five_forms;
 mod forms;
 mod harness;

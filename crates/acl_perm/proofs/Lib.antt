@@ -1,5 +1,6 @@
 pub mod Bools
 pub mod Sets
+pub mod RightsLemmas
 pub mod DeviceLemmas
 pub mod Orders
 pub mod Meetings

@@ -1,11 +1,11 @@
 -- The operations on sets of bits, each once for every width.
-use Rattle.std.proofs.Common.{◌≡◌, ◌≢◌, ℕ, ◌-◌, ◌*◌, ◌^◌, ◌<◌, ◌≤◌, Bool, true, false, eqb, refl, sym, ap, ◌∙◌, arith, inl, inr}
-use Rattle.std.specs.Prelude.{bit_and, bit_or, min, max, ◌&&◌, ◌||◌, not, ◌↔◌}
+use Rattle.std.proofs.Common.{◌≡◌, ◌≢◌, ℕ, ◌+◌, ◌-◌, ◌*◌, ◌%◌, ◌^◌, ◌<◌, ◌≤◌, Bool, true, false, eqb, refl, sym, ap, ◌∙◌, arith, inl, inr, zero, suc}
+use Rattle.std.specs.Prelude.{IsTrue, bit_and, bit_or, min, max, ◌&&◌, ◌||◌, not, ◌↔◌}
 use mir.Val.{bits}
 use Rattle.std.specs.Int.{Width, w8, w16, w32, bit_at, bit_not, trailing_zeros}
-use Rattle.std.proofs.lemmas.Bool.{cases_lt, false≢true, eqb-true, eq-eqb}
-use Rattle.std.proofs.lemmas.Nat.{and_le_r, and_le_l, or_lt}
-use Rattle.std.proofs.lemmas.Nat.Bits.{and_pow, bit_at-lt, bit_at_and, bit_at_or, bit_at_not, bit_at_above, bit_at-zero, bit_at-trailing_zeros, same_from_bits}
+use Rattle.std.proofs.lemmas.Bool.{cases_eq, cases_lt, false≢true, eqb-true, eq-eqb}
+use Rattle.std.proofs.lemmas.Nat.{and_le_r, and_le_l, or_lt, pow_below}
+use Rattle.std.proofs.lemmas.Nat.Bits.{and_pow, bit_at-lt, bit_at-pow_other, bit_at_and, bit_at_or, bit_at_not, bit_at_above, bit_at-zero, bit_at-trailing_zeros, same_from_bits}
 use Rattle.acl_perm.proofs.Bools.{and_true, or_true}
 use Rattle.acl_perm.specs.Bits.{has_bit, all_rights, IsMask, IsSubset, IsUnion, IsIntersection, IsDifference}
 
@@ -79,6 +79,42 @@ IsMask-union m n p q = mask_from_bits (bit_or m n) (λ k h.
 pub IsMask-and : (m n : ℕ) → IsMask m → IsMask (bit_and m n)
 IsMask-and m n p = mask_from_bits (bit_and m n) (λ k h.
     bits_from_mask m k p (and_true (has_bit m k) (has_bit n k) (sym (has_bit-and m n k) ∙ h)).0)
+
+-- ---- one right
+
+-- a right is a bit below 21
+pub right_below : (b : ℕ) → IsTrue (has_bit all_rights b) → b < 21
+right_below b h =
+    elim (cases_lt b 21) [
+      | inl lt ↦ lt
+      | inr le ↦ absurd (false≢true (sym (ap (λ (d : ℕ). eqb d 1) (bit_at_above all_rights 21 b (omega arith) le)) ∙ h))
+    ]
+
+gap : (j : ℕ) → j < 5 → has_bit all_rights (11 + j) ≡ false
+gap zero lt = refl
+gap (suc zero) lt = refl
+gap (suc (suc zero)) lt = refl
+gap (suc (suc (suc zero))) lt = refl
+gap (suc (suc (suc (suc zero)))) lt = refl
+gap (suc (suc (suc (suc (suc j))))) lt = absurd (omega (arith, lt))
+
+-- no right is one of the bits 11 to 15
+pub right_outside : (b : ℕ) → IsTrue (has_bit all_rights b) → 11 ≤ b → b < 16 → ⊥
+right_outside b h low high =
+    let same : 11 + (b - 11) ≡ b = omega arith in
+    false≢true (sym (ap (has_bit all_rights) (sym same) ∙ gap (b - 11) (omega arith)) ∙ h)
+
+-- the number of one right is less than 2 ^ 21
+pub right_small : (b : ℕ) → IsTrue (has_bit all_rights b) → 1 * 2 ^ b % 4294967296 ≡ 2 ^ b
+right_small b h = let small : 2 ^ b < 2 ^ 32 = pow_below b 32 (omega (arith, right_below b h)) in omega (arith, small)
+
+-- the number of one right is a set of rights
+pub right_alone : (b : ℕ) → IsTrue (has_bit all_rights b) → IsMask (2 ^ b)
+right_alone b h = mask_from_bits (2 ^ b) (λ k e.
+    elim (cases_eq k b) [
+      | inl same ↦ ap (has_bit all_rights) same ∙ h
+      | inr other ↦ absurd (false≢true (sym (ap (λ (d : ℕ). eqb d 1) (bit_at-pow_other b k other)) ∙ e))
+    ])
 
 -- ---- one set by its bits
 

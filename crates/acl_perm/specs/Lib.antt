@@ -1,6 +1,7 @@
 pub mod Bits
 pub mod Numbers
 pub mod Kind
+pub mod Names
 pub mod Principal
 pub mod Situation
 pub mod Devices

@@ -1,10 +1,14 @@
--- The numbers of the access rights and of the flags, in the order in which RFC 8881, sections 6.2.1.3.1 and 6.2.1.4.1,
--- lists them.
+-- The numbers of the permissions, and of the access rights and the flags in the order in which RFC 8881, sections
+-- 6.2.1.3.1 and 6.2.1.4.1, lists them.
 use Rattle.std.specs.Prelude.{ℕ, List, [], ◌∷◌}
 use Rattle.acl_perm.specs.declared.perm.Perm.{Perm}
 use Rattle.acl_perm.specs.declared.mode.Mode.{Mode}
 use Rattle.acl_perm.specs.declared.mask.Mask.{Mask}
 use Rattle.acl_perm.specs.declared.flags.Flags.{Flags}
+
+-- the number of a set of permissions
+abbrev pub perm_bits : Perm → ℕ
+perm_bits perm = perm.bits
 
 -- the number of a set of rights
 abbrev pub mask_bits : Mask → ℕ
@@ -17,6 +21,10 @@ flag_bits flags = flags.bits
 -- the numbers of a set of each kind
 abbrev pub numbers_of : Perm × Mode × Mask × Flags → List ℕ
 numbers_of (perm, mode, mask, flags) = perm.bits ∷ mode.bits ∷ mask.bits ∷ flags.bits ∷ []
+
+-- read, write and execute (POSIX.1e draft 17, section 23.1.2)
+abbrev pub permissions_in_order : List ℕ
+permissions_in_order = 4 ∷ 2 ∷ 1 ∷ []
 
 -- READ_DATA, WRITE_DATA, APPEND_DATA, READ_NAMED_ATTRS, WRITE_NAMED_ATTRS, EXECUTE, DELETE_CHILD, READ_ATTRIBUTES,
 -- WRITE_ATTRIBUTES, WRITE_RETENTION, WRITE_RETENTION_HOLD; and DELETE, READ_ACL, WRITE_ACL, WRITE_OWNER, SYNCHRONIZE

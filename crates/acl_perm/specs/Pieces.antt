@@ -25,3 +25,14 @@ abbrev pub WritesFrom : Option (List ℕ) → Option (List ℕ) → ℕ → List
 WritesFrom held holds done part (Ok n) = (n ≡ done + length part) × Appends held holds part
 WritesFrom held holds done part (Err fault) = (done ≤ fault.written) × (fault.written < done + length part)
     × Appends held holds (take (fault.written - done) part)
+
+-- a call that writes a part of a text to a sink, as it was and as it is after it: what `Writes` says, with the numbers of
+-- bytes counted from the start of the text, of which `done` bytes are out before
+pub record WritesOn {K : Type 0} (holds : K → Option (List ℕ)) (failures : K → ℕ) (sink sink_after : K) (done : ℕ)
+    (part : List ℕ) (r : Result ℕ WriteFault) : Type 0 where
+  -- the part went out, or a beginning of it that is not all
+  pub written : WritesFrom (holds sink) (holds sink_after) done part r
+  -- no put failed
+  pub none_failed : OnOk r (failures sink_after ≡ failures sink)
+  -- one put failed
+  pub failed : OnErr r (failures sink_after ≡ one_more (failures sink))

@@ -6,5 +6,7 @@ pub mod Places
 pub mod Totality
 -- the proof that principals which compare equal are fed alike to a hasher
 pub mod FedAlike
+-- the rights of a mask that are left to give
+pub mod RightsLeft
 -- how a definition goes on with the value of a step before it
 pub mod Steps

@@ -1,7 +1,7 @@
 //! What each constant is: functions that return them, for their clauses alone.
 ghost use Rattle.std.specs.Prelude.{◌≡◌, [], ◌∷◌, map};
 ghost use Rattle.acl_perm.specs.Bits.{all_flags, all_rights};
-ghost use Rattle.acl_perm.specs.Numbers.{flags_in_order, mask_bits, flag_bits, numbers_of, rights_of_directories, rights_in_order};
+ghost use Rattle.acl_perm.specs.Numbers.{flags_in_order, mask_bits, flag_bits, numbers_of, perm_bits, permissions_in_order, rights_of_directories, rights_in_order};
 ghost use Rattle.acl_perm.specs.Mode.{mode_of_parts};
 ghost use Rattle.acl_perm.specs.Profile.{full, narrow, profile_of};
 
@@ -27,6 +27,12 @@ fn profiles() -> [Profile; 2]
     ensures { map profile_of result ≡ full ∷ narrow ∷ [] }
 {
     [Profile::FULL, Profile::NARROW]
+}
+
+fn permissions() -> [Perm; 3]
+    ensures { map perm_bits result ≡ permissions_in_order }
+{
+    [Perm::READ, Perm::WRITE, Perm::EXECUTE]
 }
 
 fn rights() -> [Mask; 16]

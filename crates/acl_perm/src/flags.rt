@@ -1,9 +1,9 @@
 //! The flags of an NFSv4 ACE.
 ghost use Rattle.std.specs.Prelude.{◌≡◌, IfSome, IsSome, IsTrue, ◌↔◌, ◌==◌, bit_and, bit_or};
 ghost use Rattle.std.specs.Int.{bit_not, w8};
-ghost use Rattle.acl_perm.specs.Bits.{IsDifference, IsFlags, IsIntersection, IsSubset, IsUnion, has_bit, identifier_group, inherit_only};
+ghost use Rattle.acl_perm.specs.Bits.{IsDifference, IsFlags, IsIntersection, IsSubset, IsUnion, all_flags, has_bit, identifier_group, inherit_only};
 
-use std::ops::{BitAnd, BitOr, Sub};
+use std::ops::{BitAnd, BitOr, Not, Sub};
 
 /// A set of the eight flags of an NFSv4 ACE, one bit each (RFC 8881, section 6.2.1.4).
 #[derive(Clone, Copy, Debug, PartialEq, Eq, PartialOrd, Ord, Hash)]
@@ -156,5 +156,19 @@ impl Sub for Flags {
         ensures value { result.bits ≡ bit_and self.bits (bit_not w8 other.bits) }
     {
         self.difference(other)
+    }
+}
+
+/// The flags that the set has not.
+impl Not for Flags {
+    type Output = Flags;
+
+    ghost not_gives = { λ m set. IsDifference all_flags m.bits set.bits };
+
+    fn not(self) -> Flags
+        ensures meaning { IsDifference all_flags self.bits result.bits }
+        ensures value { result.bits ≡ bit_and all_flags (bit_not w8 self.bits) }
+    {
+        Flags::ALL.difference(self)
     }
 }

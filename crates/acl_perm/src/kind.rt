@@ -1,6 +1,9 @@
 //! The two types of an NFSv4 ACE.
-ghost use Rattle.std.specs.Prelude.{◌≡◌};
+ghost use Rattle.std.specs.Prelude.{◌≡◌, Some};
 ghost use Rattle.acl_perm.specs.Kind.{is_allow, other_kind};
+ghost use Rattle.acl_perm.specs.Names.{kind_name};
+
+use std::fmt;
 
 /// Whether an NFSv4 ACE denies or allows (RFC 8881, section 6.2.1.1).
 #[derive(Clone, Copy, Debug, PartialEq, Eq, PartialOrd, Ord, Hash)]
@@ -29,6 +32,18 @@ impl Kind {
         match self {
             Kind::Deny => false,
             Kind::Allow => true,
+        }
+    }
+}
+
+/// `ALLOW` or `DENY`.
+impl fmt::Display for Kind {
+    ghost output = { λ kind. Some (kind_name kind) };
+
+    fn fmt<W: fmt::Write>(&self, f: &mut fmt::Formatter<W>) -> fmt::Result {
+        match self {
+            Kind::Deny => f.write_str("DENY"),
+            Kind::Allow => f.write_str("ALLOW"),
         }
     }
 }

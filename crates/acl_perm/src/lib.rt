@@ -1,11 +1,13 @@
 //! What every access control list here is made of, and sources and sinks of bytes that count their failures.
 #![tactic(auto)]
 
+mod bit;
 mod constants;
 mod counted;
 mod devices;
 mod flags;
 mod fused;
+pub mod internal;
 mod key;
 mod kind;
 pub mod laws;
@@ -18,6 +20,7 @@ mod place;
 mod principal;
 mod profile;
 mod right;
+mod rights;
 #[cfg(test)]
 mod tests;
 mod whole;
@@ -28,13 +31,11 @@ pub use flags::Flags;
 pub use fused::Fused;
 pub use key::Key;
 pub use kind::Kind;
-pub use lines::{Piece, before_mark, cut_line, is_all_blank, trimmed};
 pub use mask::Mask;
 pub use mode::Mode;
 pub use perm::Perm;
-pub use pieces::put_next;
-pub use place::place_of;
 pub use principal::{Principal, overlaps};
 pub use profile::Profile;
 pub use right::Right;
+pub use rights::Rights;
 pub use whole::{ReadFault, WriteFault, put_all, read_all};

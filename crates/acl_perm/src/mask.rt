@@ -1,10 +1,11 @@
 //! The access rights of an NFSv4 ACE.
 ghost use Rattle.std.specs.Prelude.{◌≡◌, IfSome, IsSome, IsTrue, ◌↔◌, ◌==◌, bit_and, bit_or};
 ghost use Rattle.std.specs.Int.{bit_not, w32};
-ghost use Rattle.acl_perm.specs.Bits.{IsDifference, IsIntersection, IsMask, IsSubset, IsUnion, has_bit};
+ghost use Rattle.acl_perm.specs.Bits.{IsDifference, IsIntersection, IsMask, IsSubset, IsUnion, all_rights, has_bit};
 
+use crate::bit::Bit;
 use crate::right::Right;
-use std::ops::{BitAnd, BitOr, Sub};
+use std::ops::{BitAnd, BitOr, Not, Sub};
 
 /// A set of the sixteen access rights of an NFSv4 ACE, one bit each (RFC 8881, section 6.2.1.3.1).
 #[derive(Clone, Copy, Debug, PartialEq, Eq, PartialOrd, Ord, Hash)]
@@ -143,7 +144,7 @@ impl Mask {
     pub fn has(self, right: Right) -> bool
         ensures { result ≡ has_bit self.bits right.bit }
     {
-        (self.bits >> right.bit) & 1 == 1
+        Bit::from(right).is_in(self)
     }
 }
 
@@ -183,5 +184,19 @@ impl Sub for Mask {
         ensures value { result.bits ≡ bit_and self.bits (bit_not w32 other.bits) }
     {
         self.difference(other)
+    }
+}
+
+/// The rights that the set has not.
+impl Not for Mask {
+    type Output = Mask;
+
+    ghost not_gives = { λ m set. IsDifference all_rights m.bits set.bits };
+
+    fn not(self) -> Mask
+        ensures meaning { IsDifference all_rights self.bits result.bits }
+        ensures value { result.bits ≡ bit_and all_rights (bit_not w32 self.bits) }
+    {
+        Mask::ALL.difference(self)
     }
 }

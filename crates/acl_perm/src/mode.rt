@@ -1,13 +1,13 @@
 //! The nine file mode bits.
 ghost use Rattle.std.specs.Prelude.{◌≡◌, ◌<◌, Some, IfSome, IsSome, IsTrue, ◌↔◌, ◌==◌, bit_and, bit_or};
 ghost use Rattle.std.specs.Int.{bit_not, w16};
-ghost use Rattle.acl_perm.specs.Bits.{IsDifference, IsIntersection, IsSubset, IsUnion};
+ghost use Rattle.acl_perm.specs.Bits.{IsDifference, IsIntersection, IsSubset, IsUnion, all_mode_bits};
 ghost use Rattle.acl_perm.specs.Shown.{mode_text};
 ghost use Rattle.acl_perm.specs.Mode.{group_part, mode_of_parts, others_part, owner_part};
 
 use crate::perm::Perm;
 use std::fmt;
-use std::ops::{BitAnd, BitOr, Sub};
+use std::ops::{BitAnd, BitOr, Not, Sub};
 
 /// The nine file mode bits: of the owner, the group and others, each as read 4, write 2, execute 1 (POSIX.1e
 /// draft 17, section 23.1.3).
@@ -159,6 +159,20 @@ impl Sub for Mode {
         ensures value { result.bits ≡ bit_and self.bits (bit_not w16 other.bits) }
     {
         self.difference(other)
+    }
+}
+
+/// The bits that the set has not.
+impl Not for Mode {
+    type Output = Mode;
+
+    ghost not_gives = { λ m set. IsDifference all_mode_bits m.bits set.bits };
+
+    fn not(self) -> Mode
+        ensures meaning { IsDifference all_mode_bits self.bits result.bits }
+        ensures value { result.bits ≡ bit_and all_mode_bits (bit_not w16 self.bits) }
+    {
+        Mode::ALL.difference(self)
     }
 }
 

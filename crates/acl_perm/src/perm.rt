@@ -2,10 +2,10 @@
 ghost use Rattle.std.specs.Prelude.{◌≡◌, ◌<◌, Some, IfSome, IsSome, IsTrue, ◌↔◌, ◌==◌, bit_and, bit_or};
 ghost use Rattle.std.specs.Int.{bit_not, w8};
 ghost use Rattle.acl_perm.specs.Shown.{letter, perm_text};
-ghost use Rattle.acl_perm.specs.Bits.{IsDifference, IsIntersection, IsSubset, IsUnion};
+ghost use Rattle.acl_perm.specs.Bits.{IsDifference, IsIntersection, IsSubset, IsUnion, all_permissions};
 
 use std::fmt;
-use std::ops::{BitAnd, BitOr, Sub};
+use std::ops::{BitAnd, BitOr, Not, Sub};
 
 /// A set of the permissions of a POSIX ACL entry: read is 4, write is 2, execute is 1 (POSIX.1e draft 17,
 /// section 23.1.2).
@@ -18,6 +18,15 @@ pub struct Perm {
 impl Perm {
     /// No permission.
     pub const NONE: Perm = Perm { bits: 0 };
+
+    /// Read.
+    pub const READ: Perm = Perm { bits: 4 };
+
+    /// Write.
+    pub const WRITE: Perm = Perm { bits: 2 };
+
+    /// Execute a file, or pass through a directory.
+    pub const EXECUTE: Perm = Perm { bits: 1 };
 
     /// Read, write and execute.
     pub const ALL: Perm = Perm { bits: 7 };
@@ -117,6 +126,20 @@ impl Sub for Perm {
         ensures value { result.bits ≡ bit_and self.bits (bit_not w8 other.bits) }
     {
         self.difference(other)
+    }
+}
+
+/// The permissions that the set has not.
+impl Not for Perm {
+    type Output = Perm;
+
+    ghost not_gives = { λ m set. IsDifference all_permissions m.bits set.bits };
+
+    fn not(self) -> Perm
+        ensures meaning { IsDifference all_permissions self.bits result.bits }
+        ensures value { result.bits ≡ bit_and all_permissions (bit_not w8 self.bits) }
+    {
+        Perm::ALL.difference(self)
     }
 }
 

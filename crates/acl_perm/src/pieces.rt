@@ -1,7 +1,6 @@
 //! Texts that go out in several pieces.
-ghost use Rattle.std.specs.Prelude.{◌≡◌, ◌+◌, ◌^◌, ◌<◌, length, OnErr, OnOk};
-ghost use Rattle.acl_perm.specs.Devices.{one_more};
-ghost use Rattle.acl_perm.specs.Pieces.{WritesFrom};
+ghost use Rattle.std.specs.Prelude.{◌+◌, ◌^◌, ◌<◌, length};
+ghost use Rattle.acl_perm.specs.Pieces.{WritesOn};
 
 use crate::devices::Sink;
 use crate::whole::{WriteFault, put_all};
@@ -9,9 +8,7 @@ use crate::whole::{WriteFault, put_all};
 /// Writes one piece of a text, of which `done` bytes are out, and answers how many are out then.
 pub fn put_next<S: Sink>(sink: &mut S, done: u64, piece: &[u8]) -> Result<u64, WriteFault>
     requires { done + length piece.now < 2 ^ 64 }
-    ensures written { WritesFrom (S.contents sink.old) (S.contents sink.new) done piece.now result }
-    ensures none_failed { OnOk result (S.failure_count sink.new ≡ S.failure_count sink.old) }
-    ensures failed { OnErr result (S.failure_count sink.new ≡ one_more (S.failure_count sink.old)) }
+    ensures { WritesOn S.contents S.failure_count sink.old sink.new done piece.now result }
 {
     match put_all(sink, piece) {
         Ok(()) => Ok(done + piece.len() as u64),

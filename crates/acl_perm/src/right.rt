@@ -1,36 +1,76 @@
 //! One access right, as the number of its bit.
-ghost use Rattle.std.specs.Prelude.{◌≡◌, ◌<◌, IfSome, IsSome, ◌↔◌};
+ghost use Rattle.std.specs.Prelude.{◌≡◌, Some, IfSome, IsSome, IsTrue, ◌↔◌};
+ghost use Rattle.acl_perm.specs.Bits.{all_rights, has_bit};
+ghost use Rattle.acl_perm.specs.Names.{right_name};
 
-/// The number of a bit of masks, below 21. Of these the bits 0 to 10 and 16 to 20 are the sixteen rights, and the five
-/// between them are in no mask (RFC 8881, section 6.2.1.3.1). A loop over all goes from 0 to `Right::COUNT`, and makes
-/// `Right { bit }` of each number.
+use crate::bit::Bit;
+use crate::mask::Mask;
+use std::fmt;
+
+/// One of the sixteen access rights of an NFSv4 ACE, as the number of its bit: 0 to 10, or 16 to 20 (RFC 8881,
+/// section 6.2.1.3.1). The order is that of the numbers.
 #[derive(Clone, Copy, Debug, PartialEq, Eq, PartialOrd, Ord, Hash)]
 pub struct Right {
     pub bit: usize,
-    ghost within: { bit < 21 },
+    ghost within: { IsTrue (has_bit all_rights bit) },
 }
 
 impl Right {
-    /// How many bits there are, from 0.
+    /// One more than the greatest number of a right. It is no count of the rights, of which there are sixteen.
     pub const COUNT: usize = 21;
 
-    /// The bit of a number; none above 20.
+    /// Returns the right of a bit. Returns `None` if the number is not that of one of the sixteen rights.
+    #[tactic(auto, using(crate::proofs::Sets::right_below))]
     pub fn new(bit: usize) -> Option<Right>
-        ensures within { IsSome result ↔ (bit < 21) }
+        ensures within { IsSome result ↔ IsTrue (has_bit all_rights bit) }
         ensures value { IfSome result (λ right. right.bit ≡ bit) }
     {
-        if bit < Right::COUNT {
+        if bit < Bit::COUNT && (Bit { bit }).is_in(Mask::ALL) {
             Some(Right { bit })
         } else {
             None
         }
     }
 
-    /// The number of the bit.
+    /// Returns the number of the bit.
     pub fn bit(self) -> usize
         ensures value { result ≡ self.bit }
-        ensures within { result < 21 }
+        ensures within { IsTrue (has_bit all_rights result) }
     {
         self.bit
+    }
+
+    /// Returns the first name of the right in RFC 8881, section 6.2.1.3.1, without `ACE4_`.
+    pub fn name(self) -> &'static str
+        ensures { Some result.now ≡ right_name self.bit }
+    {
+        match self.bit {
+            0 => "READ_DATA",
+            1 => "WRITE_DATA",
+            2 => "APPEND_DATA",
+            3 => "READ_NAMED_ATTRS",
+            4 => "WRITE_NAMED_ATTRS",
+            5 => "EXECUTE",
+            6 => "DELETE_CHILD",
+            7 => "READ_ATTRIBUTES",
+            8 => "WRITE_ATTRIBUTES",
+            9 => "WRITE_RETENTION",
+            10 => "WRITE_RETENTION_HOLD",
+            16 => "DELETE",
+            17 => "READ_ACL",
+            18 => "WRITE_ACL",
+            19 => "WRITE_OWNER",
+            // The bit is 20: no other is left of the sixteen.
+            _ => "SYNCHRONIZE",
+        }
+    }
+}
+
+/// The name of the right.
+impl fmt::Display for Right {
+    ghost output = { λ right. right_name right.bit };
+
+    fn fmt<W: fmt::Write>(&self, f: &mut fmt::Formatter<W>) -> fmt::Result {
+        f.write_str(self.name())
     }
 }

@@ -5,7 +5,7 @@ ghost use Rattle.acl_perm.specs.Devices.{one_more};
 ghost use Rattle.acl_perm.specs.Pieces.{Writes};
 
 use crate::devices::{Sink, Source};
-use std::alloc::Global;
+use std::alloc::{AllocError, Global};
 use thiserror::Error;
 
 /// A write failed after `written` bytes, which are a beginning of the text that the call was to write.
@@ -24,6 +24,16 @@ pub enum ReadFault {
     /// There is no memory for what was read.
     #[error("out of memory")]
     Memory,
+}
+
+impl From<AllocError> for ReadFault {
+    ghost use Rattle.acl_perm.specs.declared.whole.ReadFault.TheVariants.{Memory};
+
+    ghost from_gives = { λ _ fault. fault ≡ Memory };
+
+    fn from(_error: AllocError) -> ReadFault {
+        ReadFault::Memory
+    }
 }
 
 /// Writes all of `bytes`. The first put that fails, or takes no byte, ends it; nothing is tried again.
@@ -85,9 +95,7 @@ pub fn read_all<S: Source>(alloc: Global, source: &mut S) -> Result<Vec<u8>, Rea
         match source.pull(&mut piece) {
             Ok(0) => return Ok(whole),
             Ok(count) => {
-                if whole.extend_from_slice(&piece[..count]).is_err() {
-                    return Err(ReadFault::Memory);
-                }
+                whole.extend_from_slice(&piece[..count])?;
             }
             Err(_) => return Err(ReadFault::Read),
         }

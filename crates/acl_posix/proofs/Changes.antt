@@ -61,7 +61,8 @@ pub record IsEdit (E : Entries) (l : Tag) (n : ℕ) (new : List Entry) : Type 0 
   pub sorted : IsSorted (pairs new)
   pub set : as_set (pairs new) ≡ fin.insert E l n
 
-keys_of : (E : Entries) (es : List Entry) → as_set (pairs es) ≡ E → IsSorted (pairs es) → fin.keys E ≡ tags (pairs es)
+-- the tags of a set are those of the list that it is the set of
+pub keys_of : (E : Entries) (es : List Entry) → as_set (pairs es) ≡ E → IsSorted (pairs es) → fin.keys E ≡ tags (pairs es)
 keys_of E es view h = ap (λ (s : Entries). fin.keys s) (sym view) ∙ keys_in_order (pairs es) h
 
 -- the place of a tag is one of the list

@@ -3,6 +3,8 @@ pub mod Lookups
 pub mod Repeats
 pub mod Faults
 pub mod Changes
+pub mod OneEntry
+pub mod Equality
 pub mod Masks
 pub mod Groups
 pub mod Digits

@@ -2,6 +2,7 @@ pub mod Id
 pub mod Tag
 pub mod Entries
 pub mod Valid
+pub mod Equal
 pub mod Mode
 pub mod Mask
 pub mod Check

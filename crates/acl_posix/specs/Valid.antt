@@ -64,3 +64,11 @@ is_refusal (Multi place) = true
 is_refusal (Duplicate place) = true
 is_refusal (Miss tag) = true
 is_refusal Memory = false
+
+-- what each fault says of a set of entries, where nothing can stand twice: the tag is the first that is absent; and
+-- that memory ran out says that nothing is wrong with the set
+abbrev pub IsFaultOfSet : Entries → AclFault → Type 0
+IsFaultOfSet entries (Multi place) = ⊥
+IsFaultOfSet entries (Duplicate place) = ⊥
+IsFaultOfSet entries (Miss tag) = missing entries ≡ Some (tag_of tag)
+IsFaultOfSet entries Memory = IsValid entries

@@ -3,13 +3,15 @@ ghost use Rattle.std.specs.Prelude.{◌≡◌, All, IfErr, IfOk, IsOk, IsSome, I
 ghost use Rattle.std.specs.FinMap as set;
 ghost use Rattle.acl_posix.specs.declared.fault.AclFault.{AclFault as Fault};
 ghost use Rattle.acl_posix.specs.declared.fault.AclFault.TheVariants.{Memory};
-ghost use Rattle.acl_posix.specs.Tag.{mask};
+ghost use Rattle.acl_posix.specs.Tag.{mask, tag_of};
 ghost use Rattle.acl_posix.specs.Entries.{as_set, IsEntry, IsSorted, pair_of, pairs};
-ghost use Rattle.acl_posix.specs.Valid.{is_refusal, IsFaultOf, IsValid, IsValidList};
+ghost use Rattle.acl_posix.specs.Valid.{is_refusal, IsFaultOf, IsFaultOfSet, IsValid, IsValidList};
 ghost use Rattle.acl_posix.specs.Mode.{chmoded, mode_of};
 ghost use Rattle.acl_posix.specs.Mask.{effective_of, with_mask};
 ghost use Rattle.acl_posix.specs.Check.{grants, ids};
 ghost use Rattle.acl_posix.specs.Create.{of_mode};
+ghost use Rattle.acl_posix.specs.Equal.{same_entry};
+ghost use Rattle.std.specs.Cmp.Lexicographic.{pointwise};
 
 use crate::entry::Entry;
 use crate::fault::AclFault;
@@ -22,7 +24,7 @@ use std::marker::Model;
 
 /// A valid access control list (acl(5), "VALID ACLs"): a set of entries in which no tag and qualifier stand twice, kept
 /// in canonical order. Clauses see it as what each tag and qualifier has.
-#[derive(Drop)]
+#[derive(Debug, Drop)]
 pub struct PosixAcl {
     entries: SortedEntries,
 }
@@ -46,6 +48,16 @@ impl PosixAcl {
     /// with the tag and qualifier of one before it, else by the first absent of USER_OBJ, GROUP_OBJ, OTHER, and of MASK
     /// where there is a USER or GROUP entry. Time n log n, and one map of at most n entries beside those handed in;
     /// linear time and no memory where they stand in canonical order.
+    ///
+    /// ```rust
+    /// let perm = Perm::ALL;
+    /// let mut entries = Vec::new(alloc);
+    /// for tag in [Tag::Other, Tag::UserObj, Tag::GroupObj] {
+    ///     entries.push(Entry { tag, perm })?;
+    /// }
+    /// let acl = PosixAcl::from_entries(alloc, entries)?;
+    /// assert!(rt; acl.mode().bits == 0o777);
+    /// ```
     pub fn from_entries(alloc: Global, entries: Vec<Entry>) -> Result<PosixAcl, AclFault>
         ensures valid { OnOk result (IsValidList (pairs entries.items)) }
         ensures entries { IfOk result (λ acl. acl ≡ as_set (pairs entries.items)) }
@@ -82,16 +94,61 @@ impl PosixAcl {
         Ok(PosixAcl { entries })
     }
 
-    /// The ACL of three entries that stands for a mode.
-    pub(crate) fn of_mode(alloc: Global, mode: Mode) -> Result<PosixAcl, AllocError>
+    /// Returns the ACL of three entries that stands for a mode: USER_OBJ, GROUP_OBJ and OTHER with its bits (acl(5),
+    /// "CORRESPONDENCE BETWEEN ACL ENTRIES AND FILE PERMISSION BITS"). Fails if memory runs out. Constant time; one
+    /// table of three entries.
+    pub fn of_mode(alloc: Global, mode: Mode) -> Result<PosixAcl, AllocError>
         ensures { IfOk result (λ acl. acl ≡ of_mode mode.bits) }
     {
         let entries = SortedEntries::of_mode(alloc, mode)?;
         Ok(PosixAcl { entries })
     }
 
+    /// Returns the permissions of the entry with a tag and qualifier, if there is one. No memory; logarithmic time.
+    pub fn get(&self, tag: Tag) -> Option<Perm>
+        ensures { option_map (λ perm. perm.bits) result ≡ set.get self.now (tag_of tag) }
+    {
+        self.entries.get(tag)
+    }
+
+    /// Sets the permissions of the entry with a tag and qualifier, and adds the entry if there is none. The list stays
+    /// valid: fails with `Miss(Mask)` if this would add a USER or GROUP entry to a list without MASK, and with `Memory`
+    /// if memory runs out, which can happen only where an entry is added. A call that fails changes nothing. Linear
+    /// time; logarithmic time where the entry is there.
+    pub fn set(&mut self, tag: Tag, perm: Perm) -> Result<(), AclFault>
+        ensures ok { OnOk result (self.new ≡ set.insert self.old (tag_of tag) perm.bits) }
+        ensures err { OnErr result (self.new ≡ self.old) }
+        ensures fault { IfErr result
+            (IsFaultOfSet (set.insert self.old (tag_of tag) perm.bits)) }
+        ensures no_memory { IsSome (set.get self.old (tag_of tag)) → IsOk result }
+        ensures valid { IsValid self.new }
+    {
+        self.entries.put(tag, perm)
+    }
+
+    /// Removes the entry with a tag and qualifier, and does nothing if there is none. The list stays valid: fails with
+    /// `Miss` of the tag if the tag is USER_OBJ, GROUP_OBJ or OTHER, or MASK beside a USER or GROUP entry. A call that
+    /// fails changes nothing. No memory; linear time.
+    pub fn remove(&mut self, tag: Tag) -> Result<(), AclFault>
+        ensures ok { OnOk result (self.new ≡ set.remove self.old (tag_of tag)) }
+        ensures err { OnErr result (self.new ≡ self.old) }
+        ensures fault { IfErr result (IsFaultOfSet (set.remove self.old (tag_of tag))) }
+        ensures no_memory { IfErr result (λ fault. IsTrue (is_refusal fault)) }
+        ensures valid { IsValid self.new }
+    {
+        self.entries.remove(tag)
+    }
+
     /// Whether a user, who is in these groups, has all of `want` on an object of this owner and group (acl(5), "ACCESS
     /// CHECK ALGORITHM"). No memory; time (number of groups + 1) times the logarithm of the number of entries.
+    ///
+    /// ```rust
+    /// let acl = PosixAcl::of_mode(alloc, Mode { bits: 0o640 })?;
+    /// let (owner, group, user) = (Id { value: 0 }, Id { value: 50 }, Id { value: 7 });
+    /// let read = Perm { bits: 4 };
+    /// assert!(rt; acl.check(owner, group, user, &[group], read));
+    /// assert!(rt; !acl.check(owner, group, user, &[], read));
+    /// ```
     #[tactic(auto, unfolding(crate::specs::Check::grants))]
     pub fn check(&self, owner: Id, group: Id, user: Id, groups: &[Id], want: Perm) -> bool
         ensures { result ≡ grants self.now
@@ -126,6 +183,12 @@ impl PosixAcl {
 
     /// Sets the file mode bits: USER_OBJ, MASK or, where there is none, GROUP_OBJ, and OTHER, and no other entry. No
     /// memory; logarithmic time.
+    ///
+    /// ```rust
+    /// let mut acl = PosixAcl::of_mode(alloc, Mode { bits: 0o644 })?;
+    /// acl.chmod(Mode { bits: 0o600 });
+    /// assert!(rt; acl.get(Tag::GroupObj) == Some(Perm::NONE));
+    /// ```
     pub fn chmod(&mut self, mode: Mode)
         ensures { self.new ≡ chmoded self.old mode.bits }
     {
@@ -165,4 +228,33 @@ impl PosixAcl {
     {
         self.entries.set_mask()
     }
+}
+
+impl PartialEq for PosixAcl {
+    ghost use Rattle.std.specs.Prelude.{◌≡◌, ◌↔◌, IsTrue};
+    ghost use Rattle.acl_posix.specs.Equal.{same_set, same_set_laws};
+
+    ghost eq = { same_set };
+
+    ghost laws = { same_set_laws };
+
+    /// Whether the two ACLs have the same entries. No memory; linear time.
+    fn eq(&self, other: &PosixAcl) -> bool
+        ensures value { result ≡ same_set self.now other.now }
+        ensures exact { IsTrue result ↔ (self.now ≡ other.now) }
+    {
+        are_same(self.entries(), other.entries())
+    }
+}
+
+impl Eq for PosixAcl {
+    ghost use Rattle.acl_posix.specs.Equal.{same_set_equiv};
+
+    ghost laws = { same_set_equiv };
+}
+
+fn are_same(one: &[Entry], other: &[Entry]) -> bool
+    ensures { result ≡ pointwise same_entry (pairs one.now) (pairs other.now) }
+{
+    one == other
 }

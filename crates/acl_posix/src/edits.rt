@@ -15,7 +15,7 @@ use std::alloc::AllocError;
 
 impl SortedEntries {
     /// Sets the permissions of a tag that has an entry.
-    fn set(&mut self, tag: Tag, perm: Perm)
+    pub(crate) fn set(&mut self, tag: Tag, perm: Perm)
         requires { IsSome (set.get self.old (tag_of tag)) }
         ensures set { self.new ≡ set.insert self.old (tag_of tag) perm.bits }
         ensures tags { set.keys self.new ≡ set.keys self.old }

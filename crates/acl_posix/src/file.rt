@@ -7,7 +7,7 @@ use acl_perm::Mode;
 use std::alloc::{AllocError, Global};
 
 /// The ACLs of a file: its access ACL, and of a directory the default ACL, if it has one (acl(5), "ACL TYPES").
-#[derive(Drop)]
+#[derive(Debug, Drop)]
 pub struct PosixFile {
     /// What decides who may do what with the file.
     pub access: PosixAcl,
@@ -15,10 +15,40 @@ pub struct PosixFile {
     pub default: Option<PosixAcl>,
 }
 
+impl PartialEq for PosixFile {
+    ghost use Rattle.std.specs.Prelude.{◌≡◌, ◌↔◌, IsTrue};
+    ghost use Rattle.acl_posix.specs.Equal.{same_file, same_file_laws};
+
+    ghost eq = { same_file };
+
+    ghost laws = { same_file_laws };
+
+    /// Whether the access ACLs are equal, and both files have no default ACL or equal ones. No memory; linear time.
+    fn eq(&self, other: &PosixFile) -> bool
+        ensures value { result ≡ same_file self.now other.now }
+        ensures exact { IsTrue result ↔ (self.now ≡ other.now) }
+    {
+        self.access == other.access && self.default == other.default
+    }
+}
+
+impl Eq for PosixFile {
+    ghost use Rattle.acl_posix.specs.Equal.{same_file_equiv};
+
+    ghost laws = { same_file_equiv };
+}
+
 /// The ACLs of a new file, or of a new directory where `dir` is true, in a directory with this default ACL (acl(5),
 /// "OBJECT CREATION AND DEFAULT ACLs"). With a default ACL the access ACL is that with the entries of its mode cut to
 /// the bits of `mode`, the umask has no part, and a directory gets the default ACL unchanged as its own. Without one
 /// the access ACL has three entries with the bits of `mode` that are not in `umask`. Linear time; a table for each ACL.
+///
+/// ```rust
+/// let mode = Mode { bits: 0o666 };
+/// let umask = Mode { bits: 0o022 };
+/// let file = create(alloc, None, mode, umask, false)?;
+/// assert!(rt; file.access.mode().bits == 0o644);
+/// ```
 pub fn create(
     alloc: Global,
     default: Option<&PosixAcl>,

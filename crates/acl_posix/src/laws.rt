@@ -1,8 +1,17 @@
 //! Laws of the mode, the mask and the texts, over sets of entries alone.
 
+ghost use Rattle.std.specs.Prelude.{◌≡◌, ℕ, IsTrue, List};
+ghost use Rattle.acl_posix.specs.declared.fault.AclFault.{AclFault};
+ghost use Rattle.acl_posix.specs.declared.file.PosixFile.{PosixFile};
+ghost use Rattle.acl_posix.specs.declared.text_fault.TextFault.{TextFault};
+ghost use Rattle.acl_posix.specs.Grammar.{Reads};
 ghost use Rattle.acl_posix.specs.Laws.{MaskLeavesAll, MaskStays, ModeIsSet};
+ghost use Rattle.acl_posix.specs.Names.{Table};
+ghost use Rattle.acl_posix.specs.Tag.{Tag};
+ghost use Rattle.acl_posix.specs.TextFault.{IsTextFault};
 ghost use Rattle.acl_posix.specs.TextLaws.{ReadsBack, TellsApart};
 ghost use Rattle.acl_posix.specs.Texts.{canonical_text, short_text, shown_text};
+ghost use Rattle.acl_posix.specs.Valid.{IsFaultOf, IsValidList, is_refusal};
 
 /// The mode after it is changed is the mode that was set.
 pub fn mode_is_set()
@@ -37,4 +46,22 @@ pub fn short_text_reads_back()
 /// Two files have one canonical text exactly if their sets of entries are equal.
 pub fn canonical_text_tells_apart()
     ensures { TellsApart canonical_text }
+{}
+
+/// A list of entries has at most one fault, and a valid list has none. `Memory` is not a fault of the list.
+pub fn one_fault()
+    ensures one { (entries : List (Tag × ℕ)) (f g : AclFault) → IsTrue (is_refusal f)
+        → IsTrue (is_refusal g) → IsFaultOf entries f → IsFaultOf entries g → f ≡ g }
+    ensures none { (entries : List (Tag × ℕ)) (f : AclFault) → IsValidList entries
+        → IsTrue (is_refusal f) → IsFaultOf entries f → ⊥ }
+{}
+
+/// With one table of names, a text spells at most one file, it has at most one fault, and not both.
+pub fn one_text_fault()
+    ensures file { (text : List ℕ) (names : Table) (a b : PosixFile) → Reads text names a
+        → Reads text names b → a ≡ b }
+    ensures one { (text : List ℕ) (names : Table) (f g : TextFault) → IsTextFault text names f
+        → IsTextFault text names g → f ≡ g }
+    ensures none { (text : List ℕ) (names : Table) (file : PosixFile) (f : TextFault)
+        → Reads text names file → IsTextFault text names f → ⊥ }
 {}

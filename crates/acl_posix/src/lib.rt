@@ -15,6 +15,7 @@ pub mod laws;
 mod look_up;
 mod memory;
 mod names;
+mod one_entry;
 mod parser;
 mod piece;
 mod reader;

@@ -62,6 +62,14 @@ impl Names {
 
     /// Adds a user name. A name that is refused leaves the table as it was. Logarithmic time; one string, and a node of
     /// the map.
+    ///
+    /// ```rust
+    /// let mut names = Names::new(alloc);
+    /// let id = Id { value: 7 };
+    /// names.add_user(b"bob", id)?;
+    /// assert!(rt; names.user(b"bob") == Some(id));
+    /// assert!(rt; names.add_user(b"bob", id) == Err(NameFault::Taken));
+    /// ```
     pub fn add_user(&mut self, name: &[u8], id: Id) -> Result<(), NameFault>
         ensures adds { AddsName self.old.users name.now self.old self.new
             (with_user self.old name.now id.value) result }
@@ -80,15 +88,15 @@ impl Names {
         add(self.alloc, &mut self.groups, name, id)
     }
 
-    /// The id of a user name.
-    pub(crate) fn user(&self, name: &[u8]) -> Option<Id>
+    /// Returns the id of a user name, if the table has it. No memory; logarithmic time.
+    pub fn user(&self, name: &[u8]) -> Option<Id>
         ensures { option_map (λ id. id.value) result ≡ fin.get self.now.users name.now }
     {
         self.users.get(name).copied()
     }
 
-    /// The id of a group name.
-    pub(crate) fn group(&self, name: &[u8]) -> Option<Id>
+    /// Returns the id of a group name, if the table has it. No memory; logarithmic time.
+    pub fn group(&self, name: &[u8]) -> Option<Id>
         ensures { option_map (λ id. id.value) result ≡ fin.get self.now.groups name.now }
     {
         self.groups.get(name).copied()

@@ -21,6 +21,13 @@ use std::alloc::Global;
 /// TEXT FORM", "SHORT TEXT FORM"). A text that spells none is refused: by the first entry that is wrong, else by the
 /// first part that is no valid ACL. Time n log n in the number of entries, and linear where they stand in canonical
 /// order; a list of entries for each part.
+///
+/// ```rust
+/// let names = Names::new(alloc);
+/// let file = parse(alloc, b"u::rw-,u:7:r--,g::---,m::r--,o::---", &names)?;
+/// assert!(rt; file.access.get(Tag::Mask) == Perm::new(4));
+/// assert!(rt; file.default.is_none());
+/// ```
 pub fn parse(alloc: Global, text: &[u8], names: &Names) -> Result<PosixFile, TextFault>
     // What is read is spelled by the text.
     ensures found { IfOk result (Reads text.now names.now) }

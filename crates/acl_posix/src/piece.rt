@@ -11,7 +11,8 @@ use crate::id::Id;
 use crate::names::Names;
 use crate::tag::Tag;
 use crate::text_fault::{Part, TextFault};
-use acl_perm::{Perm, Piece, is_all_blank, trimmed};
+use acl_perm::Perm;
+use acl_perm::internal::{Piece, is_all_blank, trimmed};
 
 /// The fields of an entry, and the part that it belongs to.
 #[derive(Clone, Copy)]

@@ -10,7 +10,7 @@ use crate::names::Names;
 use crate::piece::read_piece;
 use crate::text_fault::{Part, TextFault};
 use crate::written_line::written_line;
-use acl_perm::{Piece, before_mark, cut_line, is_all_blank};
+use acl_perm::internal::{Piece, before_mark, cut_line, is_all_blank};
 use std::alloc::{AllocError, Global};
 
 /// The entries read so far, those of each part in order.

@@ -11,7 +11,7 @@ use std::alloc::{AllocError, Global};
 use std::marker::Model;
 
 /// Entries in canonical order, in which no tag and qualifier stand twice. Clauses see them as what each tag has.
-#[derive(Drop)]
+#[derive(Debug, Drop)]
 pub(crate) struct SortedEntries {
     pub(crate) items: Vec<Entry>,
 }

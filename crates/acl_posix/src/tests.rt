@@ -5,6 +5,7 @@ mod ample;
 mod changes;
 mod checks;
 mod creation;
+mod examples;
 mod faults;
 mod harness;
 mod lists;

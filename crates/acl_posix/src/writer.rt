@@ -13,7 +13,8 @@ use crate::entry_writer::put_entry;
 use crate::file::PosixFile;
 use crate::form::Form;
 use crate::text_fault::Part;
-use acl_perm::{Sink, WriteFault, put_next};
+use acl_perm::internal::put_next;
+use acl_perm::{Sink, WriteFault};
 
 /// Writes a text of the ACLs of a file, and answers how many bytes it has.
 fn put_file<S: Sink>(
@@ -143,6 +144,15 @@ impl PosixAcl {
 
     /// Writes the canonical text: a line an entry in canonical order, and the default ACL behind the access ACL. The
     /// first put that fails ends it; nothing is tried again. No memory; linear time.
+    ///
+    /// ```rust
+    /// let acl = PosixAcl::of_mode(alloc, Mode { bits: 0o640 })?;
+    /// let mut sink = Counted::new(Vec::new(alloc));
+    /// acl.write_canonical(&mut sink)?;
+    /// let text = sink.into_inner();
+    /// let wanted = b"user::rw-\ngroup::r--\nother::---\n";
+    /// assert!(rt; text.as_slice() == wanted.as_slice());
+    /// ```
     pub fn write_canonical<S: Sink>(&self, sink: &mut S) -> Result<(), WriteFault>
         ensures { Writes S.contents S.failure_count sink.old sink.new
             (canonical_text self.now None) result }

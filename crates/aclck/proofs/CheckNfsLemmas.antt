@@ -1,58 +1,53 @@
--- Names behind references.
+-- Names of a requester.
 use Rattle.std.proofs.Common.{◌≡◌, ◌<◌, true, false, cond, List, length, Option, Some, None, refl, sym, ◌∙◌}
 use Rattle.std.specs.Prelude.{◌&&◌, ◌↔◌, All, IfSome, IsSome, option_map}
-use Rattle.std.specs.Borrow.{Bor}
 use Rattle.std.proofs.lemmas.Bool.{ltb-true, lt-ltb}
-use Rattle.std.proofs.lemmas.List.Folds.{list_all-map}
 use Rattle.std.proofs.lemmas.List.Sums.{AllPass-from_list_all, list_all-from_AllPass}
 use Rattle.clap.specs.Words.{Text}
 use Rattle.acl_perm.proofs.Bools.{and_true}
 use Rattle.acl_eval.specs.Situation.{groups_of, user_of}
 use Rattle.acl_eval.specs.declared.situation.Requester.{Requester}
-use Rattle.aclck.specs.Line.{texts}
 use Rattle.aclck.specs.Values.{are_names, is_name}
 use Rattle.aclck.specs.CheckNfs.{RequesterNames, requester_named, requester_names}
 
--- each name behind the references has a byte
-abbrev HasNames : List (Bor Text) → Type 0
-HasNames names = All (λ g. 0 < length g.now) names
+-- each name has a byte
+abbrev HasNames : List Text → Type 0
+HasNames names = All (λ g. 0 < length g) names
 
 -- texts that have a byte each are names
-are_names_from : (names : List (Bor Text)) → HasNames names → are_names (texts names) ≡ true
-are_names_from names h = list_all-map is_name (λ g. g.now) names
-    ∙ list_all-from_AllPass (λ g. is_name g.now) names (λ k d lt. lt-ltb _ _ (h k d lt))
+are_names_from : (names : List Text) → HasNames names → are_names names ≡ true
+are_names_from names h = list_all-from_AllPass is_name names (λ k d lt. lt-ltb _ _ (h k d lt))
 
 -- names have a byte each
-names_from : (names : List (Bor Text)) → are_names (texts names) ≡ true → HasNames names
-names_from names h = λ k d lt. ltb-true _ _ (AllPass-from_list_all (λ g. is_name g.now) names
-    (sym (list_all-map is_name (λ g. g.now) names) ∙ h) k d lt)
+names_from : (names : List Text) → are_names names ≡ true → HasNames names
+names_from names h = λ k d lt. ltb-true _ _ (AllPass-from_list_all is_name names h k d lt)
 
 -- a user with its groups
 abbrev both_of : Text → List Text → RequesterNames
 both_of u groups = record { user = u; groups = groups }
 
 -- a user and groups that have a byte each name a requester
-is_named : (u : Text) (names : List (Bor Text)) → (0 < length u) × HasNames names
-    → requester_named (Some u) (texts names) ≡ Some (both_of u (texts names))
+is_named : (u : Text) (names : List Text) → (0 < length u) × HasNames names
+    → requester_named (Some u) names ≡ Some (both_of u names)
 is_named u names h = rw (lt-ltb 0 (length u) h.0, are_names_from names h.1) refl
 
 -- a user and groups of which one has no byte name no requester
-not_named : (u : Text) (names : List (Bor Text)) → ((0 < length u) × HasNames names → ⊥)
-    → requester_named (Some u) (texts names) ≡ None
+not_named : (u : Text) (names : List Text) → ((0 < length u) × HasNames names → ⊥)
+    → requester_named (Some u) names ≡ None
 not_named u names none =
-    elim (is_name u && are_names (texts names)) as (λ b. (is_name u && are_names (texts names)) ≡ b
-    → cond b (Some (both_of u (texts names))) None ≡ None) [
+    elim (is_name u && are_names names) as (λ b. (is_name u && are_names names) ≡ b
+    → cond b (Some (both_of u names)) None ≡ None) [
       | true ↦ λ is.
-          let both = and_true (is_name u) (are_names (texts names)) is in
+          let both = and_true (is_name u) (are_names names) is in
           absurd (none (ltb-true 0 (length u) both.0, names_from names both.1))
       | false ↦ λ is. refl
     ] refl
 
 -- a requester that comes exactly of names, with these names, has the names that the definition gives
-pub requester_is : (r : Option Requester) (u : Text) (names : List (Bor Text))
+pub requester_is : (r : Option Requester) (u : Text) (names : List Text)
     → (IsSome r ↔ ((0 < length u) × HasNames names))
-    → IfSome r (λ q. user_of q ≡ u) → IfSome r (λ q. groups_of q ≡ texts names)
-    → option_map requester_names r ≡ requester_named (Some u) (texts names)
+    → IfSome r (λ q. user_of q ≡ u) → IfSome r (λ q. groups_of q ≡ names)
+    → option_map requester_names r ≡ requester_named (Some u) names
 requester_is None u names named user groups = sym (not_named u names (λ h. let e = named.1 h in cc))
 requester_is (Some q) u names named user groups =
     rw (user, groups) (sym (is_named u names (named.0 refl)))

@@ -5,12 +5,20 @@ use crate::*;
 use acl_nfs4::AclView;
 use acl_perm::{Kind, Right};
 
-fn decision_of(bytes: &[u8], user: &str, groups: &[&[u8]], bit: usize) -> Option<Option<Decision>> {
+// What `deciding_ace` answers for one right, and what `deciding_aces` does.
+fn decisions_of(
+    bytes: &[u8],
+    user: &str,
+    groups: &[&[u8]],
+    bit: usize,
+) -> Option<[Option<Decision>; 2]> {
     let list = AclView::parse_whole(bytes).ok()?;
     let object = Object::new(b"bob", b"staff")?;
     let requester = Requester::new(user.as_bytes(), groups)?;
     let right = Right::new(bit)?;
-    Some(deciding_ace(list.aces(), &object, &requester, right))
+    let alone = deciding_ace(list.aces(), &object, &requester, right);
+    let among_all = deciding_aces(list.aces(), &object, &requester).of(right);
+    Some([alone, among_all])
 }
 
 // A list of an object of bob's, the requester and its groups, the bit of a right, and the place and the type of the ACE
@@ -51,7 +59,7 @@ fn the_first_that_has_the_right_and_speaks_of_the_requester_decides(rt: HostRunt
             Some((place, kind)) => Some(Decision { place, kind }),
             None => None,
         };
-        let answer = decision_of(bytes, user, groups, bit);
-        assert!(rt; answer == Some(decision), "{user}, bit {bit}");
+        let answers = decisions_of(bytes, user, groups, bit);
+        assert!(rt; answers == Some([decision, decision]), "{user}, bit {bit}");
     }
 }

@@ -1,6 +1,6 @@
 //! What a list grants, by RFC 8881, section 6.2.1.
 
-use super::lists::{INHERIT_ONLY, NONE, THREE, is_granted};
+use super::lists::{GROUP_NAMED, INHERIT_ONLY, NONE, THREE, granted_of, is_granted};
 
 // A list, the owner, the requester, who is in the group staff, the rights, and whether they are granted.
 static REQUESTS: [(&[u8], &str, &str, u32, bool); 11] = [
@@ -26,5 +26,29 @@ fn the_first_match_decides(rt: HostRuntime) {
     for (bytes, owner, user, bits, granted) in REQUESTS {
         let answer = is_granted(bytes, owner, user, &[b"staff"], bits);
         assert!(rt; answer == Some(granted), "{user} of {owner}, {bits}");
+    }
+}
+
+const ALL: u32 = 0x001f_07ff;
+
+// A list, the owner, the requester, who is in the group staff, a mask, and its rights that the list grants.
+static MASKS: [(&[u8], &str, &str, u32, u32); 8] = [
+    (THREE, "alice", "alice", ALL, 3),
+    (THREE, "bob", "bob", ALL, 1),
+    // Rights outside the mask are left out, also if the list grants them.
+    (THREE, "alice", "alice", 2, 2),
+    (THREE, "bob", "bob", 2, 0),
+    (THREE, "alice", "bob", ALL, 0),
+    (NONE, "alice", "alice", ALL, 0),
+    // An ACE with INHERIT_ONLY, alone and before others.
+    (INHERIT_ONLY, "bob", "alice", ALL, 0),
+    (GROUP_NAMED, "bob", "alice", ALL, 1),
+];
+
+#[test]
+fn the_rights_that_are_granted_are_those_of_the_first_matches(rt: HostRuntime) {
+    for (bytes, owner, user, bits, expected) in MASKS {
+        let answer = granted_of(bytes, owner, user, &[b"staff", b"guest"], bits);
+        assert!(rt; answer == Some(expected), "{user} of {owner}, {bits}");
     }
 }

@@ -44,3 +44,17 @@ pub fn is_granted(
     let requester = Requester::new(user.as_bytes(), groups)?;
     Some(grants(list.aces(), &object, &requester, Mask::new(bits)?))
 }
+
+/// The rights of a mask that a list of an object of this owner and of the group staff grants the requester.
+pub fn granted_of(
+    bytes: &[u8],
+    owner: &str,
+    user: &str,
+    groups: &[&[u8]],
+    bits: u32,
+) -> Option<u32> {
+    let list = AclView::parse_whole(bytes).ok()?;
+    let object = Object::new(owner.as_bytes(), b"staff")?;
+    let requester = Requester::new(user.as_bytes(), groups)?;
+    Some(granted(list.aces(), &object, &requester, Mask::new(bits)?).bits())
+}

@@ -1,14 +1,17 @@
 //! The ACEs of a list, one after the other, from bytes that were judged before.
-ghost use Rattle.std.specs.Prelude.{◌≡◌, ◌+◌, ◌≤◌, ℕ, List, ◌++◌, length, take, drop};
-ghost use Rattle.acl_perm.specs.Profile.{full};
+ghost use Rattle.std.specs.Prelude.{◌≡◌, ◌+◌, ◌≤◌, ◌↔◌, ℕ, IsTrue, List, ◌++◌, length, take, drop};
+ghost use Rattle.acl_perm.specs.Profile.{full, profile_of};
 ghost use Rattle.acl_nfs4.specs.Ace.{Ace, ace};
 ghost use Rattle.acl_nfs4.specs.internal.Reading.{kind_from};
-ghost use Rattle.acl_nfs4.specs.Spelling.{piece, IsAce};
+ghost use Rattle.acl_nfs4.specs.Limits.{most_weight};
+ghost use Rattle.acl_nfs4.specs.Spelling.{piece, Fits, IsAce};
+ghost use Rattle.acl_nfs4.specs.Spelling as spelled;
+ghost use Rattle.acl_nfs4.specs.Within.{IsWithin};
 ghost use Rattle.acl_nfs4.specs.Fields.{number};
 ghost use Rattle.acl_nfs4.specs.internal.Body.{BeginsWithAce};
 
 use crate::ace::AceRef;
-use acl_perm::{Flags, Kind, Mask};
+use acl_perm::{Flags, Kind, Mask, Profile};
 use byteorder::{BigEndian, ByteOrder};
 use std::alloc::AllocError;
 use std::marker::Model;
@@ -122,4 +125,37 @@ impl<'a> Clone for Aces<'a> {
             rest: self.rest,
         })
     }
+}
+
+// Whether the profile has every flag and every right of every ACE.
+pub(crate) fn fit(aces: Aces<'_>, profile: Profile) -> bool
+    ensures { IsTrue result ↔ Fits (profile_of profile) aces.entry }
+{
+    for ace in aces {
+        if !fits_ace(&ace, profile) {
+            return false;
+        }
+    }
+    true
+}
+
+#[tactic(auto, using(crate::proofs::Within::tests))]
+fn fits_ace(ace: &AceRef<'_>, profile: Profile) -> bool
+    ensures { IsTrue result
+        ↔ (IsWithin profile.flags.bits ace.now.flags.bits
+        × IsWithin profile.masks.bits ace.now.mask.bits) }
+{
+    profile.flags.contains(ace.flags) && profile.masks.contains(ace.mask)
+}
+
+// The number of mask bits set, over all ACEs.
+pub(crate) fn weight_of(aces: Aces<'_>) -> u32
+    requires { spelled.weight aces ≤ most_weight }
+    ensures { result ≡ spelled.weight aces.entry }
+{
+    let mut weight = 0;
+    for ace in aces {
+        weight += ace.mask.bits().count_ones();
+    }
+    weight
 }

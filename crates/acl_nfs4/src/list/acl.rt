@@ -10,7 +10,6 @@ ghost use Rattle.acl_nfs4.specs.declared.list.push_fault.PushFault.TheVariants.{
 ghost use Rattle.acl_nfs4.specs.internal.Appending.{Extended};
 ghost use Rattle.acl_nfs4.specs.Limits.{most_aces, most_weight, longest_who};
 ghost use Rattle.acl_nfs4.specs.Who.{IsWho};
-ghost use Rattle.acl_nfs4.specs.Within.{IsWithin};
 ghost use Rattle.acl_perm.specs.Profile.{full, profile_of};
 
 use crate::ace::AceRef;
@@ -18,10 +17,13 @@ use crate::limits::{MOST_ACES, MOST_WEIGHT};
 use crate::list::aces::Aces;
 use crate::list::push_fault::PushFault;
 use crate::who::judge;
+use crate::xdr::encode::count_word;
 use crate::xdr::view::AclView;
 use acl_perm::{Kind, Profile};
 use byteorder::{BigEndian, ByteOrder};
 use std::alloc::{AllocError, Global};
+use std::cmp::Ordering;
+use std::hash::{Hash, Hasher};
 use std::marker::Model;
 
 /// A list of ACEs (RFC 8881, section 6.2.1) that is always accepted: at most 65,536 ACEs, of at most 65,536 mask bits
@@ -92,13 +94,23 @@ impl Acl {
         }
     }
 
+    /// Lends the list as a view, which is what the calls that only read a list take. Constant time, and no memory.
+    pub fn view(&self) -> AclView<'_>
+        ensures { result ≡ self.now }
+    {
+        AclView {
+            count: self.count,
+            body: &self.body,
+        }
+    }
+
     /// Whether the profile has every flag and every right of every ACE, in time linear in the bytes, without memory.
     pub fn fits(&self, profile: Profile) -> bool
         ensures exact { IsTrue result ↔ Fits (profile_of profile) self.now }
         // A list that fits a profile is one that is accepted under it.
         ensures accepted { IsTrue result ↔ IsAccepted (profile_of profile) self.now }
     {
-        fit(self.aces(), profile)
+        self.view().fits(profile)
     }
 
     /// The same list again, in time linear in its bytes and with one allocation.
@@ -119,13 +131,25 @@ impl Acl {
         let body = Vec::from_slice(alloc, view.body)?;
         Ok(Acl {
             count: view.count,
-            weight: weight_of(view.aces()),
+            weight: view.weight(),
             body,
         })
     }
 
     /// Adds an ACE at the end, where the list stays accepted. Else the answer is the first condition, in the order of
     /// `PushFault`, that refuses it. To push many ACEs takes time linear in their bytes.
+    ///
+    /// ```rust
+    /// let mut list = Acl::new(alloc);
+    /// let mask = read_mask(b"READ_DATA").ok_or("no such right")?;
+    /// list.push(AceRef {
+    ///     kind: Kind::Allow,
+    ///     flags: Flags::NONE,
+    ///     mask,
+    ///     who: b"alice",
+    /// })?;
+    /// assert!(rt; list.len() == 1);
+    /// ```
     pub fn push(&mut self, item: AceRef<'_>) -> Result<(), PushFault>
         // What is taken stands at the end.
         ensures ok { OnOk result (self.new ≡ self.old ++ ace item.entry ∷ []) }
@@ -156,7 +180,8 @@ impl Acl {
         }
     }
 
-    /// Adds an ACE at the end of a list that stays accepted with it. Only want of memory fails.
+    /// Adds an ACE at the end of a list that stays accepted with it. Only want of memory fails. It judges nothing: the
+    /// caller has to know, by a proof, that the list stays accepted. Every other caller wants `push`.
     pub fn push_accepted(&mut self, item: AceRef<'_>) -> Result<(), AllocError>
         requires { IsAccepted full (self.old ++ ace item ∷ []) }
         // What is taken stands at the end.
@@ -223,37 +248,6 @@ fn kind_word(kind: Kind) -> u32
     }
 }
 
-fn fit(aces: Aces<'_>, profile: Profile) -> bool
-    ensures { IsTrue result ↔ Fits (profile_of profile) aces.entry }
-{
-    for ace in aces {
-        if !fits_ace(&ace, profile) {
-            return false;
-        }
-    }
-    true
-}
-
-#[tactic(auto, using(crate::proofs::Within::tests))]
-fn fits_ace(ace: &AceRef<'_>, profile: Profile) -> bool
-    ensures { IsTrue result
-        ↔ (IsWithin profile.flags.bits ace.now.flags.bits
-        × IsWithin profile.masks.bits ace.now.mask.bits) }
-{
-    profile.flags.contains(ace.flags) && profile.masks.contains(ace.mask)
-}
-
-fn weight_of(aces: Aces<'_>) -> u32
-    requires { spelled.weight aces ≤ most_weight }
-    ensures { result ≡ spelled.weight aces.entry }
-{
-    let mut weight = 0;
-    for ace in aces {
-        weight += ace.mask.bits().count_ones();
-    }
-    weight
-}
-
 impl PartialEq for Acl {
     ghost use Rattle.std.specs.Prelude.{◌≡◌, IsTrue, ◌↔◌};
     ghost use Rattle.acl_nfs4.specs.Owned.{same_list, same_list_laws};
@@ -274,6 +268,68 @@ impl Eq for Acl {
     ghost use Rattle.acl_nfs4.specs.Owned.{same_list_equiv};
 
     ghost laws = { same_list_equiv };
+}
+
+impl PartialOrd for Acl {
+    ghost use Rattle.std.specs.Prelude.{◌≡◌, Some};
+    ghost use Rattle.std.specs.Ordering.{as_partial_cmp};
+    ghost use Rattle.acl_nfs4.specs.Owned.{list_cmp, list_partial_order};
+
+    ghost partial_cmp = { as_partial_cmp list_cmp };
+
+    ghost laws = { list_partial_order };
+
+    fn partial_cmp(&self, other: &Acl) -> Option<Ordering>
+        ensures { result ≡ Some (list_cmp self.now other.now) }
+    {
+        Some(self.cmp(other))
+    }
+}
+
+impl Ord for Acl {
+    ghost use Rattle.std.specs.Prelude.{◌≡◌, refl};
+    ghost use Rattle.acl_nfs4.specs.Owned.{list_cmp, list_cmp_total, list_ties};
+
+    ghost cmp = { list_cmp };
+
+    ghost total = { list_cmp_total };
+
+    ghost matches_partial_cmp = { λ a b. refl };
+
+    ghost matches_eq = { list_ties };
+
+    #[tactic(auto, using(crate::proofs::Ordered::ordered))]
+    fn cmp(&self, other: &Acl) -> Ordering
+        ensures { result ≡ list_cmp self.now other.now }
+    {
+        count_word(self.count)
+            .cmp(&count_word(other.count))
+            .then(self.body.cmp(&other.body))
+    }
+}
+
+impl Hash for Acl {
+    ghost use Rattle.acl_nfs4.specs.internal.FedAlike.{list_alike};
+    ghost use Rattle.acl_nfs4.specs.Owned.{list_writes};
+
+    ghost hash_input = { list_writes };
+
+    ghost respects_eq = { list_alike };
+
+    fn hash<H: Hasher>(&self, state: &mut H) {
+        state.write(&count_word(self.count));
+        state.write(&self.body);
+    }
+}
+
+impl Clone for Acl {
+    ghost use Rattle.std.specs.Prelude.{◌≡◌};
+
+    ghost is_clone = { λ acl copy. copy ≡ acl };
+
+    fn clone(&self) -> Result<Acl, AllocError> {
+        self.copy(*self.body.allocator())
+    }
 }
 
 impl<'a> IntoIterator for &'a Acl {

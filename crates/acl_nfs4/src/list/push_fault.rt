@@ -3,25 +3,32 @@ ghost use Rattle.std.specs.Prelude.{◌≡◌};
 ghost use Rattle.acl_nfs4.specs.Push.{who_refusal};
 
 use crate::who::WhoFault;
+use std::alloc::AllocError;
 use thiserror::Error;
 
 /// Why a list doesn't take one more ACE, in the order in which it is judged.
 #[derive(Clone, Copy, Debug, PartialEq, Eq, Error)]
-#[error("{:?}", self)]
 pub enum PushFault {
     /// The list has 65,536 ACEs.
+    #[error("TooManyAces")]
     TooManyAces,
     /// The list would have more than 65,536 mask bits, over all its ACEs.
+    #[error("TooHeavy")]
     TooHeavy,
     /// The who has no byte, or more than 1,024.
+    #[error("WhoLength")]
     WhoLength,
     /// The who isn't UTF-8.
+    #[error("WhoUtf8")]
     WhoUtf8,
     /// The who has a byte below 0x20, or 0x7f.
+    #[error("WhoControl")]
     WhoControl,
     /// The who ends in `@` and is none of `OWNER@`, `GROUP@` and `EVERYONE@`.
+    #[error("SpecialWho")]
     SpecialWho,
     /// There is no memory for the ACE.
+    #[error("out of memory")]
     Memory,
 }
 
@@ -35,5 +42,15 @@ impl From<WhoFault> for PushFault {
             WhoFault::Control => PushFault::WhoControl,
             WhoFault::Special => PushFault::SpecialWho,
         }
+    }
+}
+
+impl From<AllocError> for PushFault {
+    ghost use Rattle.acl_nfs4.specs.declared.list.push_fault.PushFault.TheVariants.{Memory};
+
+    ghost from_gives = { λ _ fault. fault ≡ Memory };
+
+    fn from(_: AllocError) -> PushFault {
+        PushFault::Memory
     }
 }

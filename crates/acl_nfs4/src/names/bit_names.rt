@@ -5,7 +5,7 @@ ghost use Rattle.acl_nfs4.specs.BitNames.{bit_in, bits_in, first_name, is_name_o
 ghost use Rattle.acl_nfs4.specs.internal.NameTable.{IsCut, row_of, set_within, table_of};
 ghost use Rattle.acl_nfs4.specs.Within.{IsWithin};
 
-use acl_perm::place_of;
+use acl_perm::internal::place_of;
 
 /// A row of a table: a bit, its name, and its second name, where it has two.
 pub(crate) struct BitName {

@@ -93,6 +93,11 @@ pub(crate) static RIGHTS: [BitName; 16] = [
 /// The mask that a field of the text form names: the empty one by `-`, or the union of the rights that the names with
 /// `|` between them stand for, each the first or the second name of a right (RFC 8881, section 6.2.1.3.1). None where
 /// the bytes name no mask. It takes no memory.
+///
+/// ```rust
+/// let mask = read_mask(b"READ_DATA|EXECUTE").ok_or("no such right")?;
+/// assert!(rt; mask.bits() == 0x21);
+/// ```
 pub fn read_mask(field: &[u8]) -> Option<Mask>
     // What is answered is spelled.
     ensures named { IfSome result (λ mask. SpellsMask field.now mask.bits) }

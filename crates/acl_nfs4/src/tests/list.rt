@@ -1,6 +1,6 @@
 //! Owned lists: copies of others, of views, and the profiles that they fit.
 
-use super::harness::kept;
+use super::harness::{is_told, kept};
 use super::rows::{Row, append_ace, append_word, built, copied, item, repeated, shows, spelled};
 use crate::*;
 use std::alloc::{AllocError, Global};
@@ -51,6 +51,25 @@ pub fn a_copy_is_the_same_list(rt: &impl Abort, alloc: Global) -> Result<(), Pus
     Ok(())
 }
 
+// Whether a view tells of its list what the list tells of itself.
+fn is_alike(view: &AclView<'_>, list: &Acl) -> bool {
+    view.len() == list.len()
+        && view.is_empty() == list.is_empty()
+        && view.weight() == list.weight()
+        && view.encoded_len() == list.encoded_len()
+        && view.fits(Profile::NARROW) == list.fits(Profile::NARROW)
+}
+
+// Whether both are written as these bytes.
+fn are_spelled(
+    alloc: Global,
+    view: &AclView<'_>,
+    list: &Acl,
+    bytes: &[u8],
+) -> Result<bool, AllocError> {
+    Ok(view.to_bytes(alloc)?.as_slice() == bytes && list.to_bytes(alloc)?.as_slice() == bytes)
+}
+
 fn viewed(
     rt: &impl Abort,
     alloc: Global,
@@ -68,6 +87,11 @@ fn viewed(
     assert!(rt; list.weight() == expected.weight());
     assert!(rt; shows(list.aces(), rows));
     assert!(rt; shows(view.aces(), rows));
+    assert!(rt; shows((&view).into_iter(), rows));
+    assert!(rt; is_alike(&view, &list) && is_alike(&list.view(), &list));
+    assert!(rt; kept(are_spelled(alloc, &view, &list, bytes))?);
+    let again: Result<_, _> = view.clone();
+    assert!(rt; again.is_ok_and(|again| shows(again.into_iter(), rows)));
     Ok(())
 }
 
@@ -80,6 +104,58 @@ pub fn a_list_from_a_view_is_what_the_view_shows(
         let bytes = kept(spelled(alloc, rows))?;
         let expected = built(alloc, rows)?;
         viewed(rt, alloc, rows, &bytes, &expected)?;
+    }
+    Ok(())
+}
+
+// Lists in rising order: by their numbers of ACEs, and then by the words of their ACEs.
+static RISING: [&[Row]; 7] = [
+    &[],
+    &[(Kind::Allow, 0, 1, b"a")],
+    &[(Kind::Allow, 0, 1, b"b")],
+    &[(Kind::Allow, 0, 1, b"aa")],
+    &[(Kind::Allow, 1, 0, b"a")],
+    &[(Kind::Deny, 0, 0, b"a")],
+    &[(Kind::Allow, 0, 0, b"a"), (Kind::Allow, 0, 0, b"a")],
+];
+
+/// Lists are ordered by their bytes, and a clone stands where its list does.
+pub fn lists_are_ordered_by_their_bytes(rt: &impl Abort, alloc: Global) -> Result<(), PushFault> {
+    for (place, rows) in RISING.iter().enumerate() {
+        let list = built(alloc, rows)?;
+        for (other_place, other_rows) in RISING.iter().enumerate() {
+            let other = kept(built(alloc, other_rows)?.clone())?;
+            assert!(rt;
+                list.cmp(&other) == place.cmp(&other_place),
+                "{place} {other_place}"
+            );
+        }
+    }
+    Ok(())
+}
+
+// ACEs, and the lines that show them.
+static SHOWN: [(Row, &str); 4] = [
+    (
+        (Kind::Allow, 0, 1, b"EVERYONE@"),
+        "ALLOW - READ_DATA EVERYONE@",
+    ),
+    (
+        (Kind::Deny, 0x43, 0x21, b"staff"),
+        "DENY FILE|DIR|GROUP READ_DATA|EXECUTE staff",
+    ),
+    ((Kind::Allow, 0, 0, b"\xc3\xa9"), "ALLOW - - \u{e9}"),
+    ((Kind::Allow, 0, 0, b"\xff"), "ALLOW - - \u{fffd}"),
+];
+
+/// An ACE is shown as its line.
+pub fn an_ace_is_shown_as_its_line(rt: &impl Abort, alloc: Global) -> Result<(), PushFault> {
+    for (row, line) in SHOWN {
+        let Some(ace) = item(row) else {
+            return Ok(());
+        };
+        assert!(rt; is_told(alloc, &ace, line)?, "{line}");
+        assert!(rt; item(row) == Some(ace));
     }
     Ok(())
 }

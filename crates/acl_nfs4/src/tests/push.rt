@@ -71,7 +71,7 @@ static LINES: [(PushFault, &str); 7] = [
     (WhoUtf8, "WhoUtf8"),
     (WhoControl, "WhoControl"),
     (SpecialWho, "SpecialWho"),
-    (Memory, "Memory"),
+    (Memory, "out of memory"),
 ];
 
 mod ample {

@@ -1,5 +1,7 @@
 //! Why a text is no list, by line and column.
+ghost use Rattle.std.specs.Prelude.{◌≡◌};
 
+use std::alloc::AllocError;
 use thiserror::Error;
 
 /// Why a text is no list of ACEs. Lines and columns count from 1, columns in bytes. A field without a byte stands at
@@ -39,4 +41,14 @@ pub enum AceTextFault {
     /// Memory ran out.
     #[error("out of memory")]
     Memory,
+}
+
+impl From<AllocError> for AceTextFault {
+    ghost use Rattle.acl_nfs4.specs.declared.text.fault.AceTextFault.TheVariants.{Memory};
+
+    ghost from_gives = { λ _ fault. fault ≡ Memory };
+
+    fn from(_: AllocError) -> AceTextFault {
+        AceTextFault::Memory
+    }
 }

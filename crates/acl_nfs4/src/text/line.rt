@@ -15,7 +15,8 @@ use crate::names::flag_names::FLAGS;
 use crate::names::rights::RIGHTS;
 use crate::text::fault::AceTextFault;
 use crate::who::{WhoFault, judge};
-use acl_perm::{Flags, Kind, Mask, Profile, is_all_blank, place_of};
+use acl_perm::internal::{is_all_blank, place_of};
+use acl_perm::{Flags, Kind, Mask, Profile};
 
 /// The fields of a line.
 #[derive(Clone, Copy)]

@@ -11,12 +11,20 @@ ghost use Rattle.acl_nfs4.specs.declared.text.fault.AceTextFault.TheVariants.{Me
 use crate::list::acl::Acl;
 use crate::text::fault::AceTextFault;
 use crate::text::line::{is_skipped, read_ace};
-use acl_perm::{Profile, cut_line};
+use acl_perm::Profile;
+use acl_perm::internal::cut_line;
 use std::alloc::Global;
 
 /// The list that a text spells: a line an ACE, `TYPE FLAGS MASK WHO`, with one space between the fields. A line without
 /// a byte but blanks, and one that begins with `#`, is skipped. A text that spells no list is refused by the first line
 /// that is wrong. Time linear in the text, and one growing list.
+///
+/// ```rust
+/// let text = b"ALLOW - READ_DATA OWNER@\nDENY GROUP WRITE_DATA staff\n";
+/// let list = parse_text(alloc, text)?;
+/// assert!(rt; list.len() == 2);
+/// assert!(rt; list.weight() == 2);
+/// ```
 pub fn parse_text(alloc: Global, text: &[u8]) -> Result<Acl, AceTextFault>
     // What is read is spelled by the text.
     ensures found { IfOk result (λ list. IsAceText full list text.now) }

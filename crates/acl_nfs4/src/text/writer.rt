@@ -17,11 +17,13 @@ use crate::list::acl::Acl;
 use crate::names::bit_names::BitName;
 use crate::names::flag_names::FLAGS;
 use crate::names::rights::RIGHTS;
-use acl_perm::{Kind, Sink, WriteFault, put_next};
+use crate::xdr::view::AclView;
+use acl_perm::internal::put_next;
+use acl_perm::{Kind, Sink, WriteFault};
 use arrayvec::ArrayVec;
 
-// Room for a line: a type, all flags, all rights, the longest who, and what stands between them.
-type Line = ArrayVec<u8, 1600>;
+/// Room for a line: a type, all flags, all rights, the longest who, and what stands between them.
+pub(crate) type Line = ArrayVec<u8, 1600>;
 
 // Writes the lines of the ACEs, and answers how many bytes are out then.
 fn put_lines<S: Sink>(sink: &mut S, aces: Aces<'_>) -> Result<u64, WriteFault>
@@ -71,9 +73,9 @@ fn kind_name(kind: Kind) -> &'static [u8]
     }
 }
 
-// Adds the field of a set.
+/// Adds the field of a set.
 #[tactic(auto, unfolding(crate::specs::BitNames::set_text))]
-fn add_set(line: &mut Line, table: &[BitName], set: u32)
+pub(crate) fn add_set(line: &mut Line, table: &[BitName], set: u32)
     requires short { list_all is_short table.now ≡ true }
     requires rising { is_rising table.now ≡ true }
     requires room { array_vec_len line.old + 21 * length table.now + 1 ≤ 1600 }
@@ -130,6 +132,21 @@ fn add(line: &mut Line, bytes: &[u8])
 }
 
 impl Acl {
+    /// Writes the text of the list: a line an ACE, with the names of its flags and rights in rising order of their
+    /// bits. The first put that fails ends it: `written` bytes went out, and nothing is tried again. No memory; time
+    /// linear in the text.
+    pub fn write_text<S: Sink>(&self, sink: &mut S) -> Result<(), WriteFault>
+        ensures written { Writes S.contents S.failure_count sink.old sink.new
+            (ace_text self.now) result }
+        // What is written spells this list and no other.
+        ensures again { (other : List Ace) → IsAceText full other (ace_text self.now)
+            ↔ (other ≡ self.now) }
+    {
+        self.view().write_text(sink)
+    }
+}
+
+impl<'a> AclView<'a> {
     /// Writes the text of the list: a line an ACE, with the names of its flags and rights in rising order of their
     /// bits. The first put that fails ends it: `written` bytes went out, and nothing is tried again. No memory; time
     /// linear in the text.

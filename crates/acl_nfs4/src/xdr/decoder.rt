@@ -22,6 +22,12 @@ use std::alloc::Global;
 /// A pull asks for no more than the field that is being read lacks, and no count and no length makes it ask for memory
 /// before the bytes are there. The first pull that fails ends it, with the place of the field that was being read;
 /// nothing is tried again. After a refusal, the bytes to the end of the refused field were taken.
+///
+/// ```rust
+/// let mut source = Counted::new(b"\0\0\0\0 and more".as_slice());
+/// let list = decode(alloc, &mut source)?;
+/// assert!(rt; list.is_empty());
+/// ```
 pub fn decode<S: Source>(alloc: Global, source: &mut S) -> Result<Acl, Fault>
     // What was taken is the value, or what the fault says.
     ensures given { (given : List ℕ)

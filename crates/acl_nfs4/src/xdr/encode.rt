@@ -1,24 +1,76 @@
-//! The bytes of an owned list, to a sink.
-ghost use Rattle.std.specs.Prelude.{◌≡◌, ◌<◌, ◌^◌, ℕ, List, OnOk, length};
+//! The bytes of a list, to a sink or in memory.
+ghost use Rattle.std.specs.Prelude.{◌≡◌, ◌<◌, ◌^◌, ℕ, List, IfOk, OnOk, length};
 ghost use Rattle.std.specs.Io.KnownBytes.{Appends};
 ghost use Rattle.acl_perm.specs.Pieces.{Writes};
 ghost use Rattle.acl_perm.specs.Profile.{Profile, full};
-ghost use Rattle.acl_nfs4.specs.Spelling.{Xdr, spelling};
+ghost use Rattle.acl_nfs4.specs.Spelling.{Xdr, spelling, word};
 
 use crate::list::acl::Acl;
+use crate::xdr::view::AclView;
 use acl_perm::{Sink, WriteFault, put_all};
 use byteorder::{BigEndian, ByteOrder};
+use std::alloc::{AllocError, Global};
 
 impl Acl {
     /// The number of bytes that spell the list, which are those that `encode` writes, in constant time.
-    #[tactic(auto, using(crate::proofs::Lengths::owned_len, crate::proofs::Lengths::spelling_short))]
     pub fn encoded_len(&self) -> u64
         ensures value { result ≡ length (spelling self.now) }
         ensures small { result < 2 ^ 31 }
     {
-        // Every owned list is accepted, and an accepted list is spelled in less than 2^31 bytes.
+        self.view().encoded_len()
+    }
+
+    /// The bytes that spell the list, which are those that `encode` writes, in time linear in their number and with one
+    /// allocation. Only want of memory fails.
+    pub fn to_bytes(&self, alloc: Global) -> Result<Vec<u8>, AllocError>
+        ensures { IfOk result (λ bytes. bytes.items ≡ spelling self.now) }
+    {
+        self.view().to_bytes(alloc)
+    }
+
+    /// Writes the bytes that spell the list (RFC 4506 over RFC 8881, section 6.2.1), without memory. The first write
+    /// that fails ends it: `written` bytes went out, and nothing is tried again.
+    ///
+    /// ```rust
+    /// let list = parse_text(alloc, b"ALLOW - READ_DATA OWNER@")?;
+    /// let mut room = [0u8; 28];
+    /// list.encode(&mut Counted::new(room.as_mut_slice()))?;
+    /// assert!(rt; AclView::parse_whole(&room)?.len() == 1);
+    /// ```
+    pub fn encode<K: Sink>(&self, sink: &mut K) -> Result<(), WriteFault>
+        ensures written { Writes K.contents K.failure_count sink.old sink.new
+            (spelling self.now) result }
+        // What was read as this list is written as it was read.
+        ensures read { (p : Profile) (text : List ℕ) → Xdr p self.now text
+            → OnOk result (Appends (K.contents sink.old) (K.contents sink.new) text) }
+        // What is written is a spelling, which is read again as this list.
+        ensures again { Xdr full self.now (spelling self.now) }
+    {
+        self.view().encode(sink)
+    }
+}
+
+impl<'a> AclView<'a> {
+    /// The number of bytes that spell the list, which are those that `encode` writes, in constant time.
+    #[tactic(auto, using(crate::proofs::Lengths::list_len, crate::proofs::Lengths::spelling_short))]
+    pub fn encoded_len(&self) -> u64
+        ensures value { result ≡ length (spelling self.now) }
+        ensures small { result < 2 ^ 31 }
+    {
+        // Every list that a view shows is accepted, and an accepted list is spelled in less than 2^31 bytes.
         let _accepted = self.aces();
         4 + self.body.len() as u64
+    }
+
+    /// The bytes that spell the list, which are those that `encode` writes, in time linear in their number and with one
+    /// allocation. Only want of memory fails.
+    pub fn to_bytes(&self, alloc: Global) -> Result<Vec<u8>, AllocError>
+        ensures { IfOk result (λ bytes. bytes.items ≡ spelling self.now) }
+    {
+        let mut bytes = Vec::with_capacity(alloc, self.encoded_len() as usize)?;
+        bytes.extend_from_slice(&count_word(self.count))?;
+        bytes.extend_from_slice(self.body)?;
+        Ok(bytes)
     }
 
     /// Writes the bytes that spell the list (RFC 4506 over RFC 8881, section 6.2.1), without memory. The first write
@@ -32,14 +84,21 @@ impl Acl {
         // What is written is a spelling, which is read again as this list.
         ensures again { Xdr full self.now (spelling self.now) }
     {
-        let mut count = [0u8; 4];
-        BigEndian::write_u32(&mut count, self.count);
-        put_all(sink, &count)?;
-        match put_all(sink, &self.body) {
+        put_all(sink, &count_word(self.count))?;
+        match put_all(sink, self.body) {
             Ok(()) => Ok(()),
             Err(fault) => Err(WriteFault {
                 written: 4 + fault.written,
             }),
         }
     }
+}
+
+/// The word that a list begins with.
+pub(crate) fn count_word(count: u32) -> [u8; 4]
+    ensures { result ≡ word count }
+{
+    let mut bytes = [0u8; 4];
+    BigEndian::write_u32(&mut bytes, count);
+    bytes
 }

@@ -1,6 +1,7 @@
 //! Why bytes are no list, and where.
 ghost use Rattle.std.specs.Prelude.{◌≡◌};
 
+use std::alloc::AllocError;
 use thiserror::Error;
 
 /// What is wrong with a field.
@@ -55,5 +56,15 @@ impl Fault {
         ensures { result ≡ record { offset = 0; reason = reason } }
     {
         Fault { offset: 0, reason }
+    }
+}
+
+impl From<AllocError> for Fault {
+    ghost use Rattle.acl_nfs4.specs.Stream.{no_memory};
+
+    ghost from_gives = { λ _ fault. fault ≡ no_memory };
+
+    fn from(_: AllocError) -> Fault {
+        Fault::at_front(Reason::Memory)
     }
 }

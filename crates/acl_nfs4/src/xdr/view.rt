@@ -1,22 +1,26 @@
 //! A list that lies in the bytes that spell it, so that to read it takes no memory.
-ghost use Rattle.std.specs.Prelude.{◌≡◌, ◌++◌, ℕ, List, IfOk, IfErr, IsOkAnd, Ok, Err};
+ghost use Rattle.std.specs.Prelude.{◌≡◌, ◌++◌, ◌≤◌, ◌↔◌, ℕ, List, [], length, IfOk, IfErr, IsOkAnd, IsTrue, Ok, Err};
 ghost use Rattle.acl_nfs4.specs.Ace.{Ace};
-ghost use Rattle.acl_nfs4.specs.Spelling.{IsAccepted, Xdr};
+ghost use Rattle.acl_nfs4.specs.Limits.{most_weight};
+ghost use Rattle.acl_nfs4.specs.Spelling.{Fits, IsAccepted, Xdr};
+ghost use Rattle.acl_nfs4.specs.Spelling as spelled;
 ghost use Rattle.acl_nfs4.specs.Front.{IsListOf, StandsAtFront};
 ghost use Rattle.acl_perm.specs.Profile.{full, profile_of};
 ghost use Rattle.acl_nfs4.specs.Fault.{IsFault, IsWholeFault};
 ghost use Rattle.acl_nfs4.specs.declared.xdr.fault.Reason.{Reason};
 ghost use Rattle.acl_nfs4.specs.internal.Reading.{Gives, value_at};
 
-use crate::list::aces::Aces;
+use crate::ace::AceRef;
+use crate::list::aces::{Aces, fit, weight_of};
 use crate::xdr::cursor::Cursor;
 use crate::xdr::fault::{Fault, Reason};
 use crate::xdr::reading::{count, skip_aces};
 use acl_perm::Profile;
+use std::alloc::AllocError;
 use std::marker::Model;
 
 /// A list of ACEs that lies in the bytes that spell it.
-#[derive(Drop)]
+#[derive(Debug, Drop)]
 pub struct AclView<'a> {
     pub(crate) count: u32,
     pub(crate) body: &'a [u8],
@@ -74,6 +78,15 @@ impl<'a> AclView<'a> {
     }
 
     /// The list that all of the bytes spell. Beside the faults of `parse`, a byte behind the list is TrailingBytes.
+    ///
+    /// ```rust
+    /// let bytes = b"\0\0\0\x01\0\0\0\0\0\0\0\0\0\0\0\x01\0\0\0\x06OWNER@\0\0";
+    /// let list = AclView::parse_whole(bytes)?;
+    /// assert!(rt; list.len() == 1);
+    /// for ace in list.aces() {
+    ///     assert!(rt; ace.principal() == Principal::Owner);
+    /// }
+    /// ```
     pub fn parse_whole(bytes: &'a [u8]) -> Result<AclView<'a>, Fault>
         // What is found is spelled by the bytes.
         ensures found { IfOk result (λ list. Xdr full list bytes.now) }
@@ -115,6 +128,38 @@ impl<'a> AclView<'a> {
         Ok(view)
     }
 
+    /// The number of ACEs, in constant time.
+    pub fn len(&self) -> usize
+        ensures { result ≡ length self.now }
+    {
+        self.count as usize
+    }
+
+    /// Whether there is no ACE, in constant time.
+    pub fn is_empty(&self) -> bool
+        ensures { IsTrue result ↔ (self.now ≡ []) }
+    {
+        self.count == 0
+    }
+
+    /// The number of mask bits set, over all ACEs. A view does not keep this number, so each call counts the bits, in
+    /// time linear in the ACEs; `Acl::weight` takes constant time.
+    pub fn weight(&self) -> u32
+        ensures value { result ≡ spelled.weight self.now }
+        ensures within { result ≤ most_weight }
+    {
+        weight_of(self.aces())
+    }
+
+    /// Whether the profile has every flag and every right of every ACE, in time linear in the ACEs, without memory.
+    pub fn fits(&self, profile: Profile) -> bool
+        ensures exact { IsTrue result ↔ Fits (profile_of profile) self.now }
+        // A list that fits a profile is one that is accepted under it.
+        ensures accepted { IsTrue result ↔ IsAccepted (profile_of profile) self.now }
+    {
+        fit(self.aces(), profile)
+    }
+
     /// The ACEs in order.
     pub fn aces(&self) -> Aces<'a>
         ensures same { result ≡ self.now }
@@ -125,6 +170,49 @@ impl<'a> AclView<'a> {
             left: self.count,
             rest: self.body,
         }
+    }
+}
+
+impl<'a> Clone for AclView<'a> {
+    ghost use Rattle.std.specs.Prelude.{◌≡◌, ⊤};
+
+    ghost is_clone = { λ view other. other ≡ view };
+
+    ghost is_infallible = { λ _. ⊤ };
+
+    fn clone(&self) -> Result<AclView<'a>, AllocError> {
+        Ok(AclView {
+            count: self.count,
+            body: self.body,
+        })
+    }
+}
+
+impl<'a> IntoIterator for AclView<'a> {
+    ghost use Rattle.std.specs.Prelude.{◌≡◌};
+
+    type Item = AceRef<'a>;
+
+    type IntoIter = Aces<'a>;
+
+    ghost into_iter_gives = { λ view aces. aces ≡ view };
+
+    fn into_iter(self) -> Aces<'a> {
+        self.aces()
+    }
+}
+
+impl<'a> IntoIterator for &'a AclView<'_> {
+    ghost use Rattle.std.specs.Prelude.{◌≡◌};
+
+    type Item = AceRef<'a>;
+
+    type IntoIter = Aces<'a>;
+
+    ghost into_iter_gives = { λ view aces. aces ≡ view.now };
+
+    fn into_iter(self) -> Aces<'a> {
+        self.aces()
     }
 }
 

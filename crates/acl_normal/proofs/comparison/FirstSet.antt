@@ -30,6 +30,11 @@ told_none both h = record {
 pub differs_there : (both : TwoLists) (set : List Principal) → FindSet both (Some set) → AreAlikeTo both set → ⊥
 differs_there both set h = (first_set both.first both.second (small_sets (all_mentioned both)) set h.first).differs
 
+-- and the names of its situation are names
+pub situation_there : (both : TwoLists) (set : List Principal) → AreNamed both → FindSet both (Some set)
+    → IsSituation (situation_at both set)
+situation_there both set named h = found_is_situation both.first both.second set named.first named.second h.first
+
 -- its situation is the first in which they do, and its requester tells them apart
 pub told_some : (both : TwoLists) (set : List Principal) (d : Difference) → AreNamed both → FindSet both (Some set)
     → situation_of d ≡ situation_at both set → DifferLowestOn both set d
@@ -41,8 +46,7 @@ told_some both set d named h at low = record {
   );
   first = first;
   requester = tells_apart both.first both.second (situation_of d) d.bit.bits d.first_grants
-      (subst IsSituation (sym at)
-      (found_is_situation both.first both.second set named.first named.second h.first)) first;
+      (subst IsSituation (sym at) (situation_there both set named h)) first;
 }
   where
     first : IsFirstDifference both.first both.second (situation_of d) d.bit.bits d.first_grants

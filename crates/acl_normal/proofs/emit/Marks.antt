@@ -36,7 +36,8 @@ key_eq_itself k = and_from (principal_eq k.0 k.0) (kind_eq k.1 k.1) (principal_e
 
 -- ---- numbers of keys
 
-rank_below : (k : Kind) → kind_rank k < 2
+-- there are two kinds
+pub rank_below : (k : Kind) → kind_rank k < 2
 rank_below Deny = omega arith
 rank_below Allow = omega arith
 

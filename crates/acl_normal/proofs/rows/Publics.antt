@@ -5,7 +5,7 @@ use Rattle.std.proofs.lemmas.Bool.{cases_eq, cases_lt, false_from_ne_true}
 use Rattle.acl_perm.specs.Bits.{has_bit, IsMask}
 use Rattle.acl_perm.specs.Principal.{Principal}
 use Rattle.acl_perm.specs.declared.kind.Kind.{Kind}
-use Rattle.acl_perm.specs.declared.right.Right.{Right}
+use Rattle.acl_perm.specs.declared.bit.Bit.{Bit}
 use Rattle.acl_perm.specs.declared.kind.Kind.TheVariants.{Deny, Allow}
 use Rattle.acl_perm.proofs.Sets.{bits_from_mask}
 use Rattle.acl_nfs4.specs.Ace.{Ace}
@@ -91,7 +91,7 @@ free_nowhere list p bits is none = (λ t. absurd cc, λ (b, kind, has, free). ab
 -- ---- the lowest right
 
 -- the next right from bit 0 on is the lowest, and a set without a next has no lowest
-pub lowest_is : (bits : ℕ) (next : Option Right) → IsMask bits → IfSome next (λ right. IsNextRight bits 0 right.bit)
+pub lowest_is : (bits : ℕ) (next : Option Bit) → IsMask bits → IfSome next (λ right. IsNextRight bits 0 right.bit)
     → IfNone next (LacksFrom bits 0 21) → (b : ℕ) → IsLowest b bits → option_map (λ right. right.bit) next ≡ Some b
 lowest_is bits None is some none b (has, before) =
     absurd (clash (sym (none b (omega arith) (right_below bits b is has)) ∙ has))
@@ -112,7 +112,7 @@ lowest_is bits (Some right) is some none b (has, before) =
     below_it g = clash (sym (some.lacks b (omega arith) g) ∙ has)
 
 -- the empty set has no next right
-pub no_lowest : (bits : ℕ) (next : Option Right) → IfSome next (λ right. IsNextRight bits 0 right.bit) → bits ≡ 0
+pub no_lowest : (bits : ℕ) (next : Option Bit) → IfSome next (λ right. IsNextRight bits 0 right.bit) → bits ≡ 0
     → next ≡ None
 no_lowest bits None some none = refl
 no_lowest bits (Some right) some none =

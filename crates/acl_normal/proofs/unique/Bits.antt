@@ -12,7 +12,7 @@ use Rattle.acl_perm.specs.Bits.{IsDifference, IsMask, has_bit}
 use Rattle.acl_perm.specs.declared.mask.Mask.{Mask}
 -- sets with the same bits are equal
 pub use Rattle.acl_perm.proofs.Sets.{same_set as masks_same}
-use Rattle.acl_perm.specs.declared.right.Right.{Right}
+use Rattle.acl_perm.specs.declared.bit.Bit.{Bit}
 use Rattle.acl_eval.specs.Scan.{without}
 use Rattle.acl_eval.proofs.Scans.{has_bit-without}
 use Rattle.acl_normal.specs.internal.NextRight.{IsNextRight, LacksFrom}
@@ -95,7 +95,7 @@ first_right m n b fits is low = go (cases_eq rest 0)
         split i from = omega (arith, from)
 
 -- where the lowest bit of the rest is no right, none is left
-pub no_right_left : (m n : ℕ) (next : Option Right) → m < 2 ^ 32
+pub no_right_left : (m n : ℕ) (next : Option Bit) → m < 2 ^ 32
     → (n + trailing_zeros w32 (m / 2 ^ n) < 21 → IsSome next) → IfNone next (LacksFrom m n 21)
 no_right_left m n (Some right) fits some = tt
 no_right_left m n None fits some = λ i from below. ap (λ v. has_bit m v) (split i from)
@@ -114,7 +114,7 @@ no_right_left m n None fits some = λ i from below. ap (λ v. has_bit m v) (spli
         ⊎_elim (λ l. absurd (clash (some l))) (λ l. t.2 (i - n) (omega (arith, l, from, below)))
         (cases_lt (n + trailing_zeros w32 rest) 21)
       where
-        clash : IsSome {T = Right} None → ⊥
+        clash : IsSome {T = Bit} None → ⊥
         clash h = cc
 
 -- what goes on past each bit that a mask lacks goes on to its next right

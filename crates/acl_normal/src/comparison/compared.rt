@@ -15,7 +15,8 @@ use super::small_set::SmallSet;
 use super::standing::{Standing, Whom, firsts};
 use crate::class::Class;
 use acl_nfs4::AceRef;
-use acl_perm::{Mask, Principal, Right};
+use acl_perm::internal::Bit;
+use acl_perm::{Mask, Principal};
 use std::alloc::{AllocError, Global};
 use std::marker::Model;
 
@@ -92,11 +93,11 @@ impl<'a, 'b> Compared<'a, 'b> {
     }
 
     /// Whether an ACE of either list has the right.
-    pub(crate) fn has_right(&self, right: Right) -> bool
+    pub(crate) fn has_right(&self, right: Bit) -> bool
         ensures right { result ≡ true → has_bit all_rights right.bit ≡ true }
         ensures unused { result ≡ false → IsUnused self.now right.bit }
     {
-        self.rights.has(right)
+        right.is_in(self.rights)
     }
 
     /// Whether the lists grant alike where just the principals of a set match, and everyone.
@@ -108,7 +109,7 @@ impl<'a, 'b> Compared<'a, 'b> {
     }
 
     /// Where each principal stands in both lists, on a right.
-    pub(crate) fn standings(&self, alloc: Global, right: Right) -> Result<Vec<Standing>, AllocError>
+    pub(crate) fn standings(&self, alloc: Global, right: Bit) -> Result<Vec<Standing>, AllocError>
         ensures { IfOk result (λ v. StandAs self.now right.bit v.items) }
     {
         let mentioned = self.mentioned;

@@ -1,9 +1,10 @@
 //! The difference of two lists at a small set.
 ghost use Rattle.std.specs.Prelude.{◌≡◌, IfOk};
+ghost use Rattle.acl_perm.specs.Situation.{IsSituation};
 ghost use Rattle.acl_normal.specs.Difference.{IsComparison};
 ghost use Rattle.acl_normal.specs.SmallSets.{strange_length};
 ghost use Rattle.acl_normal.specs.internal.CodeSets.{set_of, set_or_none};
-ghost use Rattle.acl_normal.specs.internal.TwoLists.{AreAlikeTo, AreNamed, DifferLowestOn, FindSet, ShowsSituation};
+ghost use Rattle.acl_normal.specs.internal.TwoLists.{AreAlikeTo, AreNamed, DifferLowestOn, FindSet, ShowsSituation, situation_at};
 
 use super::Difference;
 use super::compared::Compared;
@@ -23,7 +24,8 @@ impl Compared<'_, '_> {
 
     // The small situation of a set at which the lists grant otherwise, and the lowest right on which they do.
     fn difference_at(&self, alloc: Global, set: SmallSet<'_>) -> Result<Difference, AllocError>
-        requires { AreAlikeTo self.now (set_of set) → ⊥ }
+        requires differ { AreAlikeTo self.now (set_of set) → ⊥ }
+        requires named { IsSituation (situation_at self.now (set_of set)) }
         ensures situation { IfOk result (ShowsSituation self.now (set_of set.entry)) }
         ensures bit { IfOk result (DifferLowestOn self.now (set_of set.entry)) }
     {

@@ -7,7 +7,7 @@ ghost use Rattle.acl_normal.specs.internal.TwoLists.{AreAlikeAlone, FindSet, IsF
 use super::compared::Compared;
 use super::inversions::{first_inverted, first_inverting, first_unlike};
 use super::small_set::SmallSet;
-use acl_perm::Right;
+use acl_perm::internal::Bit;
 use std::alloc::{AllocError, Global};
 
 impl<'a> Compared<'a, '_> {
@@ -17,8 +17,8 @@ impl<'a> Compared<'a, '_> {
         ensures { IfOk result (IsFirstSingle self.now) }
     {
         let mut least = self.count();
-        for bit in 0..Right::COUNT {
-            let right = Right { bit };
+        for bit in 0..Bit::COUNT {
+            let right = Bit { bit };
             if self.has_right(right) {
                 let standings = self.standings(alloc, right)?;
                 least = first_unlike(&standings, least);
@@ -35,8 +35,8 @@ impl<'a> Compared<'a, '_> {
     {
         let size = self.longer();
         let mut least = self.count();
-        for bit in 0..Right::COUNT {
-            let right = Right { bit };
+        for bit in 0..Bit::COUNT {
+            let right = Bit { bit };
             if self.has_right(right) {
                 let standings = self.standings(alloc, right)?;
                 least = first_inverting(alloc, &standings, size, least)?;
@@ -53,8 +53,8 @@ impl<'a> Compared<'a, '_> {
         ensures { IfOk result (IsFirstPartner self.now at) }
     {
         let mut least = self.count() - at - 1;
-        for bit in 0..Right::COUNT {
-            let right = Right { bit };
+        for bit in 0..Bit::COUNT {
+            let right = Bit { bit };
             if self.has_right(right) {
                 let standings = self.standings(alloc, right)?;
                 let (_, others) = standings.as_slice().split_at(at + 1);

@@ -8,7 +8,8 @@ ghost use Rattle.acl_normal.specs.internal.SetSearch.{principals};
 
 use crate::class::Class;
 use acl_nfs4::AceRef;
-use acl_perm::{Kind, Principal, Right};
+use acl_perm::internal::Bit;
+use acl_perm::{Kind, Principal};
 use std::alloc::{AllocError, Global};
 
 /// The first ACE that speaks of a principal and has some right: its place in the list, and its kind. An ACE of everyone
@@ -51,7 +52,7 @@ pub(crate) fn firsts(
     whole: &[Principal<'_>],
     list: &[AceRef<'_>],
     whoms: &[Whom],
-    right: Right,
+    right: Bit,
 ) -> Result<Vec<First>, AllocError>
     requires { AreWhoms (principals whole.now) (aces_in list.now) whoms.now }
     ensures { IfOk result (λ v. AreFirstFrom (principals whole.now)
@@ -69,7 +70,7 @@ pub(crate) fn firsts(
 }
 
 // The place of the first ACE of everyone with the right, or the number of ACEs.
-fn place_of_everyone(list: &[AceRef<'_>], whoms: &[Whom], right: Right) -> usize
+fn place_of_everyone(list: &[AceRef<'_>], whoms: &[Whom], right: Bit) -> usize
     requires { length whoms.now ≡ length list.now }
     ensures within { result ≤ length list.now }
     ensures before { (k : ℕ) → k < result
@@ -86,11 +87,11 @@ fn place_of_everyone(list: &[AceRef<'_>], whoms: &[Whom], right: Right) -> usize
 }
 
 // Whether the ACE has the right, and is of everyone.
-fn is_end(item: &AceRef<'_>, whom: Whom, right: Right) -> bool
+fn is_end(item: &AceRef<'_>, whom: Whom, right: Bit) -> bool
     ensures { result ≡ stops right.bit (ace item.now) whom }
 {
     match whom {
-        Whom::Everyone => item.mask.has(right),
+        Whom::Everyone => right.is_in(item.mask),
         _ => false,
     }
 }
@@ -106,12 +107,12 @@ fn kind_at(list: &[AceRef<'_>], place: usize) -> Kind
 }
 
 // What an ACE of a principal that has the right says comes before what the later ones say.
-fn put_first(out: &mut Vec<First>, item: &AceRef<'_>, whom: Whom, place: usize, right: Right)
+fn put_first(out: &mut Vec<First>, item: &AceRef<'_>, whom: Whom, place: usize, right: Bit)
     requires { IsWithin whom (vec_len out.old) }
     ensures { out.new.items ≡ put out.old.items (ace item.now) whom place right.bit }
 {
     if let Whom::One(i) = whom {
-        if item.mask.has(right) {
+        if right.is_in(item.mask) {
             out[i] = First {
                 place,
                 kind: item.kind,

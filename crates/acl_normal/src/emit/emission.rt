@@ -18,7 +18,8 @@ use crate::bits::next_right;
 use crate::class::Class;
 use crate::emit::ready::Ready;
 use crate::rows::remaining::Remaining;
-use acl_perm::{Key, Kind, Mask, Right};
+use acl_perm::internal::Bit;
+use acl_perm::{Key, Kind, Mask};
 use std::alloc::{AllocError, Global};
 
 /// An ACE of a normal form: a key, its rights, and the row of the principal.
@@ -78,8 +79,8 @@ fn fill(rows: &Remaining<'_>, ready: &mut Ready) -> Result<(), AllocError>
     ensures marks { OnOk result (HoldsFree (marks (nothing_left rows.now) ready.new) rows.now) }
 {
     let _ = &rows.masks;
-    for bit in 0..Right::COUNT {
-        let right = Right { bit };
+    for bit in 0..Bit::COUNT {
+        let right = Bit { bit };
         enter(rows, Kind::Deny, Class::Others, right, ready)?;
         enter(rows, Kind::Deny, Class::Users, right, ready)?;
         enter(rows, Kind::Allow, Class::Others, right, ready)?;
@@ -136,7 +137,7 @@ fn enter(
     rows: &Remaining<'_>,
     kind: Kind,
     class: Class,
-    right: Right,
+    right: Bit,
     ready: &mut Ready,
 ) -> Result<(), AllocError>
     requires { FitsKeys (nothing_left rows.now) ready.old }
@@ -168,7 +169,7 @@ fn add(
     rows: &Remaining<'_>,
     place: usize,
     kind: Kind,
-    right: Right,
+    right: Bit,
     ready: &mut Ready,
 ) -> Result<(), AllocError>
     requires place { place < length rows.now }
@@ -184,8 +185,8 @@ fn add(
     ready.add(number, right)
 }
 
-// The number of a kind, in the order of kinds.
-fn rank(kind: Kind) -> usize
+/// The number of a kind, in the order of kinds.
+pub(crate) fn rank(kind: Kind) -> usize
     ensures { result ≡ kind_rank kind }
 {
     match kind {

@@ -3,7 +3,7 @@ ghost use Rattle.std.specs.Prelude.{◌≡◌, ℕ, ◌*◌, ◌^◌, ◌<◌, b
 ghost use Rattle.acl_normal.specs.internal.Ready.{IsLeastReady};
 
 use crate::bits::with;
-use acl_perm::Right;
+use acl_perm::internal::Bit;
 use std::alloc::{AllocError, Global};
 use std::cmp::Reverse;
 use std::collections::BinaryHeap;
@@ -48,7 +48,7 @@ impl Ready {
     }
 
     /// Marks a right of the key of a number as free.
-    pub(crate) fn add(&mut self, number: usize, right: Right) -> Result<(), AllocError>
+    pub(crate) fn add(&mut self, number: usize, right: Bit) -> Result<(), AllocError>
         requires { number < length self.old }
         ensures { OnOk result (self.new ≡ slice_set self.old number
             (bit_or (slice_index_or self.old number 0) (2 ^ right.bit))) }

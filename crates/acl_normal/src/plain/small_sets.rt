@@ -15,7 +15,7 @@ use crate::comparison::evaluation::grant_alike;
 use crate::comparison::mentioned::mentioned;
 use crate::comparison::small_set::SmallSet;
 use crate::reduce::collected::collect;
-use acl_nfs4::{AceRef, Acl};
+use acl_nfs4::{AceRef, Acl, AclView};
 use acl_perm::{Principal, overlaps};
 use std::alloc::{AllocError, Global};
 
@@ -24,14 +24,14 @@ pub fn compare(alloc: Global, first: &Acl, second: &Acl) -> Result<Option<Differ
     // The same answer: None exactly if both lists grant the same, else the first difference.
     ensures { IfOk result (λ told. IsComparison first.now second.now told) }
 {
-    first_difference(alloc, first, second)
+    first_difference(alloc, &first.view(), &second.view())
 }
 
 // The first difference of two lists. They are borrowed for one time, since they are held as one.
 fn first_difference<'a>(
     alloc: Global,
-    first: &'a Acl,
-    second: &'a Acl,
+    first: &AclView<'a>,
+    second: &AclView<'a>,
 ) -> Result<Option<Difference>, AllocError>
     ensures { IfOk result (IsComparison first.now second.now) }
 {

@@ -4,11 +4,14 @@ ghost use Rattle.std.specs.Prelude.{◌≡◌, IfOk};
 ghost use Rattle.acl_perm.specs.Profile.{full};
 ghost use Rattle.acl_nfs4.specs.Spelling.{IsAccepted};
 
-use acl_nfs4::{AceRef, Acl};
+use acl_nfs4::{AceRef, AclView};
 use std::alloc::{AllocError, Global};
 
 /// The ACEs of the list.
-pub(crate) fn collect(alloc: Global, source: &Acl) -> Result<Vec<AceRef<'_>>, AllocError>
+pub(crate) fn collect<'a>(
+    alloc: Global,
+    source: &AclView<'a>,
+) -> Result<Vec<AceRef<'a>>, AllocError>
     ensures aces { IfOk result (λ aces. aces_in aces.items ≡ source.now) }
     ensures accepted { IsAccepted full source.now }
 {

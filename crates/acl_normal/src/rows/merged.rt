@@ -17,7 +17,8 @@ use crate::reduce::reduced_list;
 use crate::rows::remaining::Remaining;
 use crate::rows::waiting::{slot, waiting_sets};
 use acl_nfs4::Acl;
-use acl_perm::{Key, Kind, Mask, Principal, Right};
+use acl_perm::internal::Bit;
+use acl_perm::{Key, Kind, Mask, Principal};
 use std::alloc::{AllocError, Global};
 use std::collections::BTreeSet;
 use std::marker::Model;
@@ -44,10 +45,10 @@ impl<'a> Model for MergedRows<'a> {
 }
 
 // A bit below 21 that is in no mask.
-const NO_RIGHT: Right = Right { bit: 11 };
+const NO_RIGHT: Bit = Bit { bit: 11 };
 
 // The lowest of some rights, if there are any.
-pub(crate) fn lowest(bits: Mask) -> Option<Right>
+pub(crate) fn lowest(bits: Mask) -> Option<Bit>
     ensures some { (bit : ℕ) → IsLowest bit bits.bits → option_map (λ right. right.bit) result
         ≡ Some bit }
     ensures none { bits.bits ≡ 0 → result ≡ None }
@@ -67,7 +68,7 @@ impl<'a> MergedRows<'a> {
         // Each bit is needed.
         ensures irreducible { IfOk result (λ rows. IsIrreducibleList (left rows)) }
     {
-        let reduced = reduced_list(alloc, list)?;
+        let reduced = reduced_list(alloc, &list.view())?;
         let waiting = waiting_sets(alloc, &reduced.aces, &reduced.masks)?;
         let rest = Remaining::of(alloc, reduced)?;
         Ok(MergedRows { rest, waiting })
@@ -109,7 +110,7 @@ impl<'a> MergedRows<'a> {
     }
 
     /// The places of the ACEs of a kind and a class that wait with a right.
-    fn waiting_at(&self, kind: Kind, class: Class, right: Right) -> &BTreeSet<usize>
+    fn waiting_at(&self, kind: Kind, class: Class, right: Bit) -> &BTreeSet<usize>
         ensures { (i : ℕ) → contains nat_cmp result.now i
             ≡ waits kind (is_users class) right.bit self.now i }
     {
@@ -129,7 +130,7 @@ impl<'a> MergedRows<'a> {
     }
 
     /// Takes one right of the principal of a row out.
-    fn emit_bit(&mut self, row: usize, p: Principal<'_>, right: Right)
+    fn emit_bit(&mut self, row: usize, p: Principal<'_>, right: Bit)
         requires { IsRowOf row (principal p) self.old }
         ensures { self.new ≡ take_out (principal p.entry) (2 ^ right.bit) self.old }
     {

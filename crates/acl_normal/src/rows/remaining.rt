@@ -20,7 +20,8 @@ use crate::reduce::Reduced;
 use crate::rows::numbers::{RowNumbers, find_row};
 use crate::rows::waiting::{slot, waiting_places};
 use acl_nfs4::AceRef;
-use acl_perm::{Key, Kind, Mask, Principal, Right};
+use acl_perm::internal::Bit;
+use acl_perm::{Key, Kind, Mask, Principal};
 use std::alloc::{AllocError, Global};
 use std::marker::Model;
 
@@ -156,7 +157,7 @@ impl<'a> Remaining<'a> {
 
     /// The place of the ACE of a row that still has a right. The places of a row stand together in the order of the
     /// principals.
-    pub(crate) fn place_in(&self, row: usize, right: Right) -> Option<usize>
+    pub(crate) fn place_in(&self, row: usize, right: Bit) -> Option<usize>
         requires { row < length self.now }
         ensures { (p : Who) → IsRowOf row p self.now
             → result ≡ first_place_of right.bit p self.now }
@@ -174,7 +175,7 @@ impl<'a> Remaining<'a> {
     }
 
     /// The kind of the principal's ACE with the right, and its place.
-    pub(crate) fn source(&self, p: Principal<'_>, right: Right) -> Option<(Kind, usize)>
+    pub(crate) fn source(&self, p: Principal<'_>, right: Bit) -> Option<(Kind, usize)>
         ensures { result ≡ first_at right.bit (principal p.entry) self.now }
     {
         let row = self.row_named(p)?;
@@ -183,7 +184,7 @@ impl<'a> Remaining<'a> {
     }
 
     /// The queue of a kind, a class and a right.
-    pub(crate) fn queue(&self, kind: Kind, class: Class, right: Right) -> &[usize]
+    pub(crate) fn queue(&self, kind: Kind, class: Class, right: Bit) -> &[usize]
         ensures { IsQueue kind (is_users class) right.bit self.now result.now }
     {
         let queue = &self.queues[slot(kind, class, right)];
@@ -191,16 +192,16 @@ impl<'a> Remaining<'a> {
     }
 
     /// Whether the ACE at a place still has a right.
-    pub(crate) fn has(&self, place: usize, right: Right) -> bool
+    pub(crate) fn has(&self, place: usize, right: Bit) -> bool
         requires { place < length self.now }
         ensures { result ≡ has_bit (mask_here self.now place) right.bit }
     {
         let mask = self.masks[place].intersection(self.left[self.rows[place]]);
-        mask.has(right)
+        right.is_in(mask)
     }
 
     /// The first place that waits in a kind and a class with a right, or the greatest number where none does.
-    fn first_waiting(&self, kind: Kind, class: Class, right: Right) -> usize
+    fn first_waiting(&self, kind: Kind, class: Class, right: Bit) -> usize
         ensures before { (place : ℕ) → place ≤ result
             → waits_before kind (is_users class) right.bit self.now place ≡ false }
         ensures behind { (place : ℕ) → result < place → place < 2 ^ 64
@@ -215,7 +216,7 @@ impl<'a> Remaining<'a> {
     }
 
     /// The last place where an ACE of a kind and a class with a right has nothing before it that conflicts with it.
-    pub(crate) fn last_clear(&self, kind: Kind, class: Class, right: Right) -> usize
+    pub(crate) fn last_clear(&self, kind: Kind, class: Class, right: Bit) -> usize
         ensures clear { (place : ℕ) → place ≤ result
             → is_blocked kind (is_users class) right.bit self.now place ≡ false }
         ensures blocked { (place : ℕ) → result < place → place < 2 ^ 64
@@ -232,7 +233,7 @@ impl<'a> Remaining<'a> {
     }
 
     /// Whether the principal has the right and is free on it.
-    pub(crate) fn is_free_at(&self, p: Principal<'_>, right: Right) -> bool
+    pub(crate) fn is_free_at(&self, p: Principal<'_>, right: Bit) -> bool
         ensures { result ≡ (is_free (column self.now right.bit) (principal p.entry, Deny)
             || is_free (column self.now right.bit) (principal p.entry, Allow)) }
     {
@@ -258,7 +259,7 @@ impl<'a> Remaining<'a> {
     }
 
     /// Lets the queue of a kind, a class and a right begin where a place still waits, or at its end.
-    fn move_on(&mut self, kind: Kind, class: Class, right: Right)
+    fn move_on(&mut self, kind: Kind, class: Class, right: Bit)
         ensures { self.new ≡ self.old }
     {
         let at = slot(kind, class, right);

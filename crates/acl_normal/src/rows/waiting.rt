@@ -13,7 +13,8 @@ ghost use Rattle.acl_normal.specs.internal.Waiting.{HoldWaiting, Notes, has_plac
 use crate::bits::next_right;
 use crate::class::Class;
 use acl_nfs4::AceRef;
-use acl_perm::{Kind, Mask, Right};
+use acl_perm::internal::Bit;
+use acl_perm::{Kind, Mask};
 use std::alloc::{AllocError, Global};
 use std::collections::BTreeSet;
 
@@ -95,7 +96,7 @@ fn note(
 }
 
 /// Where the places of a kind, a class and a right are kept.
-pub(crate) fn slot(kind: Kind, class: Class, right: Right) -> usize
+pub(crate) fn slot(kind: Kind, class: Class, right: Bit) -> usize
     ensures { result ≡ slot_of kind (is_users class) right.bit }
 {
     let kinds = match kind {
@@ -106,7 +107,7 @@ pub(crate) fn slot(kind: Kind, class: Class, right: Right) -> usize
         Class::Others => 0,
         Class::Users => 1,
     };
-    4 * right.bit() + kinds + classes
+    4 * right.bit + kinds + classes
 }
 
 // The set of the places of a list.

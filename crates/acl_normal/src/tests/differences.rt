@@ -4,8 +4,9 @@ use super::harness::{
     ALLOW, AceRow, DENY, EXECUTE, GROUP, INHERIT_ONLY, READ_DATA, WRITE_DATA, built, kept, passes,
 };
 use crate::{Difference, compare, plain};
-use acl_eval::{Object, Requester, grants};
+use acl_eval::grants;
 use acl_nfs4::{Acl, PushFault};
+use acl_perm::Mask;
 use std::alloc::{AllocError, Global};
 use std::process::Abort;
 
@@ -158,25 +159,12 @@ fn are_told(answer: &Option<Difference>, told: Option<Told>) -> bool {
 }
 
 /// Both lists answer the requester whom the difference names, the first as the difference tells and the second not.
-pub fn tells_apart(
-    alloc: Global,
-    first: &Acl,
-    second: &Acl,
-    d: &Difference,
-) -> Result<bool, AllocError> {
-    let mut groups: Vec<&[u8]> = Vec::new(alloc);
-    for group in &d.groups {
-        groups.push(group.as_slice())?;
-    }
-    let (Some(object), Some(requester)) = (
-        Object::new(&d.owner, &d.group),
-        Requester::new(&d.user, &groups),
-    ) else {
-        return Ok(false);
-    };
+pub fn tells_apart(first: &Acl, second: &Acl, d: &Difference) -> bool {
+    let names = d.requester_names();
+    let (object, requester) = (d.object(), names.requester());
     let one = grants(first.aces(), &object, &requester, d.bit);
     let other = grants(second.aces(), &object, &requester, d.bit);
-    Ok(one == d.first_grants && other != d.first_grants)
+    one == d.first_grants && other != d.first_grants && Mask::from(d.right()) == d.bit
 }
 
 // Whether the search tells this of two lists, and its requester tells them apart.
@@ -188,7 +176,7 @@ fn is_found(
 ) -> Result<bool, AllocError> {
     let found = compare(alloc, first, second)?;
     let is_apart = match &found {
-        Some(d) => tells_apart(alloc, first, second, d)?,
+        Some(d) => tells_apart(first, second, d),
         None => true,
     };
     Ok(is_apart && are_told(&found, told))

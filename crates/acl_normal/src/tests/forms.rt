@@ -2,9 +2,9 @@
 
 use super::harness::{
     ALLOW, AMY, AceRow, DENY, EVERYONE, EXECUTE, FOR_FILES, GROUP, NO_STAFF, NO_WRITE,
-    NO_WRITE_FORM, OWNER, READ_DATA, STAFF, WRITE_DATA, built, kept, passes,
+    NO_WRITE_FORM, OWNER, READ_DATA, STAFF, WRITE_DATA, ace_of, built, kept, passes,
 };
-use crate::{is_normal, normalize};
+use crate::{is_normal, normal_bytes, normalize};
 use acl_nfs4::{Acl, PushFault};
 use std::alloc::{AllocError, Global};
 use std::process::Abort;
@@ -128,6 +128,38 @@ mod ample {
         let list = repeated(rt.alloc(), &wanted, 4096)?;
         assert!(rt; is_normal(rt.alloc(), &list) == Ok(false));
         assert!(rt; has_form(rt.alloc(), &list, &wanted) == Ok(true));
+        Ok(())
+    }
+
+    // Whether a list of that many ACEs of one right, and its bytes, have the form of one such ACE.
+    fn is_answered(alloc: Global, times: usize) -> Result<bool, PushFault> {
+        let wanted = built(alloc, &[ALICE])?;
+        let list = repeated(alloc, &wanted, times)?;
+        let is_own = kept(is_normal(alloc, &list))?;
+        let bytes = kept(list.to_bytes(alloc))?;
+        let spelled = kept(wanted.to_bytes(alloc))?;
+        let is_spelled = match normal_bytes(alloc, &bytes) {
+            Ok(form) => *form == *spelled,
+            Err(_) => false,
+        };
+        Ok(is_spelled && !is_own)
+    }
+
+    // Sizes that are no power of two, and at the limit.
+    #[test]
+    fn lists_of_many_sizes_are_answered(rt: HostRuntime) {
+        for times in [101, 20_001, 41_001, 60_001, 65_535, 65_536] {
+            assert!(rt; is_answered(rt.alloc(), times) == Ok(true));
+        }
+    }
+
+    // A list that is full and at its greatest weight is full first.
+    #[test]
+    fn the_number_is_judged_before_the_weight(rt: HostRuntime) -> Result<(), PushFault> {
+        let mut list = repeated(rt.alloc(), &built(rt.alloc(), &[ALICE])?, 65_536)?;
+        if let Some(ace) = ace_of(ALLOW, 0, READ_DATA, b"bob") {
+            assert!(rt; list.push(ace) == Err(PushFault::TooManyAces));
+        }
         Ok(())
     }
 }

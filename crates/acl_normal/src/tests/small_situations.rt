@@ -110,7 +110,7 @@ fn found_by_both(
     match &found {
         None => Ok(None),
         Some(d) => {
-            assert!(rt; tells_apart(alloc, first, second, d)?);
+            assert!(rt; tells_apart(first, second, d));
             Ok(Some(is_of_two(d)))
         }
     }

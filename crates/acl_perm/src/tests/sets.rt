@@ -66,28 +66,103 @@ fn the_sixteen_rights_are_those_of_the_standard(rt: HostRuntime) {
     }
 }
 
-// The lowest and the highest of both runs of rights: READ_DATA, WRITE_RETENTION_HOLD, DELETE and SYNCHRONIZE.
-static RIGHTS: [(u32, usize); 4] = [(0x1, 0), (0x400, 10), (0x0001_0000, 16), (0x0010_0000, 20)];
+// The rights of RFC 8881, section 6.2.1.3.1: the bit, the number, and the first name without `ACE4_`.
+static RIGHTS: [(usize, u32, &str); 16] = [
+    (0, 0x0000_0001, "READ_DATA"),
+    (1, 0x0000_0002, "WRITE_DATA"),
+    (2, 0x0000_0004, "APPEND_DATA"),
+    (3, 0x0000_0008, "READ_NAMED_ATTRS"),
+    (4, 0x0000_0010, "WRITE_NAMED_ATTRS"),
+    (5, 0x0000_0020, "EXECUTE"),
+    (6, 0x0000_0040, "DELETE_CHILD"),
+    (7, 0x0000_0080, "READ_ATTRIBUTES"),
+    (8, 0x0000_0100, "WRITE_ATTRIBUTES"),
+    (9, 0x0000_0200, "WRITE_RETENTION"),
+    (10, 0x0000_0400, "WRITE_RETENTION_HOLD"),
+    (16, 0x0001_0000, "DELETE"),
+    (17, 0x0002_0000, "READ_ACL"),
+    (18, 0x0004_0000, "WRITE_ACL"),
+    (19, 0x0008_0000, "WRITE_OWNER"),
+    (20, 0x0010_0000, "SYNCHRONIZE"),
+];
 
-fn is_right_alone(number: u32, bit: usize) -> bool {
-    let Some(mask) = Mask::new(number) else {
+fn is_right_of_table(bit: usize, number: u32, name: &str) -> bool {
+    let Some(right) = Right::new(bit) else {
         return false;
     };
-    for other in 0..Right::COUNT {
-        if mask.has(Right { bit: other }) != (other == bit) {
-            return false;
-        }
-    }
-    true
+    let alone = Mask::from(right);
+    right.bit() == bit && alone.bits() == number && alone.has(right) && right.name() == name
 }
 
 #[test]
-fn a_right_is_a_bit_below_21(rt: HostRuntime) {
-    for (number, bit) in RIGHTS {
-        assert!(rt; is_right_alone(number, bit), "{number}");
+fn a_right_is_one_of_sixteen(rt: HostRuntime) {
+    for (bit, number, name) in RIGHTS {
+        assert!(rt; is_right_of_table(bit, number, name), "{name}");
     }
-    assert_eq!(rt; Right::new(20).map(Right::bit), Some(20));
-    assert!(rt; Right::new(21).is_none());
+    for bit in [11, 12, 13, 14, 15, 21, 64] {
+        assert!(rt; Right::new(bit).is_none(), "{bit}");
+    }
+}
+
+fn rights_are(mask: Mask, bits: &[usize]) -> bool {
+    let mut rights = mask.rights();
+    for bit in bits {
+        if rights.next().map(Right::bit) != Some(*bit) {
+            return false;
+        }
+    }
+    rights.next().is_none()
+}
+
+#[test]
+fn the_rights_of_a_mask_ascend(rt: HostRuntime) {
+    let wide = [0usize, 1, 2, 3, 4, 5, 6, 7, 8, 9, 10, 16, 17, 18, 19, 20];
+    assert!(rt; rights_are(Mask::ALL, &wide));
+    assert!(rt; rights_are(Mask::NONE, &[]));
+    assert!(rt;
+        rights_are(
+            Mask::SYNCHRONIZE | Mask::READ_DATA | Mask::DELETE,
+            &[0, 16, 20]
+        )
+    );
+    assert!(rt; rights_are(Mask::WRITE_RETENTION_HOLD, &[10]));
+}
+
+#[test]
+fn types_and_rights_are_shown_by_name(rt: HostRuntime) {
+    for (kind, word) in [(Kind::Allow, "ALLOW"), (Kind::Deny, "DENY")] {
+        if let Ok(shown) = kind.to_string(rt.alloc()) {
+            assert!(rt; shown.as_str() == word);
+        }
+    }
+    for (bit, _, name) in RIGHTS {
+        if let Some(right) = Right::new(bit) {
+            if let Ok(shown) = right.to_string(rt.alloc()) {
+                assert!(rt; shown.as_str() == name);
+            }
+        }
+    }
+}
+
+// Each set, and what it lacks of all.
+#[test]
+fn the_complement_of_a_set_stays_within_all(rt: HostRuntime) {
+    for (perm, lacks) in [
+        (Perm::NONE, 7),
+        (Perm::READ, 3),
+        (Perm::WRITE, 5),
+        (Perm::EXECUTE, 6),
+        (Perm::ALL, 0),
+    ] {
+        assert_eq!(rt; (!perm).bits(), lacks);
+    }
+    assert_eq!(rt;
+        (!Mode::from_parts(!Perm::EXECUTE, Perm::READ, Perm::NONE)).bits(),
+        0o137
+    );
+    assert_eq!(rt; (!Mask::READ_DATA).bits(), 0x001f_07fe);
+    assert_eq!(rt; (!Mask::NONE).bits(), 0x001f_07ff);
+    assert_eq!(rt; (!Flags::INHERITED).bits(), 0x7f);
 }
 
 // The rights and flags by name, with some of the numbers of RFC 8881, sections 6.2.1.3.1 and 6.2.1.4.1.

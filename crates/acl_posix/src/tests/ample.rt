@@ -20,6 +20,7 @@ fn worked_lists_are_answered(rt: HostRuntime) {
     changes::effective_permissions(&rt, memory);
     changes::modes(&rt, memory);
     changes::changed_lists(&rt, memory);
+    changes::changed_entries(&rt, memory);
     checks::requests(&rt, memory);
     creation::new_files(&rt, memory);
 }
@@ -48,9 +49,12 @@ fn masked(memory: Memory) -> Result<PosixAcl, Fail> {
 #[test]
 fn copies_are_made_and_masks_added(rt: HostRuntime) -> Result<(), Fail> {
     let memory = Memory::ample(rt.alloc());
-    let copy = hundred(memory)?.copy(memory.alloc)?;
+    let acl = hundred(memory)?;
+    let copy = acl.copy(memory.alloc)?;
     assert!(rt; copy.entries().len() == 100);
+    assert!(rt; copy == acl);
     let added = masked(memory)?;
+    assert!(rt; added != acl);
     assert!(rt; has_rows(&added, (&[Owner, Group, Mask, Other], b"0777")));
     Ok(())
 }

@@ -1,7 +1,9 @@
 //! The mode and the mask of a list, and what they are after it is changed.
 
-use super::harness::Who::{Amy, Group, Mask, Other, Owner, Staff};
-use super::harness::{MASKED, Memory, NO_OWNER, ORDERED, Rows, SHARED, TWO_GROUPS, Who, has_rows};
+use super::harness::Who::{Amy, Bob, Eve, Group, Guests, Mask, Other, Owner, Staff};
+use super::harness::{
+    DEFAULT, MASKED, Memory, NO_OWNER, ORDERED, Rows, SHARED, TWO_GROUPS, Who, has_rows, perm_of,
+};
 use crate::*;
 use acl_perm::{Mode, Perm};
 use std::process::Abort;
@@ -75,12 +77,80 @@ pub fn changed_lists<A: Abort>(rt: &A, memory: Memory) {
     }
 }
 
+// A list, an entry of it with the digit to set, or without one where it is to be removed, and the list or the fault that
+// `setfacl -n` leaves. A list that lacks its mask is refused: setfacl calls it malformed, acl_check "Missing entries".
+const ONE_ENTRY: [(Rows, Who, Option<u8>, Result<Rows, AclFault>); 9] = [
+    (
+        NO_OWNER,
+        Owner,
+        Some(b'6'),
+        Ok((&[Owner, Group, Other], b"677")),
+    ),
+    (NO_OWNER, Bob, Some(b'4'), Err(AclFault::Miss(Tag::Mask))),
+    (
+        NO_OWNER,
+        Mask,
+        Some(b'4'),
+        Ok((&[Owner, Group, Mask, Other], b"0747")),
+    ),
+    (
+        DEFAULT,
+        Guests,
+        Some(b'4'),
+        Ok((&[Owner, Eve, Group, Guests, Mask, Other], b"775475")),
+    ),
+    (DEFAULT, Mask, None, Err(AclFault::Miss(Tag::Mask))),
+    (
+        DEFAULT,
+        Eve,
+        None,
+        Ok((&[Owner, Group, Mask, Other], b"7575")),
+    ),
+    (MASKED, Mask, None, Ok((&[Owner, Group, Other], b"777"))),
+    (MASKED, Other, None, Err(AclFault::Miss(Tag::Other))),
+    (MASKED, Amy, None, Ok(MASKED)),
+];
+
+fn change(acl: &mut PosixAcl, who: Who, digit: Option<u8>) -> Result<(), AclFault> {
+    match digit.and_then(perm_of) {
+        Some(perm) => acl.set(who.tag(), perm),
+        None => acl.remove(who.tag()),
+    }
+}
+
+// Whether a changed list has these rows, and the entry has what was set; and a list that is not changed those before.
+fn is_changed(
+    memory: Memory,
+    (rows, who, digit, wanted): (Rows, Who, Option<u8>, Result<Rows, AclFault>),
+) -> bool {
+    let mut acl = match memory.acl(rows) {
+        Ok(acl) => acl,
+        Err(fault) => return memory.may_want(Some(fault)),
+    };
+    match (change(&mut acl, who, digit), wanted) {
+        (Ok(()), Ok(after)) => {
+            has_rows(&acl, after) && acl.get(who.tag()) == digit.and_then(perm_of)
+        }
+        (Ok(()), Err(_)) => false,
+        (Err(fault), Ok(_)) => memory.may_want(Some(fault)) && has_rows(&acl, rows),
+        (Err(fault), Err(wanted)) => fault == wanted && has_rows(&acl, rows),
+    }
+}
+
+/// Lists of which one entry is set or removed.
+pub fn changed_entries<A: Abort>(rt: &A, memory: Memory) {
+    for row in ONE_ENTRY {
+        assert!(rt; is_changed(memory, row));
+    }
+}
+
 #[test]
 fn modes_and_masks_are_set_or_memory_is_wanting(rt: HostRuntime) {
     let memory = Memory::scarce(rt.alloc());
     effective_permissions(&rt, memory);
     modes(&rt, memory);
     changed_lists(&rt, memory);
+    changed_entries(&rt, memory);
 }
 
 #[test]

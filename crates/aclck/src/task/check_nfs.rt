@@ -13,6 +13,7 @@ use crate::answer::{Outcome, RunFault, decision_line};
 use crate::input::xdr::read_list;
 use crate::line::{Argument, LineFault, text_of};
 use crate::words::profile::profile_in;
+use acl_eval::laws::groups_are_a_set;
 use acl_eval::{Object, Requester, grants};
 use acl_nfs4::{Acl, read_mask};
 use acl_perm::{Mask, Profile, Sink, Source, put_all};
@@ -166,6 +167,8 @@ fn decide(
     }
     let sorted = in_order(alloc, groups)?;
     let same = of_groups(requester, &sorted);
+    // What the order of the groups does not change.
+    groups_are_a_set();
     Ok(outcome_of(list, object, &same, mask))
 }
 

@@ -5,11 +5,11 @@ use Rattle.acl_normal.proofs.bits.next_right.Goals as goal
 
 pub returns-clause-some : goal.returns-clause-some
 returns-clause-some c =
-    IfSome_then c.new.result c.new.ensures.value
+    IfSome_then c.numbered.result c.numbered.ensures.value
     (λ right e. first_right c.args.mask.bits c.args.from right.bit
     (IsMask-lt c.args.mask.bits c.args.mask.within) e right.within)
 
 pub returns-clause-none : goal.returns-clause-none
 returns-clause-none c =
-    no_right_left c.args.mask.bits c.args.from c.new.result (IsMask-lt c.args.mask.bits c.args.mask.within)
-    c.new.ensures.within.1
+    no_right_left c.args.mask.bits c.args.from c.numbered.result (IsMask-lt c.args.mask.bits c.args.mask.within)
+    c.numbered.ensures.within.1

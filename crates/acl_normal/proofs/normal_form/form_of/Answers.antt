@@ -1,12 +1,18 @@
+use Rattle.std.proofs.Common.{subst}
+use Rattle.acl_perm.specs.Bits.{all_rights}
+use Rattle.acl_eval.specs.Grant.{SameGrants}
 use Rattle.acl_normal.specs.internal.Emitted.{emitted_aces}
+use Rattle.acl_normal.specs.internal.Shown.{bits_in, with_masks}
 use Rattle.acl_normal.proofs.unique.Forming.{form_from}
 use Rattle.acl_normal.proofs.unique.Taken.{taken}
 use Rattle.acl_normal.proofs.normal_form.form_of.Goals as goal
 
 pub returns : goal.returns
 returns c =
-    form_from c.args.list.now (emitted_aces c.in_ok-form.form.items)
-    (taken c.args.list.now c.in_ok-rows.rows (emitted_aces c.in_ok-form.form.items) c.in_ok-rows.ensures.columns
-    c.in_ok-rows.ensures.irreducible c.in_ok-rows.ensures.grants
-    c.in_ok-form.ensures.normal c.in_ok-form.ensures.grants)
+    let form = emitted_aces c.in_ok-form.form.items in
+    let left = with_masks c.args.reduced.aces.items (bits_in c.args.reduced.masks.items) in
+    form_from c.args.list.now form
+    (taken c.args.list.now left form c.requires.reduced.columns c.requires.reduced.irreducible
+    c.requires.reduced.grants c.in_ok-form.ensures.normal
+    (subst (λ v. SameGrants all_rights v form) c.in_ok-rows.ensures c.in_ok-form.ensures.grants))
     c.aces-accepted.ensures.accepted

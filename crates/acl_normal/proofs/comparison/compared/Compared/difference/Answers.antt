@@ -1,11 +1,15 @@
 use Rattle.acl_normal.proofs.comparison.compared.Compared.difference.Goals as goal
-use Rattle.acl_normal.proofs.comparison.FirstSet.{differs_there, found_is, told_none, told_some}
+use Rattle.acl_normal.proofs.comparison.FirstSet.{differs_there, found_is, situation_there, told_none, told_some}
 
 pub returns-in-None : goal.returns-in-None
 returns-in-None c = told_none c.args.self.now (found_is c.args.self.now _ _ c.requires.found c.in-None.is)
 
-pub difference_at-requires : goal.difference_at-requires
-difference_at-requires c = differs_there c.args.self.now _ (found_is c.args.self.now _ _ c.requires.found c.in-Some.is)
+pub difference_at-requires-clause-differ : goal.difference_at-requires-clause-differ
+difference_at-requires-clause-differ c = differs_there c.args.self.now _ (found_is c.args.self.now _ _ c.requires.found c.in-Some.is)
+
+pub difference_at-requires-clause-named : goal.difference_at-requires-clause-named
+difference_at-requires-clause-named c = situation_there c.args.self.now _ c.requires.named
+    (found_is c.args.self.now _ _ c.requires.found c.in-Some.is)
 
 pub returns-in_ok-difference_at-in-Some : goal.returns-in_ok-difference_at-in-Some
 returns-in_ok-difference_at-in-Some c = told_some c.args.self.now _ _ c.requires.named

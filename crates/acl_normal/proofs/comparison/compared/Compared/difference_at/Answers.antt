@@ -1,12 +1,16 @@
-use Rattle.std.proofs.Common.{subst}
+use Rattle.std.proofs.Common.{◌<◌, length, subst, sym}
+use Rattle.std.specs.Prelude.{All}
 use Rattle.acl_normal.proofs.comparison.compared.Compared.difference_at.Goals as goal
+use Rattle.acl_perm.specs.Situation.{IsName, IsSituation}
+use Rattle.acl_normal.proofs.comparison.Asked.{few_groups, one_alone, some_bytes}
+use Rattle.acl_normal.specs.SmallSituations.{small_situation}
 use Rattle.acl_normal.proofs.comparison.SetEvaluation.{differing_are, lowest_difference, none_differ}
 use Rattle.acl_normal.specs.internal.CodeSets.{set_of}
 use Rattle.acl_normal.specs.internal.TwoLists.{AreAlikeTo}
 use Rattle.acl_normal.specs.internal.SetSearch.{IsLowestDifference}
 
 pub lowest-bit-requires : goal.lowest-bit-requires
-lowest-bit-requires c = λ none. c.requires (subst (λ both. AreAlikeTo both (set_of c.args.set)) c.self.view_is
+lowest-bit-requires c = λ none. c.requires.differ (subst (λ both. AreAlikeTo both (set_of c.args.set)) c.self.view_is
     ((none_differ _ _ _ _ c.unlike.result.within
     (differing_are _ _ _ _ _ _ c.granted-here.ensures c.granted.ensures c.unlike.ensures)).0 none))
 
@@ -17,3 +21,19 @@ returns-clause-bit c =
     (lowest_difference _ _ _ _ _ _ _ _ c.unlike.result.within
     (differing_are _ _ _ _ _ _ c.granted-here.ensures c.granted.ensures c.unlike.ensures)
     c.lowest-bit.ensures.lowest c.lowest-bit.ensures.value c.granted-here.ensures c.contains.ensures.meaning)
+
+pub invariant_of-result : goal.invariant_of-result
+invariant_of-result c =
+    let s : IsSituation (small_situation c.strange_length-n.result (set_of c.args.set)) =
+    subst (λ m. IsSituation (small_situation m (set_of c.args.set))) (sym c.strange_length-n.ensures)
+    c.requires.named in
+    record {
+      owner_named = subst (λ v. 0 < length v) (sym c.in_ok-owner_in.ensures) s.owner_name.0;
+      group_named = subst (λ v. 0 < length v) (sym c.in_ok-owning_group_in.ensures) s.owning_group.0;
+      user_named = subst (λ v. 0 < length v) (sym c.in_ok-user_in.ensures) s.user_name.0;
+      groups_named = some_bytes (λ g. g.items) c.in_ok-groups_in.field-0.items
+          (subst (All IsName) (sym c.in_ok-groups_in.ensures) s.groups);
+      few = few_groups (λ g. g.items) c.in_ok-groups_in.field-0.items c.strange_length-n.result c.args.set
+          c.in_ok-groups_in.ensures;
+      one_right = one_alone c.lowest-bit.result.bits _ c.lowest-bit.ensures.value c.lowest-bit.result.within;
+    }

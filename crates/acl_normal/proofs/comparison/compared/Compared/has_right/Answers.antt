@@ -3,4 +3,4 @@ use Rattle.acl_normal.proofs.comparison.compared.Compared.has_right.Goals as goa
 use Rattle.acl_perm.proofs.Sets.{bits_from_mask}
 
 pub returns-clause-right : goal.returns-clause-right
-returns-clause-right c = λ is. bits_from_mask _ _ c.self.inside.rights.within (sym c.has.ensures ∙ is)
+returns-clause-right c = λ is. bits_from_mask _ _ c.self.inside.rights.within (sym c.is_in.ensures ∙ is)

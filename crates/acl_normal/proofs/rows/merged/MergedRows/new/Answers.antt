@@ -22,8 +22,10 @@ invariant_of-result c =
 
 pub returns-clause-firsts : goal.returns-clause-firsts
 returns-clause-firsts c =
-    subst (λ v. KeepsFirsts c.args.list.now v) (sym c.in_ok-rest.ensures) c.in_ok-reduced.ensures.left.thinned.firsts
+    subst (λ l. KeepsFirsts l c.in_ok-rest.rest) c.view.ensures
+    (subst (λ v. KeepsFirsts c.view.result v) (sym c.in_ok-rest.ensures) c.in_ok-reduced.ensures.left.thinned.firsts)
 
 pub returns-clause-grants : goal.returns-clause-grants
 returns-clause-grants c =
-    subst (λ v. SameGrants all_rights c.args.list.now v) (sym c.in_ok-rest.ensures) c.in_ok-reduced.ensures.left.grants
+    subst (λ l. SameGrants all_rights l c.in_ok-rest.rest) c.view.ensures
+    (subst (λ v. SameGrants all_rights c.view.result v) (sym c.in_ok-rest.ensures) c.in_ok-reduced.ensures.left.grants)

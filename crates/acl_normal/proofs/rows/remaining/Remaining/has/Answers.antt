@@ -38,7 +38,7 @@ returns c =
     ≡ c.index-3.result.now.bits =
     ap (λ v. slice_index_or (bits_in s.left.items) v 0) (sym row)
     ∙ bits_at s.left.items c.index-2.result.now 0 _ left_below c.index-3.ensures in
-    c.has.ensures ∙ ap (λ v. has_bit v c.args.right.bit) c.intersection-mask.ensures.value
+    c.is_in.ensures ∙ ap (λ v. has_bit v c.args.right.bit) c.intersection-mask.ensures.value
     ∙ ap (λ v. has_bit (bit_and v c.index-3.result.now.bits) c.args.right.bit) (sym mask)
     ∙ ap (λ v. has_bit (bit_and (slice_index_or (bits_in s.masks.items) c.args.place 0) v) c.args.right.bit) (sym left)
     ∙ ap (λ v. has_bit v c.args.right.bit) (sym (mask_remaining s c.args.place c.self.invariant within))

@@ -1,0 +1,15 @@
+use Rattle.std.specs.Prelude.{◌≡◌, ◌&&◌, ℕ}
+use Rattle.acl_perm.specs.Bits.{has_bit}
+use Rattle.acl_eval.specs.Grant.{grants_bit}
+use Rattle.acl_eval.specs.Situation.{situation}
+use Rattle.acl_eval.specs.internal.GrantingBody.{granted_in}
+use Rattle.acl_eval.proofs.granting.granted_to.Given as goal
+
+-- what is granted so far, and by the rest of the list of what is left, is what the whole list grants of the mask
+abbrev pub invariant-loop-ace : goal.invariant-loop-ace
+invariant-loop-ace l =
+    (goal.iterator-loop-ace).can_next l.ace-iterator ×
+    (goal.iterator-loop-ace).is_finite l.ace-iterator ×
+    ((bit : ℕ) → granted_in (situation l.standing.object l.standing.requester) l.so_far l.ace-iterator bit
+    ≡ (has_bit l.fn.mask.bits bit
+    && grants_bit l.fn.aces (situation l.standing.object l.standing.requester) bit))

@@ -1,0 +1,13 @@
+use Rattle.std.specs.Prelude.{◌≡◌, ◌++◌}
+use Rattle.acl_perm.specs.Profile.{full}
+use Rattle.acl_nfs4.specs.Spelling.{IsAccepted}
+use Rattle.acl_eval.specs.Inheritance.{children}
+use Rattle.acl_eval.proofs.inherit.child_of_view.Given as goal
+
+-- the ACEs so far and those of what is left are the child, which is accepted
+abbrev pub invariant-loop-ace : goal.invariant-loop-ace
+invariant-loop-ace l =
+    (goal.iterator-loop-ace).can_next l.ace-iterator ×
+    (goal.iterator-loop-ace).is_finite l.ace-iterator ×
+    IsAccepted full (children l.kind l.fn.parent) ×
+    (l.list ++ children l.kind l.ace-iterator ≡ children l.kind l.fn.parent)

@@ -1,0 +1,122 @@
+//! The ACEs that decide all rights, found in one pass over the list.
+ghost use Rattle.std.specs.Prelude.{◌≡◌, ◌≤◌, ◌+◌, ◌∷◌, if◌then◌else◌, ℕ, List, IsTrue, None, Some, length, option_map, true};
+ghost use Rattle.acl_perm.specs.Bits.{all_rights, has_bit};
+ghost use Rattle.acl_nfs4.specs.Ace.{Ace, ace};
+ghost use Rattle.acl_eval.specs.Deciding.{decides, decision_of, deciding_kind, deciding_place};
+ghost use Rattle.acl_eval.specs.Situation.{situation};
+ghost use Rattle.acl_eval.specs.internal.Asked.{asked};
+ghost use Rattle.acl_eval.specs.internal.DecidingBody.{decision_from, found_in};
+
+use crate::deciding::Decision;
+use crate::situation::{Object, Requester};
+use crate::standing::Standing;
+use acl_nfs4::{AceRef, Aces};
+use acl_perm::{Mask, Right};
+
+/// For each right, the ACE that decides it.
+#[derive(Clone, Copy, Debug, PartialEq, Eq)]
+pub struct Decisions {
+    by_bit: [Option<Decision>; 21],
+}
+
+impl Decisions {
+    fn new() -> Decisions
+        ensures { (bit : ℕ) → decision_of result bit ≡ None }
+    {
+        Decisions { by_bit: [None; 21] }
+    }
+
+    /// Returns the ACE that decides the right. Returns `None` if no ACE does, which denies the right.
+    #[tactic(auto, using(acl_perm::proofs::Sets::right_below))]
+    pub fn of(&self, right: Right) -> Option<Decision>
+        ensures { result ≡ decision_of self.now right.bit }
+    {
+        self.by_bit[right.bit()]
+    }
+
+    // Notes what decides these rights.
+    fn note(&mut self, rights: Mask, decision: Decision)
+        ensures { (bit : ℕ) → decision_of self.new bit
+            ≡ (if has_bit rights.bits bit then Some decision else decision_of self.old bit) }
+    {
+        let bits = rights.bits();
+        for (bit, found) in self.by_bit.iter_mut().enumerate() {
+            if (bits >> bit) & 1 == 1 {
+                *found = Some(decision);
+            }
+        }
+    }
+}
+
+/// Finds for each right the ACE that decides it for the requester of the object: what `deciding_ace` finds, for all
+/// sixteen rights at once. The function reads the list once, stops when every right is decided, and allocates no
+/// memory.
+pub fn deciding_aces(aces: Aces<'_>, object: &Object<'_>, requester: &Requester<'_>) -> Decisions
+    ensures place { (bit : ℕ) → IsTrue (has_bit all_rights bit)
+        → option_map (λ decision. decision.place) (decision_of result bit)
+        ≡ deciding_place aces.entry (situation object.now requester.now) bit }
+    ensures kind { (bit : ℕ) → IsTrue (has_bit all_rights bit)
+        → option_map (λ decision. decision.kind) (decision_of result bit)
+        ≡ deciding_kind aces.entry (situation object.now requester.now) bit }
+{
+    decisions_of(aces, &Standing::new(*object, *requester))
+}
+
+fn decisions_of(aces: Aces<'_>, standing: &Standing<'_>) -> Decisions
+    ensures { (bit : ℕ) → IsTrue (has_bit all_rights bit)
+        → decision_of result bit ≡ decision_from 0 (decides (asked standing.now) bit) aces.entry }
+{
+    // No place passes the number of ACEs, which has a `usize`.
+    let _number = aces.len();
+    let mut so_far = SoFar::new();
+    let mut place = 0;
+    for ace in aces {
+        if so_far.left.bits() == 0 {
+            return so_far.decisions;
+        }
+        so_far.meet(place, &ace, standing);
+        place += 1;
+    }
+    so_far.decisions
+}
+
+// The decisions so far, and the rights that no ACE has decided.
+#[derive(Drop)]
+struct SoFar {
+    decisions: Decisions,
+    left: Mask,
+}
+
+impl SoFar {
+    fn new() -> SoFar
+        ensures decisions { (bit : ℕ) → decision_of result.decisions bit ≡ None }
+        ensures left { result.left.bits ≡ all_rights }
+    {
+        SoFar {
+            decisions: Decisions::new(),
+            left: Mask::ALL,
+        }
+    }
+
+    // Notes the rights that the ACE at this place decides: those that are left, if it speaks of the requester.
+    fn meet(&mut self, place: usize, item: &AceRef<'_>, standing: &Standing<'_>)
+        requires { 1 ≤ length item.now.who.now }
+        ensures found { (list : List Ace) (bit : ℕ)
+            → found_in (asked standing.now) self.new (place + 1) list bit
+            ≡ found_in (asked standing.now) self.old place (ace item.now ∷ list) bit }
+        ensures none { (bit : ℕ) → has_bit self.new.left.bits bit ≡ true
+            → (decision_of self.new.decisions bit ≡ decision_of self.old.decisions bit)
+            × (has_bit self.old.left.bits bit ≡ true) }
+    {
+        let decided = self.left.intersection(item.mask);
+        if decided.bits() == 0 || !standing.is_meant_by(item) {
+            return;
+        }
+        let decision = Decision {
+            place,
+            kind: item.kind,
+        };
+        self.decisions.note(decided, decision);
+        self.left = self.left.difference(decided);
+    }
+}

@@ -1,0 +1,99 @@
+//! The rights of a mask that a list grants.
+ghost use Rattle.std.specs.Prelude.{◌≡◌, ◌≤◌, ◌↔◌, ◌∷◌, ◌&&◌, if◌then◌else◌, ℕ, Bool, List, length};
+ghost use Rattle.acl_perm.specs.Bits.{IsSubset, has_bit};
+ghost use Rattle.acl_nfs4.specs.Ace.{Ace, ace};
+ghost use Rattle.acl_eval.specs.Situation.{situation};
+ghost use Rattle.acl_eval.specs.Grant.{Grant, grants_bit, is_allow};
+ghost use Rattle.acl_eval.specs.internal.Asked.{asked};
+ghost use Rattle.acl_eval.specs.internal.GrantingBody.{decided_by, granted_in};
+
+use crate::situation::{Object, Requester};
+use crate::standing::Standing;
+use acl_nfs4::{AceRef, Aces};
+use acl_perm::{Kind, Mask};
+
+/// Returns the rights of `mask` that the list grants the requester on the object (RFC 8881, section 6.2.1). For each
+/// right, the first ACE without INHERIT_ONLY that has the right and applies to the requester decides; a right that no
+/// ACE decides is denied. `grants` answers `true` if and only if all rights of its request are among those that are
+/// granted. The function reads the list once, stops when every right of the mask is decided, and allocates no memory.
+///
+/// ```rust
+/// let list = parse_text(alloc, b"ALLOW - READ_DATA|WRITE_DATA bob")?;
+/// let object = Object::new(b"alice", b"staff").ok_or("a name is empty")?;
+/// let bob = Requester::new(b"bob", &[]).ok_or("a name is empty")?;
+/// let rights = granted(list.aces(), &object, &bob, Mask::ALL);
+/// assert!(rt; rights == Mask::READ_DATA | Mask::WRITE_DATA);
+/// ```
+pub fn granted(aces: Aces<'_>, object: &Object<'_>, requester: &Requester<'_>, mask: Mask) -> Mask
+    ensures rights { (bit : ℕ) → has_bit result.bits bit ≡ (has_bit mask.bits bit
+        && grants_bit aces.entry (situation object.now requester.now) bit) }
+    ensures requests { (request : ℕ) → IsSubset request mask.bits
+        → Grant aces.entry (situation object.now requester.now) request
+        ↔ IsSubset request result.bits }
+{
+    granted_to(aces, &Standing::new(*object, *requester), mask)
+}
+
+fn granted_to(aces: Aces<'_>, standing: &Standing<'_>, mask: Mask) -> Mask
+    ensures { (bit : ℕ) → has_bit result.bits bit
+        ≡ (has_bit mask.bits bit && grants_bit aces.entry (asked standing.now) bit) }
+{
+    let mut so_far = SoFar::new(mask);
+    for ace in aces {
+        if so_far.left.bits() == 0 {
+            return so_far.granted;
+        }
+        so_far = so_far.after(&ace, standing);
+    }
+    so_far.granted
+}
+
+// The rights that the ACEs so far grant, and those that none of them has decided.
+#[derive(Clone, Copy)]
+struct SoFar {
+    granted: Mask,
+    left: Mask,
+}
+
+impl SoFar {
+    fn new(mask: Mask) -> SoFar
+        ensures granted { result.granted.bits ≡ 0 }
+        ensures left { result.left.bits ≡ mask.bits }
+    {
+        SoFar {
+            granted: Mask::NONE,
+            left: mask,
+        }
+    }
+
+    // After one more ACE, which decides only what no ACE before it has. The mask is judged before the who, which costs
+    // more.
+    #[inline(always)]
+    fn after(self, item: &AceRef<'_>, standing: &Standing<'_>) -> SoFar
+        requires { 1 ≤ length item.now.who.now }
+        ensures { (list : List Ace) (bit : ℕ) → granted_in (asked standing.now) result list bit
+            ≡ granted_in (asked standing.now) self (ace item.now ∷ list) bit }
+    {
+        let decided = self.left.intersection(item.mask);
+        if decided.bits() == 0 || !standing.is_meant_by(item) {
+            return self;
+        }
+        self.decide(item.kind, item.mask)
+    }
+
+    // After an ACE that speaks of the requester.
+    #[tactic(auto)]
+    fn decide(self, kind: Kind, mask: Mask) -> SoFar
+        ensures { (is_granted : Bool) (bit : ℕ) → decided_by result is_granted bit
+            ≡ decided_by self (if has_bit mask.bits bit then is_allow kind else is_granted) bit }
+    {
+        let granted = match kind {
+            Kind::Allow => self.granted.union(self.left.intersection(mask)),
+            Kind::Deny => self.granted,
+        };
+        SoFar {
+            granted,
+            left: self.left.difference(mask),
+        }
+    }
+}

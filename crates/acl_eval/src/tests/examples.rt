@@ -1,0 +1,82 @@
+//! The examples in the doc comments of the calls: each comment's lines are in one of these tests, in order.
+
+use crate::*;
+use acl_nfs4::parse_text;
+use acl_perm::{Mask, Right};
+use acl_posix::{Names, parse};
+use std::test::Fail;
+
+#[test]
+fn of_grants(rt: HostRuntime) -> Result<(), Fail> {
+    let alloc = rt.alloc();
+    let list = parse_text(alloc, b"ALLOW - READ_DATA|WRITE_DATA bob")?;
+    let object = Object::new(b"alice", b"staff").ok_or("a name is empty")?;
+    let bob = Requester::new(b"bob", &[]).ok_or("a name is empty")?;
+    assert!(rt; grants(list.aces(), &object, &bob, Mask::WRITE_DATA));
+    assert!(rt; !grants(list.aces(), &object, &bob, Mask::ALL));
+    Ok(())
+}
+
+#[test]
+fn of_granted(rt: HostRuntime) -> Result<(), Fail> {
+    let alloc = rt.alloc();
+    let list = parse_text(alloc, b"ALLOW - READ_DATA|WRITE_DATA bob")?;
+    let object = Object::new(b"alice", b"staff").ok_or("a name is empty")?;
+    let bob = Requester::new(b"bob", &[]).ok_or("a name is empty")?;
+    let rights = granted(list.aces(), &object, &bob, Mask::ALL);
+    assert!(rt; rights == Mask::READ_DATA | Mask::WRITE_DATA);
+    Ok(())
+}
+
+#[test]
+fn of_deciding_ace(rt: HostRuntime) -> Result<(), Fail> {
+    let alloc = rt.alloc();
+    let list = parse_text(alloc, b"ALLOW - READ_DATA bob\nDENY - WRITE_DATA bob")?;
+    let object = Object::new(b"alice", b"staff").ok_or("a name is empty")?;
+    let bob = Requester::new(b"bob", &[]).ok_or("a name is empty")?;
+    let write = Right::new(1).ok_or("no such right")?;
+    let decision = deciding_ace(list.aces(), &object, &bob, write).ok_or("no ACE decides")?;
+    assert_eq!(rt; decision.place, 1);
+    Ok(())
+}
+
+#[test]
+fn of_child(rt: HostRuntime) -> Result<(), Fail> {
+    let alloc = rt.alloc();
+    let parent = parse_text(alloc, b"ALLOW FILE READ_DATA bob\nDENY - WRITE_DATA bob")?;
+    let list = child(alloc, &parent, ChildKind::File)?;
+    assert!(rt; list == parse_text(alloc, b"ALLOW - READ_DATA bob")?);
+    Ok(())
+}
+
+#[test]
+fn of_mode_of(rt: HostRuntime) -> Result<(), Fail> {
+    let alloc = rt.alloc();
+    let list = parse_text(alloc, b"ALLOW - READ_DATA|EXECUTE EVERYONE@")?;
+    let mode = mode_of(list.aces());
+    assert_eq!(rt; mode.bits(), 0o555);
+    Ok(())
+}
+
+#[test]
+fn of_bridge(rt: HostRuntime) -> Result<(), Fail> {
+    let alloc = rt.alloc();
+    let file = parse(alloc, b"u::rw-,g::r--,o::---", &Names::new(alloc))?;
+    let list = bridge(alloc, &file.access)?;
+    assert_eq!(rt; mode_of(list.aces()).bits(), 0o640);
+    Ok(())
+}
+
+#[test]
+fn of_object_new(rt: HostRuntime) {
+    let object = Object::new(b"alice", b"staff");
+    assert!(rt; object.is_some());
+    assert!(rt; Object::new(b"alice", b"").is_none());
+}
+
+#[test]
+fn of_requester_new(rt: HostRuntime) {
+    let requester = Requester::new(b"bob", &[b"staff", b"users"]);
+    assert!(rt; requester.is_some());
+    assert!(rt; Requester::new(b"bob", &[b""]).is_none());
+}

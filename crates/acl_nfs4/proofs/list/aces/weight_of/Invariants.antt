@@ -1,0 +1,10 @@
+use Rattle.std.proofs.Common.{◌≡◌, ◌+◌}
+use Rattle.acl_nfs4.specs.Spelling.{weight}
+use Rattle.acl_nfs4.proofs.list.aces.weight_of.Given as goal
+
+-- the weight so far, and that of the ACEs that are left
+abbrev pub invariant-loop-ace : goal.invariant-loop-ace
+invariant-loop-ace l =
+    (goal.iterator-loop-ace).can_next l.ace-iterator ×
+    (goal.iterator-loop-ace).is_finite l.ace-iterator ×
+    (l.weight + weight l.ace-iterator ≡ weight l.fn.aces)

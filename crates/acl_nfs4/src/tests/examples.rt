@@ -1,0 +1,80 @@
+//! The examples of doc comments: the lines of each stand in the test of its call, in their order.
+
+use crate::*;
+use std::test::Fail;
+
+#[test]
+fn parse_whole(rt: HostRuntime) -> Result<(), Fail> {
+    let bytes = b"\0\0\0\x01\0\0\0\0\0\0\0\0\0\0\0\x01\0\0\0\x06OWNER@\0\0";
+    let list = AclView::parse_whole(bytes)?;
+    assert!(rt; list.len() == 1);
+    for ace in list.aces() {
+        assert!(rt; ace.principal() == Principal::Owner);
+    }
+    Ok(())
+}
+
+#[test]
+fn mask(rt: HostRuntime) -> Result<(), Fail> {
+    let mask = read_mask(b"READ_DATA|EXECUTE").ok_or("no such right")?;
+    assert!(rt; mask.bits() == 0x21);
+    Ok(())
+}
+
+mod ample {
+    use super::*;
+
+    #[test]
+    fn text(rt: HostRuntime) -> Result<(), Fail> {
+        let alloc = rt.alloc();
+        let text = b"ALLOW - READ_DATA OWNER@\nDENY GROUP WRITE_DATA staff\n";
+        let list = parse_text(alloc, text)?;
+        assert!(rt; list.len() == 2);
+        assert!(rt; list.weight() == 2);
+        Ok(())
+    }
+
+    #[test]
+    fn push(rt: HostRuntime) -> Result<(), Fail> {
+        let alloc = rt.alloc();
+        let mut list = Acl::new(alloc);
+        let mask = read_mask(b"READ_DATA").ok_or("no such right")?;
+        list.push(AceRef {
+            kind: Kind::Allow,
+            flags: Flags::NONE,
+            mask,
+            who: b"alice",
+        })?;
+        assert!(rt; list.len() == 1);
+        Ok(())
+    }
+
+    #[test]
+    fn encode(rt: HostRuntime) -> Result<(), Fail> {
+        let alloc = rt.alloc();
+        let list = parse_text(alloc, b"ALLOW - READ_DATA OWNER@")?;
+        let mut room = [0u8; 28];
+        list.encode(&mut Counted::new(room.as_mut_slice()))?;
+        assert!(rt; AclView::parse_whole(&room)?.len() == 1);
+        Ok(())
+    }
+
+    #[test]
+    fn from_a_source(rt: HostRuntime) -> Result<(), Fail> {
+        let alloc = rt.alloc();
+        let mut source = Counted::new(b"\0\0\0\0 and more".as_slice());
+        let list = decode(alloc, &mut source)?;
+        assert!(rt; list.is_empty());
+        Ok(())
+    }
+
+    #[test]
+    fn in_pieces(rt: HostRuntime) -> Result<(), Fail> {
+        let alloc = rt.alloc();
+        let mut feed = Feed::new(alloc);
+        assert!(rt; feed.feed(&[0, 0]) == Fed::More);
+        assert!(rt; feed.feed(&[0, 0, 0xff]) == Fed::Done { taken: 2 });
+        assert!(rt; feed.finish()?.is_empty());
+        Ok(())
+    }
+}

@@ -1,0 +1,76 @@
+//! ACEs, masks and flags as `Display` shows them: by the names of the text form.
+ghost use Rattle.std.specs.Prelude.{◌≡◌, Some};
+ghost use Rattle.acl_nfs4.specs.Ace.{ace};
+ghost use Rattle.acl_nfs4.specs.AceText.{ace_shown, as_text};
+ghost use Rattle.acl_nfs4.specs.BitNames.{set_text};
+ghost use Rattle.acl_nfs4.specs.FlagNames.{flag_names};
+ghost use Rattle.acl_nfs4.specs.Rights.{rights};
+
+use crate::ace::AceRef;
+use crate::names::bit_names::BitName;
+use crate::names::flag_names::FLAGS;
+use crate::names::rights::RIGHTS;
+use crate::text::writer::{Line, add_set};
+use acl_perm::{Flags, Mask};
+use std::fmt;
+
+/// Shows flags by their names in the text form, in rising order of their bits with `|` between them, and no flag as `-`.
+#[derive(Clone, Copy, Debug, PartialEq, Eq, Hash)]
+pub struct FlagNames {
+    /// The flags that are shown.
+    pub flags: Flags,
+}
+
+impl fmt::Display for FlagNames {
+    ghost output = { λ shown. Some (set_text flag_names shown.flags.bits) };
+
+    #[tactic(auto, using(crate::proofs::Shown::flags_shown))]
+    fn fmt<W: fmt::Write>(&self, f: &mut fmt::Formatter<W>) -> fmt::Result {
+        let mut line = Line::new();
+        add_set(&mut line, &FLAGS, self.flags.bits() as u32);
+        f.write_str(as_text(&line))
+    }
+}
+
+/// Shows a mask by the names of its rights, in rising order of their bits with `|` between them, and no right as `-`.
+#[derive(Clone, Copy, Debug, PartialEq, Eq, Hash)]
+pub struct RightNames {
+    /// The mask that is shown.
+    pub mask: Mask,
+}
+
+impl fmt::Display for RightNames {
+    ghost output = { λ shown. Some (set_text rights shown.mask.bits) };
+
+    #[tactic(auto, using(crate::proofs::Shown::rights_shown))]
+    fn fmt<W: fmt::Write>(&self, f: &mut fmt::Formatter<W>) -> fmt::Result {
+        let mut line = Line::new();
+        add_set(&mut line, &RIGHTS, self.mask.bits());
+        f.write_str(as_text(&line))
+    }
+}
+
+/// The line of the ACE in the text form, without a line feed. A who that is not UTF-8, which no list has, is shown as
+/// U+FFFD.
+impl<'a> fmt::Display for AceRef<'a> {
+    ghost output = { λ a. Some (ace_shown (ace a)) };
+
+    fn fmt<W: fmt::Write>(&self, f: &mut fmt::Formatter<W>) -> fmt::Result {
+        let kind = self.kind;
+        let flags = FlagNames { flags: self.flags };
+        let mask = RightNames { mask: self.mask };
+        let who = as_text(self.who);
+        write!(f, "{kind} {flags} {mask} {who}")
+    }
+}
+
+// Bytes as text, where they are UTF-8.
+#[tactic(auto, using(crate::proofs::PlainText::text_tests))]
+fn as_text(bytes: &[u8]) -> &str
+    ensures { result.now ≡ as_text bytes.now }
+{
+    match str::from_utf8(bytes) {
+        Ok(text) => text,
+        Err(_) => "\u{FFFD}",
+    }
+}

@@ -1,0 +1,15 @@
+use Rattle.std.proofs.Common.{subst}
+use Rattle.std.specs.Prelude.{IfOk, IsNone, ◌↔◌}
+use Rattle.acl_perm.specs.Bits.{all_rights}
+use Rattle.acl_eval.specs.Grant.{SameGrants}
+use Rattle.acl_normal.proofs.comparison.comparing.compare.Goals as goal
+use Rattle.acl_normal.proofs.comparison.FirstSet.{same_list_same}
+
+pub returns-then-eq-clause-same : goal.returns-then-eq-clause-same
+returns-then-eq-clause-same c = same_list_same c.args.first.now c.args.second.now _ c.if-eq.true c.eq.ensures.exact
+
+pub returns-clause-same : goal.returns-clause-same
+returns-clause-same c =
+    subst (λ l. IfOk c.compare_views.result (λ r. IsNone r ↔ SameGrants all_rights l c.args.second.now)) c.view.ensures
+    (subst (λ l. IfOk c.compare_views.result (λ r. IsNone r ↔ SameGrants all_rights c.view.result l)) c.view-2.ensures
+    c.compare_views.ensures.same)

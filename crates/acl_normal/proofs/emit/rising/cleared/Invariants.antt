@@ -1,0 +1,9 @@
+use Rattle.std.specs.Prelude.{◌≡◌, take}
+use Rattle.acl_normal.specs.Left.{left}
+use Rattle.acl_normal.specs.internal.Rising.{all_cleared}
+use Rattle.acl_normal.specs.internal.Shown.{bits_in, with_masks}
+use Rattle.acl_normal.proofs.emit.rising.cleared.Given as goal
+
+-- the list of the places so far
+abbrev pub invariant-loop-place : goal.invariant-loop-place
+invariant-loop-place l = l.list ≡ all_cleared (left (take l.place (with_masks l.aces (bits_in l.masks))))

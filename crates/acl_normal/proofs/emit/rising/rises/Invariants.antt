@@ -1,0 +1,7 @@
+use Rattle.acl_normal.specs.internal.Rising.{HasRisen}
+use Rattle.acl_normal.specs.internal.Shown.{bits_in, with_masks}
+use Rattle.acl_normal.proofs.emit.rising.rises.Given as goal
+
+-- the keys of the places so far rise, and have numbers below the bound
+abbrev pub invariant-loop-place : goal.invariant-loop-place
+invariant-loop-place l = HasRisen (with_masks l.aces (bits_in l.masks)) l.place l.bound

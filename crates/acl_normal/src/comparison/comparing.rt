@@ -1,0 +1,84 @@
+//! Two lists compared: the first small situation in which they grant otherwise.
+ghost use Rattle.std.specs.Prelude.{◌≡◌, ◌↔◌, IsNone, IsOk, IfOk, IfSome};
+ghost use Rattle.acl_perm.specs.Bits.{all_rights};
+ghost use Rattle.acl_eval.specs.Grant.{SameGrants};
+ghost use Rattle.acl_normal.specs.Difference.{IsComparison, situation_of};
+ghost use Rattle.acl_normal.specs.SmallSets.{IsFirstDifference, TellsApart};
+
+use super::Difference;
+use super::compared::Compared;
+use super::mentioned::mentioned;
+use crate::reduce::collected::collect;
+use acl_nfs4::{Acl, AclView};
+use std::alloc::{AllocError, Global};
+
+/// The first of the small situations of two lists in which one grants a right and the other doesn't, or None where both
+/// grant the same in every situation (this library's own, over RFC 8881, section 6.2.1). A small situation is one in
+/// which just none, one or two of the principals match that the lists mention, and everyone. It takes time near linear
+/// in the ACEs, times the rights that either list has, and memory for some numbers an ACE. An error is want of memory.
+///
+/// ```rust
+/// let first = parse_text(alloc, b"ALLOW - READ_DATA EVERYONE@")?;
+/// let second = parse_text(alloc, b"DENY - READ_DATA bob\nALLOW - READ_DATA EVERYONE@\n")?;
+/// let difference = compare(alloc, &first, &second)?.ok_or("the lists grant the same")?;
+/// let names = difference.requester_names();
+/// let (object, requester) = (difference.object(), names.requester());
+/// let decision = deciding_ace(second.aces(), &object, &requester, difference.right());
+/// assert!(rt; decision.is_some_and(|decision| decision.place == 0));
+/// ```
+pub fn compare(alloc: Global, first: &Acl, second: &Acl) -> Result<Option<Difference>, AllocError>
+    // None exactly if both lists grant the same.
+    ensures same { IfOk result (λ r. IsNone r ↔ SameGrants all_rights first.now second.now) }
+    // Else the first small situation in which they don't, the lowest right on which they differ there, and what the
+    // first list grants.
+    ensures first { IfOk result (λ r. IfSome r (λ d. IsFirstDifference first.now second.now
+        (situation_of d) d.bit.bits d.first_grants)) }
+    // Its names are names of an object and a requester, to whom one list grants that right and the other doesn't.
+    ensures requester { IfOk result (λ r. IfSome r (λ d. TellsApart first.now second.now
+        (situation_of d) d.bit.bits d.first_grants)) }
+    // Of equal lists nothing takes memory.
+    ensures equal { first.now ≡ second.now → IsOk result }
+{
+    if *first == *second {
+        return Ok(None);
+    }
+    compare_views(alloc, &first.view(), &second.view())
+}
+
+/// Compares the lists of two views, as [`compare`] compares two owned lists: returns the first small situation in which
+/// one list grants a right and the other does not, or `None` if both grant the same in every situation. It copies
+/// neither list. Unlike `compare`, it does not look first whether the lists are equal, so that it may run out of memory
+/// for equal lists too.
+pub fn compare_views(
+    alloc: Global,
+    first: &AclView<'_>,
+    second: &AclView<'_>,
+) -> Result<Option<Difference>, AllocError>
+    // None exactly if both lists grant the same.
+    ensures same { IfOk result (λ r. IsNone r ↔ SameGrants all_rights first.now second.now) }
+    // Else the first small situation in which they don't, the lowest right on which they differ there, and what the
+    // first list grants.
+    ensures first { IfOk result (λ r. IfSome r (λ d. IsFirstDifference first.now second.now
+        (situation_of d) d.bit.bits d.first_grants)) }
+    // Its names are names of an object and a requester, to whom one list grants that right and the other doesn't.
+    ensures requester { IfOk result (λ r. IfSome r (λ d. TellsApart first.now second.now
+        (situation_of d) d.bit.bits d.first_grants)) }
+{
+    first_difference(alloc, first, second)
+}
+
+// The first difference of two lists. They are borrowed for one time, since they are held as one.
+fn first_difference<'a>(
+    alloc: Global,
+    first: &AclView<'a>,
+    second: &AclView<'a>,
+) -> Result<Option<Difference>, AllocError>
+    ensures { IfOk result (IsComparison first.now second.now) }
+{
+    let list = collect(alloc, first)?;
+    let other = collect(alloc, second)?;
+    let mentions = mentioned(alloc, &list, &other)?;
+    let compared = Compared::of(&list, &other, &mentions);
+    let found = compared.first_set(alloc)?;
+    compared.difference(alloc, found)
+}

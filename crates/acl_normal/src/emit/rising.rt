@@ -1,0 +1,71 @@
+//! Lists whose keys rise: such a list is its own normal form, but for flags that do not say whom an ACE names.
+ghost use Rattle.std.specs.Prelude.{◌≡◌, ◌<◌, ◌^◌, length, IfOk, IsTrue};
+ghost use Rattle.acl_nfs4.specs.Ace.{ace};
+ghost use Rattle.acl_nfs4.specs.Spelling.{IsAccepted};
+ghost use Rattle.acl_perm.specs.Profile.{full};
+ghost use Rattle.acl_normal.specs.Left.{left};
+ghost use Rattle.acl_normal.specs.internal.Rising.{IsRising, all_cleared, cleared};
+ghost use Rattle.acl_normal.specs.internal.Rows.{AreRowNumbers};
+ghost use Rattle.acl_normal.specs.internal.Shown.{bits_in, with_masks};
+
+use crate::emit::emission::rank;
+use crate::normal_form::flags_of;
+use acl_nfs4::{AceRef, Acl};
+use acl_perm::Mask;
+use std::alloc::{AllocError, Global};
+
+/// Whether the keys of the ACEs of which something is left rise strictly. `rows` has the row of each one's principal.
+pub(crate) fn rises(aces: &[AceRef<'_>], masks: &[Mask], rows: &[usize]) -> bool
+    requires few { length aces.now < 2 ^ 32 }
+    requires masks { length masks.now ≡ length aces.now }
+    requires rows { AreRowNumbers (with_masks aces.now (bits_in masks.now)) rows.now }
+    ensures { IsTrue result → IsRising (left (with_masks aces.now (bits_in masks.now))) }
+{
+    let mut bound = 0;
+    for place in 0..aces.len() {
+        let mask = masks[place];
+        if mask.bits != 0 {
+            let number = 2 * rows[place] + rank(aces[place].kind);
+            if number < bound {
+                return false;
+            }
+            bound = number + 1;
+        }
+    }
+    true
+}
+
+/// The list of the ACEs of which something is left, with the flags alone that say whom each names.
+pub(crate) fn cleared(alloc: Global, aces: &[AceRef<'_>], masks: &[Mask]) -> Result<Acl, AllocError>
+    requires masks { length masks.now ≡ length aces.now }
+    requires accepted { IsAccepted full
+        (all_cleared (left (with_masks aces.now (bits_in masks.now)))) }
+    ensures { IfOk result (λ list. list
+        ≡ all_cleared (left (with_masks aces.now (bits_in masks.now)))) }
+{
+    let mut list = Acl::new(alloc);
+    for place in 0..aces.len() {
+        let mask = masks[place];
+        if mask.bits != 0 {
+            list.push_accepted(cleared_ace(&aces[place], mask))?;
+        }
+    }
+    Ok(list)
+}
+
+// The ACE with a mask, and with the flags alone that say whom it names.
+fn cleared_ace<'a>(item: &AceRef<'a>, mask: Mask) -> AceRef<'a>
+    ensures { ace result ≡ cleared (record {
+      kind = item.now.kind;
+      flags = item.now.flags.bits;
+      mask = mask.bits;
+      who = item.now.who.now;
+    }) }
+{
+    AceRef {
+        kind: item.kind,
+        flags: flags_of(item.principal()),
+        mask,
+        who: item.who,
+    }
+}

@@ -1,0 +1,77 @@
+//! The examples of doc comments: the lines of each are in the test of its call, in their order.
+
+use crate::*;
+use acl_eval::deciding_ace;
+use acl_nfs4::{AclView, parse_text};
+use acl_perm::{Kind, Mask};
+use std::test::Fail;
+
+mod ample {
+    use super::*;
+
+    #[test]
+    fn of_normalize(rt: HostRuntime) -> Result<(), Fail> {
+        let alloc = rt.alloc();
+        let list = parse_text(
+            alloc,
+            b"DENY - WRITE_DATA bob\nALLOW - READ_DATA|WRITE_DATA OWNER@\n",
+        )?;
+        let form = normalize(alloc, &list)?;
+        assert!(rt; form.len() == 3);
+        assert!(rt; is_normal(alloc, &form)?);
+        Ok(())
+    }
+
+    #[test]
+    fn of_normal_bytes(rt: HostRuntime) -> Result<(), Fail> {
+        let alloc = rt.alloc();
+        let list = parse_text(alloc, b"ALLOW - READ_DATA amy\nALLOW - READ_DATA amy\n")?;
+        let bytes = list.to_bytes(alloc)?;
+        let form = normal_bytes(alloc, &bytes)?;
+        assert!(rt; AclView::parse_whole(&form)?.len() == 1);
+        Ok(())
+    }
+
+    #[test]
+    fn of_compare(rt: HostRuntime) -> Result<(), Fail> {
+        let alloc = rt.alloc();
+        let first = parse_text(alloc, b"ALLOW - READ_DATA EVERYONE@")?;
+        let second = parse_text(
+            alloc,
+            b"DENY - READ_DATA bob\nALLOW - READ_DATA EVERYONE@\n",
+        )?;
+        let difference = compare(alloc, &first, &second)?.ok_or("the lists grant the same")?;
+        let names = difference.requester_names();
+        let (object, requester) = (difference.object(), names.requester());
+        let decision = deciding_ace(second.aces(), &object, &requester, difference.right());
+        assert!(rt; decision.is_some_and(|decision| decision.place == 0));
+        Ok(())
+    }
+
+    #[test]
+    fn of_table(rt: HostRuntime) -> Result<(), Fail> {
+        let alloc = rt.alloc();
+        let list = parse_text(
+            alloc,
+            b"DENY - WRITE_DATA bob\nALLOW - READ_DATA|WRITE_DATA OWNER@\n",
+        )?;
+        let rows = table(alloc, &list, Mask::WRITE_DATA)?;
+        assert!(rt; rows.len() == 2);
+        assert!(rt;
+            rows.first()
+                .is_some_and(|row| row.kind == Kind::Deny && row.source == 0)
+        );
+        Ok(())
+    }
+
+    #[test]
+    fn of_normalize_inherit(rt: HostRuntime) -> Result<(), Fail> {
+        let alloc = rt.alloc();
+        let list = parse_text(alloc, b"ALLOW FILE READ_DATA amy")?;
+        let forms = normalize_inherit(alloc, &list)?;
+        assert!(rt; forms.file.len() == 1);
+        assert!(rt; forms.directory.is_empty());
+        assert!(rt; forms.file_in_directory == forms.file);
+        Ok(())
+    }
+}

@@ -1,0 +1,6 @@
+//! What the crates of this repository share, and no promise to others: it may change or go without notice.
+
+pub use crate::bit::Bit;
+pub use crate::lines::{Piece, before_mark, cut_line, is_all_blank, trimmed};
+pub use crate::pieces::put_next;
+pub use crate::place::place_of;

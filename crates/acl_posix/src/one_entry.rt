@@ -1,0 +1,53 @@
+//! Changes of one entry of a valid list that is in order.
+ghost use Rattle.std.specs.Prelude.{◌≡◌, IfErr, IsOk, IsSome, IsTrue, OnErr, OnOk};
+ghost use Rattle.std.specs.FinMap as set;
+ghost use Rattle.acl_posix.specs.Tag.{tag_of};
+ghost use Rattle.acl_posix.specs.Valid.{is_refusal, IsFaultOfSet, IsValid};
+
+use crate::entry::Entry;
+use crate::fault::AclFault;
+use crate::sorted::SortedEntries;
+use crate::tag::Tag;
+use acl_perm::Perm;
+
+impl SortedEntries {
+    /// Sets the permissions of a tag, and adds an entry where it has none. A USER or GROUP entry is added only beside a
+    /// MASK.
+    pub(crate) fn put(&mut self, tag: Tag, perm: Perm) -> Result<(), AclFault>
+        requires { IsValid self.old }
+        ensures ok { OnOk result (self.new ≡ set.insert self.old (tag_of tag) perm.bits) }
+        ensures err { OnErr result (self.new ≡ self.old) }
+        ensures fault { IfErr result
+            (IsFaultOfSet (set.insert self.old (tag_of tag) perm.bits)) }
+        ensures no_memory { IsSome (set.get self.old (tag_of tag)) → IsOk result }
+        ensures valid { IsValid self.new }
+    {
+        match self.place_of(tag) {
+            Ok(_) => {
+                self.set(tag, perm);
+                Ok(())
+            }
+            Err(_) if tag.is_named() && !self.has(Tag::Mask) => Err(AclFault::Miss(Tag::Mask)),
+            Err(place) => Ok(self.items.insert(place, Entry { tag, perm })?),
+        }
+    }
+
+    /// Removes the entry of a tag, if it has one and the list is valid without it.
+    pub(crate) fn remove(&mut self, tag: Tag) -> Result<(), AclFault>
+        requires { IsValid self.old }
+        ensures ok { OnOk result (self.new ≡ set.remove self.old (tag_of tag)) }
+        ensures err { OnErr result (self.new ≡ self.old) }
+        ensures fault { IfErr result (IsFaultOfSet (set.remove self.old (tag_of tag))) }
+        ensures no_memory { IfErr result (λ fault. IsTrue (is_refusal fault)) }
+        ensures valid { IsValid self.new }
+    {
+        let Ok(place) = self.place_of(tag) else {
+            return Ok(());
+        };
+        if self.needs(tag) {
+            return Err(AclFault::Miss(tag));
+        }
+        self.items.remove(place);
+        Ok(())
+    }
+}
