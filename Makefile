@@ -1,11 +1,13 @@
 # The kit's `rt` has to be on the PATH for `try`, `run`, `quick` and `test`.
-.PHONY: try run quick test bench install uninstall
+.PHONY: try run quick test bench install uninstall install-tree uninstall-tree
 
 # Where `install` puts things: under PREFIX, in a tree that DESTDIR is the root of.
 PREFIX ?= /usr/local
 PROGRAM = $(DESTDIR)$(PREFIX)/bin/aclck
 MANUAL = $(DESTDIR)$(PREFIX)/share/man/man1/aclck.1
 COMPLETION = $(DESTDIR)$(PREFIX)/share/bash-completion/completions/aclck
+SHARE = $(DESTDIR)$(PREFIX)/share
+MODULES = $(DESTDIR)$(PREFIX)/lib/aclck/python
 
 # The first example of the README: it asks a list of six entries whether bob, an editor, may read and execute.
 EXAMPLE = check-nfs --owner alice --group staff --user bob --mask 'READ_DATA|EXECUTE' editors staff < ../../examples/shared_folder.xdr
@@ -38,14 +40,36 @@ test:
 bench:
 	bench/commands
 
-# Puts the program that `run` or `test` left, its manual and its completion for bash in place.
-install: crates/aclck/out/aclck
+# Puts the program that `run` or `test` left, its manual and its completion for bash in place, and aclck-tree.
+install: crates/aclck/out/aclck install-tree
 	install -D -m 755 crates/aclck/out/aclck '$(PROGRAM)'
 	install -D -m 644 man/aclck.1 '$(MANUAL)'
 	install -D -m 644 completions/aclck.bash '$(COMPLETION)'
 
-uninstall:
+uninstall: uninstall-tree
 	rm -f '$(PROGRAM)' '$(MANUAL)' '$(COMPLETION)'
+
+# Puts the program aclck-tree, its manual, the completions of both programs for bash, zsh and fish, and the Python module
+# in place. They use the library that `install-library` installs.
+install-tree:
+	install -D -m 755 bin/aclck-tree '$(DESTDIR)$(PREFIX)/bin/aclck-tree'
+	install -D -m 644 man/aclck-tree.1 '$(SHARE)/man/man1/aclck-tree.1'
+	install -D -m 644 completions/aclck-tree.bash '$(SHARE)/bash-completion/completions/aclck-tree'
+	for name in aclck aclck-tree; do \
+	  install -D -m 644 completions/_$$name '$(SHARE)/zsh/site-functions/'_$$name && \
+	  install -D -m 644 completions/$$name.fish '$(SHARE)/fish/vendor_completions.d/'$$name.fish || exit 1; done
+	cd bindings/python && for file in */*.py */py.typed; do \
+	  install -D -m 644 $$file '$(abspath $(MODULES))/'$$file || exit 1; done
+
+uninstall-tree:
+	rm -f '$(DESTDIR)$(PREFIX)/bin/aclck-tree' '$(SHARE)/man/man1/aclck-tree.1' \
+	  '$(SHARE)/bash-completion/completions/aclck-tree' \
+	  '$(SHARE)/zsh/site-functions/_aclck' '$(SHARE)/zsh/site-functions/_aclck-tree' \
+	  '$(SHARE)/fish/vendor_completions.d/aclck.fish' '$(SHARE)/fish/vendor_completions.d/aclck-tree.fish'
+	rm -rf '$(MODULES)'
 
 crates/aclck/out/aclck:
 	@echo 'aclck is not built: make run' >&2; exit 1
+
+# `library`, `install-library` and `uninstall-library`: the library for C.
+include library/library.mk

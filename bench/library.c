@@ -1,0 +1,143 @@
+/* Times calls of libaclck, and a check by hand in C beside them, which parses the list as bench/by_hand does and judges it
+ * in full.
+ *
+ *     library LIST [COUNT]
+ *
+ * LIST is the list of examples/shared_folder.xdr. With COUNT it also asks a list of that many ACEs, each of a user. Each
+ * figure is the best of several rounds.
+ */
+#include "../include/aclck.h"
+#include "by_hand/devices.h"
+#include "by_hand/list.h"
+#include <time.h>
+
+enum { ROUNDS = 7, MANY = 1000 };
+
+static double now(void)
+{
+    struct timespec t;
+    clock_gettime(CLOCK_MONOTONIC, &t);
+    return (double)t.tv_sec * 1e9 + (double)t.tv_nsec;
+}
+
+#define TIME(name, times, each, call)                                                                                  \
+    do {                                                                                                               \
+        double best = 1e18;                                                                                            \
+        u32 sum = 0;                                                                                                   \
+        for (int round = 0; round < ROUNDS; round++) {                                                                 \
+            double start = now();                                                                                      \
+            for (long i = 0; i < (times); i++)                                                                         \
+                sum += (call);                                                                                         \
+            double took = now() - start;                                                                               \
+            best = took < best ? took : best;                                                                          \
+        }                                                                                                              \
+        printf("%-44s %10.1f ns   (%u)\n", name, best / (double)(times) / (each), sum / (u32)(times) / ROUNDS);         \
+    } while (0)
+
+/* Whether the ACE is of this name. */
+static int is_of(const Ace *ace, aclck_bytes name)
+{
+    return ace->len == name.len && !memcmp(ace->who, name.at, name.len);
+}
+
+static int has_name(const aclck_bytes *groups, size_t count, const void *at, size_t len)
+{
+    for (size_t k = 0; k < count; k++)
+        if (groups[k].len == len && !memcmp(groups[k].at, at, len))
+            return 1;
+    return 0;
+}
+
+/* The check by hand: 0 granted, 1 denied. */
+static u32 by_hand(const u8 *bytes, size_t len, aclck_bytes owner, aclck_bytes group, aclck_bytes user,
+                   const aclck_bytes *groups, size_t count, u32 left)
+{
+    List list;
+    if (parse(bytes, bytes + len, &list) != bytes + len)
+        return 2;
+    int is_owner = has_name(&owner, 1, user.at, user.len), in_group = has_name(groups, count, group.at, group.len);
+    for (const Ace *ace = list.aces, *last = ace + list.count; left && ace < last; ace++) {
+        if (!(ace->mask & left) || ace->flags & INHERIT_ONLY)
+            continue;
+        int matches = ace->rank == USER ? is_of(ace, user)
+            : ace->rank == OWNER        ? is_owner
+            : ace->rank == GROUP        ? in_group
+            : ace->rank == GROUP_NAMED  ? has_name(groups, count, ace->who, ace->len)
+                                        : 1;
+        if (matches && ace->kind == DENY)
+            break;
+        if (matches)
+            left &= ~ace->mask;
+    }
+    free(list.aces);
+    return left != 0;
+}
+
+static u8 list[1 << 16];
+static u8 bytes[1 << 16];
+
+static void time_large(u32 count)
+{
+    u8 *large = malloc((size_t)count * 24 + 4), *at = large + 4;
+    aclck_bytes bob = {"bob", 3};
+    aclck_fault fault;
+    char name[8];
+    put_word(large, count);
+    for (u32 k = 0; k < count; k++, at += 24) {
+        memset(at, 0, 24);
+        put_word(at, k % 2);
+        put_word(at + 8, 1);
+        put_word(at + 12, 6);
+        snprintf(name, sizeof name, "u%05u", k % 100000);
+        memcpy(at + 16, name, 6);
+    }
+    size_t len = (size_t)(at - large);
+    TIME("check_nfs, a large list, by the ACE", 20, count,
+         aclck_check_nfs(large, len, "a", 1, "s", 1, "bob", 3, &bob, 0, 1, 0, &fault));
+    TIME("  by hand", 20, count, by_hand(large, len, bob, bob, bob, &bob, 0, 1));
+    free(large);
+}
+
+int main(int argc, char **argv)
+{
+    static aclck_requester who[MANY];
+    static u32 granted[MANY];
+    static char names[MANY][8];
+    aclck_bytes groups[2] = {{"editors", 7}, {"staff", 5}}, owner = {"alice", 5}, group = {"staff", 5}, user = {"bob", 3};
+    aclck_fault fault;
+    aclck_decision decision;
+    aclck_difference difference;
+    u32 word;
+    size_t n, m, len;
+    FILE *file = argc < 2 ? NULL : fopen(argv[1], "rb");
+    if (!file)
+        return 2;
+    len = fread(list, 1, sizeof list, file);
+    fclose(file);
+    for (int k = 0; k < MANY; k++) {
+        snprintf(names[k], sizeof names[k], "u%05d", k);
+        who[k].user = aclck_string(k % 2 ? "bob" : names[k]);
+        who[k].groups = groups;
+        who[k].ngroups = 2;
+    }
+    TIME("check_nfs", 300000, 1,
+         aclck_check_nfs(list, len, "alice", 5, "staff", 5, "bob", 3, groups, 2, 0x21, 0, &fault));
+    TIME("  by hand", 300000, 1, by_hand(list, len, owner, group, user, groups, 2, 0x21));
+    TIME("granted, all sixteen rights", 300000, 1,
+         aclck_granted(list, len, "alice", 5, "staff", 5, "bob", 3, groups, 2, 0x1f07ff, 0, &word, &fault));
+    TIME("deciding", 300000, 1,
+         aclck_deciding(list, len, "alice", 5, "staff", 5, "bob", 3, groups, 2, 1, 0, &decision, &fault));
+    TIME("check_many, 1,000 requesters, by the requester", 300, MANY,
+         aclck_check_many(list, len, "alice", 5, "staff", 5, who, MANY, 0x1f07ff, 0, granted, MANY, &fault));
+    TIME("mode", 300000, 1, aclck_mode(list, len, 0, &word, &fault));
+    TIME("child", 100000, 1, aclck_child(list, len, 2, bytes, sizeof bytes, &n, &fault));
+    TIME("show", 100000, 1, aclck_show(list, len, 0, bytes, sizeof bytes, &n, &fault));
+    TIME("same, with its own bytes", 100000, 1, aclck_same(list, len, list, len, 0, &fault));
+    TIME("normalize", 50000, 1, aclck_normalize(list, len, 0, bytes, sizeof bytes, &n, &fault));
+    TIME("same, with its normal form", 20000, 1, aclck_same(list, len, bytes, n, 0, &fault));
+    TIME("compare, with the empty list", 20000, 1,
+         aclck_compare(list, len, "\0\0\0\0", 4, 0, &difference, bytes, sizeof bytes, &m, &fault));
+    if (argc > 2)
+        time_large((u32)atoi(argv[2]));
+    return 0;
+}

@@ -1,0 +1,8 @@
+//! Links the static library, which needs libc alone. ACLCK_LIB says where it is.
+
+fn main() {
+    let folder = std::env::var("ACLCK_LIB").unwrap_or_else(|_| "/usr/local/lib".into());
+    println!("cargo:rustc-link-search=native={folder}");
+    println!("cargo:rustc-link-lib=static=aclck");
+    println!("cargo:rerun-if-env-changed=ACLCK_LIB");
+}

@@ -1,0 +1,61 @@
+use super::*;
+
+// examples/shared_folder.xdr: bob is in `editors` and may read.
+const FOLDER: &[u8] = include_bytes!("../../../examples/shared_folder.xdr");
+const OBJECT: Object = Object { owner: b"alice", group: b"staff" };
+const BOB: Requester = Requester { user: b"bob", groups: &[b"editors", b"staff"] };
+
+#[test]
+fn a_list_is_asked() {
+    let mask = rights::READ_DATA | rights::EXECUTE;
+    assert_eq!(check_nfs(FOLDER, OBJECT, BOB, mask, Profile::Full), Ok(true));
+    let all = granted(FOLDER, OBJECT, BOB, rights::ALL, Profile::Full).unwrap();
+    assert_eq!(all & mask, mask);
+    assert_eq!(check_many(FOLDER, OBJECT, &[BOB, BOB], rights::ALL, Profile::Full), Ok(vec![all, all]));
+    assert_eq!(deciding(FOLDER, OBJECT, BOB, mask, Profile::Full), Err(Error::BadArgument));
+    let by = deciding(FOLDER, OBJECT, BOB, rights::READ_DATA, Profile::Full).unwrap().unwrap();
+    assert_eq!(by.kind, 0);
+    let cut = check_nfs(&FOLDER[..149], OBJECT, BOB, mask, Profile::Full).unwrap_err();
+    assert!(matches!(cut, Error::Refused(Fault { reason: 1, offset: 149, .. })), "{cut}");
+}
+
+#[test]
+fn a_text_reads_back() {
+    let text = show(FOLDER, Profile::Full).unwrap();
+    assert_eq!(encode(&text, Profile::Full).as_deref(), Ok(FOLDER));
+    let fault = encode(b"ALLOW - READ_DATA\n", Profile::Full).unwrap_err();
+    assert!(matches!(fault, Error::Refused(Fault { reason: 16, line: 1, .. })), "{fault}");
+}
+
+#[test]
+fn a_normal_form_grants_the_same() {
+    let form = normalize(FOLDER, Profile::Full).unwrap();
+    assert_eq!(same(FOLDER, &form, Profile::Full), Ok(true));
+    assert_eq!(compare(FOLDER, &form, Profile::Full), Ok(None));
+    let found = compare(FOLDER, &[0; 4], Profile::Full).unwrap().unwrap();
+    assert!(found.first_grants && !found.user.is_empty());
+}
+
+#[test]
+fn posix_texts_are_read_with_names() {
+    let text = b"user::rw-,user:bob:r--,group::---,mask::r--,other::---";
+    let names = [Name { name: b"bob", id: 7, is_group: false }];
+    assert_eq!(check_posix(text, &names, 1, 1, 7, &[], 4), Ok(true));
+    assert_eq!(check_posix(text, &names, 1, 1, 8, &[], 4), Ok(false));
+    let shown = show_posix(text, &names, Form::Short).unwrap();
+    assert_eq!(shown, b"u::rw-,u:7:r--,g::---,m::r--,o::---\n");
+    let fault = show_posix(text, &[], Form::Short).unwrap_err();
+    assert!(matches!(fault, Error::Refused(Fault { reason: 22, line: 1, .. })), "{fault}");
+    let taken = [names[0], names[0]];
+    assert_eq!(show_posix(text, &taken, Form::Short), Err(Error::BadArgument));
+    assert!(bridge(text, &names).unwrap().len() > 4);
+}
+
+#[test]
+fn names_of_rights_are_read_and_written() {
+    assert_eq!(read_mask(b"READ_DATA|EXECUTE"), Some(0x21));
+    assert_eq!(mask_text(0x21).as_deref(), Some("READ_DATA|EXECUTE"));
+    assert_eq!(mask_text(0x800), None);
+    assert_eq!(reason_text(1).as_deref(), Some("Truncated"));
+    assert_eq!(version(), (0, 1, 0));
+}

@@ -1,0 +1,7 @@
+use Rattle.std.specs.Prelude.{◌≡◌, take}
+use Rattle.aclck_c.specs.Table.{rows_text}
+use Rattle.aclck_c.proofs.table.text_of_rows.Given as goal
+
+-- the lines of the rows so far
+abbrev pub invariant-loop-row : goal.invariant-loop-row
+invariant-loop-row l = l.text.items ≡ rows_text (take l.row-index l.rows)

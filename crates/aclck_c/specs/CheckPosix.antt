@@ -1,0 +1,34 @@
+-- What a call from C asks of the text of POSIX ACLs, and what its answer means (this library's own, over acl(5)).
+use Rattle.std.specs.Prelude.{◌≡◌, ◌≤◌, ℕ, All, Bool, List}
+use Rattle.acl_posix.specs.Check.{Object, Requester, grants}
+use Rattle.acl_posix.specs.Id.{IsId}
+use Rattle.acl_posix.specs.declared.file.PosixFile.{PosixFile}
+use Rattle.aclck_c.specs.Posix.{Spells}
+use Rattle.aclck_c.specs.declared.names.Name.{Name}
+
+-- whose object it is
+abbrev pub object_of : ℕ → ℕ → Object
+object_of owner group = record { user = owner; group = group }
+
+-- who asks
+abbrev pub requester_of : ℕ → List ℕ → Requester
+requester_of user groups = record { user = user; groups = groups }
+
+-- three ids, and a set of permissions
+pub record AreNumbers (owner group user want : ℕ) : Type 0 where
+  pub is_owner : IsId owner
+  pub is_group : IsId group
+  pub is_user : IsId user
+  pub is_want : want ≤ 7
+
+-- the numbers are ids and permissions
+pub record AreGoodIds (owner group user : ℕ) (groups : List ℕ) (want : ℕ) : Type 0 where
+  pub numbers : AreNumbers owner group user want
+  pub are_groups : All IsId groups
+
+-- with these names the text spells a file, and this says whether its access ACL grants the request
+pub record Checks (names : List Name) (text : List ℕ) (object : Object) (requester : Requester) (want : ℕ)
+    (granted : Bool) : Type 0 where
+  pub file : PosixFile
+  pub spells : Spells names text file
+  pub answer : granted ≡ grants file.access object requester want

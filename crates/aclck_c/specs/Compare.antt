@@ -1,0 +1,65 @@
+-- What a comparison of the lists that bytes spell tells a caller from C (this library's own, over RFC 8881, section
+-- 6.2.1).
+use Rattle.std.specs.Prelude.{◌≡◌, ◌++◌, ◌∷◌, ◌⊎◌, [], ℕ, Bool, List, false, true}
+use Rattle.std.specs.List.{flat_map}
+use Rattle.acl_perm.specs.Bits.{all_rights}
+use Rattle.acl_perm.specs.Profile.{Profile}
+use Rattle.acl_perm.specs.Situation.{Situation}
+use Rattle.acl_nfs4.specs.Ace.{Ace}
+use Rattle.acl_nfs4.specs.Spelling.{Xdr}
+use Rattle.acl_eval.specs.Grant.{SameGrants}
+use Rattle.acl_normal.specs.SmallSets.{IsFirstDifference}
+use Rattle.aclck_c.specs.Lists.{AreList, IsRefusedList}
+use Rattle.aclck_c.specs.declared.compare.Distinction.{Distinction}
+use Rattle.aclck_c.specs.declared.refusal.Refusal.{Refusal}
+
+-- both spell lists, which grant everybody the same
+pub record AreSame (p : Profile) (first second : List ℕ) : Type 0 where
+  pub list : List Ace
+  pub other : List Ace
+  pub first_spelled : Xdr p list first
+  pub second_spelled : Xdr p other second
+  pub same : SameGrants all_rights list other
+
+-- both spell lists, which do not grant everybody the same
+pub record AreDifferent (p : Profile) (first second : List ℕ) : Type 0 where
+  pub list : List Ace
+  pub other : List Ace
+  pub first_spelled : Xdr p list first
+  pub second_spelled : Xdr p other second
+  pub different : SameGrants all_rights list other → ⊥
+
+-- a name and the byte 0 behind it
+abbrev pub ended : List ℕ → List ℕ
+ended name = name ++ 0 ∷ []
+
+-- the names of a situation, each with the byte 0 behind it: owner, owning group, user, and the groups of the user
+abbrev pub names_text : Situation → List ℕ
+names_text s = ended s.owner_name ++ ended s.owning_group ++ ended s.user_name ++ flat_map ended s.groups
+
+-- the number of an answer
+abbrev pub truth_number : Bool → ℕ
+truth_number false = 0
+truth_number true = 1
+
+-- the right, and the number of what the first list grants
+abbrev pub distinction : ℕ → Bool → Distinction
+distinction right first_grants = record { right = right; first_grants = truth_number first_grants }
+
+-- both spell lists, which first grant otherwise in the situation of these names, at this right
+pub record DifferAt (p : Profile) (first second : List ℕ) (at : Distinction) (names : List ℕ) : Type 0 where
+  pub list : List Ace
+  pub other : List Ace
+  pub first_spelled : Xdr p list first
+  pub second_spelled : Xdr p other second
+  pub situation : Situation
+  pub right : ℕ
+  pub first_grants : Bool
+  pub is_first : IsFirstDifference list other situation right first_grants
+  pub is_at : at ≡ distinction right first_grants
+  pub told : names ≡ names_text situation
+
+-- the first is refused so, or the first spells a list and the second is refused so
+abbrev pub IsRefusedPair : Profile → List ℕ → List ℕ → Refusal → Type 0
+IsRefusedPair p first second shown =
+    IsRefusedList p first 0 shown ⊎ (AreList p first × IsRefusedList p second 1 shown)

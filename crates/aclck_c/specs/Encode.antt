@@ -1,0 +1,37 @@
+-- What calls from C make of the text of a list (this library's own).
+use Rattle.std.specs.Prelude.{◌≡◌, ℕ, List, None, Option, Some}
+use Rattle.acl_perm.specs.Profile.{Profile}
+use Rattle.acl_nfs4.specs.Ace.{Ace}
+use Rattle.acl_nfs4.specs.AceText.{IsAceText}
+use Rattle.acl_nfs4.specs.AceTextFault.{IsAceTextFault}
+use Rattle.acl_nfs4.specs.Spelling.{spelling}
+use Rattle.acl_nfs4.specs.declared.text.fault.AceTextFault.{AceTextFault}
+use Rattle.acl_nfs4.specs.declared.text.fault.AceTextFault.TheVariants as text
+use Rattle.aclck_c.specs.Refusal.{at_place}
+use Rattle.aclck_c.specs.declared.refusal.Refusal.{Refusal}
+
+-- the text is that of a list, and these bytes spell it
+pub record Encodes (p : Profile) (text bytes : List ℕ) : Type 0 where
+  pub list : List Ace
+  pub read : IsAceText p list text
+  pub spelled : bytes ≡ spelling list
+
+-- the fault of a text, by numbers; none where memory ran out
+abbrev pub ace_text_refusal : AceTextFault → Option Refusal
+ace_text_refusal (text.TooManyAces line column) = Some (at_place 2 line column)
+ace_text_refusal (text.AceType line column) = Some (at_place 4 line column)
+ace_text_refusal (text.TooHeavy line column) = Some (at_place 7 line column)
+ace_text_refusal (text.WhoLength line column) = Some (at_place 8 line column)
+ace_text_refusal (text.WhoUtf8 line column) = Some (at_place 9 line column)
+ace_text_refusal (text.WhoControl line column) = Some (at_place 10 line column)
+ace_text_refusal (text.SpecialWho line column) = Some (at_place 11 line column)
+ace_text_refusal (text.Fields line column) = Some (at_place 16 line column)
+ace_text_refusal (text.Flag line column) = Some (at_place 17 line column)
+ace_text_refusal (text.Mask line column) = Some (at_place 18 line column)
+ace_text_refusal text.Memory = None
+
+-- the text has this fault
+pub record IsRefusedText (p : Profile) (text : List ℕ) (shown : Refusal) : Type 0 where
+  pub fault : AceTextFault
+  pub has : IsAceTextFault p text fault
+  pub is : Some shown ≡ ace_text_refusal fault

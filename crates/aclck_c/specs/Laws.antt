@@ -1,0 +1,20 @@
+-- What the exports promise of each other (this library's own, over RFC 8881, section 6.2.1).
+use Rattle.std.specs.Prelude.{◌≡◌, ◌↔◌, ℕ, List, take}
+use Rattle.acl_nfs4.specs.Ace.{Ace}
+use Rattle.acl_nfs4.specs.Spelling.{Xdr}
+use Rattle.acl_eval.specs.Grant.{SameGrants}
+use Rattle.acl_normal.specs.NormalForm.{Normalises}
+use Rattle.aclck_c.specs.Options.{profile_in}
+use Rattle.aclck_c.specs.Out.{HandsOut}
+
+-- two inputs that spell lists, and for which `aclck_normalize` returned 0 with these options, got equal bytes in their
+-- buffers if and only if the lists grant everybody the same rights of the profile
+abbrev pub NormalizedBytesTellApart : Type 0
+NormalizedBytesTellApart =
+    (options needed other_needed : ℕ) (list other : List Ace)
+    (input other_input buffer filled other_buffer other_filled : List ℕ)
+    → Xdr (profile_in options) list input
+    → Xdr (profile_in options) other other_input
+    → HandsOut (Normalises (profile_in options) input) buffer filled needed
+    → HandsOut (Normalises (profile_in options) other_input) other_buffer other_filled other_needed
+    → (take needed filled ≡ take other_needed other_filled) ↔ SameGrants (profile_in options).masks list other

@@ -1,0 +1,32 @@
+-- What calls from C make of the bytes of a list (this library's own, over RFC 8881, section 6.2.1).
+use Rattle.std.specs.Prelude.{◌≡◌, ℕ, List}
+use Rattle.acl_perm.specs.Profile.{Profile}
+use Rattle.acl_nfs4.specs.Ace.{Ace}
+use Rattle.acl_nfs4.specs.Fault.{IsWholeFault}
+use Rattle.acl_nfs4.specs.Spelling.{Xdr, spelling}
+use Rattle.acl_nfs4.specs.declared.xdr.fault.Reason.{Reason}
+use Rattle.acl_eval.specs.Inheritance.{children}
+use Rattle.acl_eval.specs.declared.inherit.ChildKind.{ChildKind}
+use Rattle.aclck_c.specs.Refusal.{in_list}
+use Rattle.aclck_c.specs.declared.refusal.Refusal.{Refusal}
+
+-- the bytes spell a list of the profile, and nothing more
+abbrev pub AreList : Profile → List ℕ → Type 0
+AreList p bytes = (list : List Ace) × Xdr p list bytes
+
+-- the bytes have this fault: of the first or only list, 0, or of the second of two, 1
+pub record IsRefusedList (p : Profile) (bytes : List ℕ) (which : ℕ) (shown : Refusal) : Type 0 where
+  pub offset : ℕ
+  pub reason : Reason
+  pub has : IsWholeFault p bytes offset reason
+  pub is : shown ≡ in_list offset reason which
+
+-- the bytes spell a list of the profile and nothing more, and this text is made of that list
+pub record MakesText (p : Profile) (made : List Ace → List ℕ) (bytes text : List ℕ) : Type 0 where
+  pub list : List Ace
+  pub spelled : Xdr p list bytes
+  pub is : text ≡ made list
+
+-- the one spelling of the list that a new object gets
+abbrev pub child_bytes : ChildKind → List Ace → List ℕ
+child_bytes kind list = spelling (children kind list)

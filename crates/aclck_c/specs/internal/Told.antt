@@ -1,0 +1,30 @@
+-- The first difference of two lists, as `compare` finds it and as a caller sees it (what only the code needs).
+use Rattle.std.specs.Prelude.{◌≡◌, ℕ, Bool, List, None, Option, Some}
+use Rattle.acl_perm.specs.Bits.{all_rights}
+use Rattle.acl_perm.specs.Profile.{Profile}
+use Rattle.acl_perm.specs.Situation.{Situation}
+use Rattle.acl_nfs4.specs.Ace.{Ace}
+use Rattle.acl_nfs4.specs.Fault.{IsWholeFault}
+use Rattle.acl_nfs4.specs.Spelling.{Xdr}
+use Rattle.acl_eval.specs.Grant.{SameGrants}
+use Rattle.acl_normal.specs.SmallSets.{IsFirstDifference}
+use Rattle.aclck_c.specs.Compare.{distinction, names_text}
+use Rattle.aclck_c.specs.declared.compare.Named.{Named}
+
+-- the situation's names, the right, and what the first list grants
+pub record TellsOf (s : Situation) (right : ℕ) (first_grants : Bool) (found : Named) : Type 0 where
+  pub at : found.at ≡ distinction right first_grants
+  pub names : found.names.items ≡ names_text s
+
+-- what is told is the first difference of two lists
+pub record IsTold (list other : List Ace) (found : Named) : Type 0 where
+  pub situation : Situation
+  pub right : ℕ
+  pub first_grants : Bool
+  pub is_first : IsFirstDifference list other situation right first_grants
+  pub tells : TellsOf situation right first_grants found
+
+-- nothing where two lists grant the same, and else their first difference
+abbrev pub Told : List Ace → List Ace → Option Named → Type 0
+Told list other None = SameGrants all_rights list other
+Told list other (Some found) = IsTold list other found

@@ -1,0 +1,109 @@
+//! The NFSv4 list that stands for a POSIX ACL.
+ghost use Rattle.std.specs.Prelude.{◌≡◌, ◌≤◌, ◌≢◌, ◌⊎◌, IfErr, IfOk};
+ghost use Rattle.aclck_c.specs.Names.{AreGoodNames};
+ghost use Rattle.aclck_c.specs.Out.{HandsOut, IsShortFor};
+ghost use Rattle.aclck_c.specs.Posix.{Bridges, IsPastLimits, IsRefusedPosix};
+ghost use Rattle.aclck_c.specs.Refusal.{past_limits};
+ghost use Rattle.aclck_c.specs.internal.Bridging.{IsBridgeStop};
+
+use crate::file::file_of;
+use crate::file_fault::FileFault;
+use crate::names::Name;
+use crate::out::put;
+use crate::reading::spelled;
+use crate::refusal::Refusal;
+use acl_eval::{BridgeFault, bridge};
+use std::alloc::{AllocError, Global};
+
+/// Writes the bytes of the NFSv4 list that stands for the access ACL of a text (this library's own, over POSIX.1e draft 17,
+/// section 23, and RFC 8881, section 6.2.1): 0 they are at the front of `out`, 2 the text is refused, or the list is past
+/// a limit, for the reason in `fault`, 3 the names make no table, 4 memory ran out, 5 `out` is too short. At 0 and 5
+/// `needed` is the number of bytes.
+#[unsafe(no_mangle)]
+pub extern "C" fn aclck_bridge(
+    alloc: Global,
+    text: &[u8],
+    names: &[Name<'_>],
+    out: &mut [u8],
+    needed: &mut usize,
+    fault: &mut Refusal,
+) -> u32
+    ensures done { result ≡ 0 → HandsOut (Bridges names.now text.now)
+        out.old out.new needed.new }
+    ensures short { result ≡ 5 → IsShortFor (Bridges names.now text.now)
+        out.old needed.new }
+    ensures refused { result ≡ 2 → IsRefusedPosix names.now text.now fault.new
+        ⊎ (IsPastLimits names.now text.now × (fault.new ≡ past_limits)) }
+    ensures bad { result ≡ 3 → AreGoodNames names.now → ⊥ }
+    // Where memory runs out nothing is said of the names.
+    ensures named { (result ≢ 3) → (result ≢ 4) → AreGoodNames names.now }
+    ensures unwritten { (result ≢ 0) → out.new ≡ out.old }
+    ensures untold { (result ≢ 0) → (result ≢ 5) → needed.new ≡ needed.old }
+    ensures kept { (result ≢ 2) → fault.new ≡ fault.old }
+    ensures known { result ≤ 5 }
+{
+    match bridged(alloc, text, names) {
+        Ok(bytes) => put(&bytes, out, needed),
+        Err(BridgeStop::Refused(found)) => found.tell(fault),
+        Err(BridgeStop::Limits) => {
+            *fault = Refusal::past_limits();
+            2
+        }
+    }
+}
+
+// Why there is no list.
+#[derive(Clone, Copy, Debug)]
+enum BridgeStop {
+    // The names or the text are refused, or memory ran out.
+    Refused(FileFault),
+    // The list is past a limit.
+    Limits,
+}
+
+impl From<FileFault> for BridgeStop {
+    ghost use Rattle.std.specs.Prelude.{◌≡◌};
+    ghost use Rattle.aclck_c.specs.declared.bridge.BridgeStop.TheVariants.{Refused};
+
+    ghost from_gives = { λ fault stop. stop ≡ Refused fault };
+
+    fn from(fault: FileFault) -> BridgeStop {
+        BridgeStop::Refused(fault)
+    }
+}
+
+impl From<AllocError> for BridgeStop {
+    ghost use Rattle.std.specs.Prelude.{◌≡◌};
+    ghost use Rattle.aclck_c.specs.internal.Bridging.{no_memory};
+
+    ghost from_gives = { λ _ stop. stop ≡ no_memory };
+
+    fn from(_: AllocError) -> BridgeStop {
+        BridgeStop::Refused(FileFault::Memory)
+    }
+}
+
+impl From<BridgeFault> for BridgeStop {
+    ghost use Rattle.std.specs.Prelude.{◌≡◌};
+    ghost use Rattle.aclck_c.specs.internal.Bridging.{stop_of};
+
+    ghost from_gives = { λ fault stop. stop ≡ stop_of fault };
+
+    fn from(fault: BridgeFault) -> BridgeStop {
+        match fault {
+            BridgeFault::Limits => BridgeStop::Limits,
+            BridgeFault::Memory => BridgeStop::Refused(FileFault::Memory),
+        }
+    }
+}
+
+// The bytes of the list.
+#[tactic(auto, using(crate::proofs::Bridges::stops))]
+fn bridged(alloc: Global, text: &[u8], names: &[Name<'_>]) -> Result<Vec<u8>, BridgeStop>
+    ensures ok { IfOk result (λ bytes. Bridges names.now text.now bytes.items) }
+    ensures err { IfErr result (IsBridgeStop names.now text.now) }
+{
+    let file = file_of(alloc, text, names)?;
+    let list = bridge(alloc, &file.access)?;
+    Ok(spelled(alloc, &list)?)
+}

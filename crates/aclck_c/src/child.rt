@@ -1,0 +1,63 @@
+//! What a new object inherits.
+ghost use Rattle.std.specs.Prelude.{◌≡◌, ◌<◌, ◌≤◌, ◌≢◌, IfErr, IfOk};
+ghost use Rattle.acl_perm.specs.Profile.{profile_of};
+ghost use Rattle.aclck_c.specs.Lists.{AreList, IsRefusedList, MakesText, child_bytes};
+ghost use Rattle.aclck_c.specs.Options.{kind_in, profile_in};
+ghost use Rattle.aclck_c.specs.Out.{HandsOut, IsShortFor};
+ghost use Rattle.aclck_c.specs.internal.Stops.{IsListFault};
+
+use crate::list_fault::ListFault;
+use crate::options::{Creation, creation_in};
+use crate::out::put;
+use crate::reading::{list_of, spelled};
+use crate::refusal::Refusal;
+use acl_eval::child;
+use std::alloc::Global;
+
+/// Writes the bytes of the list that a new object gets in a directory with the list that the bytes spell (RFC 8881, section
+/// 6.2.1.4.1), a directory where `options` has 2 and else a file: 0 they are at the front of `out`, 2 the bytes are
+/// refused, for the reason in `fault`, 3 an option means nothing, 4 memory ran out, 5 `out` is too short. At 0 and 5
+/// `needed` is the number of bytes.
+#[unsafe(no_mangle)]
+pub extern "C" fn aclck_child(
+    alloc: Global,
+    acl: &[u8],
+    options: u32,
+    out: &mut [u8],
+    needed: &mut usize,
+    fault: &mut Refusal,
+) -> u32
+    ensures done { result ≡ 0 → HandsOut (MakesText (profile_in options)
+        (child_bytes (kind_in options)) acl.now) out.old out.new needed.new }
+    ensures short { result ≡ 5 → IsShortFor (MakesText (profile_in options)
+        (child_bytes (kind_in options)) acl.now) out.old needed.new }
+    ensures refused { result ≡ 2 → IsRefusedList (profile_in options) acl.now 0 fault.new }
+    // Bytes with a fault are refused for it, also where memory runs out.
+    ensures memory { result ≡ 4 → AreList (profile_in options) acl.now }
+    // An argument is bad exactly at 3.
+    ensures bad { result ≡ 3 → (options < 4) → ⊥ }
+    ensures good { (result ≢ 3) → options < 4 }
+    ensures unwritten { (result ≢ 0) → out.new ≡ out.old }
+    ensures untold { (result ≢ 0) → (result ≢ 5) → needed.new ≡ needed.old }
+    ensures kept { (result ≢ 2) → fault.new ≡ fault.old }
+    ensures known { result ≤ 5 }
+{
+    let Some(creation) = creation_in(options) else {
+        return 3;
+    };
+    match child_of(alloc, acl, creation) {
+        Ok(text) => put(&text, out, needed),
+        Err(found) => found.tell(0, fault),
+    }
+}
+
+// The bytes of the list of a new object.
+fn child_of(alloc: Global, acl: &[u8], creation: Creation) -> Result<Vec<u8>, ListFault>
+    ensures ok { IfOk result (λ text.
+        MakesText (profile_of creation.profile) (child_bytes creation.kind) acl.now text.items) }
+    ensures err { IfErr result (IsListFault (profile_of creation.profile) acl.now) }
+{
+    let parent = list_of(alloc, acl, creation.profile)?;
+    let list = child(alloc, &parent, creation.kind)?;
+    Ok(spelled(alloc, &list)?)
+}

@@ -1,0 +1,59 @@
+//! What the bits of `options` mean.
+ghost use Rattle.std.specs.Prelude.{◌≡◌, ◌<◌, ◌↔◌, IfSome, IsSome};
+ghost use Rattle.acl_perm.specs.Profile.{profile_of};
+ghost use Rattle.aclck_c.specs.Options.{kind_in, profile_in};
+
+use acl_eval::ChildKind;
+use acl_perm::{Mode, Profile};
+
+const NARROW: u32 = 1;
+
+const DIRECTORY: u32 = 2;
+
+const NARROW_DIRECTORY: u32 = 3;
+
+/// The profile of options that have no other bit.
+pub(crate) fn profile_in(options: u32) -> Option<Profile>
+    ensures known { IsSome result ↔ (options < 2) }
+    ensures value { IfSome result (λ profile. profile_of profile ≡ profile_in options) }
+{
+    match options {
+        0 => Some(Profile::FULL),
+        NARROW => Some(Profile::NARROW),
+        _ => None,
+    }
+}
+
+/// A profile, and what is created.
+#[derive(Clone, Copy, Debug)]
+pub(crate) struct Creation {
+    pub profile: Profile,
+    pub kind: ChildKind,
+}
+
+/// The profile and the kind of options that have no other bit.
+pub(crate) fn creation_in(options: u32) -> Option<Creation>
+    ensures known { IsSome result ↔ (options < 4) }
+    ensures profile { IfSome result (λ c. profile_of c.profile ≡ profile_in options) }
+    ensures kind { IfSome result (λ c. c.kind ≡ kind_in options) }
+{
+    let (profile, kind) = match options {
+        0 => (Profile::FULL, ChildKind::File),
+        NARROW => (Profile::NARROW, ChildKind::File),
+        DIRECTORY => (Profile::FULL, ChildKind::Directory),
+        NARROW_DIRECTORY => (Profile::NARROW, ChildKind::Directory),
+        _ => return None,
+    };
+    Some(Creation { profile, kind })
+}
+
+/// The mode of a number.
+pub(crate) fn mode_in(number: u32) -> Option<Mode>
+    ensures known { IsSome result ↔ (number < 512) }
+    ensures value { IfSome result (λ mode. mode.bits ≡ number) }
+{
+    if number > 0o777 {
+        return None;
+    }
+    Mode::new(number as u16)
+}

@@ -1,0 +1,111 @@
+//! Why and where something is refused, as C sees it.
+ghost use Rattle.std.specs.Prelude.{◌≡◌};
+ghost use Rattle.aclck_c.specs.Refusal.{at_place, in_list, in_part, past_limits, reason_number};
+
+use acl_nfs4::Reason;
+
+/// `struct aclck_fault`: a reason by its number, and where it holds. Fields that the reason does not use are 0.
+#[repr(C)]
+#[derive(Clone, Copy, Debug)]
+pub struct Refusal {
+    /// The place of the refused field of a list, or of the refused entry of a POSIX ACL, from 0.
+    pub offset: u64,
+    /// The line of a text, from 1.
+    pub line: u64,
+    /// The column of a text, from 1.
+    pub column: u64,
+    /// The reason.
+    pub reason: u32,
+    /// 1 for the second of two lists.
+    pub list: u32,
+    /// 1 for the default part of a POSIX ACL.
+    pub part: u32,
+    /// The tag of the entry that is missing.
+    pub tag: u32,
+}
+
+impl Refusal {
+    /// The refusal of a list for this reason, at this byte.
+    pub(crate) fn in_list(offset: u64, reason: Reason, list: u32) -> Refusal
+        ensures { result ≡ in_list offset reason list }
+    {
+        Refusal {
+            offset,
+            line: 0,
+            column: 0,
+            reason: reason_number(reason),
+            list,
+            part: 0,
+            tag: 0,
+        }
+    }
+
+    /// The refusal of a text for this reason, at this place.
+    pub(crate) fn at_place(reason: u32, line: usize, column: usize) -> Refusal
+        ensures { result ≡ at_place reason line column }
+    {
+        Refusal {
+            offset: 0,
+            line: line as u64,
+            column: column as u64,
+            reason,
+            list: 0,
+            part: 0,
+            tag: 0,
+        }
+    }
+
+    /// The refusal of a part of a POSIX ACL for this reason: for the entry at this place, or for the tag that is
+    /// missing.
+    pub(crate) fn in_part(reason: u32, part: u32, place: usize, tag: u32) -> Refusal
+        ensures { result ≡ in_part reason part place tag }
+    {
+        Refusal {
+            offset: place as u64,
+            line: 0,
+            column: 0,
+            reason,
+            list: 0,
+            part,
+            tag,
+        }
+    }
+
+    /// The refusal of a POSIX ACL whose list is past a limit.
+    pub(crate) fn past_limits() -> Refusal
+        ensures { result ≡ past_limits }
+    {
+        Refusal {
+            offset: 0,
+            line: 0,
+            column: 0,
+            reason: 28,
+            list: 0,
+            part: 0,
+            tag: 0,
+        }
+    }
+}
+
+// The number of a reason.
+fn reason_number(reason: Reason) -> u32
+    ensures { result ≡ reason_number reason }
+{
+    match reason {
+        Reason::Truncated => 1,
+        Reason::TooManyAces => 2,
+        Reason::AuditOrAlarm => 3,
+        Reason::AceType => 4,
+        Reason::FlagBits => 5,
+        Reason::MaskBits => 6,
+        Reason::TooHeavy => 7,
+        Reason::WhoLength => 8,
+        Reason::WhoUtf8 => 9,
+        Reason::WhoControl => 10,
+        Reason::SpecialWho => 11,
+        Reason::Padding => 12,
+        Reason::TrailingBytes => 13,
+        Reason::Read => 14,
+        Reason::Memory => 15,
+    }
+}

@@ -1,0 +1,170 @@
+//! What the normal form of a list says of one right.
+ghost use Rattle.std.specs.Prelude.{◌≡◌, ◌≤◌, ◌≢◌, ◌++◌, ◌∷◌, ◌↔◌, [], ℕ, IfErr, IfOk, IfSome, IsSome, List, OnOk, decimal};
+ghost use Rattle.acl_perm.specs.Lines.{line_feed};
+ghost use Rattle.acl_perm.specs.Profile.{profile_of};
+ghost use Rattle.std.specs.Option.{is_some};
+ghost use Rattle.acl_nfs4.specs.AceText.{kind_name, space};
+ghost use Rattle.acl_nfs4.specs.BitNames.{first_name};
+ghost use Rattle.acl_nfs4.specs.Rights.{rights};
+ghost use Rattle.acl_normal.specs.Left.{IsLowest};
+ghost use Rattle.acl_normal.specs.Tables.{IsTable};
+ghost use Rattle.acl_normal.specs.declared.bit_table.Row.{Row as RowValue};
+ghost use Rattle.aclck_c.specs.Lists.{AreList, IsRefusedList};
+ghost use Rattle.aclck_c.specs.Options.{profile_in};
+ghost use Rattle.aclck_c.specs.Out.{HandsOut, IsShortFor};
+ghost use Rattle.aclck_c.specs.Table.{IsGoodTable, IsRightOf, Tabulates, group_word, is_right_of, row_line, rows_text};
+ghost use Rattle.aclck_c.specs.internal.Stops.{IsListFault};
+
+use crate::list_fault::ListFault;
+use crate::options::profile_in;
+use crate::out::put;
+use crate::reading::list_of;
+use crate::refusal::Refusal;
+use acl_nfs4::{Acl, bit_name};
+use acl_normal::{Row, table};
+use acl_perm::{Kind, Mask, Profile};
+use itoa::Buffer;
+use std::alloc::{AllocError, Global};
+
+/// Writes the ACEs of the normal form of the list that the bytes spell that have one right, one line per ACE, each with
+/// its place in the given list (this library's own, over RFC 8881, section 6.2.1): 0 the text is at the front of `out`,
+/// 2 the bytes are refused, for the reason in `fault`, 3 the mask is not exactly one right of the profile or an option
+/// means nothing, 4 memory ran out, 5 `out` is too short. At 0 and 5 `needed` is the number of bytes.
+#[unsafe(no_mangle)]
+pub extern "C" fn aclck_table(
+    alloc: Global,
+    acl: &[u8],
+    right: u32,
+    options: u32,
+    out: &mut [u8],
+    needed: &mut usize,
+    fault: &mut Refusal,
+) -> u32
+    ensures done { result ≡ 0 → HandsOut (Tabulates (profile_in options) right acl.now)
+        out.old out.new needed.new }
+    ensures short { result ≡ 5 → IsShortFor (Tabulates (profile_in options) right acl.now)
+        out.old needed.new }
+    ensures refused { result ≡ 2 → IsRefusedList (profile_in options) acl.now 0 fault.new }
+    // Bytes with a fault are refused for it, also where memory runs out.
+    ensures memory { result ≡ 4 → AreList (profile_in options) acl.now }
+    // An argument is bad exactly at 3.
+    ensures bad { result ≡ 3 → IsGoodTable right options → ⊥ }
+    ensures good { (result ≢ 3) → IsGoodTable right options }
+    ensures unwritten { (result ≢ 0) → out.new ≡ out.old }
+    ensures untold { (result ≢ 0) → (result ≢ 5) → needed.new ≡ needed.old }
+    ensures kept { (result ≢ 2) → fault.new ≡ fault.old }
+    ensures known { result ≤ 5 }
+{
+    let Some(profile) = profile_in(options) else {
+        return 3;
+    };
+    let Some(bit) = right_of(right, profile) else {
+        return 3;
+    };
+    match tabulated(alloc, acl, bit, profile) {
+        Ok(text) => put(&text, out, needed),
+        Err(found) => found.tell(0, fault),
+    }
+}
+
+// The mask of one right that the profile has.
+fn right_of(right: u32, profile: Profile) -> Option<Mask>
+    ensures known { IsSome result ↔ IsRightOf (profile_of profile) right }
+    ensures value { IfSome result (λ mask. mask.bits ≡ right) }
+{
+    let mask = Mask::new(right)?;
+    if is_right_of(profile, mask) {
+        Some(mask)
+    } else {
+        None
+    }
+}
+
+fn is_right_of(profile: Profile, mask: Mask) -> bool
+    ensures { result ≡ is_right_of (profile_of profile) mask.bits }
+{
+    is_named(mask) && profile.masks.contains(mask)
+}
+
+// Whether the table of names has the mask.
+fn is_named(mask: Mask) -> bool
+    ensures { result ≡ is_some (first_name rights mask.bits) }
+{
+    bit_name(mask).is_some()
+}
+
+// The text of the rows of the list that the bytes spell.
+fn tabulated(alloc: Global, acl: &[u8], bit: Mask, profile: Profile) -> Result<Vec<u8>, ListFault>
+    ensures ok { IfOk result (λ text. Tabulates (profile_of profile) bit.bits acl.now text.items) }
+    ensures err { IfErr result (IsListFault (profile_of profile) acl.now) }
+{
+    let list = list_of(alloc, acl, profile)?;
+    Ok(table_text(alloc, &list, bit)?)
+}
+
+fn table_text(alloc: Global, list: &Acl, bit: Mask) -> Result<Vec<u8>, AllocError>
+    ensures { IfOk result (λ text. (rows : List RowValue)
+        × ((b : ℕ) → IsLowest b bit.bits → IsTable b list.now rows)
+        × (text.items ≡ rows_text rows)) }
+{
+    let rows = table(alloc, list, bit)?;
+    text_of_rows(alloc, &rows)
+}
+
+// The lines of the rows.
+fn text_of_rows(alloc: Global, rows: &[Row]) -> Result<Vec<u8>, AllocError>
+    ensures { IfOk result (λ text. text.items ≡ rows_text rows.now) }
+{
+    let mut text = Vec::new(alloc);
+    for row in rows {
+        add_line(&mut text, row)?;
+    }
+    Ok(text)
+}
+
+fn add_line(text: &mut Vec<u8>, row: &Row) -> Result<(), AllocError>
+    ensures { OnOk result (text.new.items ≡ text.old.items ++ row_line row.now) }
+{
+    add_place(text, row.source)?;
+    add_word(text, kind_name(row.kind))?;
+    add_word(text, group_word(row.group))?;
+    add_who(text, &row.who)
+}
+
+fn add_place(text: &mut Vec<u8>, place: usize) -> Result<(), AllocError>
+    ensures { OnOk result (text.new.items ≡ text.old.items ++ (decimal place ++ space ∷ [])) }
+{
+    let mut buffer = Buffer::new();
+    add_word(text, buffer.format(place).as_bytes())
+}
+
+fn add_word(text: &mut Vec<u8>, word: &[u8]) -> Result<(), AllocError>
+    ensures { OnOk result (text.new.items ≡ text.old.items ++ (word.now ++ space ∷ [])) }
+{
+    text.extend_from_slice(word)?;
+    text.push(b' ')?;
+    Ok(())
+}
+
+fn add_who(text: &mut Vec<u8>, who: &[u8]) -> Result<(), AllocError>
+    ensures { OnOk result (text.new.items ≡ text.old.items ++ (who.now ++ line_feed ∷ [])) }
+{
+    text.extend_from_slice(who)?;
+    text.push(b'\n')?;
+    Ok(())
+}
+
+fn kind_name(kind: Kind) -> &'static [u8]
+    ensures { result.now ≡ kind_name kind }
+{
+    match kind {
+        Kind::Allow => b"ALLOW",
+        Kind::Deny => b"DENY",
+    }
+}
+
+fn group_word(group: bool) -> &'static [u8]
+    ensures { result.now ≡ group_word group }
+{
+    if group { b"GROUP" } else { b"-" }
+}

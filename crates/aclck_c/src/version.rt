@@ -1,0 +1,11 @@
+//! The version of the interface.
+ghost use Rattle.std.specs.Prelude.{◌≡◌};
+ghost use Rattle.aclck_c.specs.Version.{version_number};
+
+/// Returns the version of the interface, `ACLCK_VERSION` of `aclck.h`: major * 65536 + minor * 256 + patch.
+#[unsafe(no_mangle)]
+pub extern "C" fn aclck_version() -> u32
+    ensures { result ≡ version_number 0 1 0 }
+{
+    0x0000_0100
+}

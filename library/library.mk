@@ -1,0 +1,57 @@
+# The library for C: a shared object and a static archive of the proved exports of crates/aclck_c, in library/out.
+.PHONY: library install-library uninstall-library
+
+MADE = library/out
+PROVED = crates/aclck_c/out/libaclck_c.a
+# malloc, realloc and free as Rattle's code calls them: an object of the kit, beside its first page.
+HEAP = $(dir $(shell rt doc))c/liblibc_c.a
+VERSION = 0.1.0
+SONAME = libaclck.so.0
+SHARED = libaclck.so.$(VERSION)
+LIBDIR = $(DESTDIR)$(PREFIX)/lib
+OBJCOPY ?= objcopy
+
+# Proves the exports, and makes both forms of the library.
+library:
+	cd crates/aclck_c && rt lib
+	$(MAKE) --no-print-directory $(MADE)/$(SHARED) $(MADE)/libaclck.a $(MADE)/aclck.pc
+
+$(PROVED):
+	cd crates/aclck_c && rt lib
+
+# The names of the exports alone are visible.
+$(MADE)/$(SHARED): $(PROVED) library/aclck.map
+	mkdir -p $(MADE)
+	$(CC) -shared -o $@ -Wl,-z,defs,-z,relro,-z,now,-z,noexecstack,-z,noseparate-code -Wl,--gc-sections -Wl,-soname,$(SONAME) \
+	  -Wl,--version-script=library/aclck.map -Wl,--whole-archive $(PROVED) -Wl,--no-whole-archive $(HEAP)
+	ln -sf $(SHARED) $(MADE)/$(SONAME)
+	ln -sf $(SONAME) $(MADE)/libaclck.so
+
+# One object, in which all other names are local.
+$(MADE)/libaclck.a: $(PROVED)
+	mkdir -p $(MADE)
+	$(LD) -r -o $(MADE)/aclck.o --whole-archive $(PROVED) --no-whole-archive $(HEAP)
+	$(OBJCOPY) --wildcard --keep-global-symbol='aclck_*' $(MADE)/aclck.o
+	rm -f $@
+	$(AR) rcs $@ $(MADE)/aclck.o
+	rm $(MADE)/aclck.o
+
+$(MADE)/aclck.pc: library/aclck.pc.in
+	mkdir -p $(MADE)
+	sed 's,@PREFIX@,$(PREFIX),; s,@VERSION@,$(VERSION),' $< > $@
+
+install-library: $(MADE)/$(SHARED) $(MADE)/libaclck.a
+	install -D -m 755 $(MADE)/$(SHARED) '$(LIBDIR)/$(SHARED)'
+	strip --strip-unneeded '$(LIBDIR)/$(SHARED)'
+	ln -sf $(SHARED) '$(LIBDIR)/$(SONAME)'
+	ln -sf $(SONAME) '$(LIBDIR)/libaclck.so'
+	install -D -m 644 $(MADE)/libaclck.a '$(LIBDIR)/libaclck.a'
+	install -D -m 644 include/aclck.h '$(DESTDIR)$(PREFIX)/include/aclck.h'
+	mkdir -p '$(LIBDIR)/pkgconfig'
+	sed 's,@PREFIX@,$(PREFIX),; s,@VERSION@,$(VERSION),' library/aclck.pc.in > '$(LIBDIR)/pkgconfig/aclck.pc'
+	for page in man/*.3; do install -D -m 644 $$page '$(DESTDIR)$(PREFIX)/share/man/man3/'$${page#man/}; done
+
+uninstall-library:
+	rm -f '$(LIBDIR)/$(SHARED)' '$(LIBDIR)/$(SONAME)' '$(LIBDIR)/libaclck.so' '$(LIBDIR)/libaclck.a' \
+	  '$(DESTDIR)$(PREFIX)/include/aclck.h' '$(LIBDIR)/pkgconfig/aclck.pc'
+	for page in man/*.3; do rm -f '$(DESTDIR)$(PREFIX)/share/man/man3/'$${page#man/}; done
