@@ -1,4 +1,4 @@
-/* Preloaded into nfs4_getfacl and nfs4_setfacl: what they ask of the attribute `system.nfs4_acl`, which a mount has, is
+/* Preloaded into nfs4_getfacl, nfs4_setfacl and aclck-tree: what they ask of the attribute `system.nfs4_acl`, which a mount has, is
  * asked of `user.nfs4_acl`, which any file may have.
  */
 #define _GNU_SOURCE
@@ -14,6 +14,12 @@ static const char *local(const char *name)
 ssize_t getxattr(const char *path, const char *name, void *value, size_t size)
 {
     ssize_t (*next)(const char *, const char *, void *, size_t) = dlsym(RTLD_NEXT, "getxattr");
+    return next(path, local(name), value, size);
+}
+
+ssize_t lgetxattr(const char *path, const char *name, void *value, size_t size)
+{
+    ssize_t (*next)(const char *, const char *, void *, size_t) = dlsym(RTLD_NEXT, "lgetxattr");
     return next(path, local(name), value, size);
 }
 

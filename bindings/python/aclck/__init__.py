@@ -1,0 +1,75 @@
+"""Access control lists, checked, converted and compared in process by the proved library libaclck.
+
+NFSv4 lists are `NfsAcl` (RFC 8881, section 6.2.1), POSIX lists are `PosixAcl` (acl(5); POSIX.1e draft 17, section 23).
+Names of users and groups are `str`, in which bytes that are no UTF-8 stand as `surrogateescape` has them, or `bytes`.
+All calls may run in any number of threads at once. They touch no live file, but for the two calls `from_file`, which
+read one attribute.
+"""
+
+from ._library import VERSION
+from .faults import Refused
+from .nfs import ALLOW, DENY, Ace, Decision, Difference, NfsAcl, Requesters, TableRow
+from .posix import Entry, PosixAcl
+from .rights import (
+    ADD_FILE,
+    ADD_SUBDIRECTORY,
+    ALL,
+    APPEND_DATA,
+    DELETE,
+    DELETE_CHILD,
+    EXECUTE,
+    LIST_DIRECTORY,
+    READ_ACL,
+    READ_ATTRIBUTES,
+    READ_DATA,
+    READ_NAMED_ATTRS,
+    RIGHTS,
+    SYNCHRONIZE,
+    WRITE_ACL,
+    WRITE_ATTRIBUTES,
+    WRITE_DATA,
+    WRITE_NAMED_ATTRS,
+    WRITE_OWNER,
+    WRITE_RETENTION,
+    WRITE_RETENTION_HOLD,
+    mask_text,
+    read_mask,
+)
+
+__all__ = [
+    "ADD_FILE",
+    "ADD_SUBDIRECTORY",
+    "ALL",
+    "ALLOW",
+    "APPEND_DATA",
+    "Ace",
+    "DELETE",
+    "DELETE_CHILD",
+    "DENY",
+    "Decision",
+    "Difference",
+    "EXECUTE",
+    "Entry",
+    "LIST_DIRECTORY",
+    "NfsAcl",
+    "PosixAcl",
+    "READ_ACL",
+    "READ_ATTRIBUTES",
+    "READ_DATA",
+    "READ_NAMED_ATTRS",
+    "RIGHTS",
+    "Refused",
+    "Requesters",
+    "SYNCHRONIZE",
+    "TableRow",
+    "VERSION",
+    "WRITE_ACL",
+    "WRITE_ATTRIBUTES",
+    "WRITE_DATA",
+    "WRITE_NAMED_ATTRS",
+    "WRITE_OWNER",
+    "WRITE_RETENTION",
+    "WRITE_RETENTION_HOLD",
+    "mask_text",
+    "read_mask",
+]

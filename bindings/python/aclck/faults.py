@@ -1,0 +1,56 @@
+"""What the library refuses, as one exception."""
+
+from __future__ import annotations
+
+from typing import Optional
+
+_TAGS = ("", "USER_OBJ", "USER", "GROUP_OBJ", "GROUP", "MASK", "OTHER")
+_PARTS = ("access", "default")
+
+
+class Refused(ValueError):
+    """The library refuses a list or a text; `str` of it is the line of aclck(1), without `aclck: ` before it.
+
+    Attributes:
+        reason: the name of the reason, such as `Truncated` (docs/formats.md has all).
+        offset: of bytes: the place of the refused field, from 0, in bytes. Of a POSIX list that is not valid: the place
+            of the entry in its part, from 0. Else None.
+        line, column: of a text: the place, both from 1, the column in bytes. Else None.
+        part: of a POSIX list that is not valid: `access` or `default`. Else None.
+        tag: where an entry is missing: its tag, such as `MASK`. Else None.
+        second: whether it is the second of two lists that is refused.
+    """
+
+    def __init__(self, reason: str, *, offset: Optional[int] = None, line: Optional[int] = None,
+                 column: Optional[int] = None, part: Optional[str] = None, tag: Optional[str] = None,
+                 second: bool = False) -> None:
+        self.reason = reason
+        self.offset = offset
+        self.line = line
+        self.column = column
+        self.part = part
+        self.tag = tag
+        self.second = second
+        super().__init__(self._line())
+
+    def _line(self) -> str:
+        if self.part is not None:
+            return f"Invalid {self.part}: {self.reason} " + (self.tag or f"at entry {self.offset}")
+        if self.line is not None:
+            return f"{self.reason} at line {self.line} column {self.column}"
+        if self.offset is not None:
+            return f"{self.reason} at byte {self.offset}"
+        return self.reason
+
+
+def refused(name: str, reason: int, offset: int, line: int, column: int, second: int, part: int, tag: int) -> Refused:
+    """Makes the exception of the numbers that the library gives of a fault."""
+    if line:
+        return Refused(name, line=line, column=column)
+    if reason == 27:
+        return Refused(name, part=_PARTS[part], tag=_TAGS[tag])
+    if reason in (25, 26):
+        return Refused(name, part=_PARTS[part], offset=offset)
+    if reason == 28:
+        return Refused(name)
+    return Refused(name, offset=offset, second=bool(second))

@@ -1,0 +1,24 @@
+"""What ends a run of `aclck-tree` early, each with its exit status."""
+
+from __future__ import annotations
+
+YES, NO, REFUSED, USAGE, DEVICE = range(5)
+"""The exit statuses, the same as those of aclck(1)."""
+
+
+class TreeError(Exception):
+    """Something that ends the run: one line on standard error, and an exit status."""
+
+    status = REFUSED
+
+
+class UsageError(TreeError):
+    """The command line asks for something that cannot be."""
+
+    status = USAGE
+
+
+class DeviceError(TreeError):
+    """A read or a write failed, such as on a full disk."""
+
+    status = DEVICE

@@ -1,0 +1,187 @@
+"""Makes the lists of a snapshot ready for questions.
+
+Of an NFSv4 list the AUDIT and ALARM ACEs are left out, since they decide nothing (RFC 8881, section 6.2.1.1), and a
+special name that the library refuses, such as `INTERACTIVE@`, stands as a group whose members are not known. Of a POSIX
+list the bridge is asked, an NFSv4 list that grants each single permission alike, with ids as names.
+"""
+
+from __future__ import annotations
+
+import struct
+from dataclasses import dataclass
+from typing import Dict, List, NamedTuple, Optional, Tuple, Union
+
+from aclck import APPEND_DATA, EXECUTE, READ_DATA, WRITE_DATA, NfsAcl, PosixAcl, Refused
+
+from .snapshot import StoredList
+
+MOST_SPECIALS = 6
+"""How many special names a list may have and still be asked: each doubles the cases."""
+
+POSIX_MASKS = {4: READ_DATA, 2: WRITE_DATA | APPEND_DATA, 1: EXECUTE}
+"""The rights of the bridge by permissions."""
+
+_KNOWN = (b"OWNER@", b"GROUP@", b"EVERYONE@")
+_GROUP_FLAG = 0x40
+_AUDIT, _ALARM = 2, 3
+
+
+@dataclass(frozen=True)
+class Asked:
+    """A list that can be asked.
+
+    `acl` is the list without AUDIT and ALARM ACEs, or the bridge of `posix`; `specials` are the special names in it,
+    each with the name of the group that stands for it; `places` are the places of its ACEs in the list as it was found.
+    """
+
+    acl: NfsAcl
+    posix: Optional[PosixAcl] = None
+    specials: Tuple[Tuple[str, str], ...] = ()
+    places: Tuple[int, ...] = ()
+    left_out: int = 0
+
+    @property
+    def kind(self) -> str:
+        """`posix` for a POSIX list or a mode, else `nfs4`."""
+        return "posix" if self.posix else "nfs4"
+
+    def name(self, who: str) -> str:
+        """Returns the special name for which a group stands, and every other name as it is."""
+        return next((name for name, group in self.specials if group == who), who)
+
+    def lines(self) -> List[str]:
+        """Returns the text of each ACE, with the special names as they were found."""
+        lines = str(self.acl).split("\n")[:-1]
+        for name, group in self.specials:
+            lines = [line[:-len(group)] + name if line.endswith(" " + group) else line for line in lines]
+        return lines
+
+
+@dataclass(frozen=True)
+class RefusedList:
+    """A list that cannot be asked, with the line that says why; a place counts in the list as it was found."""
+
+    reason: str
+
+
+Ready = Union[Asked, RefusedList]
+
+
+class Piece(NamedTuple):
+    start: int
+    end: int
+    kind: int
+    flags: int
+    mask: int
+    who: bytes
+
+
+def pieces(data: bytes) -> List[Piece]:
+    """The ACEs of some bytes, up to the first that breaks off (RFC 4506, sections 4.11 and 4.13)."""
+    found: List[Piece] = []
+    at = 4
+    for _ in range(int.from_bytes(data[:4], "big")):
+        if at + 16 > len(data):
+            break
+        kind, flags, mask, length = struct.unpack_from(">IIII", data, at)
+        end = at + 16 + length + -length % 4
+        if end > len(data):
+            break
+        found.append(Piece(at, end, kind, flags, mask, data[at + 16:at + 16 + length]))
+        at = end
+    return found
+
+
+def _is_special(data: bytes, piece: Piece) -> bool:
+    padding = data[piece.start + 16 + len(piece.who):piece.end]
+    return piece.who.endswith(b"@") and piece.who not in _KNOWN and len(piece.who) < 1000 and not any(padding)
+
+
+def _stand_in(who: bytes, taken: Dict[bytes, bytes], names: "set[bytes]") -> bytes:
+    if who not in taken:
+        name = who + b"?"
+        while name in names:
+            name += b"?"
+        taken[who] = name
+    return taken[who]
+
+
+class _Rewritten(NamedTuple):
+    data: bytes
+    starts: List[Tuple[int, int]]  # where a part begins, here and in the list as it was found
+    places: Tuple[int, ...]
+    specials: Dict[bytes, bytes]
+    left_out: int
+
+
+def _rewrite(data: bytes) -> _Rewritten:
+    """Leaves out AUDIT and ALARM ACEs, and puts groups for special names; the rest stays as it is."""
+    found = pieces(data)
+    names = {piece.who for piece in found}
+    parts: List[bytes] = []
+    starts, length = [(0, 0)], 4
+    places: List[int] = []
+    specials: Dict[bytes, bytes] = {}
+    for place, piece in enumerate(found):
+        if piece.kind in (_AUDIT, _ALARM):
+            continue
+        part = data[piece.start:piece.end]
+        if _is_special(data, piece):
+            who = _stand_in(piece.who, specials, names)
+            part = struct.pack(">IIII", piece.kind, piece.flags | _GROUP_FLAG, piece.mask, len(who)) + who
+            part += bytes(-len(who) % 4)
+        starts.append((length, piece.start))
+        length += len(part)
+        parts.append(part)
+        places.append(place)
+    end = found[-1].end if found else 4
+    starts.append((length, end))
+    left_out = len(found) - len(places)
+    count = struct.pack(">I", int.from_bytes(data[:4], "big") - left_out)
+    return _Rewritten(count + b"".join(parts) + data[end:], starts, tuple(places), specials, left_out)
+
+
+def _found_at(rewritten: _Rewritten, offset: int) -> int:
+    """The place in the list as it was found."""
+    here, there = max(start for start in rewritten.starts if start[0] <= offset)
+    return there + offset - here
+
+
+def _ready_nfs(data: bytes) -> Ready:
+    if len(data) < 4:
+        return RefusedList("Truncated at byte 0")
+    rewritten = _rewrite(data)
+    if len(rewritten.specials) > MOST_SPECIALS:
+        offset = next(piece.start + 16 for piece in pieces(data) if _is_special(data, piece))
+        return RefusedList(f"SpecialWho at byte {offset}")
+    try:
+        acl = NfsAcl(rewritten.data)
+    except Refused as refused:
+        return RefusedList(f"{refused.reason} at byte {_found_at(rewritten, refused.offset or 0)}")
+    specials = tuple((name.decode(), group.decode()) for name, group in rewritten.specials.items())
+    return Asked(acl, None, specials, rewritten.places, rewritten.left_out)
+
+
+def as_linux(acl: PosixAcl) -> PosixAcl:
+    """Returns the list that Linux goes by: without named entries where the mask is empty (docs/others.md)."""
+    perms = {entry.tag: entry.perm for entry in acl if not entry.default and entry.id is None}
+    if perms.get("mask", 7) != 0:
+        return acl
+    return PosixAcl.from_mode(perms["user"] << 6 | perms["other"])
+
+
+def _ready_posix(stored: StoredList, linux: bool) -> Ready:
+    try:
+        acl = PosixAcl.from_attributes(stored.access, stored.default, stored.mode)
+        if linux:
+            acl = as_linux(acl)
+        return Asked(acl.bridge(), acl)
+    except Refused as refused:
+        return RefusedList(str(refused))
+
+
+def ready(stored: StoredList, linux: bool = False) -> Ready:
+    """Makes a list ready; with `linux` a POSIX list grants as Linux does where its mask is empty."""
+    if stored.kind == "nfs4":
+        return _ready_nfs(stored.access or b"")
+    return _ready_posix(stored, linux)

@@ -1,0 +1,52 @@
+# Completion of aclck-tree for bash: words, options, the names of rights, and files.
+
+declare -gA _aclck_tree_options=(
+    [scan]='-o --one-file-system --threads --attribute --host'
+    [merge]='-o'
+    [info]='--csv --json'
+    [who]='--may --any --path --people --passwd --group --getent --each --domain --linux --csv --json'
+    [may]='--may --any --path --user --groups --all --domain --linux --csv --json'
+    [why]='--user --groups --may --domain --linux --csv --json'
+    [same]='--inherit --each --csv --json'
+    [diff]='--people --passwd --group --getent --each --domain --csv --json'
+    [report]='-o --people --passwd --group --getent --domain --linux --csv --json'
+)
+
+_aclck_tree_rights='READ_DATA LIST_DIRECTORY WRITE_DATA ADD_FILE APPEND_DATA ADD_SUBDIRECTORY READ_NAMED_ATTRS
+    WRITE_NAMED_ATTRS EXECUTE DELETE_CHILD READ_ATTRIBUTES WRITE_ATTRIBUTES WRITE_RETENTION WRITE_RETENTION_HOLD DELETE
+    READ_ACL WRITE_ACL WRITE_OWNER SYNCHRONIZE'
+
+# Offers the last right of some with bars between them.
+_aclck_tree_mask() {
+    local typed=$1 before='' right
+    [[ $typed != *'|'* ]] || before=${typed%'|'*}'|'
+    COMPREPLY=()
+    for right in $_aclck_tree_rights; do
+        [[ $right != "${typed##*'|'}"* ]] || COMPREPLY+=("$before$right")
+    done
+    compopt -o nospace 2> /dev/null
+}
+
+_aclck_tree() {
+    local current=$2 previous=$3 word=${COMP_WORDS[1]}
+    COMPREPLY=()
+    if ((COMP_CWORD == 1)); then
+        mapfile -t COMPREPLY < <(compgen -W "${!_aclck_tree_options[*]} --help --version" -- "$current")
+        return
+    fi
+    [[ -n ${_aclck_tree_options[$word]+is} ]] || return
+    case $previous in
+        --may) _aclck_tree_mask "$current"; return ;;
+        --user) mapfile -t COMPREPLY < <(compgen -u -- "$current"); return ;;
+        --groups) mapfile -t COMPREPLY < <(compgen -g -- "$current"); return ;;
+        --threads | --attribute | --host | --domain | --path) return ;;
+    esac
+    if [[ $current == -* ]]; then
+        mapfile -t COMPREPLY < <(compgen -W "${_aclck_tree_options[$word]} --help" -- "$current")
+    else
+        compopt -o filenames 2> /dev/null
+        mapfile -t COMPREPLY < <(compgen -f -- "$current")
+    fi
+}
+
+complete -F _aclck_tree aclck-tree

@@ -1,0 +1,44 @@
+# Completion of aclck-tree for fish.
+
+set -l words scan merge info who may why same diff report
+set -l rights READ_DATA LIST_DIRECTORY WRITE_DATA ADD_FILE APPEND_DATA ADD_SUBDIRECTORY READ_NAMED_ATTRS \
+    WRITE_NAMED_ATTRS EXECUTE DELETE_CHILD READ_ATTRIBUTES WRITE_ATTRIBUTES WRITE_RETENTION WRITE_RETENTION_HOLD \
+    DELETE READ_ACL WRITE_ACL WRITE_OWNER SYNCHRONIZE
+
+complete -c aclck-tree -n "not __fish_seen_subcommand_from $words" -f
+complete -c aclck-tree -n "not __fish_seen_subcommand_from $words" -l version -d 'Show the version'
+complete -c aclck-tree -l help -d 'Show help'
+complete -c aclck-tree -n "not __fish_seen_subcommand_from $words" -a scan -d 'Read trees into a snapshot'
+complete -c aclck-tree -n "not __fish_seen_subcommand_from $words" -a merge -d 'Join snapshots'
+complete -c aclck-tree -n "not __fish_seen_subcommand_from $words" -a info -d 'What a snapshot has'
+complete -c aclck-tree -n "not __fish_seen_subcommand_from $words" -a who -d 'Who may do something'
+complete -c aclck-tree -n "not __fish_seen_subcommand_from $words" -a may -d 'On what one user may do something'
+complete -c aclck-tree -n "not __fish_seen_subcommand_from $words" -a why -d 'Which ACE or entry decides'
+complete -c aclck-tree -n "not __fish_seen_subcommand_from $words" -a same -d 'Which objects grant the same'
+complete -c aclck-tree -n "not __fish_seen_subcommand_from $words" -a diff -d 'What changed, and for whom'
+complete -c aclck-tree -n "not __fish_seen_subcommand_from $words" -a report -d 'Make a page of HTML'
+
+complete -c aclck-tree -n '__fish_seen_subcommand_from scan merge report' -s o -r -d 'The file to make'
+complete -c aclck-tree -n '__fish_seen_subcommand_from scan' -l one-file-system -d 'Do not go into others'
+complete -c aclck-tree -n '__fish_seen_subcommand_from scan' -l threads -x -d 'Reads at once'
+complete -c aclck-tree -n '__fish_seen_subcommand_from scan' -l attribute -x -d 'Where NFSv4 lists are'
+complete -c aclck-tree -n '__fish_seen_subcommand_from scan' -l host -x -d 'The name of this host'
+complete -c aclck-tree -n '__fish_seen_subcommand_from who may why' -l may -x -a "$rights" -d 'What is asked'
+complete -c aclck-tree -n '__fish_seen_subcommand_from who may' -l any -d 'Any of the rights'
+complete -c aclck-tree -n '__fish_seen_subcommand_from who may' -l path -x -d 'Only these objects'
+complete -c aclck-tree -n '__fish_seen_subcommand_from may why' -l user -x -a '(__fish_complete_users)' -d 'Who asks'
+complete -c aclck-tree -n '__fish_seen_subcommand_from may why' -l groups -x -a '(__fish_complete_groups)' \
+    -d 'The groups of the user'
+complete -c aclck-tree -n '__fish_seen_subcommand_from may' -l all -d 'Also where it is denied'
+complete -c aclck-tree -n '__fish_seen_subcommand_from who diff report' -l people -r -d 'Who is asked about'
+complete -c aclck-tree -n '__fish_seen_subcommand_from who diff report' -l passwd -r -d 'People of a passwd file'
+complete -c aclck-tree -n '__fish_seen_subcommand_from who diff report' -l group -r -d 'Groups of a group file'
+complete -c aclck-tree -n '__fish_seen_subcommand_from who diff report' -l getent -d 'The accounts of this system'
+complete -c aclck-tree -n '__fish_seen_subcommand_from who may why diff report' -l domain -x \
+    -d 'What follows @ in names'
+complete -c aclck-tree -n '__fish_seen_subcommand_from who may why report' -l linux -d 'Ask POSIX lists as Linux does'
+complete -c aclck-tree -n '__fish_seen_subcommand_from who same diff' -l each -d 'One line per object'
+complete -c aclck-tree -n '__fish_seen_subcommand_from same' -l inherit -d 'What is made below counts too'
+complete -c aclck-tree -n '__fish_seen_subcommand_from who may why same diff report info' -l csv -d 'Write CSV'
+complete -c aclck-tree -n '__fish_seen_subcommand_from who may why same diff report info' -l json \
+    -d 'Write one JSON object per line'

@@ -1,0 +1,26 @@
+# Completion of aclck for fish.
+
+set -l words check-nfs show-nfs encode child mode table normalize compare show-posix check-posix calc-mask chmod \
+    create bridge
+set -l rights READ_DATA LIST_DIRECTORY WRITE_DATA ADD_FILE APPEND_DATA ADD_SUBDIRECTORY READ_NAMED_ATTRS \
+    WRITE_NAMED_ATTRS EXECUTE DELETE_CHILD READ_ATTRIBUTES WRITE_ATTRIBUTES WRITE_RETENTION WRITE_RETENTION_HOLD \
+    DELETE READ_ACL WRITE_ACL WRITE_OWNER SYNCHRONIZE
+
+complete -c aclck -f
+complete -c aclck -n "not __fish_seen_subcommand_from $words" -a "$words"
+complete -c aclck -n '__fish_seen_subcommand_from check-nfs check-posix' -l owner -x -d 'The owner of the object'
+complete -c aclck -n '__fish_seen_subcommand_from check-nfs check-posix' -l group -x -d 'The group of the object'
+complete -c aclck -n '__fish_seen_subcommand_from check-nfs check-posix' -l user -x -d 'Who asks'
+complete -c aclck -n '__fish_seen_subcommand_from check-nfs' -l mask -x -a "none $rights" -d 'The rights'
+complete -c aclck -n '__fish_seen_subcommand_from check-posix' -l groups -x -d 'Ids of groups'
+complete -c aclck -n '__fish_seen_subcommand_from check-posix' -l want -x -d 'Some of rwx'
+complete -c aclck -n '__fish_seen_subcommand_from child' -l kind -x -a 'file dir' -d 'What is made'
+complete -c aclck -n '__fish_seen_subcommand_from table' -l bit -x -a "$rights" -d 'The right'
+complete -c aclck -n '__fish_seen_subcommand_from normalize' -l inherit -d 'Five normal forms'
+complete -c aclck -n '__fish_seen_subcommand_from show-posix' -l form -x -a 'canonical shown short' \
+    -d 'The form of the text'
+complete -c aclck -n '__fish_seen_subcommand_from chmod create' -l mode -x -d 'Octal digits'
+complete -c aclck -n '__fish_seen_subcommand_from create' -l umask -x -d 'Octal digits'
+complete -c aclck -n '__fish_seen_subcommand_from create' -l dir -d 'A directory'
+complete -c aclck -n '__fish_seen_subcommand_from check-nfs show-nfs encode child mode table normalize compare' \
+    -l profile -x -a 'full narrow' -d 'The rights and flags that are known'
