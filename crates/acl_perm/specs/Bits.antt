@@ -16,7 +16,7 @@ IsUnion m n set = (k : ℕ) → has_bit set k ≡ (has_bit m k || has_bit n k)
 abbrev pub IsIntersection : ℕ → ℕ → ℕ → Type 0
 IsIntersection m n set = (k : ℕ) → has_bit set k ≡ (has_bit m k && has_bit n k)
 
--- the set has the bits of one set that the other has not
+-- the set has the bits of one set that the other does not have
 abbrev pub IsDifference : ℕ → ℕ → ℕ → Type 0
 IsDifference m n set = (k : ℕ) → has_bit set k ≡ (has_bit m k && not (has_bit n k))
 

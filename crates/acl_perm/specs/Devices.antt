@@ -16,14 +16,15 @@ abbrev pub put_failed : {E : Type 0} → Result ℕ E → List ℕ → Bool
 put_failed (Ok n) bytes = (n == 0) && nat_lt 0 (length bytes)
 put_failed (Err e) bytes = true
 
--- the number after a call that failed or not
+-- the number of failures after a call that failed or succeeded
 abbrev pub failures_after : ℕ → Bool → ℕ
 failures_after n failed = if failed then one_more n else n
 
--- what is left of a reader whose calls give at most `step` bytes; at 0 nothing can be known
+-- the rest of a reader whose calls give at most `step` bytes; at step 0 nothing can be known
 abbrev pub fused_remaining : ℕ → Option (List ℕ) → Option (List ℕ)
 fused_remaining step known = if step == 0 then None else known
 
--- what a reader has left is less by just the bytes that a read gave, and the same at an error
+-- after a read, the reader has left exactly what it had without the bytes that the read gave; after an error it has the
+-- same left
 abbrev pub GivesOn : {E : Type 0} → Option (List ℕ) → Option (List ℕ) → Result ℕ E → List ℕ → Type 0
 GivesOn old new answer buf = MatchResult answer (λ n. Consumes old new (take n buf)) (λ _. Keeps old new)

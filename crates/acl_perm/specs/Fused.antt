@@ -15,17 +15,17 @@ fused_calls f = f.calls
 abbrev pub fused_step : {T : Type 0} → Fused T → ℕ
 fused_step f = f.step
 
--- the bytes that are left to read, by what the reader has left; not known where a call passes no byte
+-- the bytes that are left to read, given what the reader has left; not known if a call passes no byte
 abbrev pub left_through : {T : Type 0} → (T → Option (List ℕ)) → Fused T → Option (List ℕ)
 left_through left f = fused_remaining (fused_step f) (left (fused_inner f))
 
--- what a call of a device does to it, as it was and as it is after it
+-- the effect of a call on a device, before and after
 pub record TakesCall {T E : Type 0} (device device_after : Fused T) (r : Result ℕ E) : Type 0 where
-  -- where no call is left it fails, and changes nothing
+  -- if no call is left, the call fails and changes nothing
   pub spent : fused_calls device ≡ 0 → IsErr r × (device_after ≡ device)
   -- the call is counted
   pub counted : fused_calls device_after ≡ fused_calls device - 1
-  -- a call passes at most a step's bytes
+  -- a call passes at most as many bytes as the step
   pub short : IfOk r (λ n. n ≤ fused_step device)
-  -- the most bytes of a call stay as they were
+  -- the step stays as it was
   pub step : fused_step device_after ≡ fused_step device

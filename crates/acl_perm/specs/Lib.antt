@@ -1,3 +1,4 @@
+pub mod Ascii
 pub mod Bits
 pub mod Numbers
 pub mod Kind

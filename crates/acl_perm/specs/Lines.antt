@@ -1,15 +1,14 @@
--- Lines of a text, and parts of a line with the columns at which they stand. Lines end at line feeds, columns count
--- bytes from 1, and a blank is a space or a tab: this library's own, for its text forms.
+-- Lines of a text, and parts of a line with their columns. Lines end at line feeds, columns count bytes from 1, and a
+-- blank is a space or a tab: this library's own, for its text forms.
 use Rattle.std.specs.Prelude.{ℕ, ◌≡◌, ◌+◌, ◌<◌, ◌≤◌, ◌==◌, ◌||◌, not, Bool, List, [], ◌∷◌, length, drop, Option, Some, None, if◌then◌else◌}
 use Rattle.std.specs.Borrow.{Bor}
 use Rattle.std.specs.List.{slice_split, list_all, before_first, position_or_len}
+use Rattle.acl_perm.specs.Ascii.{space, tab}
+-- the byte that ends a line
+pub use Rattle.acl_perm.specs.Ascii.{line_feed}
 use Rattle.acl_perm.specs.declared.lines.Piece.{Piece}
 
--- a line feed, in ASCII
-abbrev pub line_feed : ℕ
-line_feed = 10
-
--- the lines of a text; what stands behind the last line feed is one too
+-- the lines of a text; the part behind the last line feed is a line too
 abbrev pub lines_of : List ℕ → List (List ℕ)
 lines_of text = slice_split (λ b. b == line_feed) text
 
@@ -18,11 +17,11 @@ pub record Span : Type 0 where
   pub column : ℕ
   pub bytes : List ℕ
 
--- what a piece is
+-- the bytes and the column of a piece
 abbrev pub span_of : Piece → Span
 span_of piece = record { column = piece.column; bytes = piece.bytes.now }
 
--- parts that stand one after the other, with one byte between two of them
+-- parts one after the other, with one byte between two of them
 abbrev pub spans : ℕ → List (List ℕ) → List Span
 spans column [] = []
 spans column (part ∷ parts) = record { column = column; bytes = part } ∷ spans (column + length part + 1) parts
@@ -33,13 +32,13 @@ cut_at separator span = spans span.column (slice_split (λ b. b == separator) sp
 
 -- a space or a tab
 abbrev pub is_blank : ℕ → Bool
-is_blank b = (b == 32) || (b == 9)
+is_blank b = (b == space) || (b == tab)
 
--- no byte but blanks
+-- all bytes are blanks
 abbrev pub is_all_blank : List ℕ → Bool
 is_all_blank bytes = list_all is_blank bytes
 
--- how many blanks stand at the front
+-- the number of blanks at the front
 abbrev pub blanks_before : List ℕ → ℕ
 blanks_before bytes = position_or_len (λ b. not (is_blank b)) bytes
 
@@ -56,23 +55,23 @@ trimmed bytes = end_trimmed (drop (blanks_before bytes) bytes)
 abbrev pub before_mark : ℕ → List ℕ → List ℕ
 before_mark mark bytes = before_first (λ b. b == mark) bytes
 
--- the place of a part: the column of its first byte that is no blank, and where it has none that of the byte after it
+-- the place of a part: the column of its first byte that is not a blank, or of the byte after the part if there is none
 abbrev pub start_of : Span → ℕ
 start_of span = span.column + blanks_before span.bytes
 
--- a part and the rest that a separator parts, within the columns of the whole
+-- a part and the rest, on both sides of a separator, with columns that are within the whole
 pub record IsCutRest (separator : ℕ) (whole first rest : Span) : Type 0 where
   pub parts : cut_at separator whole ≡ first ∷ cut_at separator rest
   pub shorter : length rest.bytes < length whole.bytes
   pub first_fits : first.column + length first.bytes ≤ whole.column + length whole.bytes
   pub rest_fits : rest.column + length rest.bytes ≤ whole.column + length whole.bytes
 
--- the first part, and what stands behind the first separator where there is one
+-- the first part, and the part behind the first separator if there is one
 abbrev pub IsCut : ℕ → Span → Piece × Option Piece → Type 0
 IsCut separator whole (first, None) = (cut_at separator whole ≡ span_of first ∷ []) × (span_of first ≡ whole)
 IsCut separator whole (first, Some rest) = IsCutRest separator whole (span_of first) (span_of rest)
 
--- the first line, and what stands behind its line feed where there is one
+-- the first line, and the text behind its line feed if there is one
 abbrev pub IsLineCut : List ℕ → Bor (List ℕ) × Option (Bor (List ℕ)) → Type 0
 IsLineCut text (first, None) = lines_of text ≡ first.now ∷ []
 IsLineCut text (first, Some rest) =

@@ -13,6 +13,6 @@ group_part mode = mode / 8 % 8
 abbrev pub others_part : ℕ → ℕ
 others_part mode = mode % 8
 
--- the mode of the permissions of the owner, the group and others
+-- the mode with these permissions of the owner, the group and others
 abbrev pub mode_of_parts : ℕ → ℕ → ℕ → ℕ
 mode_of_parts owner group others = 64 * owner + 8 * group + others

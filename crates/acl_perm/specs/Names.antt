@@ -4,7 +4,7 @@ use Rattle.std.specs.Prelude.{ℕ, ◌==◌, ◌^◌, List, [], ◌∷◌, Optio
 use Rattle.acl_perm.specs.declared.kind.Kind.{Kind}
 use Rattle.acl_perm.specs.declared.kind.Kind.TheVariants.{Deny, Allow}
 
--- a row of a table: a bit, its name, and its second name, where it has two
+-- a row of a table: a bit, its name, and its second name if it has two
 pub record BitName : Type 0 where
   pub bit : ℕ
   pub name : List ℕ
@@ -18,12 +18,11 @@ one_name bit name = record { bit = bit; name = name; second = None }
 abbrev pub two_names : ℕ → List ℕ → List ℕ → BitName
 two_names bit name second = record { bit = bit; name = name; second = Some second }
 
--- the first name of the row whose bit this is
+-- the first name of the row that has this bit
 abbrev pub first_name : List BitName → ℕ → Option (List ℕ)
 first_name table bit = option_map (λ row. row.name) (find (λ row. row.bit == bit) table)
 
--- the table of the rights: a bit of the mask, its name, and its second name, where it is called otherwise at
--- directories
+-- the table of the rights: a bit of the mask, its name, and its second name if it is called otherwise at directories
 abbrev pub rights : List BitName
 rights =
     two_names 0x00000001 (codes "READ_DATA") (codes "LIST_DIRECTORY") ∷
@@ -43,7 +42,7 @@ rights =
     one_name 0x00080000 (codes "WRITE_OWNER") ∷
     one_name 0x00100000 (codes "SYNCHRONIZE") ∷ []
 
--- the first name of the right of this bit; a bit of no right has none
+-- the first name of the right of this bit, or none if the bit is no right
 abbrev pub right_name : ℕ → Option (List ℕ)
 right_name bit = first_name rights (2 ^ bit)
 

@@ -1,5 +1,5 @@
--- The order of principals, and of principals with a type (this library's own: RFC 8881 orders none). Names are compared
--- byte by byte, and a proper beginning comes first.
+-- The order of principals, and of principals with a type (this library's own: RFC 8881 has no order). Names are
+-- compared byte by byte, and a proper beginning of a name comes before the name.
 use Rattle.std.specs.Prelude.{◌≡◌, ◌↔◌, ℕ, List}
 use Rattle.std.specs.declared.cmp.Ordering.{Ordering}
 use Rattle.std.specs.declared.cmp.Ordering.TheVariants.{Less, Equal}
@@ -14,7 +14,7 @@ use Rattle.acl_perm.specs.declared.key.Key.{Key as KeyOfCode}
 abbrev pub principal_rank : Principal → ℕ
 principal_rank p = (row p).rank
 
--- the name of a user or of a group; `OWNER@`, `GROUP@` and `EVERYONE@` have none
+-- the name of a user or of a group; `OWNER@`, `GROUP@` and `EVERYONE@` have no name
 abbrev pub principal_name : Principal → List ℕ
 principal_name p = (row p).name
 
@@ -43,7 +43,7 @@ abbrev pub key_cmp : Key → Key → Ordering
 key_cmp k l =
     ordering_then (principal_cmp k.principal l.principal) (nat_cmp (kind_rank k.kind) (kind_rank l.kind))
 
--- the order is strict and total, and two things are equal in it exactly if they are the same
+-- the order is strict and total, and two things are equal in it if and only if they are the same
 pub record IsStrictTotalOrder {K : Type 0} (cmp : K → K → Ordering) : Type 0 where
   pub equal : (x y : K) → (cmp x y ≡ Equal) ↔ (x ≡ y)
   pub reversed : (x y : K) → cmp y x ≡ ordering_reverse (cmp x y)

@@ -3,8 +3,8 @@ use Rattle.std.specs.Prelude.{ℕ, List, [], Bool, true, false}
 use Rattle.acl_perm.specs.declared.principal.Principal.{Principal as PrincipalRef}
 use Rattle.acl_perm.specs.declared.principal.Principal.TheVariants as code
 
--- a principal without where its name lies: `OWNER@`, a user name, `GROUP@`, a group name, or `EVERYONE@`; a name is
--- a list of bytes
+-- a principal without the place in memory of its name: `OWNER@`, a user name, `GROUP@`, a group name, or `EVERYONE@`; a
+-- name is a list of bytes
 pub data Principal : Type 0 where
   owner : Principal
   user : (name : List ℕ) → Principal
@@ -12,15 +12,15 @@ pub data Principal : Type 0 where
   group_named : (name : List ℕ) → Principal
   everyone : Principal
 
--- what there is to say of a principal: its place in the order, its name, which is empty where it has none, and whether
--- it is a user name or `EVERYONE@`
+-- the facts about a principal: its place in the order, its name, which is empty if it has none, and whether it is a
+-- user name or `EVERYONE@`
 pub record Row : Type 0 where
   pub rank : ℕ
   pub name : List ℕ
   pub is_user : Bool
   pub is_everyone : Bool
 
--- what there is to say of each principal; their order is `OWNER@`, users, `GROUP@`, groups, `EVERYONE@`
+-- the facts about each principal; their order is `OWNER@`, users, `GROUP@`, groups, `EVERYONE@`
 abbrev pub row : Principal → Row
 row owner = record { rank = 0; name = []; is_user = false; is_everyone = false }
 row (user name) = record { rank = 1; name = name; is_user = true; is_everyone = false }
@@ -28,7 +28,7 @@ row group = record { rank = 2; name = []; is_user = false; is_everyone = false }
 row (group_named name) = record { rank = 3; name = name; is_user = false; is_everyone = false }
 row everyone = record { rank = 4; name = []; is_user = false; is_everyone = true }
 
--- the plain data that a principal of the code stands for
+-- the plain data of a principal of the code
 abbrev pub principal : PrincipalRef → Principal
 principal code.Owner = owner
 principal (code.User name) = user name.now

@@ -4,8 +4,8 @@ use Rattle.std.specs.List.{list_any}
 use Rattle.std.specs.Str.{bytes_eq}
 use Rattle.acl_perm.specs.Principal.{Principal, owner, user, group, group_named, everyone}
 
--- an object's owner and owning group, a requesting user, and the set of groups of that user, which a list stands for:
--- only who is in it counts
+-- an object's owner and owning group, a requesting user, and the set of groups of that user; the set is given as a
+-- list, of which only the members count
 pub record Situation : Type 0 where
   pub owner_name : List ℕ
   pub owning_group : List ℕ
@@ -16,8 +16,8 @@ pub record Situation : Type 0 where
 abbrev pub is_one_of : List ℕ → List (List ℕ) → Bool
 is_one_of name names = list_any (bytes_eq name) names
 
--- the principal speaks of the requester: `OWNER@` of the object's owner, `GROUP@` of who is in the owning group, a user
--- name of that user, a group name of who is in that group, `EVERYONE@` of all, owner and group among them
+-- the principal matches the requester: `OWNER@` the object's owner, `GROUP@` a member of the owning group, a user name
+-- that user, a group name a member of that group, `EVERYONE@` everyone, also the owner and members of the group
 abbrev pub matches : Situation → Principal → Bool
 matches s owner = bytes_eq s.user_name s.owner_name
 matches s (user name) = bytes_eq s.user_name name
@@ -25,7 +25,8 @@ matches s group = is_one_of s.owning_group s.groups
 matches s (group_named name) = is_one_of name s.groups
 matches s everyone = true
 
--- a name of a situation is at least one byte; grants are asked of these, overlaps of principals of empty ones too
+-- each name of a situation has at least one byte; grants are defined for such situations, overlaps of principals also
+-- for those with empty names
 abbrev pub IsName : List ℕ → Type 0
 IsName name = (0 < length name) × All (λ b. b < 256) name
 

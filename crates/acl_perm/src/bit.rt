@@ -5,7 +5,7 @@ ghost use Rattle.acl_perm.specs.Bits.{has_bit};
 use crate::mask::Mask;
 use crate::right::Right;
 
-/// The number of a bit of masks, below 21. A loop over all bits makes `Bit { bit }` of each number below `Bit::COUNT`
+/// The number of a bit of masks, below 21. A loop over all bits makes `Bit { bit }` from each number below `Bit::COUNT`
 /// and needs no test: the bits 11 to 15, which are no rights, are in no mask.
 #[derive(Clone, Copy, Debug, PartialEq, Eq, PartialOrd, Ord, Hash)]
 pub struct Bit {
@@ -14,7 +14,7 @@ pub struct Bit {
 }
 
 impl Bit {
-    /// How many bits there are, from 0.
+    /// The number of bits.
     pub const COUNT: usize = 21;
 
     /// Returns whether the mask has the bit.

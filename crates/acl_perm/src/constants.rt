@@ -1,4 +1,4 @@
-//! What each constant is: functions that return them, for their clauses alone.
+//! Private functions that return the constants, so that their clauses can give the values.
 ghost use Rattle.std.specs.Prelude.{◌≡◌, [], ◌∷◌, map};
 ghost use Rattle.acl_perm.specs.Bits.{all_flags, all_rights};
 ghost use Rattle.acl_perm.specs.Numbers.{flags_in_order, mask_bits, flag_bits, numbers_of, perm_bits, permissions_in_order, rights_of_directories, rights_in_order};

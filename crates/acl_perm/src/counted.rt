@@ -16,7 +16,7 @@ pub struct Counted<T> {
 impl<T> Counted<T> {
     ghost use Rattle.acl_perm.specs.Counted.{counted_failures, counted_inner};
 
-    /// The reader or writer, of which no call failed yet.
+    /// Wraps a reader or a writer, with no failed call so far.
     pub fn new(inner: T) -> Counted<T>
         ensures inner { counted_inner result ≡ inner }
         ensures failures { counted_failures result ≡ 0 }
@@ -24,7 +24,7 @@ impl<T> Counted<T> {
         Counted { inner, failures: 0 }
     }
 
-    /// The reader or writer.
+    /// Returns the reader or writer.
     pub fn into_inner(self) -> T
         ensures { result ≡ counted_inner self }
     {
@@ -32,14 +32,14 @@ impl<T> Counted<T> {
         inner
     }
 
-    /// The number of calls that failed so far, which stops at `u64::MAX`.
+    /// Returns the number of calls that failed so far. The number stops at `u64::MAX`.
     pub fn failures(&self) -> u64
         ensures { result ≡ counted_failures self.now }
     {
         self.failures
     }
 
-    // Counts a call, if it failed.
+    // Counts the call if it failed.
     fn count(&mut self, has_failed: bool)
         ensures inner { counted_inner self.new ≡ counted_inner self.old }
         ensures failures { counted_failures self.new

@@ -24,7 +24,7 @@ impl Flags {
     /// New directories in the directory get the ACE.
     pub const DIRECTORY_INHERIT: Flags = Flags { bits: 0x02 };
 
-    /// What a new directory gets is handed on no further.
+    /// A new directory does not pass the ACE on.
     pub const NO_PROPAGATE_INHERIT: Flags = Flags { bits: 0x04 };
 
     /// The ACE takes no part on the object that carries it.
@@ -42,7 +42,7 @@ impl Flags {
     /// The ACE was inherited.
     pub const INHERITED: Flags = Flags { bits: 0x80 };
 
-    /// The set that a number stands for; none where it has a bit outside `0xff`.
+    /// Returns the set that a number stands for, or `None` if the number has a bit outside `0xff`.
     pub fn new(bits: u32) -> Option<Flags>
         ensures within { IsSome result ↔ IsFlags bits }
         ensures value { IfSome result (λ flags. flags.bits ≡ bits) }
@@ -54,14 +54,14 @@ impl Flags {
         }
     }
 
-    /// The number that the set stands for.
+    /// Returns the number that the set stands for.
     pub fn bits(self) -> u8
         ensures { result ≡ self.bits }
     {
         self.bits
     }
 
-    /// Whether the ACE takes no part on the object that carries it.
+    /// Returns whether the ACE takes no part on the object that carries it.
     #[tactic(auto, using(crate::proofs::Sets::flag_tests))]
     pub fn is_inherit_only(self) -> bool
         ensures { result ≡ has_bit self.bits inherit_only }
@@ -69,7 +69,7 @@ impl Flags {
         (self.bits & Flags::INHERIT_ONLY.bits) != 0
     }
 
-    /// Whether the who names a group.
+    /// Returns whether the who names a group.
     #[tactic(auto, using(crate::proofs::Sets::flag_tests))]
     pub fn is_group(self) -> bool
         ensures { result ≡ has_bit self.bits identifier_group }
@@ -77,7 +77,7 @@ impl Flags {
         (self.bits & Flags::IDENTIFIER_GROUP.bits) != 0
     }
 
-    /// The flags of either set.
+    /// Returns the flags of either set.
     #[tactic(auto, using(crate::proofs::Sets::sets))]
     pub fn union(self, other: Flags) -> Flags
         ensures meaning { IsUnion self.bits other.bits result.bits }
@@ -88,7 +88,7 @@ impl Flags {
         }
     }
 
-    /// The flags of both sets.
+    /// Returns the flags that both sets have.
     #[tactic(auto, using(crate::proofs::Sets::sets))]
     pub fn intersection(self, other: Flags) -> Flags
         ensures meaning { IsIntersection self.bits other.bits result.bits }
@@ -99,7 +99,7 @@ impl Flags {
         }
     }
 
-    /// The flags of this set that the other has not.
+    /// Returns the flags of this set that the other does not have.
     #[tactic(auto, using(crate::proofs::Sets::sets))]
     pub fn difference(self, other: Flags) -> Flags
         ensures meaning { IsDifference self.bits other.bits result.bits }
@@ -110,7 +110,7 @@ impl Flags {
         }
     }
 
-    /// Whether all flags of the other set are in this one.
+    /// Returns whether all flags of the other set are in this one.
     #[tactic(auto, using(crate::proofs::Sets::sets))]
     pub fn contains(self, other: Flags) -> bool
         ensures meaning { IsTrue result ↔ IsSubset other.bits self.bits }
@@ -159,7 +159,7 @@ impl Sub for Flags {
     }
 }
 
-/// The flags that the set has not.
+/// Returns the flags that the set does not have.
 impl Not for Flags {
     type Output = Flags;
 

@@ -1,4 +1,4 @@
-//! A device for tests, which fails after some calls.
+//! A device for tests that fails after some calls.
 ghost use Rattle.std.specs.Prelude.{◌≡◌, IfOk, min};
 ghost use Rattle.std.specs.Io.{ReadsAtMost, WritesAtMost};
 ghost use Rattle.std.specs.Io.KnownBytes.{Keeps, ReadConsumes, WriteAppends};
@@ -7,8 +7,8 @@ ghost use Rattle.acl_perm.specs.Devices.{GivesOn, fused_remaining};
 use std::io;
 use std::io::{Read, Write};
 
-/// A reader or writer that passes some calls, each of a few bytes, and then is spent: every call fails. Flushes are
-/// passed and not counted.
+/// A reader or writer that passes some calls, each of a few bytes, and then is spent: every later call fails. It passes
+/// flushes and does not count them.
 #[derive(Drop)]
 pub struct Fused<T> {
     inner: T,
@@ -19,7 +19,7 @@ pub struct Fused<T> {
 impl<T> Fused<T> {
     ghost use Rattle.acl_perm.specs.Fused.{fused_calls, fused_inner, fused_step, TakesCall};
 
-    /// Passes the first `calls` calls, each of at most `step` bytes.
+    /// Wraps a reader or writer. The first `calls` calls pass, each with at most `step` bytes.
     pub fn new(inner: T, calls: u64, step: usize) -> Fused<T>
         ensures inner { fused_inner result ≡ inner }
         ensures calls { fused_calls result ≡ calls }
@@ -28,7 +28,7 @@ impl<T> Fused<T> {
         Fused { inner, calls, step }
     }
 
-    /// The reader or writer.
+    /// Returns the reader or writer.
     pub fn into_inner(self) -> T
         ensures { result ≡ fused_inner self }
     {
@@ -40,7 +40,7 @@ impl<T> Fused<T> {
         inner
     }
 
-    /// Takes a call of `len` bytes: how many of them it may pass.
+    /// Takes a call of `len` bytes, and returns how many of them it may pass.
     fn take_call(&mut self, len: usize) -> io::Result<usize>
         ensures room { IfOk result (λ room. room ≡ min (fused_step self.old) len) }
         ensures inner { fused_inner self.new ≡ fused_inner self.old }

@@ -1,4 +1,4 @@
-//! What the crates of this repository share, and no promise to others: it may change or go without notice.
+//! What the crates of this repository share. It is no promise to other users, and may change or go without notice.
 
 pub use crate::bit::Bit;
 pub use crate::lines::{Piece, before_mark, cut_line, is_all_blank, trimmed};

@@ -8,14 +8,14 @@ use std::fmt;
 /// Whether an NFSv4 ACE denies or allows (RFC 8881, section 6.2.1.1).
 #[derive(Clone, Copy, Debug, PartialEq, Eq, PartialOrd, Ord, Hash)]
 pub enum Kind {
-    /// The rights of the ACE are refused to whom it speaks of.
+    /// The ACE denies its rights to the principal that it names.
     Deny,
-    /// The rights of the ACE are given to whom it speaks of.
+    /// The ACE allows its rights to the principal that it names.
     Allow,
 }
 
 impl Kind {
-    /// The other type.
+    /// Returns the other type.
     pub fn other(self) -> Kind
         ensures { result ≡ other_kind self }
     {
@@ -25,7 +25,7 @@ impl Kind {
         }
     }
 
-    /// Whether the type is ALLOW.
+    /// Returns whether the type is ALLOW.
     pub fn is_allow(self) -> bool
         ensures { result ≡ is_allow self }
     {
@@ -36,7 +36,7 @@ impl Kind {
     }
 }
 
-/// `ALLOW` or `DENY`.
+/// Writes `ALLOW` or `DENY`.
 impl fmt::Display for Kind {
     ghost output = { λ kind. Some (kind_name kind) };
 

@@ -1,4 +1,4 @@
-//! What every access control list here is made of, and sources and sinks of bytes that count their failures.
+//! What all access control lists here are made of, and sources and sinks of bytes that count their failures.
 #![tactic(auto)]
 
 mod bit;

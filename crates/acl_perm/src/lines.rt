@@ -24,7 +24,7 @@ pub struct Piece<'a> {
 }
 
 impl<'a> Piece<'a> {
-    /// The whole of a line.
+    /// Makes a piece of the whole line.
     pub fn whole(line: &'a [u8]) -> Piece<'a>
         ensures value { span_of result ≡ record { column = 1; bytes = line.now } }
         ensures fits { result.column + length result.bytes.now < 2 ^ 64 }
@@ -35,7 +35,7 @@ impl<'a> Piece<'a> {
         }
     }
 
-    /// The part before the first separator, and what stands behind it where there is one.
+    /// Returns the part before the first separator, and the part behind it if there is a separator.
     pub fn cut(self, separator: u8) -> (Piece<'a>, Option<Piece<'a>>)
         requires { self.column + length self.bytes.now < 2 ^ 64 }
         ensures parts { IsCut separator (span_of self.entry) result }
@@ -56,7 +56,8 @@ impl<'a> Piece<'a> {
         }
     }
 
-    /// The column of the first byte that is no blank, and where there is none that of the byte after the piece.
+    /// Returns the column of the first byte that is not a blank. If there is none, returns the column of the byte after
+    /// the piece.
     pub fn start(self) -> usize
         requires { self.column + length self.bytes.now < 2 ^ 64 }
         ensures { result ≡ start_of (span_of self.entry) }
@@ -65,7 +66,7 @@ impl<'a> Piece<'a> {
     }
 }
 
-/// The first line without its line feed, and what stands behind that.
+/// Returns the first line without its line feed, and the text behind the line feed.
 pub fn cut_line(text: &[u8]) -> (&[u8], Option<&[u8]>)
     ensures parts { IsLineCut text.now result }
 {
@@ -75,14 +76,14 @@ pub fn cut_line(text: &[u8]) -> (&[u8], Option<&[u8]>)
     }
 }
 
-/// Whether there is no byte but blanks.
+/// Returns whether all bytes are blanks.
 pub fn is_all_blank(bytes: &[u8]) -> bool
     ensures { result ≡ is_all_blank bytes.now }
 {
     bytes.iter().all(|b| is_blank(*b))
 }
 
-/// The bytes without the blanks at both ends.
+/// Returns the bytes without the blanks at both ends.
 pub fn trimmed(bytes: &[u8]) -> &[u8]
     ensures { result.now ≡ trimmed bytes.now }
 {
@@ -118,7 +119,7 @@ fn is_blank(b: u8) -> bool
     b == b' ' || b == b'\t'
 }
 
-/// The bytes before the first mark, or all of them.
+/// Returns the bytes before the first mark, or all of them if there is no mark.
 pub fn before_mark(bytes: &[u8], mark: u8) -> &[u8]
     ensures { result.now ≡ before_mark mark bytes.now }
 {

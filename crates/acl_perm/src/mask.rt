@@ -78,7 +78,7 @@ impl Mask {
     /// Use the object as something to wait on.
     pub const SYNCHRONIZE: Mask = Mask { bits: 0x0010_0000 };
 
-    /// The set that a number stands for; none where it has a bit outside `0x001f07ff`.
+    /// Returns the set that a number stands for, or `None` if the number has a bit outside `0x001f07ff`.
     pub fn new(bits: u32) -> Option<Mask>
         ensures within { IsSome result ↔ IsMask bits }
         ensures value { IfSome result (λ mask. mask.bits ≡ bits) }
@@ -90,7 +90,7 @@ impl Mask {
         }
     }
 
-    /// The number that the set stands for.
+    /// Returns the number that the set stands for.
     pub fn bits(self) -> u32
         ensures value { result ≡ self.bits }
         ensures within { IsMask result }
@@ -98,7 +98,7 @@ impl Mask {
         self.bits
     }
 
-    /// The rights of either set.
+    /// Returns the rights of either set.
     #[tactic(auto, using(crate::proofs::Sets::sets))]
     pub fn union(self, other: Mask) -> Mask
         ensures meaning { IsUnion self.bits other.bits result.bits }
@@ -109,7 +109,7 @@ impl Mask {
         }
     }
 
-    /// The rights of both sets.
+    /// Returns the rights that both sets have.
     #[tactic(auto, using(crate::proofs::Sets::sets))]
     pub fn intersection(self, other: Mask) -> Mask
         ensures meaning { IsIntersection self.bits other.bits result.bits }
@@ -120,7 +120,7 @@ impl Mask {
         }
     }
 
-    /// The rights of this set that the other has not.
+    /// Returns the rights of this set that the other does not have.
     #[tactic(auto, using(crate::proofs::Sets::sets))]
     pub fn difference(self, other: Mask) -> Mask
         ensures meaning { IsDifference self.bits other.bits result.bits }
@@ -131,7 +131,7 @@ impl Mask {
         }
     }
 
-    /// Whether all rights of the other set are in this one.
+    /// Returns whether all rights of the other set are in this one.
     #[tactic(auto, using(crate::proofs::Sets::sets))]
     pub fn contains(self, other: Mask) -> bool
         ensures meaning { IsTrue result ↔ IsSubset other.bits self.bits }
@@ -140,7 +140,7 @@ impl Mask {
         (self.bits & other.bits) == other.bits
     }
 
-    /// Whether the right is in this set.
+    /// Returns whether the right is in this set.
     pub fn has(self, right: Right) -> bool
         ensures { result ≡ has_bit self.bits right.bit }
     {
@@ -187,7 +187,7 @@ impl Sub for Mask {
     }
 }
 
-/// The rights that the set has not.
+/// Returns the rights that the set does not have.
 impl Not for Mask {
     type Output = Mask;
 

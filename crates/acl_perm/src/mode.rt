@@ -9,8 +9,8 @@ use crate::perm::Perm;
 use std::fmt;
 use std::ops::{BitAnd, BitOr, Not, Sub};
 
-/// The nine file mode bits: of the owner, the group and others, each as read 4, write 2, execute 1 (POSIX.1e
-/// draft 17, section 23.1.3).
+/// The nine file mode bits: those of the owner, of the group and of others, each with read 4, write 2 and execute 1
+/// (POSIX.1e draft 17, section 23.1.3).
 #[derive(Clone, Copy, Debug, PartialEq, Eq, PartialOrd, Ord, Hash)]
 pub struct Mode {
     pub bits: u16,
@@ -24,7 +24,7 @@ impl Mode {
     /// The nine bits together.
     pub const ALL: Mode = Mode { bits: 0o777 };
 
-    /// The set that a number stands for; none above `0o777`.
+    /// Returns the set that a number stands for, or `None` if the number is above `0o777`.
     pub fn new(bits: u16) -> Option<Mode>
         ensures within { IsSome result ↔ (bits < 512) }
         ensures value { IfSome result (λ mode. mode.bits ≡ bits) }
@@ -36,7 +36,7 @@ impl Mode {
         }
     }
 
-    /// The number that the set stands for.
+    /// Returns the number that the set stands for.
     pub fn bits(self) -> u16
         ensures value { result ≡ self.bits }
         ensures within { result < 512 }
@@ -44,7 +44,7 @@ impl Mode {
         self.bits
     }
 
-    /// The mode of the permissions of the owner, the group and others.
+    /// Returns the mode with these permissions of the owner, the group and others.
     pub fn from_parts(owner: Perm, group: Perm, others: Perm) -> Mode
         ensures { result.bits ≡ mode_of_parts owner.bits group.bits others.bits }
     {
@@ -53,7 +53,7 @@ impl Mode {
         }
     }
 
-    /// The permissions of the owner.
+    /// Returns the permissions of the owner.
     pub fn owner(self) -> Perm
         ensures { result.bits ≡ owner_part self.bits }
     {
@@ -62,7 +62,7 @@ impl Mode {
         }
     }
 
-    /// The permissions of the group.
+    /// Returns the permissions of the group.
     pub fn group(self) -> Perm
         ensures { result.bits ≡ group_part self.bits }
     {
@@ -71,7 +71,7 @@ impl Mode {
         }
     }
 
-    /// The permissions of others.
+    /// Returns the permissions of others.
     pub fn others(self) -> Perm
         ensures { result.bits ≡ others_part self.bits }
     {
@@ -80,7 +80,7 @@ impl Mode {
         }
     }
 
-    /// The bits of either set.
+    /// Returns the bits of either set.
     #[tactic(auto, using(crate::proofs::Sets::sets))]
     pub fn union(self, other: Mode) -> Mode
         ensures meaning { IsUnion self.bits other.bits result.bits }
@@ -91,7 +91,7 @@ impl Mode {
         }
     }
 
-    /// The bits of both sets.
+    /// Returns the bits that both sets have.
     #[tactic(auto, using(crate::proofs::Sets::sets))]
     pub fn intersection(self, other: Mode) -> Mode
         ensures meaning { IsIntersection self.bits other.bits result.bits }
@@ -102,7 +102,7 @@ impl Mode {
         }
     }
 
-    /// The bits of this set that the other has not.
+    /// Returns the bits of this set that the other does not have.
     #[tactic(auto, using(crate::proofs::Sets::sets))]
     pub fn difference(self, other: Mode) -> Mode
         ensures meaning { IsDifference self.bits other.bits result.bits }
@@ -113,7 +113,7 @@ impl Mode {
         }
     }
 
-    /// Whether all bits of the other set are in this one.
+    /// Returns whether all bits of the other set are in this one.
     #[tactic(auto, using(crate::proofs::Sets::sets))]
     pub fn contains(self, other: Mode) -> bool
         ensures meaning { IsTrue result ↔ IsSubset other.bits self.bits }
@@ -162,7 +162,7 @@ impl Sub for Mode {
     }
 }
 
-/// The bits that the set has not.
+/// Returns the bits that the set does not have.
 impl Not for Mode {
     type Output = Mode;
 
@@ -176,7 +176,7 @@ impl Not for Mode {
     }
 }
 
-/// Three octal digits: of the owner, the group and others.
+/// Writes three octal digits: those of the owner, of the group and of others.
 impl fmt::Display for Mode {
     ghost output = { λ mode. Some (mode_text mode.bits) };
 

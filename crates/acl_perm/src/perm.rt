@@ -31,7 +31,7 @@ impl Perm {
     /// Read, write and execute.
     pub const ALL: Perm = Perm { bits: 7 };
 
-    /// The set that a number stands for; none above 7.
+    /// Returns the set that a number stands for, or `None` if the number is above 7.
     pub fn new(bits: u8) -> Option<Perm>
         ensures within { IsSome result ↔ (bits < 8) }
         ensures value { IfSome result (λ perm. perm.bits ≡ bits) }
@@ -39,7 +39,7 @@ impl Perm {
         if bits < 8 { Some(Perm { bits }) } else { None }
     }
 
-    /// The number that the set stands for.
+    /// Returns the number that the set stands for.
     pub fn bits(self) -> u8
         ensures value { result ≡ self.bits }
         ensures within { result < 8 }
@@ -47,7 +47,7 @@ impl Perm {
         self.bits
     }
 
-    /// The permissions of either set.
+    /// Returns the permissions of either set.
     #[tactic(auto, using(crate::proofs::Sets::sets))]
     pub fn union(self, other: Perm) -> Perm
         ensures meaning { IsUnion self.bits other.bits result.bits }
@@ -58,7 +58,7 @@ impl Perm {
         }
     }
 
-    /// The permissions of both sets.
+    /// Returns the permissions that both sets have.
     #[tactic(auto, using(crate::proofs::Sets::sets))]
     pub fn intersection(self, other: Perm) -> Perm
         ensures meaning { IsIntersection self.bits other.bits result.bits }
@@ -69,7 +69,7 @@ impl Perm {
         }
     }
 
-    /// The permissions of this set that the other has not.
+    /// Returns the permissions of this set that the other does not have.
     #[tactic(auto, using(crate::proofs::Sets::sets))]
     pub fn difference(self, other: Perm) -> Perm
         ensures meaning { IsDifference self.bits other.bits result.bits }
@@ -80,7 +80,7 @@ impl Perm {
         }
     }
 
-    /// Whether all permissions of the other set are in this one.
+    /// Returns whether all permissions of the other set are in this one.
     #[tactic(auto, using(crate::proofs::Sets::sets))]
     pub fn contains(self, other: Perm) -> bool
         ensures meaning { IsTrue result ↔ IsSubset other.bits self.bits }
@@ -129,7 +129,7 @@ impl Sub for Perm {
     }
 }
 
-/// The permissions that the set has not.
+/// Returns the permissions that the set does not have.
 impl Not for Perm {
     type Output = Perm;
 
@@ -143,7 +143,7 @@ impl Not for Perm {
     }
 }
 
-/// `r`, `w` and `x`, and `-` where one is absent.
+/// Writes `r`, `w` and `x`, with `-` in place of each that is absent.
 impl fmt::Display for Perm {
     ghost output = { λ perm. Some (perm_text perm.bits) };
 

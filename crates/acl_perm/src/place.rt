@@ -1,11 +1,11 @@
-//! The first place of a byte, which is looked for among many bytes at once.
+//! Finds the first place of a byte, by looking at many bytes at once.
 ghost use Rattle.std.specs.Prelude.{◌≡◌, ◌≤◌, ◌<◌, ◌+◌, ◌==◌, length, position};
 ghost use Rattle.std.specs.List.{position_or_len};
 ghost use Rattle.acl_perm.specs.internal.Places.{IsPlaceIn};
 
 use std::simd::prelude::*;
 
-/// The first place of a byte, where it stands among these.
+/// Returns the first place of a byte, if it is among these bytes.
 pub fn place_of(bytes: &[u8], wanted: u8) -> Option<usize>
     ensures { result ≡ position (λ b. b == wanted) bytes.now }
 {
@@ -18,7 +18,8 @@ pub fn place_of(bytes: &[u8], wanted: u8) -> Option<usize>
     if place < len { Some(place) } else { None }
 }
 
-// The first place of 8 to 16 bytes, or their number: among the first eight, and then the last.
+// Returns the first place in 8 to 16 bytes, or the number of bytes: looks at the first eight, and then at the last
+// eight.
 #[inline(always)]
 fn place_in_short(bytes: &[u8], wanted: u8) -> usize
     requires least { 8 ≤ length bytes.now }
@@ -33,7 +34,8 @@ fn place_in_short(bytes: &[u8], wanted: u8) -> usize
     last + place_in::<8>(bytes, last, wanted)
 }
 
-// The first place of 16 bytes and more, or their number: sixteen at a time, and then the last sixteen.
+// Returns the first place in 16 bytes or more, or the number of bytes: looks at sixteen at a time, and then at the last
+// sixteen.
 #[inline(always)]
 fn place_in_long(bytes: &[u8], wanted: u8) -> usize
     requires { 16 ≤ length bytes.now }
@@ -51,7 +53,7 @@ fn place_in_long(bytes: &[u8], wanted: u8) -> usize
     last + place_in::<16>(bytes, last, wanted)
 }
 
-// Which of the N bytes from there on is the first that is wanted, or N.
+// Returns which of the N bytes from there on is the first that is wanted, or N.
 #[inline(always)]
 fn place_in<const N: usize>(bytes: &[u8], at: usize, wanted: u8) -> usize
     requires lanes { N ≤ 64 }

@@ -12,25 +12,25 @@ ghost use Rattle.acl_perm.specs.Overlap.{Overlap, may_overlap};
 use std::cmp::Ordering;
 use std::hash::{Hash, Hasher};
 
-/// Whom an NFSv4 ACE names (RFC 8881, section 6.2.1.5): the object's owner, a user, who is in the object's owning
-/// group, who is in a group, or all. Names are compared as bytes; user names and group names are apart. The order is
-/// that of the variants, and then of the names.
+/// The principal that an NFSv4 ACE names (RFC 8881, section 6.2.1.5): the object's owner, a user, the members of the
+/// object's owning group, the members of a group, or everyone. Names are compared as bytes, and user names and group
+/// names are separate. The order is that of the variants, and then that of the names.
 #[derive(Clone, Copy, Debug)]
 pub enum Principal<'a> {
     /// `OWNER@`: the object's owner.
     Owner,
     /// A who without IDENTIFIER_GROUP: the user of this name.
     User(&'a [u8]),
-    /// `GROUP@`: who is in the object's owning group.
+    /// `GROUP@`: the members of the object's owning group.
     Group,
-    /// A who with IDENTIFIER_GROUP: who is in the group of this name.
+    /// A who with IDENTIFIER_GROUP: the members of the group of this name.
     GroupNamed(&'a [u8]),
-    /// `EVERYONE@`: all, the owner and the owning group among them.
+    /// `EVERYONE@`: everyone, also the owner and the members of the owning group.
     Everyone,
 }
 
 impl<'a> Principal<'a> {
-    /// Whether the principal is a user name.
+    /// Returns whether the principal is a user name.
     pub fn is_user(&self) -> bool
         ensures { result ≡ is_user (principal self.now) }
     {
@@ -40,7 +40,7 @@ impl<'a> Principal<'a> {
         }
     }
 
-    /// Whether the principal is `EVERYONE@`.
+    /// Returns whether the principal is `EVERYONE@`.
     pub fn is_everyone(&self) -> bool
         ensures { result ≡ is_everyone (principal self.now) }
     {
@@ -50,7 +50,8 @@ impl<'a> Principal<'a> {
         }
     }
 
-    /// The place in the order before names are compared, from 0 for `OWNER@` to 4 for `EVERYONE@` (this library's own).
+    /// Returns the place in the order before names are compared, from 0 for `OWNER@` to 4 for `EVERYONE@` (this
+    /// library's own).
     pub fn rank(&self) -> u8
         ensures { result ≡ principal_rank (principal self.now) }
     {
@@ -63,7 +64,8 @@ impl<'a> Principal<'a> {
         }
     }
 
-    /// The name of the user or of the group. `OWNER@`, `GROUP@` and `EVERYONE@` have none, and the name is empty.
+    /// Returns the name of the user or of the group. For `OWNER@`, `GROUP@` and `EVERYONE@`, which have no name, it is
+    /// empty.
     pub fn name(&self) -> &'a [u8]
         ensures { result.now ≡ principal_name (principal self.now) }
     {
@@ -134,11 +136,11 @@ impl<'a> Hash for Principal<'a> {
     }
 }
 
-/// Whether two principals can speak of one requester: any two can, but two users of different names.
+/// Returns whether one requester can match both principals. This is so unless they are two users of different names.
 pub fn overlaps(p: Principal<'_>, q: Principal<'_>) -> bool
-    // Some situation, whose names may be empty, matches both.
+    // Some situation matches both. Its names may be empty.
     ensures meaning { IsTrue result ↔ Overlap (principal p.entry) (principal q.entry) }
-    // The test by cases.
+    // The same as a test by cases.
     ensures value { result ≡ may_overlap (principal p.entry) (principal q.entry) }
 {
     match (p, q) {

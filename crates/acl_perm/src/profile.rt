@@ -19,14 +19,14 @@ impl Profile {
         flags: Flags::ALL,
     };
 
-    /// The rights and flags without WRITE_RETENTION, WRITE_RETENTION_HOLD and INHERITED_ACE, which not every server
-    /// knows (this library's own choice).
+    /// The rights and flags without WRITE_RETENTION, WRITE_RETENTION_HOLD and INHERITED_ACE, which some servers do not
+    /// know (this library's own choice).
     pub const NARROW: Profile = Profile {
         masks: Mask { bits: 0x001f_01ff },
         flags: Flags { bits: 0x7f },
     };
 
-    /// The profile of these rights and flags.
+    /// Returns the profile of these rights and flags.
     pub fn new(masks: Mask, flags: Flags) -> Profile
         ensures { profile_of result ≡ record { masks = masks.bits; flags = flags.bits } }
     {

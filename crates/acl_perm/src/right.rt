@@ -7,8 +7,8 @@ use crate::bit::Bit;
 use crate::mask::Mask;
 use std::fmt;
 
-/// One of the sixteen access rights of an NFSv4 ACE, as the number of its bit: 0 to 10, or 16 to 20 (RFC 8881,
-/// section 6.2.1.3.1). The order is that of the numbers.
+/// One of the sixteen access rights of an NFSv4 ACE, as the number of its bit: 0 to 10, or 16 to 20 (RFC 8881, section
+/// 6.2.1.3.1). Rights are ordered by their numbers.
 #[derive(Clone, Copy, Debug, PartialEq, Eq, PartialOrd, Ord, Hash)]
 pub struct Right {
     pub bit: usize,
@@ -16,10 +16,10 @@ pub struct Right {
 }
 
 impl Right {
-    /// One more than the greatest number of a right. It is no count of the rights, of which there are sixteen.
+    /// One more than the greatest number of a right. It is not the number of rights, which is sixteen.
     pub const COUNT: usize = 21;
 
-    /// Returns the right of a bit. Returns `None` if the number is not that of one of the sixteen rights.
+    /// Returns the right of a bit, or `None` if the number is not that of one of the sixteen rights.
     #[tactic(auto, using(crate::proofs::Sets::right_below))]
     pub fn new(bit: usize) -> Option<Right>
         ensures within { IsSome result ↔ IsTrue (has_bit all_rights bit) }
@@ -60,13 +60,13 @@ impl Right {
             17 => "READ_ACL",
             18 => "WRITE_ACL",
             19 => "WRITE_OWNER",
-            // The bit is 20: no other is left of the sixteen.
+            // The bit is 20: it is the only right that is left.
             _ => "SYNCHRONIZE",
         }
     }
 }
 
-/// The name of the right.
+/// Writes the name of the right.
 impl fmt::Display for Right {
     ghost output = { λ right. right_name right.bit };
 

@@ -11,7 +11,7 @@ use std::marker::Model;
 #[derive(Clone, Debug, Drop)]
 pub struct Rights {
     mask: Mask,
-    // The bits below this one have been given.
+    // The iterator has given all bits below this one.
     from: usize,
 }
 
@@ -63,7 +63,7 @@ impl Mask {
 impl From<Right> for Mask {
     ghost from_gives = { λ right mask. mask.bits ≡ 2 ^ right.bit };
 
-    /// Returns the set of this right alone.
+    /// Returns the set that has this right alone.
     fn from(right: Right) -> Mask {
         Mask {
             bits: 1 << right.bit,

@@ -1,4 +1,4 @@
-//! Whole reads and whole writes.
+//! Reads and writes of whole texts.
 ghost use Rattle.std.specs.Prelude.{◌≡◌, ◌<◌, ◌≤◌, IfErr, IfNone, IfOk, IfSome, OnErr, OnOk, OnSome, length, take};
 ghost use Rattle.std.specs.Io.KnownBytes.{Appends, IsAtEnd, Keeps};
 ghost use Rattle.acl_perm.specs.Devices.{one_more};
@@ -8,20 +8,20 @@ use crate::devices::{Sink, Source};
 use std::alloc::{AllocError, Global};
 use thiserror::Error;
 
-/// A write failed after `written` bytes, which are a beginning of the text that the call was to write.
+/// A write failed after `written` bytes. These are the first bytes of the text that the call was to write.
 #[derive(Clone, Copy, Debug, PartialEq, Eq, Error)]
 #[error("write failed after {written} bytes")]
 pub struct WriteFault {
     pub written: u64,
 }
 
-/// Why an input could not be read whole.
+/// Why an input could not be read to its end.
 #[derive(Clone, Copy, Debug, PartialEq, Eq, Error)]
 pub enum ReadFault {
     /// A pull failed.
     #[error("read failed")]
     Read,
-    /// There is no memory for what was read.
+    /// Memory ran out for the bytes that were read.
     #[error("out of memory")]
     Memory,
 }
@@ -36,7 +36,7 @@ impl From<AllocError> for ReadFault {
     }
 }
 
-/// Writes all of `bytes`. The first put that fails, or takes no byte, ends it; nothing is tried again.
+/// Writes all of `bytes`. It ends at the first put that fails or takes no byte, and tries nothing again.
 pub fn put_all<S: Sink>(sink: &mut S, bytes: &[u8]) -> Result<(), WriteFault>
     ensures { Writes S.contents S.failure_count sink.old sink.new bytes.now result }
 {
@@ -55,7 +55,7 @@ pub fn put_all<S: Sink>(sink: &mut S, bytes: &[u8]) -> Result<(), WriteFault>
     Ok(())
 }
 
-// One put of some bytes: how many went out, or `None` where it failed.
+// Puts some bytes once, and returns how many went out, or `None` if the put failed.
 fn put_piece<S: Sink>(sink: &mut S, bytes: &[u8]) -> Option<usize>
     requires { 0 < length bytes.now }
     ensures some { IfSome result (λ count. (0 < count) × (count ≤ length bytes.now)) }
@@ -73,11 +73,11 @@ fn put_piece<S: Sink>(sink: &mut S, bytes: &[u8]) -> Option<usize>
     }
 }
 
-// How many bytes a pull asks for: few pulls for a large input, and a small part of the stack.
+// How many bytes a pull asks for: enough that a large input takes few pulls, and a small part of the stack.
 const PIECE: usize = 16384;
 
-/// Reads to the end. The first pull that fails ends it; nothing is tried again. Over a source that never ends it
-/// answers `Memory` when what was read can't grow.
+/// Reads to the end. It ends at the first pull that fails, and tries nothing again. For a source that never ends it
+/// returns `Memory` when the buffer cannot grow further.
 pub fn read_all<S: Source>(alloc: Global, source: &mut S) -> Result<Vec<u8>, ReadFault>
     ensures ok { IfOk result (λ bytes.
         IfSome (S.remaining source.old) (λ input. bytes.items ≡ input)) }

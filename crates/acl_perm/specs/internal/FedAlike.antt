@@ -1,5 +1,5 @@
--- Principals that compare equal are fed alike to a hasher (this library's own). The proof stands here since `Hash` of
--- the code cites it, and code can cite what stands in specs/ alone.
+-- Principals that compare equal are fed alike to a hasher (this library's own). The proof is here because `Hash` of the
+-- code cites it, and code can cite only what is in specs/.
 use Rattle.std.proofs.Common.{◌≡◌, refl, ap, arith}
 use Rattle.std.specs.Prelude.{true}
 use Rattle.std.specs.declared.cmp.Ordering.{Ordering}
@@ -12,7 +12,7 @@ use Rattle.acl_perm.specs.Principal.{Principal, owner, user, group, group_named,
 use Rattle.acl_perm.specs.Order.{principal_rank, principal_name, principal_cmp}
 use Rattle.acl_perm.specs.Hashing.{principal_writes}
 
--- two orders one after the other find equal what both find equal
+-- things that are equal in two orders, one used after the other, are equal in each of them
 pub then_equal : (a b : Ordering) → ordering_then a b ≡ Equal → (a ≡ Equal) × (b ≡ Equal)
 then_equal Less b h = absurd cc
 then_equal Equal b h = (refl, h)
@@ -41,6 +41,6 @@ is_equal Less h = absurd cc
 is_equal Equal h = refl
 is_equal Greater h = absurd cc
 
--- principals that compare equal are fed alike
+-- principals that compare equal are fed alike to a hasher
 pub principal_alike : Alike (eq_by_cmp principal_cmp) principal_writes
 principal_alike = record { fed = λ p q h. ap principal_writes (principal_exact p q (is_equal (principal_cmp p q) h)) }

@@ -1,4 +1,4 @@
--- The rights of a mask that are left to give (this library's own).
+-- The rights of a mask that are not given yet (this library's own).
 use Rattle.std.specs.Prelude.{ℕ, ◌-◌, List, filter}
 use Rattle.std.specs.List.{range_with_len}
 use Rattle.acl_perm.specs.Bits.{has_bit}

@@ -1,5 +1,5 @@
--- How a definition goes on with the value of a step before it, or ends with that step's fault: what `do` stands for in
--- the definitions of all crates (this library's own).
+-- How a definition continues with the value of a step before it, or ends with the fault of that step: the meaning of
+-- `do` in the definitions of all crates (this library's own).
 use Rattle.std.specs.Prelude.{Result, Ok, Err}
 
 infixl 10 ◌>>=◌

@@ -1,5 +1,5 @@
--- Principals and keys are totally ordered (this library's own). The proofs stand here since `Ord` of the code cites
--- them, and code can cite what stands in specs/ alone.
+-- Principals and keys are totally ordered (this library's own). The proofs are here because `Ord` of the code cites
+-- them, and code can cite only what is in specs/.
 use Rattle.std.specs.Cmp.{IsTotalOrder, then_total, on_total, nat_cmp_total}
 use Rattle.std.specs.Cmp.Lexicographic.{nat_list_cmp_total}
 use Rattle.acl_perm.specs.Order.{Key, key_cmp, kind_rank, principal_cmp, principal_name, principal_rank}
