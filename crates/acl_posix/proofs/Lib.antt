@@ -1,6 +1,7 @@
 pub mod Tags
 pub mod Lookups
 pub mod Repeats
+pub mod Packings
 pub mod Faults
 pub mod Changes
 pub mod OneEntry

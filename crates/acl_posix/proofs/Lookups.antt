@@ -105,7 +105,8 @@ any_tag p E es same = ap (λ (ps : List (Tag × ℕ)). list_any p (tags ps)) (sy
 
 -- ---- what a binary search says
 
-turned : (a b : Tag) → tag_cmp a b ≡ Less → is_lt (tag_cmp b a) ≡ false
+-- a tag that is less than another is not greater
+pub turned : (a b : Tag) → tag_cmp a b ≡ Less → is_lt (tag_cmp b a) ≡ false
 turned a b h = rw (tags_total.antisymm b a, h) refl
 
 up : (es : List Entry) → IsSorted (pairs es) → IsSortedBy (λ (a b : Entry). is_lt (code_cmp a.tag b.tag)) es

@@ -1,9 +1,7 @@
 -- Entries that go into a map one by one: the map's set, and the first tag that stands twice; and what a list in
 -- canonical order is.
 use Rattle.std.proofs.Common.{◌≡◌, ℕ, zero, suc, ◌+◌, ◌-◌, ◌<◌, ◌≤◌, true, false, cond, List, [], ◌∷◌, ◌++◌, length, get_or, take, Some, refl, sym, ap, ◌∙◌, subst, arith, inl, inr}
-use Rattle.std.specs.Prelude.{map, is_some}
-use Rattle.std.specs.List.{AllByRecursion}
-use Rattle.std.specs.List.Sorted.{IsStrictlySortedBy}
+use Rattle.std.specs.Prelude.{is_some}
 use Rattle.std.specs.Map.{lookup}
 use Rattle.std.specs.BTreeMap.{is_at, insert_entry}
 use Rattle.std.specs.Ordering.{is_lt, eq_by_cmp, match_ordering}
@@ -11,7 +9,7 @@ use Rattle.std.specs.declared.cmp.Ordering.TheVariants.{Less, Equal, Greater}
 use Rattle.std.specs.Cmp.{eq_by_cmp_equiv}
 use Rattle.std.proofs.lemmas.Cmp.{tied_itself}
 use Rattle.std.proofs.lemmas.Bool.{cases_lt}
-use Rattle.std.proofs.lemmas.List.{get_or_default, take_more, take_all, get_or-map, length-map}
+use Rattle.std.proofs.lemmas.List.{get_or_default, take_more, get_or-map, length-map}
 use Rattle.std.proofs.lemmas.Map.Keys.{Less-from_sorted, sorted_from_all_adjacent}
 use Rattle.std.specs.FinMap.{find, get, insert, get-from_entries, get-insert, from_entries_push, same_map}
 use Rattle.acl_perm.proofs.Orders.{is_less}
@@ -68,19 +66,6 @@ set_inserted es t p = same_map tags_total exact_tags _ _ (λ q.
     get-from_entries tags_total (map_pairs (insert_entry code_cmp es t p)) q ∙ find_inserted es t p q
     ∙ sym (get-insert tags_total (as_set (map_pairs es)) (tag_of t) p.bits q
     ∙ ap (cond (eq_by_cmp tag_cmp q (tag_of t)) (Some p.bits)) (get-from_entries tags_total (map_pairs es) q)))
-
--- tags of the code in order are tags in order
-below_tags : (t : TagOfCode) (es : List (TagOfCode × Perm)) → AllByRecursion (λ y. code_cmp t y ≡ Less)
-    (map (λ e. e.0) es) → AllByRecursion (λ y. tag_cmp (tag_of t) y ≡ Less) (tags (map_pairs es))
-below_tags t [] h = tt
-below_tags t (e ∷ es) h = (h.0, below_tags t es h.1)
-
--- the entries of a map in the order of the code are in canonical order
-pub sorted_tags : (es : List (TagOfCode × Perm)) → IsStrictlySortedBy code_cmp (map (λ e. e.0) es)
-    → IsSorted (map_pairs es)
-unfolding IsStrictlySortedBy
-sorted_tags [] h = tt
-sorted_tags (e ∷ es) h = (below_tags e.0 es h.0, sorted_tags es h.1)
 
 -- ---- which tag stands before
 
@@ -166,14 +151,10 @@ collected_repeat ps i l found lt at so_far was =
       first = so_far.distinct;
     }
 
--- after the last entry the map has the set of the list, in which nothing stands twice
+-- where the last entry is collected, nothing stands twice
 pub collected_all : (ps : List (Tag × ℕ)) (i : ℕ) (found : List (Tag × ℕ)) → length ps ≤ i → IsCollected ps i found
-    → (as_set found ≡ as_set ps) × IsDistinct ps
-collected_all ps i found le so_far = (
-  so_far.set ∙ ap as_set (take_all i ps le),
-  λ place lt. so_far.distinct place
-      (omega arith),
-)
+    → IsDistinct ps
+collected_all ps i found le so_far place lt = so_far.distinct place (omega (arith, lt, le))
 
 -- ---- the same, of the entries themselves
 
@@ -207,14 +188,6 @@ entry_repeat es i e old lt read so_far was =
     let at = tag_here es i e lt read in
     repeat_fault_is (pairs es) (tag_of e.tag) i at (collected_repeat (pairs es) i (tag_of e.tag) (map_pairs old)
     (within es i lt) at so_far (sym (found_again old e.tag) ∙ was))
-
--- a repeat is no fault of a list without one
-pub distinct_fault : (ps : List (Tag × ℕ)) (l : Tag) (i : ℕ) → IsFaultOf ps (repeat_fault l i) → IsDistinct ps → ⊥
-distinct_fault ps l i is distinct =
-    elim (is_named l) as (λ b. IsFaultOf ps (cond b (Duplicate i) (Multi i)) → ⊥) [
-      | true ↦ λ h. distinct i h.0.in_range h.0.repeats
-      | false ↦ λ h. distinct i h.0.in_range h.0.repeats
-    ] is
 
 -- ---- a list that stands in canonical order
 

@@ -6,12 +6,12 @@ use Rattle.acl_posix.specs.declared.id.Id.{Id}
 use Rattle.acl_posix.specs.Tag.{Tag, user_obj, user, group_obj, group, mask, other}
 use Rattle.acl_posix.specs.Entries.{Entries}
 
--- whose the object is: its owner and its owning group
+-- the owner and the owning group of the object
 pub record Object : Type 0 where
   pub user : ℕ
   pub group : ℕ
 
--- who asks: a user, and the groups that the user is in
+-- who requests access: a user, and the groups of that user
 pub record Requester : Type 0 where
   pub user : ℕ
   pub groups : List ℕ
@@ -37,7 +37,7 @@ entry_contains entries tag request = is_contained (set.get entries tag) request
 abbrev pub is_member : ℕ → List ℕ → Bool
 is_member id groups = list_any (λ one. one == id) groups
 
--- the entry matches: GROUP_OBJ where the owning group is a group of the requester, GROUP where its qualifier is
+-- the entry matches: GROUP_OBJ if the owning group is a group of the requester, GROUP if its qualifier is
 abbrev pub matches : ℕ → List ℕ → Tag → Bool
 matches owning_group groups user_obj = false
 matches owning_group groups (user id) = false
@@ -50,20 +50,20 @@ matches owning_group groups other = false
 abbrev pub any_matches : Entries → ℕ → List ℕ → Bool
 any_matches entries owning_group groups = list_any (λ entry. matches owning_group groups entry.0) (set.entries entries)
 
--- some entry matches and contains all that is requested; two that contain it together are not enough
+-- some entry matches and contains all that is requested; two entries that contain it only together are not enough
 abbrev pub any_contains : Entries → ℕ → List ℕ → ℕ → Bool
 any_contains entries owning_group groups request =
     list_any (λ entry. matches owning_group groups entry.0 && contains entry.1 request) (set.entries entries)
 
--- with a MASK it and some matching entry contain all that is requested, and without one the GROUP_OBJ entry does
+-- with a MASK, the MASK and some matching entry contain all that is requested; without one, the GROUP_OBJ entry does
 abbrev pub class_contains : Entries → ℕ → List ℕ → ℕ → Bool
 class_contains entries owning_group groups request =
     if set.contains_key entries mask
     then entry_contains entries mask request && any_contains entries owning_group groups request
     else entry_contains entries group_obj request
 
--- the owner by USER_OBJ; else a user with an entry by that entry and MASK; else, where an entry of a group matches, by
--- such entries; else by OTHER
+-- for the owner USER_OBJ decides; else, for a user with an entry, that entry and MASK; else, if an entry of a group
+-- matches, such entries; else OTHER
 unfoldable pub grants : Entries → Object → Requester → ℕ → Bool
 grants entries object requester request =
     if requester.user == object.user then entry_contains entries user_obj request

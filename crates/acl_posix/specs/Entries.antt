@@ -1,11 +1,11 @@
--- Sets of entries in which no tag and qualifier stand twice (POSIX.1e draft 17, section 23.1.2).
+-- Sets of entries in which no tag and qualifier occur twice (POSIX.1e draft 17, section 23.1.2).
 use Rattle.std.specs.Prelude.{ℕ, ◌<◌, List, map}
 use Rattle.std.specs.List.Sorted.{IsStrictlySortedBy}
 use Rattle.std.specs.FinMap as set
 use Rattle.acl_posix.specs.declared.entry.Entry.{Entry}
 use Rattle.acl_posix.specs.Tag.{Tag, tag_of, tag_cmp, IsTag}
 
--- what each tag has: no entry, or permissions as read 4, write 2, execute 1
+-- the value of each tag: no entry, or permissions with read 4, write 2, execute 1
 abbrev pub Entries : Type 0
 Entries = set.FinMap tag_cmp ℕ
 
@@ -13,11 +13,11 @@ Entries = set.FinMap tag_cmp ℕ
 abbrev pub pair_of : Entry → Tag × ℕ
 pair_of entry = (tag_of entry.tag, entry.perm.bits)
 
--- the entries of a list, as they stand
+-- the entries of a list, in their order
 abbrev pub pairs : List Entry → List (Tag × ℕ)
 pairs entries = map pair_of entries
 
--- the tags of a list of entries, as they stand
+-- the tags of a list of entries, in their order
 abbrev pub tags : List (Tag × ℕ) → List Tag
 tags entries = map (λ entry. entry.0) entries
 
@@ -25,7 +25,7 @@ tags entries = map (λ entry. entry.0) entries
 abbrev pub as_set : List (Tag × ℕ) → Entries
 as_set entries = set.from_entries entries
 
--- a list in canonical order: each tag stands before the next, so that none stands twice
+-- a list in canonical order: each tag is less than the next, so none occurs twice
 abbrev pub IsSorted : List (Tag × ℕ) → Type 0
 IsSorted entries = IsStrictlySortedBy tag_cmp (tags entries)
 

@@ -1,5 +1,5 @@
--- When two sets of entries, and the ACLs of two files, are equal, as a test (this library's own): their entries are, in
--- canonical order, by tag and permissions.
+-- When two sets of entries, and the ACLs of two files, are equal, as a test (this library's own): they have the same
+-- entries, in canonical order, by tag and permissions.
 use Rattle.std.specs.Prelude.{ℕ, Bool, List, [], ◌∷◌, nat_eq, Option, Some, None}
 use Rattle.std.specs.Cmp.{IsPartialEquivalence, IsEquivalence, partial_equiv_from_equiv, on_equiv, and_equiv, eq_by_cmp_equiv, nat_eq_equiv}
 use Rattle.std.specs.Cmp.Lexicographic.{pointwise, lists_equiv}
@@ -18,7 +18,7 @@ same_entry = eq_of_both (on (λ entry. entry.0) (eq_by_cmp tag_cmp)) (on (λ ent
 abbrev pub same_set : Entries → Entries → Bool
 same_set = on set.entries (pointwise same_entry)
 
--- the default ACL of a file as a list, which is empty where the file has none
+-- the default ACL of a file as a list, which is empty if the file has none
 abbrev pub default_acls : Option Entries → List Entries
 default_acls None = []
 default_acls (Some acl) = acl ∷ []

@@ -1,10 +1,11 @@
--- What the fields of an entry spell (acl(5), "LONG TEXT FORM" and "SHORT TEXT FORM"). That permissions stand in any
--- order, that ids are decimal and what is no id are this library's own.
+-- What the fields of an entry spell (acl(5), "LONG TEXT FORM" and "SHORT TEXT FORM"). It is this library's own that
+-- permissions may be in any order, that ids are decimal, and which numbers are no ids.
 use Rattle.std.specs.Prelude.{ℕ, ◌+◌, ◌*◌, ◌==◌, ◌||◌, ◌&&◌, Bool, List, Option, Some, None, codes, count_by, nat_le, if◌then◌else◌}
 use Rattle.std.specs.List.{list_all}
 use Rattle.std.specs.Str.{bytes_eq}
 use Rattle.std.specs.Str.Parse.{digits_value}
 use Rattle.std.specs.FinMap as fin
+use Rattle.acl_perm.specs.Ascii.{hyphen, letter_r, letter_w, letter_x}
 use Rattle.acl_posix.specs.declared.field.TagWord.{TagWord}
 use Rattle.acl_posix.specs.declared.field.TagWord.TheVariants.{User, Group, Mask, Other}
 use Rattle.acl_posix.specs.Id.{greatest_id}
@@ -12,18 +13,18 @@ use Rattle.acl_posix.specs.Names.{Ids, is_number}
 
 -- r, w, x or -
 abbrev pub is_permission : ℕ → Bool
-is_permission b = (b == 114) || (b == 119) || (b == 120) || (b == 45)
+is_permission b = (b == letter_r) || (b == letter_w) || (b == letter_x) || (b == hyphen)
 
--- how often a letter stands there
+-- how often a letter occurs
 abbrev pub count_of : ℕ → List ℕ → ℕ
 count_of letter bytes = count_by (λ b. b == letter) bytes
 
 -- the permissions that a field spells: r, w, x and - in any order, and each letter at most once
 unfoldable pub permissions_of : List ℕ → Option ℕ
 permissions_of bytes =
-    if list_all is_permission bytes && nat_le (count_of 114 bytes) 1 && nat_le (count_of 119 bytes) 1
-    && nat_le (count_of 120 bytes) 1
-    then Some (4 * count_of 114 bytes + 2 * count_of 119 bytes + count_of 120 bytes)
+    if list_all is_permission bytes && nat_le (count_of letter_r bytes) 1 && nat_le (count_of letter_w bytes) 1
+    && nat_le (count_of letter_x bytes) 1
+    then Some (4 * count_of letter_r bytes + 2 * count_of letter_w bytes + count_of letter_x bytes)
     else None
 
 -- a word in full or its first letter
@@ -47,6 +48,6 @@ is_default bytes = is_one_of bytes (codes "default") (codes "d")
 unfoldable pub id_of : List ℕ → Option ℕ
 id_of digits = if nat_le (digits_value 10 digits) greatest_id then Some (digits_value 10 digits) else None
 
--- the id that a qualifier spells: in digits, or by a name of these
+-- the id that a qualifier spells: in digits, or as a name of this table
 abbrev pub id_in : Ids → List ℕ → Option ℕ
 id_in ids bytes = if is_number bytes then id_of bytes else fin.get ids bytes

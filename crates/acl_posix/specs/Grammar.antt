@@ -1,6 +1,8 @@
--- The texts of ACLs: one grammar for the long form, the short form and what getfacl prints of one file (acl(5), "LONG
+-- The texts of ACLs: one grammar for the long form, the short form and what getfacl prints for one file (acl(5), "LONG
 -- TEXT FORM", "SHORT TEXT FORM"). What a line is and how it is cut are this library's own.
 use Rattle.std.specs.Prelude.{ℕ, ◌≡◌, ◌+◌, ◌<◌, List, [], ◌∷◌, ◌++◌, length, map, Option, Some, None, IsFalse, if◌then◌else◌}
+-- the byte that begins a comment, the byte between two entries of a line, and the byte between two fields of an entry
+pub use Rattle.acl_perm.specs.Ascii.{hash as comment_mark, comma, colon}
 use Rattle.acl_perm.specs.Lines.{Span, lines_of, cut_at, before_mark, is_all_blank, trimmed}
 use Rattle.acl_posix.specs.declared.text_fault.Part.{Part}
 use Rattle.acl_posix.specs.declared.text_fault.Part.TheVariants.{Access, Default}
@@ -12,20 +14,12 @@ use Rattle.acl_posix.specs.Valid.{IsValidList}
 use Rattle.acl_posix.specs.Names.{Table}
 use Rattle.acl_posix.specs.Fields.{permissions_of, word_of, is_default, id_in}
 
--- the byte that begins a comment
-abbrev pub comment_mark : ℕ
-comment_mark = 35
-
--- the byte between two entries of a line
-abbrev pub comma : ℕ
-comma = 44
-
--- a piece of a text, which is to spell an entry: the number of its line, and its bytes with their column
+-- a piece of a text, which should spell an entry: the number of its line, and its bytes with their column
 pub record TextPiece : Type 0 where
   pub line : ℕ
   pub span : Span
 
--- the pieces of a line: what stands before its comment, cut at the commas; none where that has no byte but blanks
+-- the pieces of a line: the bytes before its comment, cut at the commas; none if these bytes are all blanks
 unfoldable pub line_pieces : List ℕ → List Span
 line_pieces line =
     if is_all_blank (before_mark comment_mark line) then []
@@ -40,13 +34,9 @@ abbrev pub pieces_from : ℕ → List (List ℕ) → List TextPiece
 pieces_from line [] = []
 pieces_from line (bytes ∷ lines) = numbered line (line_pieces bytes) ++ pieces_from (line + 1) lines
 
--- the pieces of a text, in the order in which they stand
+-- the pieces of a text, in order
 abbrev pub pieces_of : List ℕ → List TextPiece
 pieces_of text = pieces_from 1 (lines_of text)
-
--- the byte between two fields of an entry
-abbrev pub colon : ℕ
-colon = 58
 
 -- the fields of an entry, and the part that it belongs to
 pub record EntryFields : Type 0 where
@@ -55,7 +45,7 @@ pub record EntryFields : Type 0 where
   pub qualifier : Span
   pub permissions : Span
 
--- the fields of an entry that three spans are; none where there are fewer or more
+-- the fields of an entry, of three spans; none if there are fewer spans or more
 abbrev pub three_of : Part → List Span → Option EntryFields
 three_of part [] = None
 three_of part (a ∷ []) = None
@@ -63,18 +53,18 @@ three_of part (a ∷ b ∷ []) = None
 three_of part (a ∷ b ∷ c ∷ []) = Some (record { part = part; tag = a; qualifier = b; permissions = c })
 three_of part (a ∷ b ∷ c ∷ d ∷ more) = None
 
--- the fields that a piece is cut into: a first one that marks a default entry is dropped, and three are left
+-- the fields into which a piece is cut: a first field that marks a default entry is dropped, and three are left
 unfoldable pub fields_of : List Span → Option EntryFields
 fields_of [] = None
 fields_of (first ∷ more) =
     if is_default (trimmed first.bytes) then three_of Default more else three_of Access (first ∷ more)
 
--- a piece that has more than blanks has these fields
+-- a piece that does not have blanks alone has these fields
 pub record HasFields (piece : Span) (fields : EntryFields) : Type 0 where
   pub filled : IsFalse (is_all_blank piece.bytes)
   pub cut : fields_of (cut_at colon piece) ≡ Some fields
 
--- a tag word and a qualifier spell a tag; names are looked up in the half of the table that the word names
+-- a tag word and a qualifier spell a tag; a name is looked up in the half of the table for that word
 abbrev pub SpellsTag : Table → List ℕ → List ℕ → Tag → Type 0
 SpellsTag names tag qualifier user_obj = (word_of tag ≡ Some word.User) × (qualifier ≡ [])
 SpellsTag names tag qualifier (user id) =
@@ -85,7 +75,7 @@ SpellsTag names tag qualifier (group id) =
 SpellsTag names tag qualifier mask = (word_of tag ≡ Some word.Mask) × (qualifier ≡ [])
 SpellsTag names tag qualifier other = (word_of tag ≡ Some word.Other) × (qualifier ≡ [])
 
--- the first two of these fields spell a tag; blanks at their ends do not count
+-- the first two of these fields spell a tag; blanks at the ends of a field do not count
 abbrev pub HasTag : Table → EntryFields → Tag → Type 0
 HasTag names fields tag = SpellsTag names (trimmed fields.tag.bytes) (trimmed fields.qualifier.bytes) tag
 
@@ -105,20 +95,20 @@ pub record SpellsEntry (names : Table) (piece : Span) (part : Part) (tag : Tag) 
 abbrev pub Spells : Table → Span → PartEntry → Type 0
 Spells names piece (part, (tag, perm)) = SpellsEntry names piece part tag perm
 
--- pieces spell entries, one each
+-- pieces spell entries, one entry per piece
 abbrev pub SpellAll : Table → List TextPiece → List PartEntry → Type 0
 SpellAll names [] [] = Unit {0}
 SpellAll names [] (entry ∷ entries) = ⊥
 SpellAll names (piece ∷ pieces) [] = ⊥
 SpellAll names (piece ∷ pieces) (entry ∷ entries) = Spells names piece.span entry × SpellAll names pieces entries
 
--- the entries of the access part, in the order in which they stand
+-- the entries of the access part, in order
 abbrev pub access_of : List PartEntry → List (Tag × ℕ)
 access_of [] = []
 access_of ((Access, entry) ∷ entries) = entry ∷ access_of entries
 access_of ((Default, entry) ∷ entries) = access_of entries
 
--- the entries of the default part, in the order in which they stand
+-- the entries of the default part, in order
 abbrev pub default_of : List PartEntry → List (Tag × ℕ)
 default_of [] = []
 default_of ((Access, entry) ∷ entries) = default_of entries
@@ -129,7 +119,7 @@ pub record IsAclOf (entries : List (Tag × ℕ)) (acl : Entries) : Type 0 where
   pub valid : IsValidList entries
   pub set : acl ≡ as_set entries
 
--- no default ACL where there are no default entries, and else theirs
+-- no default ACL if there are no default entries, and otherwise that of the default entries
 abbrev pub IsDefaultOf : List (Tag × ℕ) → Option Entries → Type 0
 IsDefaultOf [] None = Unit {0}
 IsDefaultOf [] (Some acl) = ⊥

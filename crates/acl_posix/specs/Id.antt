@@ -1,7 +1,7 @@
 -- The ids of users and groups, the qualifiers of USER and GROUP entries (acl(5), "ACL ENTRIES").
 use Rattle.std.specs.Prelude.{ℕ, ◌≤◌}
 
--- the greatest id: the number above it stands for no id
+-- the greatest id: the number above it is not an id
 abbrev pub greatest_id : ℕ
 greatest_id = 4294967294
 

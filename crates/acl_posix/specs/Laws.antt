@@ -6,16 +6,16 @@ use Rattle.acl_posix.specs.Entries.{Entries}
 use Rattle.acl_posix.specs.Mode.{mode_of, chmoded}
 use Rattle.acl_posix.specs.Mask.{with_mask, effective_of}
 
--- the mode after it is changed is the mode that was set
+-- after the mode is set, the mode is that mode
 abbrev pub ModeIsSet : Type 0
 ModeIsSet = (entries : Entries) (mode : ℕ) → mode_of (chmoded entries mode) ≡ mode
 
--- after the mask is calculated each entry grants all of its own permissions
+-- after the mask is calculated, each entry grants all of its own permissions
 abbrev pub MaskLeavesAll : Type 0
 MaskLeavesAll =
     (entries : Entries) (entry : Tag × ℕ)
     → set.get (with_mask entries) entry.0 ≡ Some entry.1 → effective_of (with_mask entries) entry ≡ entry.1
 
--- the mask calculated twice is calculated once
+-- calculating the mask twice gives the same as calculating it once
 abbrev pub MaskStays : Type 0
 MaskStays = (entries : Entries) → with_mask (with_mask entries) ≡ with_mask entries

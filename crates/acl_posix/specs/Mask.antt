@@ -14,7 +14,8 @@ class_union entries = fold (λ union entry. bit_or union entry.1) 0 (filter (λ 
 abbrev pub with_mask : Entries → Entries
 with_mask entries = set.insert entries mask (class_union (set.entries entries))
 
--- what an entry grants: of an entry of the file group class what MASK has too, and of any other entry all
+-- what an entry grants: for an entry of the file group class the permissions that MASK has too, and for any other entry
+-- all
 abbrev pub effective_of : Entries → Tag × ℕ → ℕ
 effective_of entries entry =
     if is_masked entry.0 then bit_and entry.1 (unwrap_or (set.get entries mask) entry.1) else entry.1

@@ -43,7 +43,7 @@ pub record IsTable (table : Table) : Type 0 where
 abbrev pub is_number : List ℕ → Bool
 is_number bytes = not (length bytes == 0) && list_all is_ascii_digit bytes
 
--- why a name may not be added to these, in the order in which it is judged
+-- why a name may not be added to this table, in the order in which it is judged
 abbrev pub name_fault : Ids → List ℕ → Option NameFault
 name_fault ids name =
     if length name == 0 then Some faults.EmptyName
@@ -51,22 +51,22 @@ name_fault ids name =
     else (if fin.contains_key ids name then Some faults.Taken
     else None))
 
--- what a refusal says: why the name may not be added, or that it may and memory ran out
+-- what a refusal says: why the name may not be added, or that it may be added and memory ran out
 abbrev pub IsNameFault : Ids → List ℕ → NameFault → Type 0
 IsNameFault ids name faults.EmptyName = name_fault ids name ≡ Some faults.EmptyName
 IsNameFault ids name faults.DigitsOnly = name_fault ids name ≡ Some faults.DigitsOnly
 IsNameFault ids name faults.Taken = name_fault ids name ≡ Some faults.Taken
 IsNameFault ids name faults.Memory = name_fault ids name ≡ None
 
--- a call that adds a name to one half of a table, which is these ids before it: the table before and after it, and what
--- it is with the name
+-- a call that adds a name to one half of a table: these ids before the call, the table before and after it, and the
+-- table with the name
 pub record AddsName (ids : Ids) (name : List ℕ) (before after with_name : Table) (r : Result (Unit {0}) NameFault)
     : Type 0 where
   -- the name is added, and nothing else
   pub added : OnOk r (after ≡ with_name)
-  -- the name was free to be added
+  -- the name may be added
   pub free : OnOk r (name_fault ids name ≡ None)
-  -- a refusal says why it is not added
+  -- a refusal says why the name is not added
   pub fault : IfErr r (IsNameFault ids name)
   -- a refusal leaves the table as it was
   pub kept : OnErr r (after ≡ before)

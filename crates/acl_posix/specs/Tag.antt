@@ -1,4 +1,4 @@
--- Whom an entry speaks of: its tag type with its qualifier (POSIX.1e draft 17, section 23.1.2; acl(5), "ACL ENTRIES").
+-- Whom an entry is for: its tag type with its qualifier (POSIX.1e draft 17, section 23.1.2; acl(5), "ACL ENTRIES").
 use Rattle.std.specs.Prelude.{ℕ, Bool, true, false, List, codes, Option, Some, None, IfSome, is_some, unwrap_or}
 use Rattle.std.specs.declared.cmp.Ordering.{Ordering}
 use Rattle.std.specs.Ordering.{nat_cmp, ordering_then}
@@ -17,8 +17,8 @@ pub data Tag : Type 0 where
   mask : Tag
   other : Tag
 
--- what there is to say of a tag: the place of its type in the canonical order, the name of the type in ASCII, its word
--- in a text, its qualifier, and whether the mask limits its entry, which is then one of the file group class
+-- the facts about a tag: the place of its type in the canonical order, the name of the type in ASCII, its word in a
+-- text, its qualifier, and whether the mask limits its entry, which is then one of the file group class
 pub record Row : Type 0 where
   pub rank : ℕ
   pub name : List ℕ
@@ -35,7 +35,7 @@ row (group id) = record { rank = 3; name = codes "GROUP"; word = Group; qualifie
 row mask = record { rank = 4; name = codes "MASK"; word = Mask; qualifier = None; masked = false }
 row other = record { rank = 5; name = codes "OTHER"; word = Other; qualifier = None; masked = false }
 
--- the plain data that a tag of the code stands for
+-- the plain data of a tag of the code
 abbrev pub tag_of : TagOfCode → Tag
 tag_of code.UserObj = user_obj
 tag_of (code.User id) = user id.value
@@ -64,7 +64,7 @@ is_masked tag = (row tag).masked
 abbrev pub rank : Tag → ℕ
 rank tag = (row tag).rank
 
--- the qualifier, and 0 where there is none
+-- the qualifier, or 0 if there is none
 abbrev pub qualifier : Tag → ℕ
 qualifier tag = unwrap_or (row tag).qualifier 0
 

@@ -1,5 +1,5 @@
--- What each fault says of a text, without reading it: the first piece that spells no entry, and what is wrong with it;
--- else the first part that is no valid ACL. The reasons, their order and their places are this library's own.
+-- What each fault says about a text, without reading it: the first piece that spells no entry, and what is wrong with
+-- it; else the first part that is not a valid ACL. The reasons, their order and their places are this library's own.
 use Rattle.std.specs.Prelude.{ℕ, ◌≡◌, ◌<◌, ◌⊎◌, List, ◌∷◌, ◌++◌, length, Option, Some, None, IsTrue, IsFalse, codes}
 use Rattle.std.specs.FinMap as fin
 use Rattle.acl_perm.specs.Lines.{Span, cut_at, is_all_blank, trimmed, start_of}
@@ -24,37 +24,38 @@ abbrev pub part_name : Part → List ℕ
 part_name part.Access = codes "access"
 part_name part.Default = codes "default"
 
--- the line and the column of a part of a piece: of its first byte that is no blank, or of the byte after it
+-- the line and the column of a part of a piece: those of its first byte that is not a blank, or of the byte after the
+-- part
 pub record IsPlace (line : ℕ) (span : Span) (at_line at_column : ℕ) : Type 0 where
   pub same_line : at_line ≡ line
   pub same_column : at_column ≡ start_of span
 
--- the names that may stand as the qualifier of a tag word; none where it has no qualifier
+-- the names that may be the qualifier of a tag word; none if the word has no qualifier
 abbrev pub names_of : Table → TagWord → Option Ids
 names_of names word.User = Some names.users
 names_of names word.Group = Some names.groups
 names_of names word.Mask = None
 names_of names word.Other = None
 
--- the piece has no byte but blanks
+-- all bytes of the piece are blanks
 pub record IsEmptyEntry (piece : TextPiece) (line column : ℕ) : Type 0 where
   pub blank : IsTrue (is_all_blank piece.span.bytes)
   pub place : IsPlace piece.line piece.span line column
 
--- the piece has not three fields
+-- the piece does not have three fields
 pub record IsNotThree (piece : TextPiece) (line column : ℕ) : Type 0 where
   pub filled : IsFalse (is_all_blank piece.span.bytes)
   pub cut : fields_of (cut_at colon piece.span) ≡ None
   pub place : IsPlace piece.line piece.span line column
 
--- the first field is no tag word
+-- the first field is not a tag word
 pub record IsNoTag (piece : TextPiece) (line column : ℕ) : Type 0 where
   pub fields : EntryFields
   pub has : HasFields piece.span fields
   pub no_word : word_of (trimmed fields.tag.bytes) ≡ None
   pub place : IsPlace piece.line fields.tag line column
 
--- a qualifier stands with a tag word that has none
+-- a tag word that has no qualifier is given one
 pub record IsQualified (names : Table) (piece : TextPiece) (line column : ℕ) : Type 0 where
   pub fields : EntryFields
   pub has : HasFields piece.span fields
@@ -64,14 +65,14 @@ pub record IsQualified (names : Table) (piece : TextPiece) (line column : ℕ) :
   pub qualifier : 0 < length (trimmed fields.qualifier.bytes)
   pub place : IsPlace piece.line fields.qualifier line column
 
--- a piece has these fields, and the first is a tag word whose qualifier may be one of these names
+-- a piece has these fields, and the first is a tag word that may have one of these names as its qualifier
 pub record MayName (names : Table) (piece : Span) (fields : EntryFields) (ids : Ids) : Type 0 where
   pub has : HasFields piece fields
   pub word : TagWord
   pub is_word : word_of (trimmed fields.tag.bytes) ≡ Some word
   pub has_names : names_of names word ≡ Some ids
 
--- the qualifier is digits alone, and no id
+-- the qualifier has digits alone, and is not an id
 pub record IsNoId (names : Table) (piece : TextPiece) (line column : ℕ) : Type 0 where
   pub fields : EntryFields
   pub ids : Ids
@@ -80,7 +81,7 @@ pub record IsNoId (names : Table) (piece : TextPiece) (line column : ℕ) : Type
   pub no_id : id_of (trimmed fields.qualifier.bytes) ≡ None
   pub place : IsPlace piece.line fields.qualifier line column
 
--- the qualifier is a name, and none of the table
+-- the qualifier is a name, and is not in the table
 pub record IsUnknownName (names : Table) (piece : TextPiece) (line column : ℕ) : Type 0 where
   pub fields : EntryFields
   pub ids : Ids
@@ -90,7 +91,7 @@ pub record IsUnknownName (names : Table) (piece : TextPiece) (line column : ℕ)
   pub unknown : fin.get ids (trimmed fields.qualifier.bytes) ≡ None
   pub place : IsPlace piece.line fields.qualifier line column
 
--- the first two fields are a tag, and the third is no set of permissions
+-- the first two fields are a tag, and the third is not a set of permissions
 pub record IsNoPermission (names : Table) (piece : TextPiece) (line column : ℕ) : Type 0 where
   pub fields : EntryFields
   pub has : HasFields piece.span fields
@@ -99,7 +100,7 @@ pub record IsNoPermission (names : Table) (piece : TextPiece) (line column : ℕ
   pub no_set : permissions_of (trimmed fields.permissions.bytes) ≡ None
   pub place : IsPlace piece.line fields.permissions line column
 
--- what each fault says of the piece that it is told of
+-- what each fault says about its piece
 abbrev pub IsPieceFault : Table → TextPiece → TextFault → Type 0
 IsPieceFault names piece (Fields line column) = IsNotThree piece line column
 IsPieceFault names piece (Tag line column) = IsNoTag piece line column
@@ -121,25 +122,26 @@ pub record IsFirstFault (names : Table) (pieces : List TextPiece) (fault : TextF
   pub spelled : SpellAll names before entries
   pub wrong : IsPieceFault names piece fault
 
--- the fault of a list of entries that a cause is
+-- the fault of a list of entries that a cause names
 abbrev pub acl_fault : Cause → AclFault
 acl_fault (cause.Multi place) = acl.Multi place
 acl_fault (cause.Duplicate place) = acl.Duplicate place
 acl_fault (cause.Miss tag) = acl.Miss tag
 
--- the cause is that of the first part that is no valid ACL; a default part without entries is no ACL and no fault
+-- the cause is that of the first part that is not a valid ACL; a default part without entries is no ACL and has no
+-- fault
 abbrev pub IsFirstInvalid : List PartEntry → Part → Cause → Type 0
 IsFirstInvalid entries part.Access why = IsFaultOf (access_of entries) (acl_fault why)
 IsFirstInvalid entries part.Default why = IsValidList (access_of entries)
     × (0 < length (default_of entries)) × IsFaultOf (default_of entries) (acl_fault why)
 
--- each piece spells an entry, and the entries of a part are no valid ACL
+-- each piece spells an entry, and the entries of a part are not a valid ACL
 pub record IsInvalidText (text : List ℕ) (names : Table) (which : Part) (why : Cause) : Type 0 where
   pub entries : List PartEntry
   pub spelled : SpellAll names (pieces_of text) entries
   pub wrong : IsFirstInvalid entries which why
 
--- what each fault says of a text; that memory ran out says nothing of it
+-- what each fault says about a text; `Memory` says nothing about it
 abbrev pub IsTextFault : List ℕ → Table → TextFault → Type 0
 IsTextFault text names (Fields line column) = IsFirstFault names (pieces_of text) (Fields line column)
 IsTextFault text names (Tag line column) = IsFirstFault names (pieces_of text) (Tag line column)
@@ -151,6 +153,6 @@ IsTextFault text names (EmptyEntry line column) = IsFirstFault names (pieces_of 
 IsTextFault text names (Invalid which why) = IsInvalidText text names which why
 IsTextFault text names Memory = ⊥
 
--- a refusal tells the text's fault, or that memory ran out
+-- a refusal reports the text's fault, or that memory ran out
 abbrev pub IsRefusal : List ℕ → Table → TextFault → Type 0
 IsRefusal text names fault = (fault ≡ Memory) ⊎ IsTextFault text names fault

@@ -11,7 +11,7 @@ abbrev pub ReadsBack : (Entries → Option Entries → List ℕ) → Type 0
 ReadsBack text = (names : Table) (file other : PosixFile) → IsFile file
     → Reads (text file.access file.default) names other ↔ (other ≡ file)
 
--- two files have one text exactly if their sets of entries are equal
+-- two files have the same text if and only if their sets of entries are equal
 abbrev pub TellsApart : (Entries → Option Entries → List ℕ) → Type 0
 TellsApart text = (one two : PosixFile) → IsFile one → IsFile two
     → (text one.access one.default ≡ text two.access two.default) ↔ (one.access ≡ two.access)

@@ -1,8 +1,9 @@
 -- The texts of the ACLs of a file, as functions of the sets of entries alone (acl(5), "LONG TEXT FORM" and "SHORT TEXT
--- FORM"). That ids are decimal, and where the effective permissions are shown, are this library's own.
+-- FORM"). It is this library's own that ids are decimal, and where the effective permissions are shown.
 use Rattle.std.specs.Prelude.{ℕ, ◌==◌, List, [], ◌∷◌, ◌++◌, codes, decimal, map, take, Option, Some, None, option_map, unwrap_or, if◌then◌else◌}
 use Rattle.std.specs.List.{flat_map, All}
 use Rattle.std.specs.FinMap as set
+use Rattle.acl_perm.specs.Ascii.{colon, comma, line_feed}
 use Rattle.acl_perm.specs.Shown.{perm_text}
 use Rattle.acl_posix.specs.declared.file.PosixFile.{PosixFile}
 use Rattle.acl_posix.specs.declared.form.Form.{Form}
@@ -35,7 +36,7 @@ qualifier_text tag = unwrap_or (option_map decimal (row tag).qualifier) []
 
 -- an entry with the word of its tag: word, qualifier and permissions with colons between them
 abbrev pub entry_text : List ℕ → Tag × ℕ → List ℕ
-entry_text word entry = word ++ 58 ∷ (qualifier_text entry.0 ++ 58 ∷ perm_text entry.1)
+entry_text word entry = word ++ colon ∷ (qualifier_text entry.0 ++ colon ∷ perm_text entry.1)
 
 -- an entry in the long form
 unfoldable pub long_entry : Tag × ℕ → List ℕ
@@ -53,7 +54,7 @@ long_default entry = codes "default:" ++ long_entry entry
 unfoldable pub short_default : Tag × ℕ → List ℕ
 short_default entry = codes "d:" ++ short_entry entry
 
--- what follows an entry with permissions that are not its effective ones: a comment with these
+-- what follows an entry whose permissions are not its effective ones: a comment with the effective ones
 abbrev pub mark_text : ℕ → ℕ → List ℕ
 mark_text effective perm = if effective == perm then [] else 9 ∷ (codes "#effective:" ++ perm_text effective)
 
@@ -63,9 +64,9 @@ effective_mark acl entry = mark_text (effective_of acl entry) entry.1
 
 -- bytes and the line feed that ends their line
 abbrev pub line : List ℕ → List ℕ
-line bytes = bytes ++ 10 ∷ []
+line bytes = bytes ++ line_feed ∷ []
 
--- the entries of a default ACL in canonical order, and none where there is no default ACL
+-- the entries of a default ACL in canonical order, or none if there is no default ACL
 abbrev pub default_entries : Option Entries → List (Tag × ℕ)
 default_entries None = []
 default_entries (Some acl) = set.entries acl
@@ -81,7 +82,7 @@ canonical_text access default =
     flat_map (λ entry. line (long_entry entry)) (set.entries access)
     ++ flat_map (λ entry. line (long_default entry)) (default_entries default)
 
--- the canonical text, with the effective permissions of each entry that the mask cuts
+-- the canonical text, with the effective permissions of each entry that the mask limits
 unfoldable pub shown_text : Entries → Option Entries → List ℕ
 shown_text access default =
     flat_map (λ entry. line (long_entry entry ++ effective_mark access entry)) (set.entries access)
@@ -91,7 +92,7 @@ shown_text access default =
 abbrev pub with_commas : List (List ℕ) → List ℕ
 with_commas [] = []
 with_commas (part ∷ []) = part
-with_commas (part ∷ next ∷ parts) = part ++ 44 ∷ with_commas (next ∷ parts)
+with_commas (part ∷ next ∷ parts) = part ++ comma ∷ with_commas (next ∷ parts)
 
 -- the entries in the short form with commas between them
 unfoldable pub short_text : Entries → Option Entries → List ℕ

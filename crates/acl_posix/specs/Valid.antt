@@ -1,5 +1,5 @@
--- Which lists of entries are valid, and what is wrong with the others (acl(5), "VALID ACLs"). The order in which
--- faults are judged, and that places count from 0, are this library's own.
+-- Which lists of entries are valid, and what is wrong with the others (acl(5), "VALID ACLs"). The order in which faults
+-- are judged, and that places count from 0, are this library's own.
 use Rattle.std.specs.Prelude.{ℕ, ◌≡◌, ◌<◌, Bool, true, false, not, ◌&&◌, List, length, get_or, Option, Some, None, IsTrue, IsFalse, if◌then◌else◌}
 use Rattle.std.specs.List.{list_any}
 use Rattle.std.specs.FinMap as set
@@ -8,7 +8,7 @@ use Rattle.acl_posix.specs.declared.fault.AclFault.TheVariants.{Multi, Duplicate
 use Rattle.acl_posix.specs.Tag.{Tag, user_obj, group_obj, mask, other, tag_of, is_named}
 use Rattle.acl_posix.specs.Entries.{Entries, tags, as_set}
 
--- the first absent of USER_OBJ, GROUP_OBJ, OTHER, and of MASK where there is a USER or GROUP entry
+-- the first absent of USER_OBJ, GROUP_OBJ, OTHER, and of MASK if there is a USER or GROUP entry
 unfoldable pub missing : Entries → Option Tag
 missing entries =
     if not (set.contains_key entries user_obj) then Some user_obj
@@ -17,25 +17,25 @@ missing entries =
     else (if list_any is_named (set.keys entries) && not (set.contains_key entries mask) then Some mask
     else None)))
 
--- a set of entries is valid if nothing is absent that has to be there
+-- a set of entries is valid if no required entry is absent
 abbrev pub IsValid : Entries → Type 0
 IsValid entries = missing entries ≡ None
 
--- the tag and qualifier that stand at a place, counted from 0
+-- the tag and qualifier at a place, counted from 0
 abbrev pub tag_at : List (Tag × ℕ) → ℕ → Tag
 tag_at entries place = get_or (tags entries) place other
 
--- the tag and qualifier that stand at a place stand at an earlier one too
+-- the tag and qualifier at a place occur at an earlier place too
 pub record IsRepeat (entries : List (Tag × ℕ)) (place : ℕ) : Type 0 where
   pub earlier : ℕ
   pub before : earlier < place
   pub same : tag_at entries earlier ≡ tag_at entries place
 
--- no tag and qualifier stand twice
+-- no tag and qualifier occur twice
 abbrev pub IsDistinct : List (Tag × ℕ) → Type 0
 IsDistinct entries = (place : ℕ) → place < length entries → IsRepeat entries place → ⊥
 
--- a list is valid if no tag and qualifier stand twice and nothing is absent that has to be there
+-- a list is valid if no tag and qualifier occur twice and no required entry is absent
 pub record IsValidList (entries : List (Tag × ℕ)) : Type 0 where
   pub distinct : IsDistinct entries
   pub complete : IsValid (as_set entries)
@@ -46,27 +46,27 @@ pub record IsFirstRepeat (entries : List (Tag × ℕ)) (place : ℕ) : Type 0 wh
   pub repeats : IsRepeat entries place
   pub first : (before : ℕ) → before < place → IsRepeat entries before → ⊥
 
--- nothing stands twice, and the tag is the first that is absent
+-- no tag and qualifier occur twice, and the tag is the first that is absent
 pub record IsMiss (entries : List (Tag × ℕ)) (tag : Tag) : Type 0 where
   pub distinct : IsDistinct entries
   pub absent : missing (as_set entries) ≡ Some tag
 
--- what each fault says of a list of entries; want of memory says nothing of it
+-- what each fault says about a list of entries; `Memory` says nothing about it
 abbrev pub IsFaultOf : List (Tag × ℕ) → AclFault → Type 0
 IsFaultOf entries (Multi place) = IsFirstRepeat entries place × IsFalse (is_named (tag_at entries place))
 IsFaultOf entries (Duplicate place) = IsFirstRepeat entries place × IsTrue (is_named (tag_at entries place))
 IsFaultOf entries (Miss tag) = IsMiss entries (tag_of tag)
 IsFaultOf entries Memory = Unit {0}
 
--- the fault is one of the list, and not want of memory
+-- the fault is one of the list, and not `Memory`
 abbrev pub is_refusal : AclFault → Bool
 is_refusal (Multi place) = true
 is_refusal (Duplicate place) = true
 is_refusal (Miss tag) = true
 is_refusal Memory = false
 
--- what each fault says of a set of entries, where nothing can stand twice: the tag is the first that is absent; and
--- that memory ran out says that nothing is wrong with the set
+-- what each fault says about a set of entries, in which nothing can occur twice: the tag is the first that is absent;
+-- `Memory` says that nothing is wrong with the set
 abbrev pub IsFaultOfSet : Entries → AclFault → Type 0
 IsFaultOfSet entries (Multi place) = ⊥
 IsFaultOfSet entries (Duplicate place) = ⊥

@@ -2,17 +2,19 @@
 
 -- the order of the tags of the code with its proof, and tags and sets of entries as numbers
 pub mod TagCode
--- what is built while a list is put in order, and the fault of a tag that stands twice
+-- what is built while a repeat is looked for, and the fault of a tag that occurs twice
 pub mod TagMap
--- the place of a tag in a list in canonical order, or where it would go
+-- entries as single numbers, which are sorted
+pub mod Packed
+-- the place of a tag in a list in canonical order, or the place where it would be inserted
 pub mod Search
 -- what one group is granted
 pub mod GroupSearch
--- the table that the maps of names stand for, and tables as numbers
+-- the table of the maps of names, and tables as numbers
 pub mod NameMaps
--- lines that are read at one go
+-- lines that are read in one step
 pub mod WrittenLine
 -- what the reader of a text computes
 pub mod Reading
--- how a text goes out, an entry after the other
+-- how a text is written, one entry after the other
 pub mod Writing

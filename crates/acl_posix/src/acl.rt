@@ -1,4 +1,4 @@
-//! A valid access control list, and the calls on it.
+//! A valid access control list, and its calls.
 ghost use Rattle.std.specs.Prelude.{◌≡◌, All, IfErr, IfOk, IsOk, IsSome, IsTrue, MatchResult, OnErr, OnOk, option_map};
 ghost use Rattle.std.specs.FinMap as set;
 ghost use Rattle.acl_posix.specs.declared.fault.AclFault.{AclFault as Fault};
@@ -22,8 +22,8 @@ use acl_perm::{Mode, Perm};
 use std::alloc::{AllocError, Global};
 use std::marker::Model;
 
-/// A valid access control list (acl(5), "VALID ACLs"): a set of entries in which no tag and qualifier stand twice, kept
-/// in canonical order. Clauses see it as what each tag and qualifier has.
+/// A valid access control list (acl(5), "VALID ACLs"): a set of entries in which no tag and qualifier occur twice, kept
+/// in canonical order. Clauses see it as a map from tags and qualifiers to permissions.
 #[derive(Debug, Drop)]
 pub struct PosixAcl {
     entries: SortedEntries,
@@ -44,10 +44,11 @@ impl Model for PosixAcl {
 }
 
 impl PosixAcl {
-    /// The ACL of these entries, which may stand in any order. A list that is not valid is refused: by the first entry
-    /// with the tag and qualifier of one before it, else by the first absent of USER_OBJ, GROUP_OBJ, OTHER, and of MASK
-    /// where there is a USER or GROUP entry. Time n log n, and one map of at most n entries beside those handed in;
-    /// linear time and no memory where they stand in canonical order.
+    /// Makes the ACL of these entries, which may be in any order. Fails with `Multi` or `Duplicate` and a place if the
+    /// entry there has the tag and qualifier of an earlier entry; the first such entry is reported. Otherwise fails
+    /// with `Miss` of the first absent of USER_OBJ, GROUP_OBJ, OTHER, and of MASK if there is a USER or GROUP entry.
+    /// It takes time n log n and one vector of n numbers. If two entries have the same tag and qualifier, it also takes
+    /// a map of at most n entries. If the entries are in canonical order, it takes linear time and no memory.
     ///
     /// ```rust
     /// let perm = Perm::ALL;
@@ -77,7 +78,8 @@ impl PosixAcl {
         }
     }
 
-    /// The entries in canonical order: USER_OBJ, USER by id, GROUP_OBJ, GROUP by id, MASK, OTHER. Constant time.
+    /// Returns the entries in canonical order: USER_OBJ, USER by id, GROUP_OBJ, GROUP by id, MASK, OTHER. Constant
+    /// time.
     pub fn entries(&self) -> &[Entry]
         ensures entries { pairs result.now ≡ set.entries self.now }
         ensures within { All IsEntry (set.entries self.now) }
@@ -86,7 +88,7 @@ impl PosixAcl {
         self.entries.as_slice()
     }
 
-    /// Another ACL of the same entries. Linear time; one table of their number.
+    /// Returns another ACL with the same entries. Fails if memory runs out. Linear time; one table of their number.
     pub fn copy(&self, alloc: Global) -> Result<PosixAcl, AllocError>
         ensures { IfOk result (λ acl. acl ≡ self.now) }
     {
@@ -94,9 +96,9 @@ impl PosixAcl {
         Ok(PosixAcl { entries })
     }
 
-    /// Returns the ACL of three entries that stands for a mode: USER_OBJ, GROUP_OBJ and OTHER with its bits (acl(5),
-    /// "CORRESPONDENCE BETWEEN ACL ENTRIES AND FILE PERMISSION BITS"). Fails if memory runs out. Constant time; one
-    /// table of three entries.
+    /// Returns the three entries of a mode: USER_OBJ, GROUP_OBJ and OTHER with its bits (acl(5), "CORRESPONDENCE
+    /// BETWEEN ACL ENTRIES AND FILE PERMISSION BITS"). Fails if memory runs out. Constant time; one table of three
+    /// entries.
     pub fn of_mode(alloc: Global, mode: Mode) -> Result<PosixAcl, AllocError>
         ensures { IfOk result (λ acl. acl ≡ of_mode mode.bits) }
     {
@@ -113,8 +115,8 @@ impl PosixAcl {
 
     /// Sets the permissions of the entry with a tag and qualifier, and adds the entry if there is none. The list stays
     /// valid: fails with `Miss(Mask)` if this would add a USER or GROUP entry to a list without MASK, and with `Memory`
-    /// if memory runs out, which can happen only where an entry is added. A call that fails changes nothing. Linear
-    /// time; logarithmic time where the entry is there.
+    /// if memory runs out, which can happen only if an entry is added. A call that fails changes nothing. Linear time;
+    /// logarithmic time if the entry exists.
     pub fn set(&mut self, tag: Tag, perm: Perm) -> Result<(), AclFault>
         ensures ok { OnOk result (self.new ≡ set.insert self.old (tag_of tag) perm.bits) }
         ensures err { OnErr result (self.new ≡ self.old) }
@@ -127,8 +129,8 @@ impl PosixAcl {
     }
 
     /// Removes the entry with a tag and qualifier, and does nothing if there is none. The list stays valid: fails with
-    /// `Miss` of the tag if the tag is USER_OBJ, GROUP_OBJ or OTHER, or MASK beside a USER or GROUP entry. A call that
-    /// fails changes nothing. No memory; linear time.
+    /// `Miss` of the tag if the tag is USER_OBJ, GROUP_OBJ or OTHER, or is MASK and there is a USER or GROUP entry. A
+    /// call that fails changes nothing. No memory; linear time.
     pub fn remove(&mut self, tag: Tag) -> Result<(), AclFault>
         ensures ok { OnOk result (self.new ≡ set.remove self.old (tag_of tag)) }
         ensures err { OnErr result (self.new ≡ self.old) }
@@ -139,8 +141,9 @@ impl PosixAcl {
         self.entries.remove(tag)
     }
 
-    /// Whether a user, who is in these groups, has all of `want` on an object of this owner and group (acl(5), "ACCESS
-    /// CHECK ALGORITHM"). No memory; time (number of groups + 1) times the logarithm of the number of entries.
+    /// Returns whether a user who is in these groups is granted all of `want` on an object with this owner and group
+    /// (acl(5), "ACCESS CHECK ALGORITHM"). No memory; time (number of groups + 1) times the logarithm of the number of
+    /// entries.
     ///
     /// ```rust
     /// let acl = PosixAcl::of_mode(alloc, Mode { bits: 0o640 })?;
@@ -168,8 +171,8 @@ impl PosixAcl {
         }
     }
 
-    /// The file mode bits: USER_OBJ, then MASK or, where there is none, GROUP_OBJ, then OTHER. No memory; logarithmic
-    /// time.
+    /// Returns the file mode bits: USER_OBJ, then MASK or, if there is no MASK, GROUP_OBJ, then OTHER. No memory;
+    /// logarithmic time.
     pub fn mode(&self) -> Mode
         ensures { result.bits ≡ mode_of self.now }
     {
@@ -181,8 +184,8 @@ impl PosixAcl {
         )
     }
 
-    /// Sets the file mode bits: USER_OBJ, MASK or, where there is none, GROUP_OBJ, and OTHER, and no other entry. No
-    /// memory; logarithmic time.
+    /// Sets the file mode bits: USER_OBJ, MASK or, if there is no MASK, GROUP_OBJ, and OTHER. It changes no other
+    /// entry. No memory; logarithmic time.
     ///
     /// ```rust
     /// let mut acl = PosixAcl::of_mode(alloc, Mode { bits: 0o644 })?;
@@ -195,22 +198,22 @@ impl PosixAcl {
         self.entries.set_mode(mode);
     }
 
-    /// The permissions of an entry that MASK leaves: of a USER, GROUP_OBJ or GROUP entry those that MASK has too, where
-    /// there is one, and of any other entry all. No memory; constant time, since MASK stands last but one, and an ACL
-    /// without MASK has three entries.
+    /// Returns the effective permissions of an entry: for a USER, GROUP_OBJ or GROUP entry those that MASK has too, if
+    /// there is a MASK, and for any other entry all. No memory; constant time, because MASK is the last entry but one,
+    /// and an ACL without MASK has three entries.
     pub fn effective(&self, entry: Entry) -> Perm
         ensures { result.bits ≡ effective_of self.now (pair_of entry) }
     {
         entry.masked_by(self.mask())
     }
 
-    /// The permissions of MASK, if there is one.
+    /// Returns the permissions of MASK, if there is one.
     pub(crate) fn mask(&self) -> Option<Perm>
         ensures { option_map (λ perm. perm.bits) result ≡ set.get self.now mask }
     {
         let entries = self.entries.as_slice();
-        // Where there is one, it stands before the last, which is OTHER. A list without MASK has three entries, so the
-        // look-up below takes constant time too.
+        // If there is a MASK, it is before the last entry, which is OTHER. A list without MASK has three entries, so
+        // the look-up below takes constant time too.
         if let Some(entry) = entries.get(entries.len().saturating_sub(2)) {
             if let Tag::Mask = entry.tag {
                 return Some(entry.perm);
@@ -219,8 +222,9 @@ impl PosixAcl {
         self.entries.get(Tag::Mask)
     }
 
-    /// Sets MASK to the union of the permissions of all USER, GROUP_OBJ and GROUP entries, and adds it where it is
-    /// absent. Only adding it takes memory, which may move the entries once. Refused, it changes nothing. Linear time.
+    /// Sets MASK to the union of the permissions of all USER, GROUP_OBJ and GROUP entries, and adds it if it is absent.
+    /// Only adding it takes memory, and may move the entries once. Fails if memory runs out, and then changes nothing.
+    /// Linear time.
     pub fn calc_mask(&mut self) -> Result<(), AllocError>
         ensures ok { OnOk result (self.new ≡ with_mask self.old) }
         ensures err { OnErr result (self.new ≡ self.old) }
@@ -238,7 +242,7 @@ impl PartialEq for PosixAcl {
 
     ghost laws = { same_set_laws };
 
-    /// Whether the two ACLs have the same entries. No memory; linear time.
+    /// Returns whether the two ACLs have the same entries. No memory; linear time.
     fn eq(&self, other: &PosixAcl) -> bool
         ensures value { result ≡ same_set self.now other.now }
         ensures exact { IsTrue result ↔ (self.now ≡ other.now) }

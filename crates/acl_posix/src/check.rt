@@ -10,7 +10,7 @@ use crate::tag::Tag;
 use acl_perm::Perm;
 
 impl SortedEntries {
-    /// Whether the tag has an entry that contains all that is requested.
+    /// Returns whether the tag has an entry that contains all that is requested.
     pub(crate) fn entry_contains(&self, tag: Tag, request: Perm) -> bool
         ensures { result ≡ entry_contains self.now (tag_of tag) request.bits }
     {
@@ -20,15 +20,16 @@ impl SortedEntries {
         }
     }
 
-    /// Whether some entry matches by a group of the requester: some such entry contains the empty request.
+    /// Returns whether some entry matches by a group of the requester: whether some such entry contains the empty
+    /// request.
     pub(crate) fn any_matches(&self, owning_group: Id, groups: &[Id]) -> bool
         ensures { result ≡ any_matches self.now owning_group.value (ids groups.now) }
     {
         self.any_contains(owning_group, groups, Perm::NONE)
     }
 
-    /// Whether the entries that match by a group of the requester grant the request: MASK and one of them, and without
-    /// MASK the owning group's.
+    /// Returns whether the entries that match by a group of the requester grant the request: with a MASK, if MASK and
+    /// one of them contain it; without a MASK, if the entry of the owning group contains it.
     pub(crate) fn class_contains(&self, owning_group: Id, groups: &[Id], request: Perm) -> bool
         ensures { result
             ≡ class_contains self.now owning_group.value (ids groups.now) request.bits }
@@ -40,7 +41,7 @@ impl SortedEntries {
         }
     }
 
-    /// Whether one matching entry contains all that is requested: a search for each group of the requester.
+    /// Returns whether one matching entry contains all that is requested. It searches for each group of the requester.
     fn any_contains(&self, owning_group: Id, groups: &[Id], request: Perm) -> bool
         ensures { result ≡ any_contains self.now owning_group.value (ids groups.now) request.bits }
     {
@@ -52,7 +53,7 @@ impl SortedEntries {
         false
     }
 
-    /// Whether an entry that matches by this group contains all that is requested.
+    /// Returns whether an entry that matches by this group contains all that is requested.
     fn group_contains(&self, owning_group: Id, group: Id, request: Perm) -> bool
         ensures { result ≡ group_contains self.now owning_group.value request.bits group.value }
     {

@@ -1,4 +1,4 @@
-//! The mode and the mask of a list that is in order.
+//! The mode and the mask of sorted entries.
 ghost use Rattle.std.specs.Prelude.{◌≡◌, IsOk, IsSome, OnErr, OnOk};
 ghost use Rattle.std.specs.FinMap as set;
 ghost use Rattle.acl_posix.specs.Tag.{mask, tag_of};
@@ -29,7 +29,7 @@ impl SortedEntries {
         }
     }
 
-    /// Sets the three entries of the mode, and no other.
+    /// Sets the three entries of the mode, and no others.
     pub(crate) fn set_mode(&mut self, mode: Mode)
         requires { IsValid self.old }
         ensures set { self.new ≡ chmoded self.old mode.bits }
@@ -41,7 +41,7 @@ impl SortedEntries {
         self.set(Tag::Other, mode.others());
     }
 
-    /// Sets the mask to the union of the permissions that it limits, and adds one that is absent.
+    /// Sets the mask to the union of the permissions that it limits, and adds the mask if it is absent.
     pub(crate) fn set_mask(&mut self) -> Result<(), AllocError>
         ensures ok { OnOk result (self.new ≡ with_mask self.old) }
         ensures err { OnErr result (self.new ≡ self.old) }
@@ -65,7 +65,7 @@ impl SortedEntries {
     }
 }
 
-/// The union of the permissions of all entries that the mask limits.
+/// Returns the union of the permissions of all entries that the mask limits.
 #[tactic(auto, using(crate::proofs::Masks::union_more, crate::proofs::Masks::union_done))]
 fn class_union(entries: &[Entry]) -> Perm
     ensures { result.bits ≡ class_union (pairs entries.now) }

@@ -1,4 +1,4 @@
-//! An entry of a list: a tag, and what it has.
+//! An entry of a list: a tag and its permissions.
 ghost use Rattle.std.specs.Prelude.{◌≡◌, option_map};
 ghost use Rattle.acl_posix.specs.Entries.{pair_of};
 ghost use Rattle.acl_posix.specs.internal.Writing.{masked_by};
@@ -6,17 +6,17 @@ ghost use Rattle.acl_posix.specs.internal.Writing.{masked_by};
 use crate::tag::Tag;
 use acl_perm::Perm;
 
-/// A tag and the permissions that it has (POSIX.1e draft 17, section 23.1.2).
+/// A tag and its permissions (POSIX.1e draft 17, section 23.1.2).
 #[derive(Clone, Copy, Debug, PartialEq, Eq, PartialOrd, Ord, Hash)]
 pub struct Entry {
-    /// Whom it speaks of.
+    /// Whom the entry is for.
     pub tag: Tag,
-    /// What these have, before a mask.
+    /// The permissions, before a mask.
     pub perm: Perm,
 }
 
 impl Entry {
-    /// The permissions that a mask leaves, where there is one.
+    /// Returns the permissions that a mask leaves, if there is a mask, and all otherwise.
     pub(crate) fn masked_by(self, mask: Option<Perm>) -> Perm
         ensures { result.bits ≡ masked_by (option_map (λ perm. perm.bits) mask) (pair_of self) }
     {

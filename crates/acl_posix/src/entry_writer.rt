@@ -1,4 +1,4 @@
-//! The text of one entry, which is put together from its end: each part in front of what stands behind it.
+//! The text of one entry. It is put together from its end: each part is put in front of the parts behind it.
 ghost use Rattle.std.specs.Prelude.{◌≡◌, ◌+◌, ◌≤◌, ◌++◌, ◌∷◌, [], ◌==◌, bit_and, drop, if◌then◌else◌};
 ghost use Rattle.acl_perm.specs.Shown.{letter, perm_text};
 ghost use Rattle.acl_posix.specs.Entries.{pair_of};
@@ -13,7 +13,7 @@ use crate::text_fault::Part;
 use acl_perm::Perm;
 use itoa::write_digits;
 
-/// Puts the text of an entry with all that belongs to it at the end of a line, and answers where it begins.
+/// Puts the text of an entry, with all that belongs to it, at the end of a line, and returns where the text begins.
 #[tactic(auto, unfolding(crate::specs::internal::Writing::entry_out))]
 pub(crate) fn put_entry(
     line: &mut [u8; 64],
@@ -32,7 +32,7 @@ pub(crate) fn put_entry(
     put_lead(line, end, form, part, is_first)
 }
 
-// What stands behind an entry.
+// The bytes behind an entry.
 fn put_ending(line: &mut [u8; 64], form: Form, effective: Perm, perm: Perm) -> usize
     ensures text { IsPut (ending form effective.bits perm.bits) line.old line.new 64 result }
     ensures short { 64 ≤ result + 16 }
@@ -47,7 +47,7 @@ fn put_ending(line: &mut [u8; 64], form: Form, effective: Perm, perm: Perm) -> u
     }
 }
 
-// The effective permissions as a comment, where they are not those of the entry.
+// The effective permissions as a comment, if they are not those of the entry.
 fn put_mark(line: &mut [u8; 64], end: usize, effective: Perm, perm: Perm) -> usize
     requires room { 15 ≤ end }
     requires inside { end ≤ 64 }
@@ -104,7 +104,7 @@ fn put_qualifier(line: &mut [u8; 64], end: usize, tag: Tag) -> usize
     }
 }
 
-// The word of a tag, and a colon.
+// The word of a tag and a colon.
 fn put_word(line: &mut [u8; 64], end: usize, form: Form, tag: Tag) -> usize
     requires room { 6 ≤ end }
     requires inside { end ≤ 64 }
@@ -125,7 +125,7 @@ fn put_word(line: &mut [u8; 64], end: usize, form: Form, tag: Tag) -> usize
     }
 }
 
-// What stands before an entry.
+// The bytes before an entry.
 fn put_lead(line: &mut [u8; 64], end: usize, form: Form, part: Part, is_first: bool) -> usize
     requires room { 8 ≤ end }
     requires inside { end ≤ 64 }
@@ -141,7 +141,7 @@ fn put_lead(line: &mut [u8; 64], end: usize, form: Form, part: Part, is_first: b
     }
 }
 
-// Bytes in front of those from `end` on, and where they begin.
+// Puts bytes in front of those from `end` on, and returns where they begin.
 #[inline(always)]
 fn put<const N: usize>(line: &mut [u8; 64], end: usize, bytes: [u8; N]) -> usize
     requires room { N ≤ end }

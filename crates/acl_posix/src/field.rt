@@ -18,7 +18,7 @@ pub enum TagWord {
     Other,
 }
 
-/// The tag word that a field spells.
+/// Returns the tag word that a field spells.
 #[tactic(auto, unfolding(crate::specs::Fields::word_of))]
 pub(crate) fn read_word(bytes: &[u8]) -> Option<TagWord>
     ensures { result ≡ word_of bytes.now }
@@ -36,7 +36,7 @@ pub(crate) fn read_word(bytes: &[u8]) -> Option<TagWord>
     }
 }
 
-/// Whether a field marks an entry of the default ACL.
+/// Returns whether a field marks an entry of the default ACL.
 pub(crate) fn is_default(bytes: &[u8]) -> bool
     ensures { result ≡ is_default bytes.now }
 {
@@ -49,7 +49,7 @@ fn is_one_of(bytes: &[u8], long: &[u8], short: &[u8]) -> bool
     bytes == long || bytes == short
 }
 
-/// The set that a permission field spells.
+/// Returns the set that a permission field spells.
 #[tactic(auto, unfolding(crate::specs::Fields::permissions_of))]
 pub(crate) fn read_permissions(bytes: &[u8]) -> Option<Perm>
     ensures { option_map (λ perm. perm.bits) result ≡ permissions_of bytes.now }
@@ -77,7 +77,7 @@ fn are_permissions(bytes: &[u8]) -> bool
         .all(|b| *b == b'r' || *b == b'w' || *b == b'x' || *b == b'-')
 }
 
-/// Whether there are digits alone, and at least one.
+/// Returns whether there are digits alone, and at least one.
 pub(crate) fn is_number(bytes: &[u8]) -> bool
     ensures { result ≡ is_number bytes.now }
 {
@@ -90,7 +90,7 @@ fn are_digits(bytes: &[u8]) -> bool
     bytes.iter().all(|b| b.is_ascii_digit())
 }
 
-/// The id of decimal digits, if it is one.
+/// Returns the id of decimal digits, if they are an id.
 #[tactic(auto, unfolding(crate::specs::Fields::id_of))]
 pub(crate) fn read_id(digits: &[u8]) -> Option<Id>
     requires { IsTrue (is_number digits.now) }

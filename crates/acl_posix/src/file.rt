@@ -1,4 +1,4 @@
-//! The two ACLs of a file, and those that a new file gets.
+//! The two ACLs of a file, and the ACLs that a new file gets.
 ghost use Rattle.std.specs.Prelude.{◌≡◌, IfOk, Some, option_map};
 ghost use Rattle.acl_posix.specs.Create.{created_access, created_default, cut};
 
@@ -6,12 +6,12 @@ use crate::acl::PosixAcl;
 use acl_perm::Mode;
 use std::alloc::{AllocError, Global};
 
-/// The ACLs of a file: its access ACL, and of a directory the default ACL, if it has one (acl(5), "ACL TYPES").
+/// The ACLs of a file: its access ACL, and the default ACL of a directory, if it has one (acl(5), "ACL TYPES").
 #[derive(Debug, Drop)]
 pub struct PosixFile {
-    /// What decides who may do what with the file.
+    /// The access ACL, which decides who may do what with the file.
     pub access: PosixAcl,
-    /// What a new file in this directory gets, if there is one.
+    /// The default ACL, which new files in this directory get.
     pub default: Option<PosixAcl>,
 }
 
@@ -23,7 +23,8 @@ impl PartialEq for PosixFile {
 
     ghost laws = { same_file_laws };
 
-    /// Whether the access ACLs are equal, and both files have no default ACL or equal ones. No memory; linear time.
+    /// Returns whether the access ACLs are equal, and both files have no default ACL or equal ones. No memory; linear
+    /// time.
     fn eq(&self, other: &PosixFile) -> bool
         ensures value { result ≡ same_file self.now other.now }
         ensures exact { IsTrue result ↔ (self.now ≡ other.now) }
@@ -38,10 +39,11 @@ impl Eq for PosixFile {
     ghost laws = { same_file_equiv };
 }
 
-/// The ACLs of a new file, or of a new directory where `dir` is true, in a directory with this default ACL (acl(5),
-/// "OBJECT CREATION AND DEFAULT ACLs"). With a default ACL the access ACL is that with the entries of its mode cut to
-/// the bits of `mode`, the umask has no part, and a directory gets the default ACL unchanged as its own. Without one
-/// the access ACL has three entries with the bits of `mode` that are not in `umask`. Linear time; a table for each ACL.
+/// Returns the ACLs of a new file, or of a new directory if `dir` is true, in a directory with this default ACL
+/// (acl(5), "OBJECT CREATION AND DEFAULT ACLs"). With a default ACL, the access ACL is the default ACL with the entries
+/// of its mode reduced to the bits of `mode`, the umask is ignored, and a directory gets the default ACL unchanged as
+/// its own. Without one, the access ACL has three entries with the bits of `mode` that are not in `umask`. Fails if
+/// memory runs out. Linear time; a table for each ACL.
 ///
 /// ```rust
 /// let mode = Mode { bits: 0o666 };

@@ -2,19 +2,19 @@
 ghost use Rattle.std.specs.Prelude.{◌≡◌, IfSome, IsSome, ◌↔◌};
 ghost use Rattle.acl_posix.specs.Id.{IsId};
 
-/// The greatest id. The number above it stands for no id.
+/// The greatest id. The number above it is not an id.
 pub(crate) const GREATEST: u32 = u32::MAX - 1;
 
 /// The id of a user or a group, from 0 to 4294967294: the qualifier of a USER or GROUP entry (acl(5), "ACL ENTRIES").
 #[derive(Clone, Copy, Debug, PartialEq, Eq, PartialOrd, Ord, Hash)]
 pub struct Id {
-    /// Its number.
+    /// The number of the id.
     pub value: u32,
     ghost within: { IsId value },
 }
 
 impl Id {
-    /// The id of this number; none for 4294967295, which stands for no id. Constant time.
+    /// Returns the id of this number, or `None` for 4294967295, which is not an id. Constant time.
     pub fn new(value: u32) -> Option<Id>
         ensures within { IsSome result ↔ IsId value }
         ensures value { IfSome result (λ id. id.value ≡ value) }
@@ -26,7 +26,7 @@ impl Id {
         }
     }
 
-    /// The number of the id. Constant time.
+    /// Returns the number of the id. Constant time.
     pub fn value(self) -> u32
         ensures value { result ≡ self.value }
         ensures within { IsId result }

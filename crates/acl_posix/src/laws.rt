@@ -13,17 +13,17 @@ ghost use Rattle.acl_posix.specs.TextLaws.{ReadsBack, TellsApart};
 ghost use Rattle.acl_posix.specs.Texts.{canonical_text, short_text, shown_text};
 ghost use Rattle.acl_posix.specs.Valid.{IsFaultOf, IsValidList, is_refusal};
 
-/// The mode after it is changed is the mode that was set.
+/// After the mode is set, the mode is that mode.
 pub fn mode_is_set()
     ensures { ModeIsSet }
 {}
 
-/// After the mask is calculated each entry grants all of its own permissions.
+/// After the mask is calculated, each entry grants all of its own permissions.
 pub fn mask_leaves_all()
     ensures { MaskLeavesAll }
 {}
 
-/// The mask calculated twice is calculated once.
+/// Calculating the mask twice gives the same as calculating it once.
 pub fn mask_stays()
     ensures { MaskStays }
 {}
@@ -43,7 +43,7 @@ pub fn short_text_reads_back()
     ensures { ReadsBack short_text }
 {}
 
-/// Two files have one canonical text exactly if their sets of entries are equal.
+/// Two files have the same canonical text if and only if their sets of entries are equal.
 pub fn canonical_text_tells_apart()
     ensures { TellsApart canonical_text }
 {}
@@ -56,7 +56,7 @@ pub fn one_fault()
         → IsTrue (is_refusal f) → IsFaultOf entries f → ⊥ }
 {}
 
-/// With one table of names, a text spells at most one file, it has at most one fault, and not both.
+/// With one table of names, a text spells at most one file, has at most one fault, and does not do both.
 pub fn one_text_fault()
     ensures file { (text : List ℕ) (names : Table) (a b : PosixFile) → Reads text names a
         → Reads text names b → a ≡ b }

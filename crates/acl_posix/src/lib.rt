@@ -16,6 +16,7 @@ mod look_up;
 mod memory;
 mod names;
 mod one_entry;
+mod packed;
 mod parser;
 mod piece;
 mod reader;

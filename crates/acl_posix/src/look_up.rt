@@ -1,4 +1,4 @@
-//! What a tag has in a list that is in order.
+//! The permissions of a tag in sorted entries.
 ghost use Rattle.std.specs.Prelude.{◌≡◌, option_map};
 ghost use Rattle.std.specs.FinMap as set;
 ghost use Rattle.acl_posix.specs.Tag.{tag_of};
@@ -10,7 +10,7 @@ use crate::tag::Tag;
 use acl_perm::Perm;
 
 impl SortedEntries {
-    /// The place of the entry of a tag, or the place where it would go.
+    /// Returns the place of the entry of a tag, or the place where it would be inserted.
     pub(crate) fn place_of(&self, tag: Tag) -> Result<usize, usize>
         ensures { IsPlaceOf (set.keys self.now) (tag_of tag) result }
     {
@@ -18,7 +18,7 @@ impl SortedEntries {
             .binary_search_by_key(&tag, |entry| entry.tag)
     }
 
-    /// The permissions of a tag, if it has an entry.
+    /// Returns the permissions of a tag, if it has an entry.
     pub(crate) fn get(&self, tag: Tag) -> Option<Perm>
         ensures { option_map (λ perm. perm.bits) result ≡ set.get self.now (tag_of tag) }
     {
@@ -28,14 +28,14 @@ impl SortedEntries {
         }
     }
 
-    /// Whether a tag has an entry.
+    /// Returns whether a tag has an entry.
     pub(crate) fn has(&self, tag: Tag) -> bool
         ensures { result ≡ set.contains_key self.now (tag_of tag) }
     {
         self.get(tag).is_some()
     }
 
-    /// The permissions of a tag, and none where it has no entry.
+    /// Returns the permissions of a tag, or no permissions if it has no entry.
     pub(crate) fn perm_at(&self, tag: Tag) -> Perm
         ensures { result.bits ≡ perm_at self.now (tag_of tag) }
     {
@@ -45,7 +45,7 @@ impl SortedEntries {
         }
     }
 
-    /// The tag of the entry that the group bits of the mode are.
+    /// Returns the tag of the entry that the group bits of the mode show.
     pub(crate) fn group_class(&self) -> Tag
         ensures { tag_of result ≡ group_class self.now }
     {

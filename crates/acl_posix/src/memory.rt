@@ -1,4 +1,4 @@
-//! Want of memory is a fault of each kind: so `?` hands it on, whatever a call answers.
+//! Each kind of fault has a case for memory that runs out, so `?` passes it on from every call.
 ghost use Rattle.std.specs.Prelude.{◌≡◌};
 ghost use Rattle.acl_posix.specs.declared.fault.AclFault.TheVariants as acl;
 ghost use Rattle.acl_posix.specs.declared.names.NameFault.TheVariants as name;

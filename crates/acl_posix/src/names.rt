@@ -17,10 +17,10 @@ pub enum NameFault {
     /// The name has no byte.
     #[error("EmptyName")]
     EmptyName,
-    /// The name is digits alone, so a text that has it means an id.
+    /// The name has digits alone, and in a text such a word is an id.
     #[error("DigitsOnly")]
     DigitsOnly,
-    /// The table has the name already: of a user where a user is added, of a group where a group is.
+    /// The table already has the name: as a user if a user is added, as a group if a group is added.
     #[error("Taken")]
     Taken,
     /// Memory ran out.
@@ -28,7 +28,7 @@ pub enum NameFault {
     Memory,
 }
 
-/// The names of users and of groups with their ids, by which a text may call them. Clauses see it as two finite maps.
+/// The names of users and of groups with their ids, which a text may use. Clauses see it as two finite maps.
 #[derive(Debug, Drop)]
 pub struct Names {
     alloc: Global,
@@ -48,7 +48,7 @@ impl Model for Names {
 }
 
 impl Names {
-    /// The table without names. No memory.
+    /// Returns the table without names. No memory.
     pub fn new(alloc: Global) -> Names
         ensures empty { result ≡ no_names }
         ensures table { IsTable result }
@@ -60,8 +60,8 @@ impl Names {
         }
     }
 
-    /// Adds a user name. A name that is refused leaves the table as it was. Logarithmic time; one string, and a node of
-    /// the map.
+    /// Adds a user name. Fails with `EmptyName`, `DigitsOnly` or `Taken`, in this order, or if memory runs out. A call
+    /// that fails leaves the table as it was. Logarithmic time; one string, and a node of the map.
     ///
     /// ```rust
     /// let mut names = Names::new(alloc);
@@ -78,8 +78,8 @@ impl Names {
         add(self.alloc, &mut self.users, name, id)
     }
 
-    /// Adds a group name. A name that is refused leaves the table as it was. Logarithmic time; one string, and a node
-    /// of the map.
+    /// Adds a group name. Fails with `EmptyName`, `DigitsOnly` or `Taken`, in this order, or if memory runs out. A call
+    /// that fails leaves the table as it was. Logarithmic time; one string, and a node of the map.
     pub fn add_group(&mut self, name: &[u8], id: Id) -> Result<(), NameFault>
         ensures adds { AddsName self.old.groups name.now self.old self.new
             (with_group self.old name.now id.value) result }

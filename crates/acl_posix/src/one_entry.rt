@@ -1,4 +1,4 @@
-//! Changes of one entry of a valid list that is in order.
+//! Changes of one entry of a valid, sorted list.
 ghost use Rattle.std.specs.Prelude.{◌≡◌, IfErr, IsOk, IsSome, IsTrue, OnErr, OnOk};
 ghost use Rattle.std.specs.FinMap as set;
 ghost use Rattle.acl_posix.specs.Tag.{tag_of};
@@ -11,8 +11,8 @@ use crate::tag::Tag;
 use acl_perm::Perm;
 
 impl SortedEntries {
-    /// Sets the permissions of a tag, and adds an entry where it has none. A USER or GROUP entry is added only beside a
-    /// MASK.
+    /// Sets the permissions of a tag, and adds an entry if it has none. A USER or GROUP entry is added only if there is
+    /// a MASK.
     pub(crate) fn put(&mut self, tag: Tag, perm: Perm) -> Result<(), AclFault>
         requires { IsValid self.old }
         ensures ok { OnOk result (self.new ≡ set.insert self.old (tag_of tag) perm.bits) }
@@ -32,7 +32,7 @@ impl SortedEntries {
         }
     }
 
-    /// Removes the entry of a tag, if it has one and the list is valid without it.
+    /// Removes the entry of a tag, if it has one and the list without it is valid.
     pub(crate) fn remove(&mut self, tag: Tag) -> Result<(), AclFault>
         requires { IsValid self.old }
         ensures ok { OnOk result (self.new ≡ set.remove self.old (tag_of tag)) }

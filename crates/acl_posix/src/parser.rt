@@ -1,4 +1,4 @@
-//! The ACLs of a file from their text.
+//! The ACLs of a file, read from their text.
 ghost use Rattle.std.specs.Prelude.{◌≡◌, ◌⊎◌, IfErr, IfOk, MatchResult};
 ghost use Rattle.acl_posix.specs.declared.file.PosixFile.{PosixFile as FileValue};
 ghost use Rattle.acl_posix.specs.declared.text_fault.TextFault.{TextFault as FaultValue};
@@ -17,10 +17,10 @@ use crate::reader::read_text;
 use crate::text_fault::{Cause, Part, TextFault};
 use std::alloc::Global;
 
-/// The ACLs that a text spells, in the long form, the short form, or as getfacl prints them of one file (acl(5), "LONG
-/// TEXT FORM", "SHORT TEXT FORM"). A text that spells none is refused: by the first entry that is wrong, else by the
-/// first part that is no valid ACL. Time n log n in the number of entries, and linear where they stand in canonical
-/// order; a list of entries for each part.
+/// Returns the ACLs that a text spells, in the long form, in the short form, or as getfacl prints those of one file
+/// (acl(5), "LONG TEXT FORM", "SHORT TEXT FORM"). A text that spells no ACLs is refused: because of its first wrong
+/// entry, or otherwise because of the first part that is not a valid ACL. Time n log n in the number of entries, and
+/// linear if they are in canonical order; a list of entries for each part.
 ///
 /// ```rust
 /// let names = Names::new(alloc);
@@ -29,14 +29,14 @@ use std::alloc::Global;
 /// assert!(rt; file.default.is_none());
 /// ```
 pub fn parse(alloc: Global, text: &[u8], names: &Names) -> Result<PosixFile, TextFault>
-    // What is read is spelled by the text.
+    // The text spells the file that is returned.
     ensures found { IfOk result (Reads text.now names.now) }
-    // What the text spells is read.
+    // If the text spells a file, that file is returned.
     ensures only { (file : FileValue) → Reads text.now names.now file
         → MatchResult result (λ read. read ≡ file) (λ fault. fault ≡ Memory) }
-    // A refusal is that of the text.
+    // A refusal is the fault of the text.
     ensures fault { IfErr result (IsRefusal text.now names.now) }
-    // A text with a fault is refused by it.
+    // A text with a fault is refused with that fault.
     ensures refused { (wrong : FaultValue) → IsTextFault text.now names.now wrong
         → MatchResult result (λ _. ⊥) (λ fault. (fault ≡ wrong) ⊎ (fault ≡ Memory)) }
 {
@@ -53,7 +53,7 @@ fn read_file(alloc: Global, text: &[u8], names: &Names) -> Result<PosixFile, Tex
     Ok(PosixFile { access, default })
 }
 
-/// The default ACL of these entries, and none where there is no entry.
+/// Returns the default ACL of these entries, or none if there are no entries.
 fn default_of(alloc: Global, entries: Vec<Entry>) -> Result<Option<PosixAcl>, TextFault>
     ensures ok { IfOk result (IsDefaultOf (pairs entries.items)) }
     ensures err { IfErr result (IsDefaultFault (pairs entries.items)) }
@@ -65,7 +65,7 @@ fn default_of(alloc: Global, entries: Vec<Entry>) -> Result<Option<PosixAcl>, Te
     Ok(Some(acl))
 }
 
-/// The ACL of these entries of a part.
+/// Returns the ACL of these entries of a part.
 fn part_of(alloc: Global, part: Part, entries: Vec<Entry>) -> Result<PosixAcl, TextFault>
     ensures ok { IfOk result (IsAclOf (pairs entries.items)) }
     ensures err { IfErr result (IsPartFault part (pairs entries.items)) }

@@ -23,7 +23,7 @@ pub(crate) struct EntryPieces<'a> {
     pub permissions: Piece<'a>,
 }
 
-/// The entry that a piece spells, and its part.
+/// Returns the entry that a piece spells, and its part.
 #[tactic(auto, unfolding(crate::specs::internal::Reading::read_piece))]
 pub(crate) fn read_piece(
     piece: Piece,
@@ -46,7 +46,7 @@ pub(crate) fn read_piece(
     Ok((fields.part, Entry { tag, perm }))
 }
 
-/// The part that a piece belongs to, and its three fields.
+/// Returns the part that a piece belongs to, and its three fields.
 #[tactic(auto, unfolding(crate::specs::Grammar::fields_of))]
 fn fields<'a>(piece: Piece<'a>) -> Option<EntryPieces<'a>>
     requires { piece.column + length piece.bytes.now < 2 ^ 64 }
@@ -61,7 +61,7 @@ fn fields<'a>(piece: Piece<'a>) -> Option<EntryPieces<'a>>
     }
 }
 
-/// The three fields that a piece has from here on, and no more.
+/// Returns the three fields that a piece has from here on, if it has no more and no fewer.
 fn three<'a>(part: Part, piece: Piece<'a>) -> Option<EntryPieces<'a>>
     requires { piece.column + length piece.bytes.now < 2 ^ 64 }
     ensures value { option_map view_fields result

@@ -13,7 +13,7 @@ use crate::written_line::written_line;
 use acl_perm::internal::{Piece, before_mark, cut_line, is_all_blank};
 use std::alloc::{AllocError, Global};
 
-/// The entries read so far, those of each part in order.
+/// The entries that have been read, those of each part in order.
 #[derive(Drop)]
 pub(crate) struct EntryLists {
     pub access: Vec<Entry>,
@@ -39,7 +39,7 @@ pub(crate) fn read_text(alloc: Global, text: &[u8], names: &Names) -> Result<Ent
     Ok(lists)
 }
 
-/// Reads the entries of the first line of a text, and answers what stands behind the line.
+/// Reads the entries of the first line of a text, and returns the text behind the line.
 fn read_first<'a>(
     text: &'a [u8],
     number: usize,

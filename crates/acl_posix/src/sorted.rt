@@ -10,7 +10,8 @@ use acl_perm::Mode;
 use std::alloc::{AllocError, Global};
 use std::marker::Model;
 
-/// Entries in canonical order, in which no tag and qualifier stand twice. Clauses see them as what each tag has.
+/// Entries in canonical order, in which no tag and qualifier occur twice. Clauses see them as a map from tags to
+/// permissions.
 #[derive(Debug, Drop)]
 pub(crate) struct SortedEntries {
     pub(crate) items: Vec<Entry>,
@@ -30,7 +31,7 @@ impl Model for SortedEntries {
 }
 
 impl SortedEntries {
-    /// The three entries that stand for a mode.
+    /// Returns the three entries of a mode.
     pub(crate) fn of_mode(alloc: Global, mode: Mode) -> Result<SortedEntries, AllocError>
         ensures { IfOk result (λ entries. entries ≡ of_mode mode.bits) }
     {
@@ -50,7 +51,7 @@ impl SortedEntries {
         Ok(SortedEntries { items })
     }
 
-    /// A copy of the entries.
+    /// Returns a copy of the entries.
     pub(crate) fn copy(&self, alloc: Global) -> Result<SortedEntries, AllocError>
         ensures { IfOk result (λ entries. entries ≡ self.now) }
     {
@@ -58,7 +59,7 @@ impl SortedEntries {
         Ok(SortedEntries { items })
     }
 
-    /// The entries, in canonical order.
+    /// Returns the entries, in canonical order.
     pub(crate) fn as_slice(&self) -> &[Entry]
         ensures entries { pairs result.now ≡ set.entries self.now }
         ensures sorted { IsSorted (pairs result.now) }

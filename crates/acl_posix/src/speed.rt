@@ -1,4 +1,4 @@
-//! Calls at many entries, to count their instructions: `bench/posix_calls` runs each test alone.
+//! Calls with many entries, to count their instructions: `bench/posix_calls` runs each test alone.
 
 ghost use Rattle.std.specs.Prelude.{◌<◌};
 
@@ -6,7 +6,7 @@ use super::*;
 use acl_perm::Perm;
 use std::alloc::{AllocError, Global};
 
-// The step between ids that are in no order; with a step of 1 they are in canonical order.
+// The step between ids that are in no order. With a step of 1 they are in canonical order.
 const LARGE_PRIME: u32 = 7919;
 
 fn push(entries: &mut Vec<Entry>, tag: Tag) -> Result<(), AllocError> {
@@ -15,7 +15,7 @@ fn push(entries: &mut Vec<Entry>, tag: Tag) -> Result<(), AllocError> {
     Ok(())
 }
 
-// Users or groups with the ids below a number, one step after the other.
+// Users or groups with the ids below a number, with a step between them.
 fn push_each(
     entries: &mut Vec<Entry>,
     is_group: bool,
@@ -60,7 +60,7 @@ fn acl_of(alloc: Global, count: u32, step: u32) -> Result<PosixAcl, AclFault>
     PosixAcl::from_entries(alloc, entries)
 }
 
-// How often, of ten thousand times, a user of sixteen groups without an entry is granted anything.
+// How often, of ten thousand times, a user in sixteen groups without an entry is granted anything.
 fn granted(acl: &PosixAcl) -> usize {
     let (owner, group, user) = (
         Id { value: 4000000001 },
@@ -73,7 +73,7 @@ fn granted(acl: &PosixAcl) -> usize {
         .count()
 }
 
-// Whether an ACL holds so many entries, where memory is there.
+// Whether an ACL has so many entries, if there is memory.
 fn holds(alloc: Global, count: u32, step: u32, len: usize) -> bool
     requires { 0 < count }
 {
@@ -83,7 +83,7 @@ fn holds(alloc: Global, count: u32, step: u32, len: usize) -> bool
     }
 }
 
-// Whether each of the ten thousand checks of an ACL grants, where memory is there.
+// Whether each of the ten thousand checks of an ACL grants, if there is memory.
 fn grants_all(alloc: Global, count: u32) -> bool
     requires { 0 < count }
 {

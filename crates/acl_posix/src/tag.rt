@@ -10,7 +10,7 @@ ghost use Rattle.acl_posix.specs.internal.TagCode.{code_cmp, codes_total};
 use crate::id::Id;
 use std::cmp::Ordering;
 
-/// Whom an entry speaks of: a tag type, and the qualifier of a user or a group. Tags are in canonical order: USER_OBJ,
+/// Whom an entry is for: a tag type, and the qualifier of a user or a group. Tags are in canonical order: USER_OBJ,
 /// USER by id, GROUP_OBJ, GROUP by id, MASK, OTHER (POSIX.1e draft 17, section 23.1.2).
 #[derive(Clone, Copy, Debug, PartialEq, Eq, Hash)]
 pub enum Tag {
@@ -22,14 +22,14 @@ pub enum Tag {
     GroupObj,
     /// The group with this id.
     Group(Id),
-    /// The most that users by id and groups can have.
+    /// The mask: the most that users and groups can have.
     Mask,
-    /// Whoever no other entry matches.
+    /// Everyone whom no other entry matches.
     Other,
 }
 
 impl Tag {
-    /// The name of the tag type in the standard, without the qualifier. Constant time.
+    /// Returns the name of the tag type in the standard, without the qualifier. Constant time.
     pub fn name(&self) -> &'static str
         ensures { result.now ≡ name_of (tag_of self.now) }
     {
@@ -43,21 +43,22 @@ impl Tag {
         }
     }
 
-    /// Whether the tag has a qualifier: USER or GROUP.
+    /// Returns whether the tag has a qualifier, that is, is USER or GROUP.
     pub(crate) fn is_named(self) -> bool
         ensures { result ≡ is_named (tag_of self) }
     {
         matches!(self, Tag::User(_) | Tag::Group(_))
     }
 
-    /// Whether the mask limits the entry of the tag: USER, GROUP_OBJ or GROUP.
+    /// Returns whether the mask limits the entry of the tag, that is, the tag is USER, GROUP_OBJ or GROUP.
     pub(crate) fn is_masked(self) -> bool
         ensures { result ≡ is_masked (tag_of self) }
     {
         matches!(self, Tag::User(_) | Tag::GroupObj | Tag::Group(_))
     }
 
-    fn rank(self) -> u8
+    /// The place of the tag type in the canonical order.
+    pub(crate) fn rank(self) -> u8
         ensures { result ≡ rank (tag_of self) }
     {
         match self {
@@ -70,7 +71,8 @@ impl Tag {
         }
     }
 
-    fn qualifier(self) -> u32
+    /// The qualifier, and 0 where there is none.
+    pub(crate) fn qualifier(self) -> u32
         ensures { result ≡ qualifier (tag_of self) }
     {
         match self {

@@ -10,12 +10,12 @@ use thiserror::Error;
 pub enum Part {
     /// The entries of the access ACL, which decides who may do what.
     Access,
-    /// The entries of the default ACL, which what is made in a directory gets.
+    /// The entries of the default ACL, which new files in a directory get.
     Default,
 }
 
 impl Part {
-    /// The name of the part. Constant time.
+    /// Returns the name of the part. Constant time.
     pub fn name(&self) -> &'static str
         ensures { result.now ≡ part_name self.now }
     {
@@ -26,30 +26,30 @@ impl Part {
     }
 }
 
-/// Why the entries of a part are no valid ACL (acl(5), "VALID ACLs"). Places count the entries of the part from 0.
+/// Why the entries of a part are not a valid ACL (acl(5), "VALID ACLs"). Places count the entries of the part from 0.
 #[derive(Clone, Copy, Debug, PartialEq, Eq, Error)]
 pub enum Cause {
-    /// The entry at this place has the tag of one before it.
+    /// The entry at this place has the tag of an earlier entry.
     #[error("Multi at entry {0}")]
     Multi(usize),
-    /// The user or group entry at this place has the tag and the id of one before it.
+    /// The user or group entry at this place has the tag and the id of an earlier entry.
     #[error("Duplicate at entry {0}")]
     Duplicate(usize),
-    /// An entry with this tag has to be there, and is absent.
+    /// An entry with this tag is required, and is absent.
     #[error("Miss {}", .0.name())]
     Miss(Tag),
 }
 
-/// Why a text is refused. Lines and columns count from 1, columns in bytes.
+/// Why a text is refused. Lines and columns count from 1, and columns count bytes.
 #[derive(Clone, Copy, Debug, PartialEq, Eq, Error)]
 pub enum TextFault {
-    /// The entry here has not three fields.
+    /// The entry here does not have three fields.
     #[error("Fields at line {line} column {column}")]
     Fields { line: usize, column: usize },
-    /// The field here is no tag.
+    /// The field here is not a tag.
     #[error("Tag at line {line} column {column}")]
     Tag { line: usize, column: usize },
-    /// The qualifier here stands with a mask or other entry.
+    /// The entry here is a mask or other entry, and has a qualifier.
     #[error("Qualifier at line {line} column {column}")]
     Qualifier { line: usize, column: usize },
     /// The digits here are above 4294967294.
@@ -58,13 +58,13 @@ pub enum TextFault {
     /// The name here is not in the table.
     #[error("UnknownName at line {line} column {column}")]
     UnknownName { line: usize, column: usize },
-    /// The field here has a byte that is none of r, w, x and -, or a letter twice.
+    /// The field here has a byte that is not r, w, x or -, or a letter twice.
     #[error("Permission at line {line} column {column}")]
     Permission { line: usize, column: usize },
-    /// Blanks alone stand here where an entry should.
+    /// There are only blanks here, in place of an entry.
     #[error("EmptyEntry at line {line} column {column}")]
     EmptyEntry { line: usize, column: usize },
-    /// The entries of a part are no valid ACL.
+    /// The entries of a part are not a valid ACL.
     #[error("Invalid {}: {}", .0.name(), .1)]
     Invalid(Part, Cause),
     /// Memory ran out.

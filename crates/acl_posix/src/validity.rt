@@ -10,7 +10,7 @@ use crate::sorted::SortedEntries;
 use crate::tag::Tag;
 
 impl SortedEntries {
-    /// The first tag that has to be there and is absent.
+    /// Returns the first tag that is required and absent.
     #[tactic(auto, unfolding(crate::specs::Valid::missing))]
     pub(crate) fn missing(&self) -> Option<Tag>
         ensures { option_map tag_of result ≡ missing self.now }
@@ -28,7 +28,7 @@ impl SortedEntries {
         }
     }
 
-    /// Whether a valid list is not valid without the entry of a tag.
+    /// Returns whether a valid list is not valid without the entry of a tag.
     pub(crate) fn needs(&self, tag: Tag) -> bool
         requires { IsValid self.now }
         ensures absent { IsTrue result
@@ -42,7 +42,7 @@ impl SortedEntries {
         }
     }
 
-    /// Whether there is an entry of a user or of a group by id.
+    /// Returns whether there is a USER or GROUP entry.
     fn any_named(&self) -> bool
         ensures { result ≡ list_any is_named (set.keys self.now) }
     {

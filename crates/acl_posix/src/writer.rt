@@ -1,4 +1,4 @@
-//! The texts of ACLs, to a sink.
+//! Writes the texts of ACLs to a sink.
 ghost use Rattle.std.specs.Prelude.{◌≡◌, ◌+◌, ◌^◌, ◌<◌, OnErr, OnOk, None, length, option_map};
 ghost use Rattle.std.specs.FinMap as set;
 ghost use Rattle.acl_perm.specs.Devices.{one_more};
@@ -16,7 +16,7 @@ use crate::text_fault::Part;
 use acl_perm::internal::put_next;
 use acl_perm::{Sink, WriteFault};
 
-/// Writes a text of the ACLs of a file, and answers how many bytes it has.
+/// Writes a text of the ACLs of a file, and returns how many bytes it has.
 fn put_file<S: Sink>(
     sink: &mut S,
     form: Form,
@@ -57,7 +57,7 @@ fn put_default<S: Sink>(
     }
 }
 
-/// Writes the entries of a part, after `done` bytes of the text, and answers how many are out then.
+/// Writes the entries of a part, after `done` bytes of the text, and returns how many bytes of the text are out then.
 fn put_part<S: Sink>(
     sink: &mut S,
     done: u64,
@@ -95,7 +95,7 @@ fn put_part<S: Sink>(
 }
 
 impl PosixFile {
-    /// Writes the text in a form. The first put that fails ends it; nothing is tried again. No memory; linear time.
+    /// Writes the text in a form. It ends at the first put that fails, and tries nothing again. No memory; linear time.
     pub fn write<S: Sink>(&self, sink: &mut S, form: Form) -> Result<(), WriteFault>
         ensures { Writes S.contents S.failure_count sink.old sink.new
             (form_text form self.now.access self.now.default) result }
@@ -104,8 +104,8 @@ impl PosixFile {
         Ok(())
     }
 
-    /// Writes the canonical text: a line an entry in canonical order, and the default ACL behind the access ACL. The
-    /// first put that fails ends it; nothing is tried again. No memory; linear time.
+    /// Writes the canonical text: one line per entry in canonical order, with the default ACL behind the access ACL. It
+    /// ends at the first put that fails, and tries nothing again. No memory; linear time.
     pub fn write_canonical<S: Sink>(&self, sink: &mut S) -> Result<(), WriteFault>
         ensures { Writes S.contents S.failure_count sink.old sink.new
             (canonical_text self.now.access self.now.default) result }
@@ -113,8 +113,8 @@ impl PosixFile {
         self.write(sink, Form::Canonical)
     }
 
-    /// Writes the canonical text with a comment behind each entry that the mask cuts: its effective permissions. The
-    /// first put that fails ends it; nothing is tried again. No memory; linear time.
+    /// Writes the canonical text with a comment behind each entry that the mask limits: its effective permissions. It
+    /// ends at the first put that fails, and tries nothing again. No memory; linear time.
     pub fn write_shown<S: Sink>(&self, sink: &mut S) -> Result<(), WriteFault>
         ensures { Writes S.contents S.failure_count sink.old sink.new
             (shown_text self.now.access self.now.default) result }
@@ -122,8 +122,8 @@ impl PosixFile {
         self.write(sink, Form::Shown)
     }
 
-    /// Writes the short text: the entries in canonical order with commas between them, and no line feed. The first put
-    /// that fails ends it; nothing is tried again. No memory; linear time.
+    /// Writes the short text: the entries in canonical order with commas between them, and no line feed. It ends at the
+    /// first put that fails, and tries nothing again. No memory; linear time.
     pub fn write_short<S: Sink>(&self, sink: &mut S) -> Result<(), WriteFault>
         ensures { Writes S.contents S.failure_count sink.old sink.new
             (short_text self.now.access self.now.default) result }
@@ -133,7 +133,7 @@ impl PosixFile {
 }
 
 impl PosixAcl {
-    /// Writes the text in a form. The first put that fails ends it; nothing is tried again. No memory; linear time.
+    /// Writes the text in a form. It ends at the first put that fails, and tries nothing again. No memory; linear time.
     pub fn write<S: Sink>(&self, sink: &mut S, form: Form) -> Result<(), WriteFault>
         ensures { Writes S.contents S.failure_count sink.old sink.new
             (form_text form self.now None) result }
@@ -142,8 +142,8 @@ impl PosixAcl {
         Ok(())
     }
 
-    /// Writes the canonical text: a line an entry in canonical order, and the default ACL behind the access ACL. The
-    /// first put that fails ends it; nothing is tried again. No memory; linear time.
+    /// Writes the canonical text: one line per entry in canonical order, with the default ACL behind the access ACL. It
+    /// ends at the first put that fails, and tries nothing again. No memory; linear time.
     ///
     /// ```rust
     /// let acl = PosixAcl::of_mode(alloc, Mode { bits: 0o640 })?;
@@ -160,8 +160,8 @@ impl PosixAcl {
         PosixAcl::write(self, sink, Form::Canonical)
     }
 
-    /// Writes the canonical text with a comment behind each entry that the mask cuts: its effective permissions. The
-    /// first put that fails ends it; nothing is tried again. No memory; linear time.
+    /// Writes the canonical text with a comment behind each entry that the mask limits: its effective permissions. It
+    /// ends at the first put that fails, and tries nothing again. No memory; linear time.
     pub fn write_shown<S: Sink>(&self, sink: &mut S) -> Result<(), WriteFault>
         ensures { Writes S.contents S.failure_count sink.old sink.new
             (shown_text self.now None) result }
@@ -169,8 +169,8 @@ impl PosixAcl {
         PosixAcl::write(self, sink, Form::Shown)
     }
 
-    /// Writes the short text: the entries in canonical order with commas between them, and no line feed. The first put
-    /// that fails ends it; nothing is tried again. No memory; linear time.
+    /// Writes the short text: the entries in canonical order with commas between them, and no line feed. It ends at the
+    /// first put that fails, and tries nothing again. No memory; linear time.
     pub fn write_short<S: Sink>(&self, sink: &mut S) -> Result<(), WriteFault>
         ensures { Writes S.contents S.failure_count sink.old sink.new
             (short_text self.now None) result }

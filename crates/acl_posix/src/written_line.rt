@@ -1,4 +1,4 @@
-//! Lines as the canonical text has them, at one go. `reader` takes every other line apart.
+//! Lines in the form of the canonical text, which are read in one step. `reader` reads every other line field by field.
 ghost use Rattle.std.specs.Prelude.{◌≡◌, [], ◌∷◌, ◌++◌, IfSome};
 ghost use Rattle.acl_posix.specs.Entries.{pair_of};
 ghost use Rattle.acl_perm.specs.Shown.{perm_text};
@@ -40,7 +40,7 @@ struct FieldsBefore<'a> {
     rest: &'a [u8],
 }
 
-/// An id, and the bytes behind its colon.
+/// An id, and the bytes behind the colon after it.
 #[derive(Clone, Copy)]
 struct IdBefore<'a> {
     id: Id,
@@ -54,8 +54,8 @@ struct PermBefore<'a> {
     rest: &'a [u8],
 }
 
-/// What the first line of a text spells, where it is the line of a user or a group by id as the canonical text has it,
-/// but for zeros before the id, which has at most ten digits.
+/// Returns what the first line of a text spells, if it is the line of a USER or GROUP entry in the form of the
+/// canonical text. There may be zeros before the id, which then has at most ten digits.
 pub(crate) fn written_line(text: &[u8]) -> Option<WrittenLine<'_>>
     ensures { IfSome result (λ line.
         IsFirstLine text.now line.part (pair_of line.entry) line.rest.now) }
@@ -88,7 +88,7 @@ fn entry_before(bytes: &[u8]) -> Option<EntryBefore<'_>>
     Some(EntryBefore { entry, rest })
 }
 
-/// What stands behind a beginning, where the bytes have it.
+/// Returns the bytes behind a beginning, if the bytes have that beginning.
 fn behind<'a>(bytes: &'a [u8], beginning: &[u8]) -> Option<&'a [u8]>
     ensures { IfSome result (λ rest. bytes.now ≡ beginning.now ++ rest.now) }
 {
@@ -105,7 +105,7 @@ fn fields_before(bytes: &[u8]) -> Option<FieldsBefore<'_>>
     Some(FieldsBefore { id, perm, rest })
 }
 
-// How many digits the greatest id has.
+// The number of digits of the greatest id.
 const MOST_DIGITS: usize = 10;
 
 fn id_before(bytes: &[u8]) -> Option<IdBefore<'_>>
@@ -158,7 +158,7 @@ fn perm_of(read: bool, write: bool, execute: bool) -> Perm
     }
 }
 
-/// Whether a byte is a letter, where it is that or `-`.
+/// Returns whether a byte is a letter, if it is that letter or `-`.
 fn is_shown(byte: u8, letter: u8) -> Option<bool>
     ensures { IfSome result (λ is. byte ≡ letter_of is letter) }
 {

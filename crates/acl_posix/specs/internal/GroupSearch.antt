@@ -1,4 +1,4 @@
--- What a search for one group answers (this library's own).
+-- The result of a search for one group (this library's own).
 use Rattle.std.specs.Prelude.{ℕ, Bool, ◌&&◌, ◌||◌, ◌==◌}
 use Rattle.acl_posix.specs.Tag.{group_obj, group}
 use Rattle.acl_posix.specs.Entries.{Entries}

@@ -1,4 +1,4 @@
--- The table that the maps of the code stand for (this library's own).
+-- The table of the maps of the code (this library's own).
 use Rattle.std.specs.Prelude.{ℕ, List, map, refl}
 use Rattle.std.specs.Coded.{Coded, code_by, coded×, coded_list, coded_ℕ}
 use Rattle.std.specs.Global.{Vec}

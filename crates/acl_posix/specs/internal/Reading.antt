@@ -1,5 +1,5 @@
--- How the code reads pieces one after the other, as functions (this library's own). What public clauses say of texts
--- stands in Grammar and TextFault.
+-- How the code reads pieces one after the other, as functions (this library's own). What public clauses say about texts
+-- is in Grammar and TextFault.
 use Rattle.std.specs.Prelude.{ℕ, ◌≡◌, ◌+◌, ◌<◌, ◌≤◌, ◌==◌, List, [], ◌∷◌, ◌++◌, length, Option, Some, None, Result, Ok, Err, option_map, ok_or, if◌then◌else◌}
 use Rattle.std.specs.Borrow.{Bor}
 use Rattle.std.specs.FinMap as fin
@@ -31,7 +31,7 @@ read_word line span = ok_or (word_of (trimmed span.bytes)) (faults.Tag line (sta
 unfoldable pub read_permissions : ℕ → Span → Result ℕ TextFault
 read_permissions line span = ok_or (permissions_of (trimmed span.bytes)) (faults.Permission line (start_of span))
 
--- a tag that may have a qualifier: the one without, and the one of an id
+-- a tag word that may have a qualifier: its tag without one, and its tag with an id
 abbrev pub read_named : Tag → (ℕ → Tag) → Ids → ℕ → Span → Result Tag TextFault
 read_named alone of_id ids line span =
     if length (trimmed span.bytes) == 0 then Ok alone
@@ -60,11 +60,11 @@ view_fields fields = record {
   permissions = span_of fields.permissions;
 }
 
--- a part of a piece ends where that piece does, at most
+-- a part of a piece does not end behind the piece
 abbrev pub FitsIn : Piece → Piece → Type 0
 FitsIn part whole = part.column + length part.bytes.now ≤ whole.column + length whole.bytes.now
 
--- the fields of a piece end where it does, at most
+-- the fields of a piece do not end behind the piece
 pub record FieldsFit (fields : EntryPieces) (whole : Piece) : Type 0 where
   pub tag : FitsIn fields.tag whole
   pub qualifier : FitsIn fields.qualifier whole
@@ -116,23 +116,24 @@ abbrev pub added : Lists → PartEntry → Lists
 added lists (Access, entry) = record { access = lists.access ++ entry ∷ []; default = lists.default }
 added lists (Default, entry) = record { access = lists.access; default = lists.default ++ entry ∷ [] }
 
--- the entries of these pieces behind those read so far, or the first fault
+-- the entries of these pieces, after those that have been read, or the first fault
 unfoldable pub read_pieces : Table → Lists → List TextPiece → Result Lists TextFault
 read_pieces names lists [] = Ok lists
 read_pieces names lists (piece ∷ pieces) = do
   entry ← read_piece names piece.line piece.span
   read_pieces names (added lists entry) pieces
 
--- the entries of a line behind those read so far, or the first fault
+-- the entries of a line, after those that have been read, or the first fault
 abbrev pub read_entries : Table → Lists → ℕ → List ℕ → Result Lists TextFault
 read_entries names lists number line = read_pieces names lists (numbered number (line_pieces line))
 
--- what code failed with is the fault that is told, unless memory ran out
+-- the fault of the code is the fault that is reported, unless memory ran out
 abbrev pub Fails : {Y : Type 0} → TextFault → Result Y TextFault → Type 0
 Fails faults.Memory read = Unit {0}
 Fails fault read = read ≡ Err fault
 
--- after the first line of a text, which has this number, reading goes on with the rest as with the whole
+-- after the first line of a text, which has this number, the reading of the rest gives what the reading of the whole
+-- gives
 abbrev pub ReadsOn : Table → ℕ → List ℕ → Lists → Lists → Option (Bor (List ℕ)) → Type 0
 ReadsOn names number text lists next None =
     read_pieces names lists (pieces_from number (lines_of text)) ≡ Ok next
@@ -141,7 +142,7 @@ ReadsOn names number text lists next (Some rest) =
     ≡ read_pieces names next (pieces_from (number + 1) (lines_of rest.now)))
     × (length rest.now < length text)
 
--- what a fault says of the entries of a part
+-- what a fault says about the entries of a part
 abbrev pub IsPartFault : Part → List (Tag × ℕ) → TextFault → Type 0
 IsPartFault part entries (faults.Fields line column) = ⊥
 IsPartFault part entries (faults.Tag line column) = ⊥
@@ -153,7 +154,7 @@ IsPartFault part entries (faults.EmptyEntry line column) = ⊥
 IsPartFault part entries (faults.Invalid which why) = (which ≡ part) × IsFaultOf entries (acl_fault why)
 IsPartFault part entries faults.Memory = Unit {0}
 
--- what a fault says of the entries of the default part, of which there are some
+-- what a fault says about the entries of the default part, if there are any
 pub record IsDefaultFault (entries : List (Tag × ℕ)) (fault : TextFault) : Type 0 where
   pub some_entry : 0 < length entries
   pub wrong : IsPartFault Default entries fault

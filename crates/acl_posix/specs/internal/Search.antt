@@ -1,15 +1,15 @@
--- What a search answers: the place of a tag in a list in canonical order, or the place where it would go (this
--- library's own).
+-- The result of a search: the place of a tag in a list in canonical order, or the place where it would be inserted
+-- (this library's own).
 use Rattle.std.specs.Prelude.{ℕ, ◌≡◌, ◌<◌, ◌≤◌, List, length, get_or, Result, MatchResult}
 use Rattle.std.specs.declared.cmp.Ordering.TheVariants.{Less, Greater}
 use Rattle.acl_posix.specs.Tag.{Tag, tag_cmp}
 
--- the tag stands at a place
+-- the tag is at a place
 pub record IsAt (tags : List Tag) (tag : Tag) (place : ℕ) : Type 0 where
   pub in_range : place < length tags
   pub has : get_or tags place tag ≡ tag
 
--- the tag would go at a place: what stands before it is less, and what stands from there on is greater
+-- the tag would be inserted at a place: the tags before the place are less, and those from there on are greater
 pub record IsGap (tags : List Tag) (tag : Tag) (place : ℕ) : Type 0 where
   pub in_range : place ≤ length tags
   pub before : (at : ℕ) → at < place → tag_cmp (get_or tags at tag) tag ≡ Less

@@ -1,5 +1,5 @@
--- The order of the tags of the code, and tags and sets of entries as numbers (this library's own). Its proofs stand
--- here since `Ord` and the models of the code cite them, and code can cite what stands in specs/ alone.
+-- The order of the tags of the code, and tags and sets of entries as numbers (this library's own). The proofs are here
+-- because `Ord` and the models of the code cite them, and code can cite only what is in specs/.
 use Rattle.std.specs.Prelude.{ℕ, zero, suc, ◌≡◌, refl}
 use Rattle.std.specs.FinMap as set
 use Rattle.std.specs.Coded.{Coded, code_by, coded×, coded_ℕ}
@@ -31,7 +31,7 @@ tag_from (suc (suc (suc zero))) id = group id
 tag_from (suc (suc (suc (suc zero)))) id = mask
 tag_from (suc (suc (suc (suc (suc n))))) id = other
 
--- rank and qualifier tell the tag
+-- rank and qualifier determine the tag
 abbrev pub tag_again : (tag : Tag) → tag_from (rank tag) (qualifier tag) ≡ tag
 tag_again user_obj = refl
 tag_again (user id) = refl

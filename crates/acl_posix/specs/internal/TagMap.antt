@@ -1,4 +1,4 @@
--- What the code builds while it judges a list: a map from tags to permissions, and the fault of a tag that stands twice
+-- What the code builds while it judges a list: a map from tags to permissions, and the fault of a tag that occurs twice
 -- (this library's own).
 use Rattle.std.specs.Prelude.{ℕ, List, map, if◌then◌else◌}
 use Rattle.acl_perm.specs.declared.perm.Perm.{Perm}
@@ -15,6 +15,6 @@ map_pair entry = (tag_of entry.0, entry.1.bits)
 abbrev pub map_pairs : List (TagOfCode × Perm) → List (Tag × ℕ)
 map_pairs entries = map map_pair entries
 
--- the fault of a tag that stands twice
+-- the fault of a tag that occurs twice
 abbrev pub repeat_fault : Tag → ℕ → AclFault
 repeat_fault tag place = if is_named tag then Duplicate place else Multi place

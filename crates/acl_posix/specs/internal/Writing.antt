@@ -1,7 +1,8 @@
--- How the code puts a text together, an entry after the other (this library's own). What public clauses say of the
--- texts stands in Texts.
+-- How the code puts a text together, one entry after the other (this library's own). What public clauses say about the
+-- texts is in Texts.
 use Rattle.std.specs.Prelude.{ℕ, ◌≡◌, ◌+◌, Bool, true, false, List, [], ◌∷◌, ◌++◌, codes, drop, length, bit_and, unwrap_or, Option, Some, None, if◌then◌else◌}
 use Rattle.std.specs.FinMap as set
+use Rattle.acl_perm.specs.Ascii.{line_feed}
 use Rattle.acl_posix.specs.declared.form.Form.{Form}
 use Rattle.acl_posix.specs.declared.form.Form.TheVariants.{Canonical, Shown, Short}
 use Rattle.acl_posix.specs.declared.text_fault.Part.{Part}
@@ -11,16 +12,17 @@ use Rattle.acl_posix.specs.Entries.{Entries}
 use Rattle.acl_posix.specs.Mask.{effective_of}
 use Rattle.acl_posix.specs.Texts.{long_word, short_word, entry_text, mark_text}
 
--- bytes stand in front of what stood from a place on
+-- bytes are put in front of those from a place on
 pub record IsPut (bytes old new : List ℕ) (end start : ℕ) : Type 0 where
   pub begins : start + length bytes ≡ end
   pub written : drop start new ≡ bytes ++ drop end old
 
--- what a mask leaves of an entry, where there is one
+-- the permissions of an entry that a mask leaves, if there is a mask
 abbrev pub masked_by : Option ℕ → Tag × ℕ → ℕ
 masked_by mask entry = if is_masked entry.0 then bit_and entry.1 (unwrap_or mask entry.1) else entry.1
 
--- what stands before an entry: a comma before each but the first of a short text, and the mark of a default entry
+-- the bytes before an entry: a comma before each entry of a short text except the first, and the mark of a default
+-- entry
 abbrev pub lead : Form → Part → Bool → List ℕ
 lead Canonical Access first = []
 lead Canonical Default first = codes "default:"
@@ -35,28 +37,28 @@ form_word Canonical tag = long_word tag
 form_word Shown tag = long_word tag
 form_word Short tag = short_word tag
 
--- what stands behind the fields of an entry
+-- the bytes behind the fields of an entry
 abbrev pub ending : Form → ℕ → ℕ → List ℕ
-ending Canonical effective perm = 10 ∷ []
-ending Shown effective perm = mark_text effective perm ++ 10 ∷ []
+ending Canonical effective perm = line_feed ∷ []
+ending Shown effective perm = mark_text effective perm ++ line_feed ∷ []
 ending Short effective perm = []
 
--- what goes out for an entry: what stands before it, its fields, and what stands behind it
+-- what is written for an entry: the bytes before it, its fields, and the bytes behind it
 unfoldable pub entry_out : Form → Part → Bool → ℕ → Tag × ℕ → List ℕ
 entry_out form part first effective entry =
     lead form part first ++ (entry_text (form_word form entry.0) entry ++ ending form effective entry.1)
 
--- what goes out for the entries of a part
+-- what is written for the entries of a part
 abbrev pub part_out : Form → Part → Entries → Bool → List (Tag × ℕ) → List ℕ
 part_out form part acl first [] = []
 part_out form part acl first (entry ∷ entries) =
     entry_out form part first (effective_of acl entry) entry ++ part_out form part acl false entries
 
--- what goes out for the default part, if there is one
+-- what is written for the default part, if there is one
 abbrev pub default_out : Form → Option Entries → List ℕ
 default_out form None = []
 default_out form (Some acl) = part_out form Default acl false (set.entries acl)
 
--- what goes out for a file
+-- what is written for a file
 abbrev pub text_out : Form → Entries → Option Entries → List ℕ
 text_out form access default = part_out form Access access true (set.entries access) ++ default_out form default

@@ -1,5 +1,6 @@
--- Lines as the canonical text has them, which the code reads at one go (this library's own).
+-- Lines in the form of the canonical text, which the code reads in one step (this library's own).
 use Rattle.std.specs.Prelude.{ℕ, ◌≡◌, ◌<◌, ◌++◌, Bool, true, List, [], ◌∷◌, length, Some, if◌then◌else◌}
+use Rattle.acl_perm.specs.Ascii.{colon, hyphen, line_feed}
 use Rattle.acl_perm.specs.Lines.{lines_of}
 use Rattle.acl_perm.specs.Shown.{perm_text}
 use Rattle.acl_posix.specs.declared.text_fault.Part.{Part}
@@ -9,36 +10,36 @@ use Rattle.acl_posix.specs.Fields.{id_of}
 use Rattle.acl_posix.specs.Grammar.{Spells, line_pieces}
 use Rattle.acl_posix.specs.Texts.{long_word}
 
--- an id in digits and a colon stand before the rest
+-- an id in digits and a colon are before the rest
 pub record IsIdBefore (bytes : List ℕ) (id : ℕ) (rest : List ℕ) : Type 0 where
   pub digits : List ℕ
-  pub parts : bytes ≡ digits ++ 58 ∷ rest
+  pub parts : bytes ≡ digits ++ colon ∷ rest
   pub number : is_number digits ≡ true
   pub value : id_of digits ≡ Some id
 
 -- a letter, or - in its place
 abbrev pub letter_of : Bool → ℕ → ℕ
-letter_of shown letter = if shown then letter else 45
+letter_of shown letter = if shown then letter else hyphen
 
--- permissions as they are written and a line feed stand before the rest
+-- permissions as they are written, and a line feed, are before the rest
 pub record IsPermBefore (bytes : List ℕ) (perm : ℕ) (rest : List ℕ) : Type 0 where
-  pub parts : bytes ≡ perm_text perm ++ 10 ∷ rest
+  pub parts : bytes ≡ perm_text perm ++ line_feed ∷ rest
   pub within : perm < 8
 
--- an id, a colon, permissions and a line feed stand before the rest
+-- an id, a colon, permissions and a line feed are before the rest
 pub record AreFieldsBefore (bytes : List ℕ) (id perm : ℕ) (rest : List ℕ) : Type 0 where
   pub last : List ℕ
   pub is_id : IsIdBefore bytes id last
   pub is_perm : IsPermBefore last perm rest
 
--- the line of an entry with an id stands before the rest
+-- the line of an entry with an id is before the rest
 pub record IsEntryBefore (bytes : List ℕ) (entry : Tag × ℕ) (rest : List ℕ) : Type 0 where
   pub named : is_named entry.0 ≡ true
   pub fields : List ℕ
-  pub word : bytes ≡ long_word entry.0 ++ 58 ∷ fields
+  pub word : bytes ≡ long_word entry.0 ++ colon ∷ fields
   pub are : AreFieldsBefore fields (qualifier entry.0) entry.1 rest
 
--- the first line of a text has one piece, which spells an entry whatever the names are, and the rest stands behind it
+-- the first line of a text has one piece, which spells an entry whatever the names are, and the rest is behind the line
 pub record IsFirstLine (text : List ℕ) (part : Part) (entry : Tag × ℕ) (rest : List ℕ) : Type 0 where
   pub bytes : List ℕ
   pub lines : lines_of text ≡ bytes ∷ lines_of rest

@@ -1,8 +1,10 @@
-use Rattle.std.proofs.Common.{List, sym, subst, rules}
+use Rattle.std.proofs.Common.{ℕ, List, sym, ap, ◌∙◌, map, subst}
 use Rattle.acl_posix.specs.declared.entry.Entry.{Entry}
-use Rattle.acl_posix.specs.Entries.{pairs, IsSorted}
+use Rattle.acl_posix.specs.Entries.{pairs, as_set, IsSorted}
 use Rattle.acl_posix.specs.Valid.{IsDistinct}
-use Rattle.acl_posix.proofs.Repeats.{sorted_distinct, sorted_tags}
+use Rattle.acl_posix.specs.internal.Packed.{unpacked}
+use Rattle.acl_posix.proofs.Repeats.{sorted_distinct}
+use Rattle.acl_posix.proofs.Packings.{distinct_rise, moved_distinct, same_set}
 use Rattle.acl_posix.proofs.sorted.SortedEntries.from_entries.Goals as goal
 
 pub returns-then-is_in_order-clause-distinct : goal.returns-then-is_in_order-clause-distinct
@@ -10,17 +12,37 @@ returns-then-is_in_order-clause-distinct c =
     sorted_distinct (pairs c.args.entries.items) (subst (λ (es : List Entry). IsSorted (pairs es)) c.deref.ensures.value
     (c.is_in_order.ensures.0 c.if-is_in_order.true))
 
-pub returns-in_err-map-clause-accepts : goal.returns-in_err-map-clause-accepts
-returns-in_err-map-clause-accepts c = λ distinct.
-    let memory = c.in_err-map.ensures.accepts (subst (λ (es : List Entry). IsDistinct (pairs es))
-    (sym c.deref-2.ensures.value) distinct) in
-    search rules
+pub first_repeat-requires : goal.first_repeat-requires
+first_repeat-requires c = λ distinct.
+    let distinct = subst (λ (es : List Entry). IsDistinct (pairs es))
+    (c.deref-then-not-rises.ensures.value ∙ sym c.deref-2.ensures.value) distinct in
+    let sorted = distinct_rise _ _ distinct c.in_ok-keys.ensures.permutation c.in_ok-keys.ensures.packed
+    c.in_ok-keys.ensures.sorted in
+    let wrong = sym c.if-not-rises.true
+    ∙ c.rises.ensures.1 (subst (λ (keys : List ℕ). IsSorted (map unpacked keys)) (sym c.deref-3.ensures.value) sorted) in
+    absurd cc
+
+pub returns-then-not-rises-clause-accepts : goal.returns-then-not-rises-clause-accepts
+returns-then-not-rises-clause-accepts c = λ distinct.
+    let distinct = subst (λ (es : List Entry). IsDistinct (pairs es)) (sym c.deref-2.ensures.value) distinct in
+    let sorted = distinct_rise _ _ distinct c.in_ok-keys.ensures.permutation c.in_ok-keys.ensures.packed
+    c.in_ok-keys.ensures.sorted in
+    let wrong = sym c.if-not-rises.true
+    ∙ c.rises.ensures.1 (subst (λ (keys : List ℕ). IsSorted (map unpacked keys)) (sym c.deref-3.ensures.value) sorted) in
+    absurd cc
+
+pub returns-clause-set : goal.returns-clause-set
+returns-clause-set c =
+    let sorted = subst (λ (keys : List ℕ). IsSorted (map unpacked keys)) c.deref-3.ensures.value
+    (c.rises.ensures.0 c.if-not-rises.false) in
+    ap as_set (c.in_ok-put_keys.ensures
+    ∙ ap (λ (keys : List ℕ). map unpacked keys) c.deref-4.ensures.value)
+    ∙ same_set _ _ c.in_ok-keys.ensures.permutation sorted
+    ∙ ap (λ (es : List Entry). as_set (pairs es)) c.deref-2.ensures.value
 
 pub returns-clause-distinct : goal.returns-clause-distinct
 returns-clause-distinct c =
-    subst (λ (es : List Entry). IsDistinct (pairs es)) c.deref-2.ensures.value c.in_ok-map.ensures.distinct
-
-pub invariant_of-result-2 : goal.invariant_of-result-2
-invariant_of-result-2 c =
-    subst IsSorted (sym c.in_ok-put_in_order.ensures.entries)
-    (sorted_tags c.in_ok-map.map.entries c.put_in_order.ensures.ordered)
+    let sorted = subst (λ (keys : List ℕ). IsSorted (map unpacked keys)) c.deref-3.ensures.value
+    (c.rises.ensures.0 c.if-not-rises.false) in
+    subst (λ (es : List Entry). IsDistinct (pairs es)) c.deref-2.ensures.value
+    (moved_distinct _ _ c.in_ok-keys.ensures.permutation sorted)

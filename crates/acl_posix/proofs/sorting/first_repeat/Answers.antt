@@ -4,8 +4,8 @@ use Rattle.std.proofs.lemmas.List.{length-map}
 use Rattle.acl_posix.specs.Entries.{pairs, pair_of}
 use Rattle.acl_posix.specs.Valid.{IsFaultOf}
 use Rattle.acl_posix.specs.internal.TagMap.{map_pairs}
-use Rattle.acl_posix.proofs.Repeats.{collected_all, distinct_fault, entry_more, entry_repeat}
-use Rattle.acl_posix.proofs.sorting.map_of.Goals as goal
+use Rattle.acl_posix.proofs.Repeats.{collected_all, entry_more, entry_repeat}
+use Rattle.acl_posix.proofs.sorting.first_repeat.Goals as goal
 
 pub loop-place-preserved : goal.loop-place-preserved
 loop-place-preserved c =
@@ -19,14 +19,8 @@ returns-then-is_some-clause-fault c =
     (entry_repeat _ _ _ _ c.loop-place-test.true c.index-entries-place.is c.loop-place.invariant
     (sym (ap is_some c.in_ok-insert.ensures.old) ∙ sym c.is_some.ensures ∙ c.if-is_some.true))
 
-pub returns-then-is_some-clause-accepts : goal.returns-then-is_some-clause-accepts
-returns-then-is_some-clause-accepts c = λ distinct.
-    absurd (distinct_fault _ _ _
-    (entry_repeat _ _ _ _ c.loop-place-test.true c.index-entries-place.is c.loop-place.invariant
-    (sym (ap is_some c.in_ok-insert.ensures.old) ∙ sym c.is_some.ensures ∙ c.if-is_some.true)) distinct)
-
-pub returns-clause-distinct : goal.returns-clause-distinct
-returns-clause-distinct c =
+pub unreachable-requires : goal.unreachable-requires
+unreachable-requires c =
     let same : length (pairs c.args.entries.now) ≡ length c.args.entries.now = length-map c.args.entries.now pair_of in
-    (collected_all (pairs c.args.entries.now) c.loop-place.place (map_pairs c.loop-place.map.entries)
-    (omega (arith, same, c.loop-place-test.false)) c.loop-place.invariant).1
+    c.requires (collected_all (pairs c.args.entries.now) c.loop-place.place (map_pairs c.loop-place.seen.entries)
+    (omega (arith, same, c.loop-place-test.false)) c.loop-place.invariant)

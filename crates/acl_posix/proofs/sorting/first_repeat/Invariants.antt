@@ -1,8 +1,8 @@
 use Rattle.acl_posix.specs.Entries.{pairs}
 use Rattle.acl_posix.proofs.Repeats.{IsCollected}
 use Rattle.acl_posix.specs.internal.TagMap.{map_pairs}
-use Rattle.acl_posix.proofs.sorting.map_of.Given as goal
+use Rattle.acl_posix.proofs.sorting.first_repeat.Given as goal
 
 -- the entries up to the place are in the map, and none of them repeats one
 abbrev pub invariant-loop-place : goal.invariant-loop-place
-invariant-loop-place l = IsCollected (pairs l.entries) l.place (map_pairs l.map.entries)
+invariant-loop-place l = IsCollected (pairs l.entries) l.place (map_pairs l.seen.entries)

@@ -1,0 +1,8 @@
+use Rattle.std.proofs.Common.{◌≡◌, map, take}
+use Rattle.acl_posix.specs.Entries.{pairs}
+use Rattle.acl_posix.specs.internal.Packed.{packed}
+use Rattle.acl_posix.proofs.packed.packed_entries.Given as goal
+
+-- the numbers of the entries before the place are there
+abbrev pub invariant-loop-entry : goal.invariant-loop-entry
+invariant-loop-entry l = l.keys.items ≡ map packed (pairs (take l.entry-index l.entries))

@@ -1,0 +1,98 @@
+//! Entries as single numbers, which sort faster than entries do.
+ghost use Rattle.std.specs.Prelude.{◌≡◌, ◌↔◌, map, All, IfOk, IsTrue};
+ghost use Rattle.std.specs.List.Sorted.{IsNonDecreasing, IsPermutation};
+ghost use Rattle.acl_posix.specs.Entries.{IsSorted, pair_of, pairs};
+ghost use Rattle.acl_posix.specs.internal.Packed.{packed, unpacked, IsPacked};
+
+use crate::entry::Entry;
+use crate::id::Id;
+use crate::tag::Tag;
+use acl_perm::Perm;
+use std::alloc::{AllocError, Global};
+
+// How many sets of permissions there are.
+const PERMS: u64 = 8;
+
+// How many numbers can be a qualifier.
+const QUALIFIERS: u64 = 4294967296;
+
+/// The entries as numbers, which do not fall.
+pub(crate) fn sorted_keys(alloc: Global, entries: &[Entry]) -> Result<Vec<u64>, AllocError>
+    ensures packed { IfOk result (λ keys. All IsPacked keys.items) }
+    ensures permutation { IfOk result (λ keys.
+        IsPermutation (pairs entries.now) (map unpacked keys.items)) }
+    ensures sorted { IfOk result (λ keys. IsNonDecreasing keys.items) }
+{
+    let mut keys = packed_entries(alloc, entries)?;
+    keys.sort_unstable();
+    Ok(keys)
+}
+
+/// The entries as numbers, in the order of the entries.
+fn packed_entries(alloc: Global, entries: &[Entry]) -> Result<Vec<u64>, AllocError>
+    ensures { IfOk result (λ keys. keys.items ≡ map packed (pairs entries.now)) }
+{
+    let mut keys = Vec::with_capacity(alloc, entries.len())?;
+    for entry in entries {
+        keys.push(packed(*entry))?;
+    }
+    Ok(keys)
+}
+
+/// Whether each tag of the entries is less than the next.
+pub(crate) fn rises(keys: &[u64]) -> bool
+    requires { All IsPacked keys.now }
+    ensures { IsTrue result ↔ IsSorted (map unpacked keys.now) }
+{
+    let mut place = 1;
+    while place < keys.len() {
+        if keys[place - 1] / PERMS >= keys[place] / PERMS {
+            return false;
+        }
+        place += 1;
+    }
+    true
+}
+
+/// Writes the entries of the numbers over those of the vector.
+pub(crate) fn put_keys(keys: &[u64], entries: &mut Vec<Entry>) -> Result<(), AllocError>
+    requires { All IsPacked keys.now }
+    ensures { IfOk result (λ _. pairs entries.new.items ≡ map unpacked keys.now) }
+{
+    entries.clear();
+    for key in keys {
+        entries.push(unpacked(*key))?;
+    }
+    Ok(())
+}
+
+/// The number of an entry.
+#[tactic(auto, unfolding(crate::specs::internal::Packed::packed))]
+fn packed(entry: Entry) -> u64
+    ensures { result ≡ packed (pair_of entry) }
+{
+    let tag = u64::from(entry.tag.rank()) * QUALIFIERS + u64::from(entry.tag.qualifier());
+    tag * PERMS + u64::from(entry.perm.bits)
+}
+
+/// The entry of a number.
+#[tactic(auto, unfolding(crate::specs::internal::Packed::unpacked))]
+fn unpacked(key: u64) -> Entry
+    requires { IsPacked key }
+    ensures { pair_of result ≡ unpacked key }
+{
+    let tag = key / PERMS;
+    let value = (tag % QUALIFIERS) as u32;
+    let tag = match tag / QUALIFIERS {
+        0 => Tag::UserObj,
+        1 => Tag::User(Id { value }),
+        2 => Tag::GroupObj,
+        3 => Tag::Group(Id { value }),
+        4 => Tag::Mask,
+        _ => Tag::Other,
+    };
+    let perm = Perm {
+        bits: (key % PERMS) as u8,
+    };
+    Entry { tag, perm }
+}
