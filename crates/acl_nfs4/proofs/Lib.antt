@@ -1,4 +1,5 @@
 pub mod PlainLanes
+pub mod ZeroFront
 pub mod PlainText
 pub mod Shown
 pub mod Within

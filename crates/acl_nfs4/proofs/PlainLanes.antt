@@ -1,11 +1,13 @@
 -- What the answer of a test of lanes says of the bytes that were loaded.
-use Rattle.std.proofs.Common.{◌≡◌, ◌+◌, ◌-◌, ◌%◌, ◌^◌, ◌<◌, ◌≤◌, ℕ, Bool, true, false, cond, leb, List, length, get_or, map, replicate, sym, ap, ◌∙◌, arith, w8, Fits}
-use Rattle.std.proofs.lemmas.List.{length-map, get_or_default}
+use Rattle.std.proofs.Common.{◌≡◌, ◌+◌, ◌-◌, ◌%◌, ◌^◌, ◌<◌, ◌≤◌, ℕ, Bool, true, false, cond, eqb, leb, List, length, get_or, take, map, replicate, refl, sym, subst, ap, ◌∙◌, arith, w8, Fits}
+use Rattle.std.proofs.lemmas.List.{length-map, length-take, get_or_default, get_or-take}
 use Rattle.std.proofs.lemmas.List.Elements.{All-from_all_within}
 use Rattle.std.proofs.lemmas.List.Sums.{list_all-from_AllPass}
-use Rattle.std.specs.List.{list_all}
+use Rattle.std.specs.Int.Count.{count_trailing_zeros}
+use Rattle.std.specs.Prelude.{not}
+use Rattle.std.specs.List.{list_all, prefix_len}
 use Rattle.std.specs.Simd.Lanes.{zip2, mask_l, chunk, top}
-use Rattle.std.proofs.lemmas.Simd.{length-chunk, zip2_splat, zip2_splat_left, map-map, tops_compared, mask_l-mod, none_from_empty_mask}
+use Rattle.std.proofs.lemmas.Simd.{length-chunk, zip2_splat, zip2_splat_left, map-map, tops_compared, mask_l-mod, none_from_empty_mask, first_set_mask_l, run_in_chunk_fails}
 use Rattle.std.proofs.lemmas.Bool.Decides.{nat_tests}
 use Rattle.acl_nfs4.specs.internal.Reading.{is_plain_ascii, ArePlain}
 
@@ -56,3 +58,36 @@ plain_where_none bytes at n fits most inside e = λ k d from to.
 pub plain_whole : (bytes : List ℕ) → ArePlain bytes 0 (length bytes) → list_all is_plain_ascii bytes ≡ true
 plain_whole bytes plain = list_all-from_AllPass is_plain_ascii bytes
     (All-from_all_within (λ b. is_plain_ascii b ≡ true) bytes plain)
+
+-- where the first lane that is set stands behind a front, each byte of the front is plain ASCII
+pub plain_front : (bytes : List ℕ) (n len : ℕ) → ((k : ℕ) → Fits w8 (get_or bytes k 0)) → n ≤ 64
+    → n ≤ length bytes → len ≤ n → len ≤ count_trailing_zeros 64 (beyond n (chunk 0 n bytes))
+    → ArePlain bytes 0 len
+plain_front bytes n len fits most inside short behind = λ k d from to.
+    let lanes = chunk 0 n bytes in
+    let room : 0 + n ≤ length bytes = omega (arith, inside) in
+    let long : length lanes ≡ n = length-chunk 0 n bytes room in
+    let is : beyond n lanes ≡ mask_l (map is_beyond lanes) = beyond_is n lanes long most in
+    let first = first_set_mask_l is_beyond lanes n long most in
+    let run : len ≤ prefix_len (λ b. not (is_beyond b)) lanes =
+    subst (λ (z : ℕ). len ≤ z) first (front_le (mask_l (map is_beyond lanes)) n len short
+    (subst (λ (z : ℕ). len ≤ count_trailing_zeros 64 z) is behind)) in
+    let here : get_or bytes k d ≡ get_or bytes k 0 = get_or_default bytes k d 0 (omega (arith, to, short, inside)) in
+    rw here (plain_byte (get_or bytes k 0) (fits k).fits
+    (run_in_chunk_fails is_beyond bytes 0 n (prefix_len (λ b. not (is_beyond b)) lanes) 0 room refl k from
+    (omega (arith, to, run))))
+  where
+    front_le : (hits n len : ℕ) → len ≤ n → len ≤ count_trailing_zeros 64 hits
+        → len ≤ cond (eqb hits 0) n (count_trailing_zeros 64 hits)
+    front_le hits n len short behind = by (eqb hits 0)
+      where
+        by : (b : Bool) → len ≤ cond b n (count_trailing_zeros 64 hits)
+        by true = short
+        by false = behind
+
+-- a front of plain ASCII
+pub plain_front_whole : (bytes : List ℕ) (len : ℕ) → len ≤ length bytes → ArePlain bytes 0 len
+    → list_all is_plain_ascii (take len bytes) ≡ true
+plain_front_whole bytes len inside plain = plain_whole (take len bytes) (λ k d from to.
+    let lt : k < len = omega (arith, to, length-take len bytes) in
+    rw (get_or-take len bytes k d lt) (plain k d from lt))

@@ -1,14 +1,16 @@
 -- The test that computes, from what `from_utf8` says.
-use Rattle.std.proofs.Common.{◌≡◌, ◌<◌, ℕ, true, false, leb, ltb, List, [], ◌∷◌, refl, sym, arith}
+use Rattle.std.proofs.Common.{◌≡◌, ◌<◌, ◌≤◌, ◌∙◌, ℕ, Bool, true, false, leb, ltb, List, [], ◌∷◌, length, take, refl, sym, subst, arith}
+use Rattle.std.specs.Prelude.{not, None}
 use Rattle.std.specs.List.{AllByRecursion, list_all}
 use Rattle.std.specs.Str.{is_utf8, IsUtf8}
 use Rattle.std.proofs.lemmas.Str.{is_utf8-from_IsUtf8, IsUtf8-from_ascii, IsUtf8-from_is_utf8}
 use Rattle.std.proofs.lemmas.Str.Ascii.{IsAscii-from_all}
 use Rattle.std.proofs.lemmas.List.Elements.{All-from_recursion}
-use Rattle.std.proofs.lemmas.Bool.{false_from_ne_true}
+use Rattle.std.proofs.lemmas.Bool.{false_from_ne_true, not-true}
+use Rattle.std.proofs.lemmas.List.{length-take-le}
 use Rattle.acl_perm.proofs.Bools.{and_true}
 use Rattle.acl_nfs4.specs.internal.Reading.{is_plain_ascii}
-use Rattle.acl_nfs4.specs.Who.{is_plain}
+use Rattle.acl_nfs4.specs.Who.{is_no_who_len, is_plain, is_unknown_special, who_fault}
 
 -- a true answer
 pub yes : (bytes : List ℕ) → IsUtf8 bytes → true ≡ is_utf8 bytes
@@ -49,3 +51,17 @@ plain_ascii_is_plain (b ∷ bytes) e =
 
 -- what the test of a who needs
 pub ruleset plain_ascii = (plain_ascii_is_utf8, plain_ascii_is_plain)
+
+-- plain ASCII is a who, where it is not too long and no unknown special identifier
+plain_is_who : (who : List ℕ) → is_no_who_len (length who) ≡ false → list_all is_plain_ascii who ≡ true
+    → is_unknown_special who ≡ false → who_fault who ≡ None
+plain_is_who who some plain other =
+    rw (some, plain_ascii_is_utf8 who plain, plain_ascii_is_plain who plain, other) refl
+
+-- and so is such a front
+pub plain_front_is_who : (bytes : List ℕ) (len : ℕ) (special : Bool) → is_no_who_len len ≡ false → len ≤ length bytes
+    → list_all is_plain_ascii (take len bytes) ≡ true → special ≡ is_unknown_special (take len bytes)
+    → not special ≡ true → who_fault (take len bytes) ≡ None
+plain_front_is_who bytes len special some inside plain is other = plain_is_who (take len bytes)
+    (subst (λ (n : ℕ). is_no_who_len n ≡ false) (sym (length-take-le len bytes inside)) some) plain
+    (sym is ∙ not-true special other)

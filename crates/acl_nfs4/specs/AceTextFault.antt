@@ -1,5 +1,5 @@
--- What each fault says of a text of ACEs, without reading it: the first line that spells no ACE, or not one that the
--- list so far can take, and what is wrong with it. The reasons, their order and their places are this library's own.
+-- What each fault says about a text of ACEs, without reading it: the first line that spells no ACE, or no ACE that the
+-- list so far can accept, and what is wrong with it. The reasons, their order and their places are this library's own.
 use Rattle.std.specs.Prelude.{◌≡◌, ◌≢◌, ◌+◌, ◌<◌, ◌≤◌, ◌⊎◌, ◌==◌, ℕ, List, ◌∷◌, ◌++◌, length, count_by, count_ones, Some}
 use Rattle.acl_perm.specs.Profile.{Profile}
 use Rattle.acl_perm.specs.declared.kind.Kind.{Kind}
@@ -37,7 +37,7 @@ who_column fields = length fields.kind + length fields.flags + length fields.mas
 
 -- ---- how far a line is right, as the next one after lines that spell a list
 
--- the list can take one more ACE, and the line has these fields
+-- the list can accept one more ACE, and the line has these fields
 pub record IsCut (list : List Ace) (line : TextLine) (fields : LineFields) : Type 0 where
   pub room : length list < most_aces
   pub has : HasFields line.bytes fields
@@ -61,7 +61,7 @@ pub record IsMasked (p : Profile) (list : List Ace) (line : TextLine) (fields : 
   pub named : SpellsMask fields.mask mask
   pub within : IsWithin p.masks mask
 
--- the line is right up to its mask, and the list can take that
+-- the line is right up to its mask, and the list can accept that mask
 pub record IsLight (p : Profile) (list : List Ace) (line : TextLine) (fields : LineFields) : Type 0 where
   pub mask : ℕ
   pub masked : IsMasked p list line fields mask
@@ -69,7 +69,7 @@ pub record IsLight (p : Profile) (list : List Ace) (line : TextLine) (fields : L
 
 -- ---- what is wrong with a line
 
--- the list has all the ACEs that one can have
+-- the list has the greatest number of ACEs
 pub record IsOneTooMany (list : List Ace) (line : TextLine) (at_line at_column : ℕ) : Type 0 where
   pub full : most_aces ≤ length list
   pub place : IsAt line.number 1 at_line at_column
@@ -80,21 +80,21 @@ pub record IsNotFour (list : List Ace) (line : TextLine) (at_line at_column : �
   pub few : count_by (λ b. b == space) line.bytes < 3
   pub place : IsAt line.number 1 at_line at_column
 
--- the first field is no type
+-- the first field is not a type
 pub record IsNoKind (list : List Ace) (line : TextLine) (at_line at_column : ℕ) : Type 0 where
   pub fields : LineFields
   pub cut : IsCut list line fields
   pub no_kind : (kind : Kind) → fields.kind ≢ kind_name kind
   pub place : IsAt line.number 1 at_line at_column
 
--- the second field names no flags, or one that the profile has not
+-- the second field names no flags, or a flag that the profile does not have
 pub record IsNoFlags (p : Profile) (list : List Ace) (line : TextLine) (at_line at_column : ℕ) : Type 0 where
   pub fields : LineFields
   pub typed : IsTyped list line fields
   pub no_flags : (flags : ℕ) → SpellsFlags fields.flags flags → IsWithin p.flags flags → ⊥
   pub place : IsAt line.number (flags_column fields) at_line at_column
 
--- the third field names no mask, or a right that the profile has not
+-- the third field names no mask, or a right that the profile does not have
 pub record IsNoMask (p : Profile) (list : List Ace) (line : TextLine) (at_line at_column : ℕ) : Type 0 where
   pub fields : LineFields
   pub flagged : IsFlagged p list line fields
@@ -109,7 +109,7 @@ pub record IsTooHeavy (p : Profile) (list : List Ace) (line : TextLine) (at_line
   pub heavy : most_weight < weight list + count_ones mask
   pub place : IsAt line.number (mask_column fields) at_line at_column
 
--- the last field is no who, for this reason
+-- the last field is not a who, for this reason
 pub record IsNoWho (p : Profile) (list : List Ace) (line : TextLine) (why : WhoFault) (at_line at_column : ℕ) :
     Type 0 where
   pub fields : LineFields
@@ -117,7 +117,7 @@ pub record IsNoWho (p : Profile) (list : List Ace) (line : TextLine) (why : WhoF
   pub reason : who_fault fields.who ≡ Some why
   pub place : IsAt line.number (who_column fields) at_line at_column
 
--- what each fault says of the line that it is told of
+-- what each fault says about its line
 abbrev pub IsLineFault : Profile → List Ace → TextLine → AceTextFault → Type 0
 IsLineFault p list line (TooManyAces at_line at_column) = IsOneTooMany list line at_line at_column
 IsLineFault p list line (Fields at_line at_column) = IsNotFour list line at_line at_column
@@ -144,6 +144,6 @@ pub record IsAceTextFault (p : Profile) (text : List ℕ) (fault : AceTextFault)
   pub accepted : IsAccepted p list
   pub wrong : IsLineFault p list line fault
 
--- a refusal tells the text's fault, or that memory ran out
+-- a refusal reports the text's fault, or that memory ran out
 abbrev pub IsTextRefusal : Profile → List ℕ → AceTextFault → Type 0
 IsTextRefusal p text fault = (fault ≡ Memory) ⊎ IsAceTextFault p text fault

@@ -1,5 +1,6 @@
--- The first fault of bytes, said without reading them: where their fields end, and what the next one breaks. The layout
--- is that of RFC 4506, sections 4.2, 4.11 and 4.13, over RFC 8881, section 6.2.1; the reasons are this library's own.
+-- The first fault of bytes, defined without reading them: where their fields end, and what is wrong with the next one.
+-- The layout is that of RFC 4506, sections 4.2, 4.11 and 4.13, over RFC 8881, section 6.2.1; the reasons are this
+-- library's own.
 use Rattle.std.specs.Prelude.{◌≡◌, ℕ, ◌+◌, ◌≤◌, ◌<◌, List, [], ◌∷◌, ◌++◌, length, take, replicate, count_ones, Err, ◌⊎◌}
 use Rattle.acl_perm.specs.Profile.{Profile}
 use Rattle.acl_nfs4.specs.Ace.{Ace}
@@ -12,8 +13,8 @@ use Rattle.acl_perm.specs.declared.kind.Kind.{Kind}
 use Rattle.acl_nfs4.specs.declared.xdr.fault.Reason.{Reason}
 use Rattle.acl_nfs4.specs.declared.xdr.fault.Reason.TheVariants.{Truncated, TrailingBytes}
 
--- the field that stands next, with what the fields before it hold: the number of ACEs, those that are whole, and the
--- fields of the one being read
+-- the next field, and what the fields before it hold: the number of ACEs, those that are whole, and the fields of the
+-- ACE that is being read
 pub data Stage : Type 0 where
   count : Stage
   kind : (n : ℕ) (list : List Ace) → Stage
@@ -23,7 +24,7 @@ pub data Stage : Type 0 where
   who : (n : ℕ) (list : List Ace) (k : Kind) (f m l : ℕ) → Stage
   padding : (n : ℕ) (list : List Ace) (k : Kind) (f m : ℕ) (who : List ℕ) → Stage
 
--- bytes whose fields are all accepted, and what stands next: a case for each row of the layout
+-- bytes whose fields are all accepted, and the next field: a case for each row of the layout
 pub data Border (p : Profile) : Stage → List ℕ → Type 0 where
   start : Border p count []
   counted : (n : ℕ) → n ≤ most_aces → Border p (kind n []) (word n)
@@ -47,7 +48,7 @@ pub data Border (p : Profile) : Stage → List ℕ → Type 0 where
       → Border p (kind n (list ++ record { kind = k; flags = f; mask = m; who = w } ∷ []))
       (t ++ replicate (pad_len (length w)) 0)
 
--- how many bytes the next field has, 0 where none stands
+-- how many bytes the next field has, or 0 if there is none
 abbrev pub size : Stage → ℕ
 size count = 4
 size (kind n list) = 4
@@ -57,7 +58,7 @@ size (len n list k f m) = 4
 size (who n list k f m l) = l
 size (padding n list k f m w) = pad_len (length w)
 
--- the next field, if it holds these bytes, is refused so
+-- the next field is refused with this reason, if it holds these bytes
 abbrev pub refuses : Profile → Stage → List ℕ → Reason → Type 0
 refuses p count bytes r = count_of (number bytes) ≡ Err r
 refuses p (kind n list) bytes r = kind_of (number bytes) ≡ Err r
@@ -67,7 +68,7 @@ refuses p (len n list k f m) bytes r = who_len_of (number bytes) ≡ Err r
 refuses p (who n list k f m l) bytes r = who_of bytes ≡ Err r
 refuses p (padding n list k f m w) bytes r = padding_of bytes ≡ Err r
 
--- a field must stand there
+-- there must be a field
 abbrev pub IsOwed : Stage → Type 0
 IsOwed count = Unit {0}
 IsOwed (kind n list) = length list < n
@@ -77,14 +78,14 @@ IsOwed (len n list k f m) = Unit {0}
 IsOwed (who n list k f m l) = Unit {0}
 IsOwed (padding n list k f m w) = Unit {0}
 
--- the rest of the bytes ends inside the next field, and all of it is taken, or the field is whole and refused, and what
--- is taken ends where it does
+-- the rest of the bytes ends inside the next field, and all of it is taken; or the field is whole and refused, and the
+-- bytes are taken to its end
 abbrev pub Breaks : Profile → Stage → List ℕ → ℕ → Reason → Type 0
 Breaks p s rest n r = ((length rest < size s) × (n ≡ length rest) × (r ≡ Truncated))
     ⊎ ((size s ≤ length rest) × (n ≡ size s) × refuses p s (take (size s) rest) r)
 
--- the first fault of bytes: accepted fields up to a border, where one of at least one byte is owed and breaks; and how
--- many of the bytes are taken when that is known
+-- the first fault of bytes: accepted fields up to a border, where a field of at least one byte must follow and is
+-- wrong; and how many of the bytes are taken when the fault is known
 pub record IsFirstFault (p : Profile) (bytes : List ℕ) (offset taken : ℕ) (r : Reason) : Type 0 where
   pub stage : Stage
   pub front : List ℕ
@@ -102,7 +103,7 @@ pub record IsFirstFault (p : Profile) (bytes : List ℕ) (offset taken : ℕ) (r
 abbrev pub IsFault : Profile → List ℕ → ℕ → Reason → Type 0
 IsFault p bytes offset r = (taken : ℕ) × IsFirstFault p bytes offset taken r
 
--- the first fault of bytes that are to be one list and nothing more: that of the list, or the first byte behind it
+-- the first fault of bytes that should be one list and nothing more: that of the list, or the first byte behind it
 pub data IsWholeFault (p : Profile) (bytes : List ℕ) : ℕ → Reason → Type 0 where
   of_value : (offset : ℕ) (r : Reason) → IsFault p bytes offset r → IsWholeFault p bytes offset r
   behind : (list : List Ace) (text rest : List ℕ)

@@ -1,4 +1,4 @@
--- What each field of the XDR layout may hold (RFC 8881, section 6.2.1), and how it is refused where it holds anything
+-- What each field of the XDR layout may hold (RFC 8881, section 6.2.1), and how it is refused if it holds anything
 -- else: the table of faults, field by field, each with its conditions in the order in which they are judged. The limits
 -- and the reasons are this library's own.
 use Rattle.std.specs.Prelude.{ℕ, ◌+◌, List, Result, Ok, Err, Option, None, Some, option_map, nat_lt, ◌==◌, not, if◌then◌else◌, count_ones}

@@ -1,4 +1,4 @@
--- A list at the front of bytes (RFC 4506 over RFC 8881, section 6.2.1): what a reader finds there is the list, and how
+-- A list at the front of bytes (RFC 4506 over RFC 8881, section 6.2.1): the list that a reader finds there, and how
 -- many bytes spell it.
 use Rattle.std.specs.Prelude.{◌≡◌, ℕ, ◌≤◌, List, length, take}
 use Rattle.acl_perm.specs.Profile.{Profile}

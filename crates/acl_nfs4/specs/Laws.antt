@@ -10,7 +10,7 @@ use Rattle.acl_nfs4.specs.Spelling.{Xdr}
 abbrev pub BeginsSpelling : Profile → List ℕ → Type 0
 BeginsSpelling p text = (list : List Ace) × (rest : List ℕ) × Xdr p list (text ++ rest)
 
--- the bits of a mask, a word, in rising order
+-- the bits of a mask, a word, in ascending order
 abbrev pub bits_of : ℕ → List ℕ
 bits_of mask = filter (has_bit mask) (range_with_len 0 32)
 

@@ -1,4 +1,4 @@
--- The limits of this library on a list of ACEs (its own: RFC 8881 sets none).
+-- The limits of this library on a list of ACEs (its own: RFC 8881 has no limits).
 use Rattle.std.specs.Prelude.{ℕ}
 
 -- the greatest number of ACEs in a list

@@ -18,7 +18,7 @@ pub record IsOwned (count total : ℕ) (body : List ℕ) : Type 0 where
   pub small : count ≤ most_aces
   pub heavy : weight (aces_of count body) ≡ total
 
--- the lists have one spelling; of two accepted lists that is that they are the same
+-- the lists have the same spelling; two accepted lists have the same spelling if and only if they are the same
 abbrev pub same_list : List Ace → List Ace → Bool
 same_list = on spelling (pointwise nat_eq)
 
@@ -39,14 +39,14 @@ list_cmp = on spelling (slice_cmp nat_cmp)
 pub list_cmp_total : IsTotalOrder list_cmp
 list_cmp_total = on_total spelling nat_list_cmp_total
 
--- the order goes with equality
+-- the order agrees with equality
 pub list_partial_order : IsPartialOrder same_list (as_partial_cmp list_cmp)
 list_partial_order = on_po spelling texts_po
 
--- lists are equal exactly if neither comes before the other
+-- lists are equal if and only if neither comes before the other
 pub list_ties : (a b : List Ace) → same_list a b ≡ eq_by_cmp list_cmp a b
 list_ties a b = texts_ties (spelling a) (spelling b)
 
--- what a hasher is fed of a list: the word of its length, and then the pieces of its ACEs
+-- what a hasher is fed for a list: the word of its length, and then the pieces of its ACEs
 abbrev pub list_writes : List Ace → HashWrites
 list_writes list = word (length list) ∷ flat_map piece list ∷ []

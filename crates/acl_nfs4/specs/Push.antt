@@ -1,5 +1,5 @@
--- Which ACEs a list takes at its end (RFC 8881, section 6.2.1, within the limits of this library), and what is answered
--- of the others: the first condition that refuses.
+-- Which ACEs a list accepts at its end (RFC 8881, section 6.2.1, within the limits of this library), and the answer for
+-- the others: the first condition that refuses.
 use Rattle.std.specs.Prelude.{◌≡◌, ◌+◌, List, length, count_ones, nat_lt, nat_le, if◌then◌else◌, Option, None, Some, option_map, Result, Ok, Err}
 use Rattle.acl_nfs4.specs.Ace.{Ace}
 use Rattle.acl_nfs4.specs.Limits.{most_aces, most_weight}
@@ -17,13 +17,13 @@ who_refusal who.Utf8 = WhoUtf8
 who_refusal who.Control = WhoControl
 who_refusal who.Special = SpecialWho
 
--- the first condition that keeps a list from taking one more ACE
+-- the first condition that refuses one more ACE for a list
 abbrev pub push_refusal : List Ace → Ace → Option PushFault
 push_refusal list a = if nat_le most_aces (length list) then Some TooManyAces
     else (if nat_lt most_weight (weight list + count_ones a.mask) then Some TooHeavy
     else option_map who_refusal (who_fault a.who))
 
--- nothing refuses the ACE, and memory was there or not, or it is refused so
+-- no condition refuses the ACE, and there was memory or not; or the ACE is refused with this condition
 abbrev pub PushAnswers : Result (Unit {0}) PushFault → Option PushFault → Type 0
 PushAnswers (Ok _) refusal = refusal ≡ None
 PushAnswers (Err Memory) refusal = refusal ≡ None

@@ -2,7 +2,7 @@
 -- names a mask.
 use Rattle.std.specs.Prelude.{ℕ, List, Option, codes}
 use Rattle.acl_nfs4.specs.BitNames.{SpellsSet, set_named}
--- the table of the rights: a bit of the mask, its name, and its second name, where it is called otherwise at directories
+-- the table of the rights: a bit of the mask, its name, and its second name if it has another name for directories
 pub use Rattle.acl_perm.specs.Names.{rights}
 
 -- the field `-`, which names the empty mask

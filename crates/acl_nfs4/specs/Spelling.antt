@@ -20,7 +20,7 @@ kind_number Deny = 1
 abbrev pub word : ℕ → List ℕ
 word n = to_be_bytes w32 n
 
--- the fewest bytes that make a length of n a multiple of four
+-- the least number of bytes that make a length of n a multiple of four
 abbrev pub pad_len : ℕ → ℕ
 pad_len n = (4 - n % 4) % 4
 
@@ -30,11 +30,11 @@ abbrev pub piece : Ace → List ℕ
 piece a = word (kind_number a.kind) ++ word a.flags ++ word a.mask ++ word (length a.who) ++ a.who
     ++ replicate (pad_len (length a.who)) 0
 
--- the bytes of a list: the word of its length, and the pieces of its ACEs in order
+-- the bytes of a list: the word of its length, and the bytes of its ACEs in order
 abbrev pub spelling : List Ace → List ℕ
 spelling list = word (length list) ++ flat_map piece list
 
--- the flags and the mask are ones of the profile, and the who is one that may stand there
+-- the flags and the mask are within the profile, and the who is valid
 pub record IsAce (p : Profile) (a : Ace) : Type 0 where
   pub flags : IsWithin p.flags a.flags
   pub mask : IsWithin p.masks a.mask
@@ -55,6 +55,6 @@ pub record Xdr (p : Profile) (list : List Ace) (bytes : List ℕ) : Type 0 where
   pub accepted : IsAccepted p list
   pub spelled : bytes ≡ spelling list
 
--- the sets of every flag word and of every mask are ones of the profile
+-- every word of flags and every mask is within the profile
 abbrev pub Fits : Profile → List Ace → Type 0
 Fits p list = AllByRecursion (λ a. IsWithin p.flags a.flags × IsWithin p.masks a.mask) list

@@ -1,5 +1,5 @@
--- A stream that comes in pieces, and what a call that reads it answers (this library's own; the layout is that of
--- RFC 4506 over RFC 8881, section 6.2.1).
+-- A stream that comes in pieces, and the answer of a call that reads it (this library's own; the layout is that of RFC
+-- 4506 over RFC 8881, section 6.2.1).
 use Rattle.std.specs.Prelude.{◌≡◌, ◌≢◌, ◌⊎◌, ℕ, ◌+◌, ◌-◌, ◌<◌, ◌≤◌, List, [], ◌∷◌, ◌++◌, length, take, Result, Ok, Err}
 use Rattle.std.specs.List.{flat_map}
 use Rattle.acl_perm.specs.Profile.{Profile}
@@ -16,7 +16,7 @@ use Rattle.acl_nfs4.specs.declared.feed.fed.Fed.TheVariants.{More, Done, Refused
 abbrev pub IsCut : Profile → List ℕ → Type 0
 IsCut p text = (o : ℕ) × IsFault p text o Truncated
 
--- what a feed stands for: the stream so far, which is cut short; or the list that it began with; or its fault
+-- what a feed represents: the stream so far, which is cut short; or the list with which it began; or its fault
 pub data Standing : Type 0 where
   more : (p : Profile) (stream : List ℕ) → Standing
   done : (list : List Ace) → Standing
@@ -26,12 +26,12 @@ pub data Standing : Type 0 where
 abbrev pub no_memory : Fault
 no_memory = record { offset = 0; reason = Memory }
 
--- a growth was refused, or the text has this fault and isn't cut short
+-- a growth was refused, or the text has this fault and is not cut short
 abbrev pub Refuses : Profile → List ℕ → Fault → Type 0
 Refuses p text f = (f ≡ no_memory) ⊎ (IsFault p text f.offset f.reason × (f.reason ≢ Truncated))
 
--- the answer to one more piece, and what the feed stands for then: the stream is cut short, or begins with a list that
--- ends in this piece, or has a fault; a list and a fault are kept
+-- the answer to one more piece, and what the feed represents then: the stream is cut short, or begins with a list that
+-- ends in this piece, or has a fault; later pieces do not change a list or a fault
 abbrev pub Feeds : Standing → List ℕ → Fed → Standing → Type 0
 Feeds (more p s) piece More new = (new ≡ more p (s ++ piece)) × IsCut p (s ++ piece)
 Feeds (more p s) piece (Done taken) new =
@@ -48,7 +48,7 @@ Feeds (refused f) piece (Refused g) new = (new ≡ refused f) × (g ≡ f)
 abbrev pub IsFedOrFails : Fed → Fed → Type 0
 IsFedOrFails answer expected = (answer ≡ expected) ⊎ (answer ≡ Refused no_memory)
 
--- the answer at a stream of which n bytes came before the piece, by what the stream is
+-- the answer for a stream of which n bytes came before the piece, given what the stream is
 pub record FedExactly (p : Profile) (stream : List ℕ) (n : ℕ) (answer : Fed) : Type 0 where
   pub cut : (o : ℕ) → IsFault p stream o Truncated → IsFedOrFails answer More
   pub whole : (list : List Ace) (text rest : List ℕ) → Xdr p list text → stream ≡ text ++ rest
@@ -56,7 +56,7 @@ pub record FedExactly (p : Profile) (stream : List ℕ) (n : ℕ) (answer : Fed)
   pub fault : (f : Fault) → IsFault p stream f.offset f.reason → f.reason ≢ Truncated
       → IsFedOrFails answer (Refused f)
 
--- what is left where no more pieces come: the list, that the stream is cut short, or the fault
+-- the result if no more pieces come: the list, that the stream is cut short, or the fault
 abbrev pub Finishes : Standing → Result (List Ace) Fault → Type 0
 Finishes (more p s) (Ok list) = ⊥
 Finishes (more p s) (Err f) = (f.reason ≡ Truncated) × IsFault p s f.offset f.reason
@@ -71,7 +71,7 @@ HoldsLittle s = (length s < 4)
     ⊎ ((n : ℕ) × (list : List Ace) × (tail : List ℕ) × (s ≡ (word n ++ flat_map piece list) ++ tail)
     × (length tail < 16 + longest_who))
 
--- a feed that asks for more holds little beyond whole ACEs
+-- a feed that answers More holds little beyond whole ACEs
 abbrev pub IsSmall : Standing → Type 0
 IsSmall (more p s) = HoldsLittle s
 IsSmall (done list) = Unit {0}
@@ -79,7 +79,7 @@ IsSmall (refused f) = Unit {0}
 
 -- ---- many pieces
 
--- pieces are fed one after the other, with these answers, and then the feed stands for this
+-- pieces are fed one after the other, with these answers, and then the feed represents this
 abbrev pub FeedsEach : Standing → List (List ℕ) → List Fed → Standing → Type 0
 FeedsEach old [] [] new = new ≡ old
 FeedsEach old [] (answer ∷ answers) new = ⊥
@@ -87,13 +87,13 @@ FeedsEach old (piece ∷ pieces) [] new = ⊥
 FeedsEach old (piece ∷ pieces) (answer ∷ answers) new =
     (now : Standing) × Feeds old piece answer now × FeedsEach now pieces answers new
 
--- an answer to what follows a piece of n bytes as one to both together
+-- the answer to the bytes behind a piece of n bytes, as an answer to both together
 abbrev pub further : ℕ → Fed → Fed
 further n More = More
 further n (Done taken) = Done (n + taken)
 further n (Refused f) = Refused f
 
--- the answers to pieces as one to all of them together: the first that isn't More
+-- the answers to pieces as one answer to all of them together: the first that is not More
 abbrev pub together : List (List ℕ) → List Fed → Fed
 together [] answers = More
 together (piece ∷ pieces) [] = More
@@ -101,15 +101,15 @@ together (piece ∷ pieces) (More ∷ answers) = further (length piece) (togethe
 together (piece ∷ pieces) (Done taken ∷ answers) = Done taken
 together (piece ∷ pieces) (Refused f ∷ answers) = Refused f
 
--- one of two answers is that a growth was refused, or they are the same, and so is what the feed stands for then
+-- in one of two cases a growth was refused; or the answers are the same, and the feed represents the same
 abbrev pub SameOrFails : Fed → Standing → Fed → Standing → Type 0
 SameOrFails a x b y = (a ≡ Refused no_memory) ⊎ ((b ≡ Refused no_memory) ⊎ ((a ≡ b) × (x ≡ y)))
 
 -- ---- reading from a source
 
--- what a decoder answers that took just this text: the list that it spells; at the end of the input that it is cut
--- short; that a read failed, at the field where the text is cut short; that a growth was refused; or the fault of the
--- text, of which the refused field is the last
+-- the answer of a decoder that took exactly this text: the list that it spells; that it is cut short, at the end of the
+-- input; that a read failed, at the field where the text is cut short; that a growth was refused; or the fault of the
+-- text, whose last field is the refused one
 abbrev pub Decodes : Profile → List ℕ → Type 0 → Result (List Ace) Fault → Type 0
 Decodes p given at_end (Ok list) = Xdr p list given
 Decodes p given at_end (Err f) = ((f.reason ≡ Truncated) × IsFault p given f.offset Truncated × at_end)

@@ -5,16 +5,16 @@ ghost use Rattle.acl_perm.specs.Principal.{principal};
 
 use acl_perm::{Flags, Key, Kind, Mask, Principal};
 
-/// An ACE whose who lies elsewhere (RFC 8881, section 6.2.1).
+/// An ACE that borrows its who (RFC 8881, section 6.2.1).
 #[derive(Clone, Copy, Debug, PartialEq, Eq, Hash)]
 pub struct AceRef<'a> {
-    /// Whether it allows or denies.
+    /// Whether the ACE allows or denies.
     pub kind: Kind,
-    /// How it is inherited, and whether its who is a group.
+    /// How the ACE is inherited, and whether its who is a group.
     pub flags: Flags,
     /// The rights that it allows or denies.
     pub mask: Mask,
-    /// Whom it speaks of, as `principal` reads it.
+    /// Whom the ACE names, as `principal` reads it.
     pub who: &'a [u8],
 }
 
@@ -22,8 +22,8 @@ impl<'a> AceRef<'a> {
     ghost use Rattle.acl_nfs4.specs.Ace.{ace};
     ghost use Rattle.acl_nfs4.specs.Who.{principal_of};
 
-    /// Whom the ACE names: `OWNER@`, `GROUP@` and `EVERYONE@` whatever IDENTIFIER_GROUP says, else a group where it
-    /// is set, and a user where it is not (RFC 8881, section 6.2.1.5).
+    /// Returns whom the ACE names: `OWNER@`, `GROUP@` and `EVERYONE@` whether or not IDENTIFIER_GROUP is set; for any
+    /// other who a group if the flag is set, and a user if it is not (RFC 8881, section 6.2.1.5).
     #[inline(always)]
     pub fn principal(&self) -> Principal<'a>
         ensures { principal result ≡ principal_of (ace self.now) }
@@ -41,7 +41,7 @@ impl<'a> AceRef<'a> {
         }
     }
 
-    /// Whom the ACE names, and its type.
+    /// Returns whom the ACE names, and its type.
     pub fn key(&self) -> Key<'a>
         ensures principal { principal result.principal ≡ principal_of (ace self.now) }
         ensures kind { result.kind ≡ self.now.kind }
@@ -52,8 +52,8 @@ impl<'a> AceRef<'a> {
         }
     }
 
-    /// Whether the ACE plays a part in what its list grants: it is not there for new objects alone (RFC 8881, section
-    /// 6.2.1.4.1, INHERIT_ONLY).
+    /// Returns whether the ACE takes part in what its list grants, that is, whether it is not for new objects alone
+    /// (RFC 8881, section 6.2.1.4.1, INHERIT_ONLY).
     pub fn takes_part(&self) -> bool
         ensures { result ≡ not (has_bit self.now.flags.bits inherit_only) }
     {

@@ -1,4 +1,4 @@
-//! A list that comes in pieces, however these are cut.
+//! A list that comes in pieces, however the stream is cut.
 
 pub(crate) mod fed;
 pub(crate) mod scan;
@@ -22,11 +22,12 @@ use acl_perm::Profile;
 use std::alloc::Global;
 use std::marker::Model;
 
-// A long piece is taken by so many bytes at a time, so that no more than these are kept in vain behind a list's end.
+// A long piece is taken by so many bytes at a time. So no more bytes than these are kept needlessly behind the end of a
+// list.
 const CHUNK: usize = 4096;
 
-/// A list of which a part has come. It holds the whole ACEs that came so far and the fields so far of the one that is
-/// being read.
+/// A list of which a part has arrived. It holds the whole ACEs so far, and the fields so far of the ACE that is being
+/// read.
 #[derive(Drop)]
 pub struct Feed {
     profile: Profile,
@@ -48,14 +49,14 @@ impl Model for Feed {
 }
 
 impl Feed {
-    /// Nothing has come yet. It takes no memory.
+    /// Returns a feed that has taken no bytes. It takes no memory.
     pub fn new(alloc: Global) -> Feed
         ensures { result ≡ more full [] }
     {
         Feed::with_profile(alloc, Profile::FULL)
     }
 
-    /// Nothing has come yet of a list whose flags and masks the profile has. It takes no memory.
+    /// Returns a feed that has taken no bytes, for lists with the flags and masks of the profile. It takes no memory.
     pub fn with_profile(alloc: Global, profile: Profile) -> Feed
         ensures { result ≡ more (profile_of profile) [] }
     {
@@ -71,7 +72,7 @@ impl Feed {
         }
     }
 
-    // Takes a piece whole, and then drops what doesn't belong to the list.
+    // Takes a piece whole, and then drops the bytes that do not belong to the list.
     fn take(&mut self, piece: &[u8]) -> Fed
         ensures { Feeds self.old piece.now result self.new }
     {
@@ -87,8 +88,8 @@ impl Feed {
         }
     }
 
-    /// Takes the next piece of the stream. Beside the piece it takes the memory of what belongs to the list: no count
-    /// and no length makes it ask for memory before the bytes are there. After `Done` and `Refused` nothing changes.
+    /// Takes the next piece of the stream. It keeps in memory the bytes that belong to the list, and requests no memory
+    /// for a count or a length before the bytes have arrived. After `Done` and `Refused` nothing changes.
     ///
     /// ```rust
     /// let mut feed = Feed::new(alloc);
@@ -99,12 +100,12 @@ impl Feed {
     #[tactic(auto, using(crate::proofs::Held::taken_within))]
     pub fn feed(&mut self, piece: &[u8]) -> Fed
         ensures feeds { Feeds self.old piece.now result self.new }
-        // The answer is told by what the stream is, however it is cut into pieces.
+        // The answer depends on the stream alone, however it is cut into pieces.
         ensures exactly { (p : Allowed) (s : List ℕ) → self.old ≡ more p s
             → FedExactly p (s ++ piece.now) (length s) result }
         // No more bytes belong to the list than the piece has.
         ensures within { (taken : ℕ) → result ≡ Done taken → taken ≤ length piece.now }
-        // Where more is wanted, the stream so far is little beyond whole ACEs.
+        // At More, the stream so far has few bytes behind its whole ACEs.
         ensures held { IsSmall self.new }
     {
         match self.stage {
@@ -113,7 +114,7 @@ impl Feed {
         }
     }
 
-    // Takes a piece part by part, and counts what the parts before the last one hold.
+    // Takes a piece part by part, and counts the bytes of the parts before the last one.
     fn take_all(&mut self, piece: &[u8]) -> Fed
         ensures { Feeds self.old piece.now result self.new }
     {
@@ -141,10 +142,11 @@ impl Feed {
         }
     }
 
-    /// The list, where the stream ends here: else that it is cut short, or the fault that was told. It takes no memory.
+    /// Returns the list, if the stream ends here. Otherwise returns that the stream is cut short, or the fault that was
+    /// reported. It takes no memory.
     pub fn finish(self) -> Result<Acl, Fault>
         ensures told { Finishes self result }
-        // A stream that is cut short has no list.
+        // For a stream that is cut short no list is returned.
         ensures cut { (p : Allowed) (s : List ℕ) → self ≡ more p s → MatchResult result
             (λ _. ⊥) (λ f. (f.reason ≡ Truncated) × IsFault p s f.offset Truncated) }
     {

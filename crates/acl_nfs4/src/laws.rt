@@ -18,20 +18,20 @@ ghost use Rattle.std.specs.Prelude.{[]};
 ghost use Rattle.acl_nfs4.specs.Stream.{Feeds, FeedsEach, SameOrFails, Standing, more, together};
 ghost use Rattle.acl_nfs4.specs.declared.feed.fed.Fed.{Fed};
 
-/// No spelling begins another, and none spells two lists, whatever the profile.
+/// No spelling is the beginning of another, and none spells two lists, under each profile.
 pub fn one_spelling()
     ensures { (p : Profile) (a b : List Ace) (s t x y : List ℕ) → IsProfile p → Xdr p a s
         → Xdr p b t
         → s ++ x ≡ t ++ y → (a ≡ b) × (s ≡ t) }
 {}
 
-/// A list is accepted under a profile exactly if it is accepted under the full one and fits the profile.
+/// A list is accepted under a profile if and only if it is accepted under the full one and fits the profile.
 pub fn accepted_where_it_fits()
     ensures { (p : Profile) (list : List Ace) → IsProfile p
         → IsAccepted p list ↔ (IsAccepted full list × Fits p list) }
 {}
 
-/// What stands before a field begins the spelling of some accepted list, and so do the bytes before a fault.
+/// The fields before a field begin the spelling of some accepted list, and so do the bytes before a fault.
 pub fn faults_break_spellings()
     ensures border { (p : Profile) (stage : Stage) (text : List ℕ) → Border p stage text
         → BeginsSpelling p text }
@@ -40,7 +40,7 @@ pub fn faults_break_spellings()
         → BeginsSpelling p (take offset bytes) }
 {}
 
-/// At most one fault fits bytes, and none where a spelling stands at their front.
+/// Bytes have at most one fault, and none if they begin with the spelling of a list.
 pub fn one_fault()
     ensures one { (p : Profile) (bytes : List ℕ) (o q t u : ℕ) (r s : Reason) → IsProfile p
         → IsFirstFault p bytes o t r → IsFirstFault p bytes q u s → (o ≡ q) × (t ≡ u) × (r ≡ s) }
@@ -49,7 +49,7 @@ pub fn one_fault()
         → IsProfile p → Xdr p list text → bytes ≡ text ++ rest → IsFault p bytes o r → ⊥ }
 {}
 
-/// At most one fault fits bytes that are to be one spelling and nothing more, and none where they are one.
+/// Bytes that should be one spelling and nothing more have at most one fault, and none if they are one spelling.
 pub fn one_whole_fault()
     ensures one { (p : Profile) (bytes : List ℕ) (o q : ℕ) (r s : Reason) → IsProfile p
         → IsWholeFault p bytes o r
@@ -59,14 +59,14 @@ pub fn one_whole_fault()
         → Xdr p list bytes → IsWholeFault p bytes o r → ⊥ }
 {}
 
-/// The weight of a list is the number of pairs of a place in it and a bit that the ACE there has.
+/// The weight of a list is the number of pairs of a place in the list and a bit of the ACE at that place.
 pub fn weight_counts_pairs()
     ensures { (list : List Ace) → AllByRecursion (λ a. a.mask < 2 ^ 32) list
         → weight list ≡ length (pairs_of list) }
 {}
 
-/// How a stream is cut into pieces plays no part: pieces that are fed one after the other to a new `Feed` are answered
-/// as all of them at once, and leave it as all of them at once. One of the two may be refused memory.
+/// It does not matter how a stream is cut into pieces. Pieces that are fed one after the other to a new `Feed` have the
+/// same answer as all of them fed at once, and leave it in the same state. In one of the two cases memory may run out.
 pub fn any_cutting()
     ensures together { (p : Profile) (pieces : List (List ℕ)) (answers : List Fed) (new : Standing)
         → FeedsEach (more p []) pieces answers new
@@ -77,13 +77,13 @@ pub fn any_cutting()
         → SameOrFails (together pieces answers) new once now }
 {}
 
-/// The written text of a list spells it, and no other.
+/// The written text of a list spells that list and no other.
 pub fn text_reads_back()
     ensures { (p : Profile) (list other : List Ace) → IsProfile p → IsAccepted p list
         → IsAceText p other (ace_text list) ↔ (other ≡ list) }
 {}
 
-/// A text spells at most one list, it has at most one fault, and not both.
+/// A text spells at most one list, has at most one fault, and does not do both.
 pub fn one_text_fault()
     ensures list { (p : Profile) (text : List ℕ) (a b : List Ace) → IsAceText p a text
         → IsAceText p b text → a ≡ b }

@@ -29,7 +29,7 @@ pub use list::push_fault::PushFault;
 pub use names::rights::{bit_name, read_mask};
 pub use text::fault::AceTextFault;
 pub use text::reader::{parse_text, parse_text_with};
-pub use text::shown::{FlagNames, RightNames};
+pub use text::shown::{FlagNames, PrincipalName, RightNames};
 pub use xdr::decoder::{decode, decode_with};
 pub use xdr::fault::{Fault, Reason};
 pub use xdr::view::AclView;

@@ -1,4 +1,4 @@
-//! The limits of a list, and for each a function that returns it, for its clause alone.
+//! The limits of a list, and for each a private function that returns it, so that a clause can give its value.
 ghost use Rattle.std.specs.Prelude.{◌≡◌};
 ghost use Rattle.acl_nfs4.specs.Limits.{longest_who, most_aces, most_weight};
 

@@ -1,11 +1,12 @@
-//! Plain ASCII, which is told of many bytes at once: most whos are, and need no other test.
-ghost use Rattle.std.specs.Prelude.{◌≡◌, ◌≤◌, ◌+◌, length, IsTrue, true};
+//! A test for plain ASCII that looks at many bytes at once. Most whos are plain ASCII, and need no other test.
+ghost use Rattle.std.specs.Prelude.{◌≡◌, ◌≤◌, ◌+◌, length, take, IsTrue, true};
 ghost use Rattle.std.specs.List.{list_all};
 ghost use Rattle.acl_nfs4.specs.internal.Reading.{is_plain_ascii, ArePlain};
 
 use std::simd::prelude::*;
 
-/// Whether all bytes are plain ASCII. `true` is certain; at `false`, `judge_bytes` of `who` looks at each byte.
+/// Returns whether all bytes are plain ASCII. `true` is certain; after `false`, `judge_bytes` of `who` looks at each
+/// byte.
 #[tactic(auto, using(crate::proofs::PlainLanes::plain_whole))]
 #[inline(always)]
 pub(crate) fn is_plain_ascii(bytes: &[u8]) -> bool
@@ -19,7 +20,35 @@ pub(crate) fn is_plain_ascii(bytes: &[u8]) -> bool
     }
 }
 
-// Whether N to 2 N bytes are plain ASCII: the first N and the last N of them, which may overlap.
+/// Whether the first `len` bytes are plain ASCII, as `is_plain_ascii` says it of all. Where 16 bytes are there, one load
+/// of them is enough for a front of up to 16.
+#[tactic(auto, using(crate::proofs::PlainLanes::plain_front_whole))]
+#[inline(always)]
+pub(crate) fn begins_plain_ascii(bytes: &[u8], len: usize) -> bool
+    requires { len ≤ length bytes.now }
+    ensures { IsTrue result → list_all is_plain_ascii (take len bytes.now) ≡ true }
+{
+    if len <= 16 && bytes.len() >= 16 {
+        is_front_plain::<16>(bytes, len)
+    } else {
+        is_plain_ascii(&bytes[..len])
+    }
+}
+
+// Whether the first `len` of the first N bytes are plain ASCII: the first that is not stands behind them.
+#[inline(always)]
+fn is_front_plain<const N: usize>(bytes: &[u8], len: usize) -> bool
+    requires lanes { N ≤ 64 }
+    requires inside { N ≤ length bytes.now }
+    requires most { len ≤ N }
+    ensures { IsTrue result → ArePlain bytes.now 0 len }
+{
+    let above = Simd::<u8, N>::from_slice(bytes) - Simd::<u8, N>::splat(0x20);
+    let beyond = above.simd_ge(Simd::<u8, N>::splat(0x5f)).to_bitmask();
+    beyond.trailing_zeros() as usize >= len
+}
+
+// Returns whether N to 2 N bytes are plain ASCII: the first N and the last N of them, which may overlap.
 #[inline(always)]
 fn ends_are_plain<const N: usize>(bytes: &[u8]) -> bool
     requires lanes { N ≤ 64 }
@@ -30,7 +59,8 @@ fn ends_are_plain<const N: usize>(bytes: &[u8]) -> bool
     are_plain::<N>(bytes, 0) & are_plain::<N>(bytes, bytes.len() - N)
 }
 
-// Whether 16 bytes or more are plain ASCII. The last 16 are judged whole, also where some of them were before.
+// Returns whether 16 bytes or more are plain ASCII. The last 16 are judged whole, also if some of them were judged
+// before.
 fn is_long_plain(bytes: &[u8]) -> bool
     requires { 16 ≤ length bytes.now }
     ensures { IsTrue result → ArePlain bytes.now 0 (length bytes.now) }
@@ -46,8 +76,8 @@ fn is_long_plain(bytes: &[u8]) -> bool
     are_plain::<16>(bytes, last)
 }
 
-// Whether the N bytes from `at` on are plain ASCII. Plain ASCII is 0x20 to 0x7e, so such a byte minus 0x20 is below
-// 0x5f. Any other byte minus 0x20 is 0x5f or more, since the subtraction wraps.
+// Returns whether the N bytes from `at` on are plain ASCII. Plain ASCII is 0x20 to 0x7e, so such a byte minus 0x20 is
+// below 0x5f. Any other byte minus 0x20 is 0x5f or more, because the subtraction wraps.
 #[inline(always)]
 fn are_plain<const N: usize>(bytes: &[u8], at: usize) -> bool
     requires lanes { N ≤ 64 }

@@ -1,4 +1,4 @@
-//! Calls at many ACEs, to count their instructions and their time: `bench/calls` runs each test alone.
+//! Calls with many ACEs, to count their instructions and their time: `bench/calls` runs each test alone.
 
 use super::*;
 use std::alloc::{AllocError, Global};
@@ -29,14 +29,14 @@ enum Call {
     Encode,
 }
 
-// How often, of so many times, the list is found in the text.
+// How often, of so many times, the text gives the list.
 fn parsed(text: &[u8], times: usize) -> usize {
     (0..times)
         .filter(|_| AclView::parse(text).is_ok_and(|(_, len)| len == 1_572_868))
         .count()
 }
 
-// Whether the list is given, or memory wanted.
+// Whether the list is returned, or memory ran out.
 fn is_given(answer: Result<Acl, Fault>) -> bool {
     match answer {
         Ok(list) => list.len() == 65_536,
@@ -44,7 +44,7 @@ fn is_given(answer: Result<Acl, Fault>) -> bool {
     }
 }
 
-// How often it is read from a source.
+// How often a source gives the list.
 fn decoded(alloc: Global, text: &[u8], times: usize) -> usize {
     (0..times)
         .filter(|_| is_given(decode(alloc, &mut Counted::new(text))))
@@ -59,7 +59,7 @@ fn fed_once(alloc: Global, text: &[u8], size: usize) -> Result<Acl, Fault> {
     feed.finish()
 }
 
-// How often it is taken in pieces.
+// How often a feed gives the list.
 fn fed(alloc: Global, text: &[u8], size: usize, times: usize) -> usize {
     (0..times)
         .filter(|_| is_given(fed_once(alloc, text, size)))
@@ -79,7 +79,7 @@ fn encoded(alloc: Global, text: &[u8], times: usize) -> usize {
         .count()
 }
 
-// Whether a call does what it should, each of so many times, where there is memory for the text.
+// Whether a call succeeds each of so many times, if there is memory for the text.
 fn goes_well(alloc: Global, call: Call, times: usize) -> bool {
     let Ok(text) = text(alloc) else {
         return true;

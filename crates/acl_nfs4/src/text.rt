@@ -1,4 +1,4 @@
-//! Lists as text: a line an ACE.
+//! Lists as text: one line per ACE.
 
 pub(crate) mod fault;
 pub(crate) mod line;

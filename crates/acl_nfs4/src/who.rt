@@ -1,14 +1,14 @@
-//! What may stand as a who: the same wherever an ACE comes from.
-ghost use Rattle.std.specs.Prelude.{◌≡◌, ◌≤◌, length, false};
+//! Which bytes are valid as a who, wherever an ACE comes from.
+ghost use Rattle.std.specs.Prelude.{◌≡◌, ◌≤◌, IsTrue, None, length, take, false};
 ghost use Rattle.std.specs.Str.{is_utf8};
 ghost use Rattle.std.specs.List.{list_all};
 ghost use Rattle.acl_nfs4.specs.internal.Reading.{Judges, text_fault};
-ghost use Rattle.acl_nfs4.specs.Who.{ends_in_at, is_plain, is_special, is_no_who_len, who_fault};
+ghost use Rattle.acl_nfs4.specs.Who.{ends_in_at, is_plain, is_special, is_unknown_special, is_no_who_len, who_fault};
 
 use crate::limits::LONGEST_WHO;
-use crate::plain_ascii::is_plain_ascii;
+use crate::plain_ascii::{begins_plain_ascii, is_plain_ascii};
 
-/// What keeps bytes from being a who, in the order in which it is judged.
+/// Why bytes are not valid as a who, in the order in which this is judged.
 #[derive(Clone, Copy)]
 pub(crate) enum WhoFault {
     Length,
@@ -17,7 +17,7 @@ pub(crate) enum WhoFault {
     Special,
 }
 
-/// Refuses what can't be a who.
+/// Refuses bytes that are not valid as a who.
 pub(crate) fn judge(who: &[u8]) -> Result<(), WhoFault>
     ensures { Judges result (who_fault who.now) }
 {
@@ -27,7 +27,7 @@ pub(crate) fn judge(who: &[u8]) -> Result<(), WhoFault>
     judge_text(who)
 }
 
-/// Whether no who has so many bytes.
+/// Returns whether no who has so many bytes.
 #[inline(always)]
 pub(crate) fn is_no_who_len(len: usize) -> bool
     ensures { result ≡ is_no_who_len len }
@@ -35,24 +35,35 @@ pub(crate) fn is_no_who_len(len: usize) -> bool
     len == 0 || len > LONGEST_WHO
 }
 
-/// Refuses what can't be a who of this length.
+/// Refuses bytes of this length that are not valid as a who.
 #[tactic(auto, using(crate::proofs::PlainText::plain_ascii))]
 #[inline(always)]
 pub(crate) fn judge_text(who: &[u8]) -> Result<(), WhoFault>
     requires { is_no_who_len (length who.now) ≡ false }
     ensures { Judges result (who_fault who.now) }
 {
-    // Most names are plain ASCII, which is told many bytes at once.
+    // Most names are plain ASCII. This test looks at many bytes at once.
     if !is_plain_ascii(who) {
         judge_bytes(who)?;
     }
-    if has_at(who) && !is_special_who(who) {
+    if is_unknown_special(who) {
         return Err(WhoFault::Special);
     }
     Ok(())
 }
 
-// Refuses what isn't UTF-8, and what has a control byte.
+/// Whether the first `len` bytes are a who of plain ASCII, which is told of many bytes at once. `true` is certain; at
+/// `false`, `judge_text` says more.
+#[inline(always)]
+pub(crate) fn begins_plain_who(bytes: &[u8], len: usize) -> bool
+    requires some { is_no_who_len len ≡ false }
+    requires inside { len ≤ length bytes.now }
+    ensures { IsTrue result → who_fault (take len bytes.now) ≡ None }
+{
+    begins_plain_ascii(bytes, len) && !is_unknown_special(&bytes[..len])
+}
+
+// Refuses bytes that are not UTF-8, or that have a control byte.
 #[inline(never)]
 fn judge_bytes(who: &[u8]) -> Result<(), WhoFault>
     ensures { Judges result (text_fault who.now) }
@@ -86,6 +97,15 @@ fn is_plain_byte(byte: u8) -> bool
     ensures { result ≡ is_plain byte }
 {
     byte >= 0x20 && byte != 0x7f
+}
+
+// Whether a who ends in `@` and is none of the three special identifiers.
+#[inline(always)]
+fn is_unknown_special(who: &[u8]) -> bool
+    requires { 1 ≤ length who.now }
+    ensures { result ≡ is_unknown_special who.now }
+{
+    has_at(who) && !is_special_who(who)
 }
 
 #[inline(always)]

@@ -1,8 +1,9 @@
 -- How the code reads lines of ACEs one after the other, as functions: this library's own words, which only code needs.
--- What public clauses say of texts stands in AceText and AceTextFault.
+-- What public clauses say about texts is in AceText and AceTextFault.
 use Rattle.std.specs.Prelude.{◌≡◌, ◌+◌, ◌≤◌, ◌==◌, ℕ, List, [], ◌∷◌, ◌++◌, length, Option, None, Some, option_map, ok_or, Result, Ok, Err, nat_le, nat_lt, count_ones, if◌then◌else◌}
 use Rattle.std.specs.Option.{option_and_then}
 use Rattle.std.specs.Str.{bytes_eq}
+use Rattle.acl_perm.specs.Ascii.{space}
 use Rattle.acl_perm.specs.Profile.{Profile}
 use Rattle.acl_perm.specs.declared.kind.Kind.{Kind}
 use Rattle.acl_perm.specs.declared.kind.Kind.TheVariants.{Deny, Allow}
@@ -25,13 +26,13 @@ use Rattle.acl_nfs4.specs.declared.text.line.LineFields.{LineFields as HeldField
 
 -- ---- fields
 
--- what stands before the first space, and what behind it
+-- the bytes before the first space, and the bytes behind it
 abbrev pub cut_space : List ℕ → Option (List ℕ × List ℕ)
 cut_space [] = None
 cut_space (b ∷ bytes) =
-    if b == 0x20 then Some ([], bytes) else option_map (λ parts. (b ∷ parts.0, parts.1)) (cut_space bytes)
+    if b == space then Some ([], bytes) else option_map (λ parts. (b ∷ parts.0, parts.1)) (cut_space bytes)
 
--- the first field and what stands behind it, as code holds them
+-- the first field and the bytes behind it, as code holds them
 abbrev pub view_first : FirstField → List ℕ × List ℕ
 view_first parts = (parts.field.now, parts.rest.now)
 
@@ -40,7 +41,7 @@ abbrev pub last_fields : List ℕ → List ℕ → Option (List ℕ × List ℕ)
 last_fields kind flags parts =
     option_map (λ p. record { kind = kind; flags = flags; mask = p.0; who = p.1 }) parts
 
--- the fields of a line, where it has four
+-- the fields of a line, if it has four
 unfoldable pub fields_of : List ℕ → Option LineFields
 fields_of line = option_and_then (λ kind.
     option_and_then (λ flags. last_fields kind.0 flags.0 (cut_space flags.1)) (cut_space kind.1)) (cut_space line)
@@ -50,7 +51,7 @@ abbrev pub view_fields : HeldFields → LineFields
 view_fields fields =
     record { kind = fields.kind.now; flags = fields.flags.now; mask = fields.mask.now; who = fields.who.now }
 
--- the fields of a line are no longer than it
+-- the fields of a line are not longer than the line
 abbrev pub FieldsFit : LineFields → List ℕ → Type 0
 FieldsFit fields line =
     length fields.kind + length fields.flags + length fields.mask + length fields.who + 3 ≤ length line
@@ -66,7 +67,7 @@ kind_named word = if bytes_eq word (kind_name Allow) then Some Allow
 abbrev pub read_flags : Profile → ℕ → ℕ → List ℕ → Result ℕ AceTextFault
 read_flags p line column field = ok_or (set_within flag_names p.flags field) (faults.Flag line column)
 
--- a mask, where ACEs of this weight leave room for it
+-- a mask, if ACEs of this weight leave room for it
 abbrev pub if_light : ℕ → ℕ → ℕ → ℕ → Result ℕ AceTextFault
 if_light heavy line column mask =
     if nat_lt most_weight (heavy + count_ones mask) then Err (faults.TooHeavy line column) else Ok mask
@@ -94,17 +95,17 @@ read_who line column field = who_judged line column field (who_fault field)
 
 -- ---- lines
 
--- the ACE of fields of which three were read
+-- the ACE of fields of which three are already read
 abbrev pub after_mask : ℕ → LineFields → Kind → ℕ → ℕ → Result Ace AceTextFault
 after_mask line fields kind flags mask = read_who line (who_column fields) fields.who
     >>= λ name. Ok (record { kind = kind; flags = flags; mask = mask; who = name })
 
--- the ACE of fields of which two were read, after ACEs of this weight
+-- the ACE of fields of which two are already read, after ACEs of this weight
 abbrev pub after_flags : Profile → ℕ → ℕ → LineFields → Kind → ℕ → Result Ace AceTextFault
 after_flags p heavy line fields kind flags = read_mask_field p heavy line (mask_column fields) fields.mask
     >>= λ mask. after_mask line fields kind flags mask
 
--- the ACE of fields of which one was read
+-- the ACE of fields of which one is already read
 abbrev pub after_kind : Profile → ℕ → ℕ → LineFields → Kind → Result Ace AceTextFault
 after_kind p heavy line fields kind = read_flags p line (flags_column fields) fields.flags
     >>= λ flags. after_flags p heavy line fields kind flags
@@ -114,7 +115,7 @@ abbrev pub read_fields : Profile → ℕ → ℕ → LineFields → Result Ace A
 read_fields p heavy line fields =
     ok_or (kind_named fields.kind) (faults.AceType line 1) >>= λ kind. after_kind p heavy line fields kind
 
--- the ACE of a line, as the next of a list of so many of this weight
+-- the ACE of a line, as the next ACE of a list of so many ACEs of this weight
 unfoldable pub read_ace : Profile → ℕ → ℕ → ℕ → List ℕ → Result Ace AceTextFault
 read_ace p count heavy line bytes = if nat_le most_aces count then Err (faults.TooManyAces line 1)
     else (ok_or (fields_of bytes) (faults.Fields line 1) >>= λ fields. read_fields p heavy line fields)
@@ -126,7 +127,7 @@ read_lines p list (line ∷ lines) = do
   a ← read_ace p (length list) (weight list) line.number line.bytes
   read_lines p (list ++ a ∷ []) lines
 
--- what code failed with is the fault that is told, unless memory ran out
+-- the fault of the code is the fault that is reported, unless memory ran out
 abbrev pub Fails : {Y : Type 0} → AceTextFault → Result Y AceTextFault → Type 0
 Fails faults.Memory read = Unit {0}
 Fails fault read = read ≡ Err fault

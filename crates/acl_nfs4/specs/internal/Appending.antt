@@ -1,4 +1,4 @@
--- Bytes at the end of others: words that this library's code needs. No public clause cites them.
+-- Bytes at the end of others: definitions that this library's code needs. No public clause cites them.
 use Rattle.std.specs.Prelude.{◌≡◌, ℕ, List, ◌++◌, Result, Ok, Err}
 
 -- bytes were added at the end, or the call failed and nothing changed

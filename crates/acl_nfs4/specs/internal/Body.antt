@@ -1,5 +1,5 @@
--- The ACEs of a list without the word of their number, as a view or an iterator holds them: words of this library's
--- code, for the fields of its types. They say what a view's bytes mean by reading them.
+-- The ACEs of a list without the word of their number, as a view or an iterator holds them: this library's own
+-- definitions, for the fields of its types. They say what a view's bytes mean by reading them.
 use Rattle.std.specs.Prelude.{◌≡◌, ℕ, ◌≤◌, List, [], ◌++◌, length, Result, Ok, Err}
 use Rattle.std.specs.List.{flat_map, AllByRecursion}
 use Rattle.acl_nfs4.specs.declared.xdr.fault.Fault.{Fault}
@@ -9,12 +9,12 @@ use Rattle.acl_nfs4.specs.Limits.{most_aces, most_weight}
 use Rattle.acl_nfs4.specs.Spelling.{piece, weight, IsAce}
 use Rattle.acl_nfs4.specs.internal.Reading.{Place, aces_at}
 
--- the list that was read, where none failed
+-- the list that was read, if no field failed
 abbrev pub listed : Result (List Ace × Place) Fault → List Ace
 listed (Ok x) = x.0
 listed (Err f) = []
 
--- the first so many ACEs that the bytes spell
+-- the first ACEs, so many, that the bytes spell
 unfoldable pub aces_of : ℕ → List ℕ → List Ace
 aces_of count bytes = listed (aces_at full count 0 (record { at = 0; rest = bytes }))
 
@@ -29,11 +29,11 @@ pub record IsBody (count : ℕ) (bytes : List ℕ) : Type 0 where
   pub spells : Spells (aces_of count bytes) bytes
   pub whole : length (aces_of count bytes) ≡ count
 
--- the bytes are the pieces of so many ACEs, of no more than a list may have
+-- the bytes are the pieces of so many ACEs, and these are no more than a list may have
 pub record IsList (count : ℕ) (bytes : List ℕ) : Type 0 where
   pub body : IsBody count bytes
   pub small : count ≤ most_aces
 
--- a piece stands in front
+-- a piece is in front
 abbrev pub BeginsWithAce : List ℕ → Type 0
 BeginsWithAce bytes = (a : Ace) × (more : List ℕ) × IsAce full a × (bytes ≡ piece a ++ more)

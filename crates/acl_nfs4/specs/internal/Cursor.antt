@@ -1,4 +1,4 @@
--- A cursor of this library's readers without where its bytes lie in memory. No public clause cites it.
+-- A cursor of this library's readers without the place of its bytes in memory. No public clause cites it.
 use Rattle.std.specs.Prelude.{◌-◌, length}
 use Rattle.acl_nfs4.specs.declared.xdr.cursor.Cursor.{Cursor}
 use Rattle.acl_nfs4.specs.internal.Reading.{Place}

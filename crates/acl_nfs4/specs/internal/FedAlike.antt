@@ -1,5 +1,5 @@
--- Lists that are equal are fed alike to a hasher (this library's own). The proof stands here since `Hash` of the code
--- cites it, and code can cite what stands in specs/ alone.
+-- Lists that are equal are fed alike to a hasher (this library's own). The proof is here because `Hash` of the code
+-- cites it, and code can cite only what is in specs/.
 use Rattle.std.proofs.Common.{◌≡◌, List, [], ◌∷◌, length, take, drop, refl, sym, ap, ◌∙◌}
 use Rattle.std.specs.Prelude.{true}
 use Rattle.std.specs.Cmp.Lexicographic.{bytes_decides}

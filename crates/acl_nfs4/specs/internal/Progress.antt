@@ -1,5 +1,5 @@
--- How far a text that comes in pieces is judged: words that this library's code needs.
--- Public clauses cite none of them.
+-- Up to which place a text that comes in pieces is judged: definitions that this library's code needs. Public clauses
+-- cite none of them.
 use Rattle.std.specs.Prelude.{◌≡◌, ℕ, ◌+◌, ◌<◌, ◌≤◌, List, [], ◌++◌, length, take, drop, get_or, Err, Option, None, Some}
 use Rattle.std.specs.List.{AllByRecursion}
 use Rattle.acl_perm.specs.Profile.{Profile}
@@ -38,7 +38,7 @@ pub record IsScanned (p : Profile) (body : List ℕ) (at : Progress) : Type 0 wh
   pub total : weight list ≡ at.weight
   pub inside : at.used ≤ length body
 
--- the place behind them; the word of the count stands before the body
+-- the place behind them; the word of the count is before the body
 abbrev pub behind_scanned : List ℕ → Progress → Place
 behind_scanned body at = record { at = 4 + at.used; rest = drop at.used body }
 
@@ -47,7 +47,7 @@ abbrev pub Ends : Profile → ℕ → List ℕ → Progress → Option Fault →
 Ends p count body at None = at.seen ≡ count
 Ends p count body at (Some f) = (at.seen < count) × (ace_at p at.weight (behind_scanned body at) ≡ Err f)
 
--- how far a text is judged: the first bytes of its body, and no more ACEs than its count says
+-- up to which place a text is judged: the first bytes of its body, and no more ACEs than its count says
 pub record IsProgress (p : Profile) (text : List ℕ) (at : Progress) : Type 0 where
   pub scanned : IsScanned p (drop 4 text) at
   pub seen : at.seen ≤ number (take 4 text)
@@ -68,14 +68,14 @@ abbrev pub Judged : Profile → List ℕ → Progress → Option Fault → Type 
 Judged p text at None = IsWhole p text at
 Judged p text at (Some f) = IsFault p text f.offset f.reason
 
--- the fields of a feed that asks for more
+-- the fields of a feed that answers More
 pub record IsOpen (p : Profile) (f : Fault) (at : Progress) (text : List ℕ) : Type 0 where
   pub profile : IsProfile p
   pub cut : IsFault p text f.offset f.reason
   pub why : f.reason ≡ Truncated
   pub progress : IsProgress p text at
 
--- what the fields of a feed stand for
+-- what the fields of a feed represent
 abbrev pub standing : Profile → Stage → Progress → List ℕ → Standing
 standing p (Open f) at text = more p text
 standing p Done at text = done (aces_of at.seen (drop 4 text))
@@ -87,7 +87,7 @@ IsFeed p (Open f) at text = IsOpen p f at text
 IsFeed p Done at text = IsOwned at.seen at.weight (drop 4 text)
 IsFeed p (Refused f) at text = Unit {0}
 
--- a feed that has taken just this front of a piece so far, and asks for more
+-- a feed that has taken exactly this front of a piece so far, and answers More
 abbrev pub HasTaken : Standing → List ℕ → Standing → Type 0
 HasTaken (more p s) front new = new ≡ more p (s ++ front)
 HasTaken (done list) front new = (new ≡ done list) × (front ≡ [])

@@ -1,5 +1,5 @@
--- Fields that are pulled from a source one after the other: words that this library's code needs. No public clause
--- cites them.
+-- Fields that are pulled from a source one after the other: definitions that this library's code needs. No public
+-- clause cites them.
 use Rattle.std.specs.Prelude.{◌≡◌, ◌≢◌, ◌⊎◌, ℕ, ◌+◌, ◌<◌, ◌≤◌, List, ◌∷◌, [], ◌++◌, length, take, drop, Option, Result, Ok, Err, count_ones, false}
 use Rattle.std.specs.Io.KnownBytes.{Consumes, IsAtEnd}
 use Rattle.acl_perm.specs.Devices.{one_more}
@@ -18,14 +18,14 @@ use Rattle.acl_nfs4.specs.declared.xdr.pulling.Pulled.{Pulled}
 use Rattle.acl_nfs4.specs.declared.xdr.pulling.Words.{Words}
 use Rattle.acl_nfs4.specs.Who.{is_no_who_len}
 
--- a source ended here, or failed, after it gave less than so many bytes; its failures are counted before and after
+-- a source ended here, or failed, after it gave fewer bytes than these; its failures are counted before and after
 pub record IsLacking (offset size : ℕ) (piece : List ℕ) (left : Option (List ℕ)) (before after : ℕ) (f : Fault)
     : Type 0 where
   pub short : length piece < size
   pub here : f.offset ≡ offset
   pub why : ((f.reason ≡ Truncated) × IsAtEnd left × (after ≡ before)) ⊎ ((f.reason ≡ Read) × (after ≡ one_more before))
 
--- a source gave just so many bytes, which stand in the room behind those that were held
+-- a source gave exactly so many bytes, which are in the buffer behind those that were held
 pub record IsFilled (held size : ℕ) (old new piece : List ℕ) (before after : ℕ) : Type 0 where
   pub long : length piece ≡ size
   pub room : take (held + size) new ≡ take held old ++ piece
@@ -33,12 +33,12 @@ pub record IsFilled (held size : ℕ) (old new piece : List ℕ) (before after :
   pub bytes : IsBytes piece
   pub kept : after ≡ before
 
--- what comes of asking for so many bytes
+-- the result of asking for so many bytes
 abbrev pub Fills : ℕ → ℕ → ℕ → List ℕ → List ℕ → List ℕ → Option (List ℕ) → ℕ → ℕ → Result (Unit {0}) Fault → Type 0
 Fills offset held size room new piece left before after (Ok _) = IsFilled held size room new piece before after
 Fills offset held size room new piece left before after (Err f) = IsLacking offset size piece left before after f
 
--- a source gave a word, which stands in the room behind the bytes that were held
+-- a source gave a word, which is in the buffer behind the bytes that were held
 pub record IsWord (held : ℕ) (old new piece : List ℕ) (before after n : ℕ) : Type 0 where
   pub long : length piece ≡ 4
   pub number_is : number piece ≡ n
@@ -46,12 +46,12 @@ pub record IsWord (held : ℕ) (old new piece : List ℕ) (before after n : ℕ)
   pub room : take (held + 4) new ≡ take held old ++ piece
   pub kept : after ≡ before
 
--- what comes of asking for a word
+-- the result of asking for a word
 abbrev pub FillsWord : ℕ → ℕ → List ℕ → List ℕ → List ℕ → Option (List ℕ) → ℕ → ℕ → Result ℕ Fault → Type 0
 FillsWord offset held room new piece left before after (Ok n) = IsWord held room new piece before after n
 FillsWord offset held room new piece left before after (Err f) = IsLacking offset 4 piece left before after f
 
--- a decoder that took just this text stops: the input ends there, or a read failed, or the last field is refused
+-- a decoder that took exactly this text stops: the input ends there, or a read failed, or the last field is refused
 abbrev pub Stops : Profile → List ℕ → Option (List ℕ) → ℕ → ℕ → Fault → Type 0
 Stops p text left before after f =
     ((f.reason ≡ Truncated) × IsFault p text f.offset Truncated × IsAtEnd left × (after ≡ before))
@@ -59,14 +59,14 @@ Stops p text left before after f =
     ⊎ (IsFirstFault p text f.offset (length text) f.reason × (f.reason ≢ Truncated) × (f.reason ≢ Read)
     × (after ≡ before)))
 
--- where the next ACE may stand: behind this text, in which these are before it, of the number that is told
+-- where the next ACE may be: behind this text, which has these ACEs, fewer than the count, with this weight
 pub record IsNext (p : Profile) (offset total n : ℕ) (list : List Ace) (text : List ℕ) : Type 0 where
   pub border : Border p (at_kind n list) text
   pub fewer : length list < n
   pub here : length text ≡ offset
   pub heavy : weight list ≡ total
 
--- a source gave the fields of an ACE up to a stage: they are the first bytes of the room, and no pull failed
+-- a source gave the fields of an ACE up to a stage: they are the first bytes of the buffer, and no pull failed
 pub record IsDrawn (p : Profile) (offset total : ℕ) (stage : ℕ → List Ace → Stage) (held : ℕ)
     (old left : Option (List ℕ)) (before after : ℕ) (room given : List ℕ) : Type 0 where
   pub taken : Consumes old left given
@@ -104,21 +104,21 @@ pub record HasAce (p : Profile) (offset total : ℕ) (old left : Option (List �
   pub bits : count_ones ace.mask ≡ x.bits
   pub inside : x.len ≤ length room
 
--- what comes of asking for the four words of an ACE
+-- the result of asking for the four words of an ACE
 abbrev pub DrawsWords : NextAce → Option (List ℕ) → Option (List ℕ) → ℕ → ℕ → List ℕ → Result Words Fault → Type 0
 DrawsWords next old left before after room (Ok x) =
     HasWords (profile_of next.profile) next.offset next.weight old left before after room x
 DrawsWords next old left before after room (Err f) =
     IsHalted (profile_of next.profile) next.offset next.weight old left before after f
 
--- what comes of asking for an ACE
+-- the result of asking for an ACE
 abbrev pub DrawsAce : NextAce → Option (List ℕ) → Option (List ℕ) → ℕ → ℕ → List ℕ → Result Pulled Fault → Type 0
 DrawsAce next old left before after room (Ok x) =
     HasAce (profile_of next.profile) next.offset next.weight old left before after room x
 DrawsAce next old left before after room (Err f) =
     IsHalted (profile_of next.profile) next.offset next.weight old left before after f
 
--- a decoder has taken just this text: the word of their number, and so many whole ACEs of that weight, which its body
+-- a decoder has taken exactly this text: the word of the count, and so many whole ACEs of that weight, which its body
 -- holds
 pub record IsTaken (p : Profile) (n seen total : ℕ) (body text : List ℕ) : Type 0 where
   pub list : List Ace

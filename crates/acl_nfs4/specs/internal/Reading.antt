@@ -1,6 +1,6 @@
--- Reading from left to right, with the first fault that is met: what this library's readers compute. No public
--- clause cites it.
+-- Reading from left to right, with the first fault: what this library's readers compute. No public clause cites it.
 use Rattle.std.specs.Prelude.{◌≡◌, ℕ, zero, suc, ◌+◌, List, [], ◌∷◌, length, take, drop, Result, Ok, Err, Option, None, Some, nat_le, nat_lt, ◌&&◌, not, ◌==◌, Bool, true, if◌then◌else◌, count_ones}
+use Rattle.acl_perm.specs.Ascii.{delete, space}
 use Rattle.acl_perm.specs.Profile.{Profile}
 use Rattle.acl_perm.specs.declared.kind.Kind.{Kind}
 use Rattle.acl_perm.specs.declared.kind.Kind.TheVariants.{Deny, Allow}
@@ -17,30 +17,30 @@ use Rattle.acl_nfs4.specs.declared.xdr.fault.Fault.{Fault}
 use Rattle.acl_nfs4.specs.declared.xdr.fault.Reason.{Reason}
 use Rattle.acl_nfs4.specs.declared.xdr.fault.Reason.TheVariants.{Truncated}
 
--- what a function returned, seen by view, is what reading gives
+-- the result of a function, seen by view, is what reading gives
 abbrev pub Gives : {X Y E : Type 0} → (X → Y) → Result X E → Result Y E → Type 0
 Gives view (Ok x) read = read ≡ Ok (view x)
 Gives view (Err e) read = read ≡ Err e
 
--- what a test answered is the fault that it looks for
+-- the answer of a test is the fault for which it looks
 abbrev pub Judges : {E : Type 0} → Result (Unit {0}) E → Option E → Type 0
 Judges (Ok _) fault = fault ≡ None
 Judges (Err e) fault = fault ≡ Some e
 
--- an ASCII byte that is no control byte
+-- an ASCII byte that is not a control byte
 abbrev pub is_plain_ascii : ℕ → Bool
-is_plain_ascii b = nat_le 0x20 b && nat_lt b 0x7f
+is_plain_ascii b = nat_le space b && nat_lt b delete
 
 -- each byte from one place up to another is plain ASCII
 abbrev pub ArePlain : List ℕ → ℕ → ℕ → Type 0
 ArePlain bytes from to = AllWithin (λ b. is_plain_ascii b ≡ true) bytes from to
 
--- the first that bytes break of the conditions on their encoding
+-- the first condition on their encoding that bytes do not meet
 abbrev pub text_fault : List ℕ → Option WhoFault
 text_fault bytes = if not (is_utf8 bytes) then Some Utf8
     else (if not (list_all is_plain bytes) then Some Control else None)
 
--- the type of a number that is one
+-- the type of a number, if it is one
 abbrev pub kind_from : ℕ → Kind
 kind_from n = if n == 0 then Allow else Deny
 
@@ -49,11 +49,11 @@ pub record Place : Type 0 where
   pub at : ℕ
   pub rest : List ℕ
 
--- a fault of the field that stands at a place
+-- a fault of the field at a place
 abbrev pub fault_at : Place → Reason → Fault
 fault_at p r = record { offset = p.at; reason = r }
 
--- what a field gives, with its fault at the field's first byte
+-- the value of a field, or its fault at the field's first byte
 abbrev pub Placed : {A : Type 0} → ℕ → Result A Reason → Result A Fault → Type 0
 Placed offset (Ok x) result = result ≡ Ok x
 Placed offset (Err r) result = result ≡ Err (record { offset = offset; reason = r })
@@ -62,12 +62,12 @@ Placed offset (Err r) result = result ≡ Err (record { offset = offset; reason 
 abbrev pub moved : ℕ → Place → Place
 moved n p = record { at = p.at + n; rest = drop n p.rest }
 
--- what a whole field of n bytes gives: it is refused by what it holds, or its value and the place behind it
+-- the result of a whole field of n bytes: the reason for which it is refused, or its value and the place behind it
 abbrev pub judged : {A : Type 0} → ℕ → Place → Result A Reason → Result (A × Place) Fault
 judged n p (Ok x) = Ok (x, moved n p)
 judged n p (Err r) = Err (fault_at p r)
 
--- a field of n bytes: cut short, or what it gives where it is whole
+-- a field of n bytes: cut short, or its result if it is whole
 abbrev pub field : {A : Type 0} → ℕ → (List ℕ → Result A Reason) → Place → Result (A × Place) Fault
 field n value p = if nat_lt (length p.rest) n then Err (fault_at p Truncated) else judged n p (value (take n p.rest))
 
@@ -102,7 +102,7 @@ read p bytes = do
   count ← word_field count_of (record { at = 0; rest = bytes })
   aces_at p count.0 0 count.1
 
--- where reading ended, without what was read
+-- where reading ended, without the value
 abbrev pub ending : {A : Type 0} → Result (A × Place) Fault → Result Place Fault
 ending read = read >>= λ x. Ok x.1
 

@@ -2,12 +2,12 @@
 
 use crate::xdr::fault::Fault;
 
-/// What a piece came to.
+/// What the stream is after a piece.
 #[derive(Clone, Copy, Debug, PartialEq, Eq)]
 pub enum Fed {
-    /// The list isn't whole yet.
+    /// The list is not whole yet.
     More,
-    /// The list is whole, and so many bytes of the piece belong to it.
+    /// The list is whole, and this number of bytes of the piece belong to it.
     Done { taken: usize },
     /// The stream has this fault.
     Refused(Fault),

@@ -1,4 +1,4 @@
-//! Judging a body on from where it was judged to, so that a whole ACE is judged once.
+//! Judges a body from the place to which it was judged before, so that each whole ACE is judged once.
 ghost use Rattle.std.specs.Prelude.{◌≡◌, ◌+◌, ◌<◌, ◌≤◌, ◌^◌, Some, length};
 ghost use Rattle.acl_perm.specs.Profile.{profile_of};
 ghost use Rattle.acl_nfs4.specs.internal.Progress.{Ends, IsScanned};
@@ -16,7 +16,7 @@ pub(crate) struct Progress {
     pub weight: u32,
 }
 
-/// Where judging ended: the ACEs that are whole, and the fault behind them, where there is one.
+/// Where the judging ended: the ACEs that are whole, and the fault behind them, if there is one.
 #[derive(Clone, Copy)]
 pub(crate) struct Reach {
     pub progress: Progress,
@@ -24,7 +24,7 @@ pub(crate) struct Reach {
 }
 
 impl Reach {
-    /// So far and no further.
+    /// Judging ends here.
     pub(crate) fn at_fault(progress: Progress, fault: Fault) -> Reach
         ensures { result ≡ record { progress = progress; fault = Some fault } }
     {
@@ -35,7 +35,7 @@ impl Reach {
     }
 }
 
-/// Judges the ACEs from there on, up to the first that isn't whole or is refused.
+/// Judges the ACEs from there on, up to the first that is not whole or is refused.
 pub(crate) fn scan(body: &[u8], count: u32, from: Progress, profile: Profile) -> Reach
     requires scanned { IsScanned (profile_of profile) body.now from }
     requires seen { from.seen ≤ count }

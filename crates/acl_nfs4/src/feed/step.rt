@@ -13,7 +13,7 @@ use crate::limits::MOST_ACES;
 use crate::xdr::fault::{Fault, Reason};
 use acl_perm::Profile;
 
-/// Where a stream stands: with `Open` it is cut short, and the fault is what an end here would be told as.
+/// The state of a stream. With `Open` it is cut short, and the fault is the one to report if it ends here.
 #[derive(Clone, Copy)]
 pub(crate) enum Stage {
     Open(Fault),
@@ -21,7 +21,7 @@ pub(crate) enum Stage {
     Refused(Fault),
 }
 
-/// What a piece makes of a feed, and the answer to it.
+/// What a feed is after a piece, and the answer to the piece.
 #[derive(Clone, Copy)]
 pub(crate) struct Step {
     pub stage: Stage,
@@ -30,7 +30,7 @@ pub(crate) struct Step {
 }
 
 impl Step {
-    // An end here would be a fault, but more may come.
+    // If the stream ended here, that would be a fault, but more may come.
     fn open(fault: Fault, progress: Progress) -> Step
         ensures { result ≡ record { stage = Open fault; progress = progress; fed = fed.More } }
     {
@@ -52,7 +52,7 @@ impl Step {
         }
     }
 
-    // No list begins so, whatever comes after it.
+    // No list begins like this, whatever follows.
     fn refused(fault: Fault, progress: Progress) -> Step
         ensures { result ≡ record {
           stage = Refused fault;
@@ -68,7 +68,7 @@ impl Step {
     }
 }
 
-/// Adds one more piece to bytes that are cut short. What stands behind a list is cut off, so that a feed that is done
+/// Adds one more piece to bytes that are cut short. It cuts off the bytes behind a list, so that a feed that is done
 /// holds the list alone.
 pub(crate) fn advance(text: &mut Text, piece: &[u8], from: Progress, profile: Profile) -> Step
     requires progress { IsProgress (profile_of profile) text.old from }
@@ -96,7 +96,8 @@ pub(crate) fn advance(text: &mut Text, piece: &[u8], from: Progress, profile: Pr
     }
 }
 
-// How far bytes are judged that were judged up to `from` before, so that no whole ACE is judged again at each piece.
+// To which place the bytes are judged, if they were judged up to `from` before. So no whole ACE is judged again at each
+// piece.
 fn judge(text: &Text, from: Progress, profile: Profile) -> Reach
     requires { IsProgress (profile_of profile) text.now from }
     ensures progress { IsProgress (profile_of profile) text.now result.progress }

@@ -1,4 +1,4 @@
-//! The bytes of a stream so far: what is known of a list that is still coming.
+//! The bytes of a stream so far, and what is known of the list that is still arriving.
 ghost use Rattle.std.specs.Prelude.{◌≡◌, ◌+◌, ◌≤◌, ◌<◌, ◌^◌, ◌↔◌, [], IsSome, IfSome, length, take, drop};
 ghost use Rattle.acl_nfs4.specs.internal.Appending.{Extended};
 ghost use Rattle.acl_nfs4.specs.Fields.{number};
@@ -8,7 +8,7 @@ use byteorder::{BigEndian, ByteOrder};
 use std::alloc::{AllocError, Global};
 use std::marker::Model;
 
-/// The first word lies here, so that it takes no memory, and what follows it in a vector.
+/// The first word is here, so that it takes no memory, and the bytes behind it are in a vector.
 #[derive(Drop)]
 pub(crate) struct Text {
     head: [u8; 4],
@@ -44,7 +44,7 @@ impl Text {
         self.filled + self.body.len()
     }
 
-    /// The number that the first word is, once it is there.
+    /// Returns the number of the first word, if all of the word has arrived.
     pub(crate) fn count(&self) -> Option<u32>
         ensures whole { IsSome result ↔ (4 ≤ length self.now) }
         ensures value { IfSome result (λ n. n ≡ number (take 4 self.now)) }
@@ -57,14 +57,14 @@ impl Text {
         Some(BigEndian::read_u32(&self.head))
     }
 
-    /// What follows the first word.
+    /// Returns the bytes behind the first word.
     pub(crate) fn body(&self) -> &[u8]
         ensures { result.now ≡ drop 4 self.now }
     {
         &self.body
     }
 
-    /// One more piece.
+    /// Appends one more piece.
     pub(crate) fn extend(&mut self, piece: &[u8]) -> Result<(), AllocError>
         ensures { Extended self.old self.new piece.now result }
     {
@@ -76,7 +76,7 @@ impl Text {
         Ok(())
     }
 
-    /// Keeps so many bytes behind the first word.
+    /// Keeps this number of bytes behind the first word.
     pub(crate) fn cut(&mut self, used: usize)
         requires { 4 + used ≤ length self.old }
         ensures { drop 4 self.new ≡ take used (drop 4 self.old) }
@@ -84,7 +84,7 @@ impl Text {
         self.body.truncate(used);
     }
 
-    /// What follows the first word, alone.
+    /// Returns the bytes behind the first word alone.
     pub(crate) fn into_body(self) -> Vec<u8>
         ensures { result.items ≡ drop 4 self }
     {

@@ -1,4 +1,4 @@
-//! The ACEs of a list, one after the other, from bytes that were judged before.
+//! The ACEs of a list, one after the other, from bytes that are already judged.
 ghost use Rattle.std.specs.Prelude.{◌≡◌, ◌+◌, ◌≤◌, ◌↔◌, ℕ, IsTrue, List, ◌++◌, length, take, drop};
 ghost use Rattle.acl_perm.specs.Profile.{full, profile_of};
 ghost use Rattle.acl_nfs4.specs.Ace.{Ace, ace};
@@ -16,7 +16,7 @@ use byteorder::{BigEndian, ByteOrder};
 use std::alloc::AllocError;
 use std::marker::Model;
 
-// The ACE at the front of bytes that were judged before: nothing is judged again.
+// The ACE at the front of bytes that are already judged. It judges nothing again.
 fn first_ace(bytes: &[u8]) -> FirstAce<'_>
     requires { BeginsWithAce bytes.now }
     ensures { (a : Ace) (more : List ℕ) → IsAce full a → bytes.now ≡ piece a ++ more
@@ -127,7 +127,7 @@ impl<'a> Clone for Aces<'a> {
     }
 }
 
-// Whether the profile has every flag and every right of every ACE.
+// Returns whether the profile has every flag and every right of every ACE.
 pub(crate) fn fit(aces: Aces<'_>, profile: Profile) -> bool
     ensures { IsTrue result ↔ Fits (profile_of profile) aces.entry }
 {
@@ -148,7 +148,7 @@ fn fits_ace(ace: &AceRef<'_>, profile: Profile) -> bool
     profile.flags.contains(ace.flags) && profile.masks.contains(ace.mask)
 }
 
-// The number of mask bits set, over all ACEs.
+// Returns the number of mask bits that are set, over all ACEs.
 pub(crate) fn weight_of(aces: Aces<'_>) -> u32
     requires { spelled.weight aces ≤ most_weight }
     ensures { result ≡ spelled.weight aces.entry }

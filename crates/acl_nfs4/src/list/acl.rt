@@ -1,4 +1,4 @@
-//! The owned list, which is always accepted: an ACE is judged where it is added.
+//! The owned list, which is always accepted: an ACE is judged when it is added.
 ghost use Rattle.std.specs.Prelude.{◌≡◌, ◌+◌, ◌<◌, ◌≤◌, ◌↔◌, count_ones, IsTrue, IfErr, IfOk, OnOk, OnErr, None};
 ghost use Rattle.std.specs.Prelude.{[], ◌∷◌, ◌++◌, length, replicate};
 ghost use Rattle.acl_nfs4.specs.Ace.{ace};
@@ -26,7 +26,7 @@ use std::cmp::Ordering;
 use std::hash::{Hash, Hasher};
 use std::marker::Model;
 
-/// A list of ACEs (RFC 8881, section 6.2.1) that is always accepted: at most 65,536 ACEs, of at most 65,536 mask bits
+/// A list of ACEs (RFC 8881, section 6.2.1) that is always accepted: at most 65,536 ACEs, with at most 65,536 mask bits
 /// together, each with a who of 1 to 1,024 bytes. It is kept as the bytes that spell it, in one allocation.
 #[derive(Debug, Drop)]
 pub struct Acl {
@@ -49,7 +49,7 @@ impl Model for Acl {
 }
 
 impl Acl {
-    /// The empty list. It takes no memory.
+    /// Returns the empty list. It takes no memory.
     pub fn new(alloc: Global) -> Acl
         ensures { result ≡ [] }
     {
@@ -60,21 +60,21 @@ impl Acl {
         }
     }
 
-    /// The number of ACEs, in constant time.
+    /// Returns the number of ACEs, in constant time.
     pub fn len(&self) -> usize
         ensures { result ≡ length self.now }
     {
         self.count as usize
     }
 
-    /// Whether there is no ACE, in constant time.
+    /// Returns whether there is no ACE, in constant time.
     pub fn is_empty(&self) -> bool
         ensures { IsTrue result ↔ (self.now ≡ []) }
     {
         self.count == 0
     }
 
-    /// The number of mask bits set, over all ACEs, in constant time.
+    /// Returns the number of mask bits that are set, over all ACEs, in constant time.
     pub fn weight(&self) -> u32
         ensures value { result ≡ spelled.weight self.now }
         ensures within { result ≤ most_weight }
@@ -82,7 +82,7 @@ impl Acl {
         self.weight
     }
 
-    /// The ACEs in order. To go through all takes time linear in their bytes, and no memory.
+    /// Returns the ACEs in order. To visit all of them takes time linear in their bytes, and no memory.
     pub fn aces(&self) -> Aces<'_>
         ensures same { result ≡ self.now }
         // Every list of this type is accepted.
@@ -94,7 +94,7 @@ impl Acl {
         }
     }
 
-    /// Lends the list as a view, which is what the calls that only read a list take. Constant time, and no memory.
+    /// Lends the list as a view, which the calls that only read a list take. Constant time, and no memory.
     pub fn view(&self) -> AclView<'_>
         ensures { result ≡ self.now }
     {
@@ -104,16 +104,17 @@ impl Acl {
         }
     }
 
-    /// Whether the profile has every flag and every right of every ACE, in time linear in the bytes, without memory.
+    /// Returns whether the profile has every flag and every right of every ACE, in time linear in the bytes, without
+    /// memory.
     pub fn fits(&self, profile: Profile) -> bool
         ensures exact { IsTrue result ↔ Fits (profile_of profile) self.now }
-        // A list that fits a profile is one that is accepted under it.
+        // A list fits a profile if and only if it is accepted under it.
         ensures accepted { IsTrue result ↔ IsAccepted (profile_of profile) self.now }
     {
         self.view().fits(profile)
     }
 
-    /// The same list again, in time linear in its bytes and with one allocation.
+    /// Returns the same list again, in time linear in its bytes and with one allocation. Fails if memory runs out.
     pub fn copy(&self, alloc: Global) -> Result<Acl, AllocError>
         ensures { IfOk result (λ a. a ≡ self.now) }
     {
@@ -124,7 +125,7 @@ impl Acl {
         })
     }
 
-    /// The list that a view shows, in time linear in its bytes and with one allocation.
+    /// Returns the list of a view, in time linear in its bytes and with one allocation. Fails if memory runs out.
     pub fn from_view(alloc: Global, view: &AclView<'_>) -> Result<Acl, AllocError>
         ensures { IfOk result (λ a. a ≡ view.now) }
     {
@@ -136,8 +137,9 @@ impl Acl {
         })
     }
 
-    /// Adds an ACE at the end, where the list stays accepted. Else the answer is the first condition, in the order of
-    /// `PushFault`, that refuses it. To push many ACEs takes time linear in their bytes.
+    /// Adds an ACE at the end, if the list stays accepted. Otherwise fails with the first condition, in the order of
+    /// `PushFault`, that refuses the ACE, and leaves the list as it was. To push many ACEs takes time linear in their
+    /// bytes.
     ///
     /// ```rust
     /// let mut list = Acl::new(alloc);
@@ -151,18 +153,18 @@ impl Acl {
     /// assert!(rt; list.len() == 1);
     /// ```
     pub fn push(&mut self, item: AceRef<'_>) -> Result<(), PushFault>
-        // What is taken stands at the end.
+        // At `Ok` the ACE is at the end.
         ensures ok { OnOk result (self.new ≡ self.old ++ ace item.entry ∷ []) }
         // A refusal leaves the list as it was.
         ensures err { OnErr result (self.new ≡ self.old) }
-        // A fault is the first condition that refuses; memory is wanted only where none does.
+        // A fault is the first condition that refuses. Memory is requested only if no condition refuses.
         ensures fault { PushAnswers result (push_refusal self.old (ace item.entry)) }
-        // Memory is the answer only where nothing else refuses.
+        // `Memory` is returned only if no condition refuses.
         ensures wanted { IfErr result (λ f. f ≡ Memory
             → push_refusal self.old (ace item.entry) ≡ None) }
-        // What is taken leaves the list accepted.
+        // At `Ok` the list is accepted.
         ensures accepted { OnOk result (IsAccepted full (self.old ++ ace item.entry ∷ [])) }
-        // What would leave the list accepted is not refused.
+        // An ACE with which the list stays accepted is not refused.
         ensures only { IsAccepted full (self.old ++ ace item.entry ∷ [])
             → push_refusal self.old (ace item.entry) ≡ None }
     {
@@ -180,13 +182,13 @@ impl Acl {
         }
     }
 
-    /// Adds an ACE at the end of a list that stays accepted with it. Only want of memory fails. It judges nothing: the
-    /// caller has to know, by a proof, that the list stays accepted. Every other caller wants `push`.
+    /// Adds an ACE at the end of a list that stays accepted with it. Fails only if memory runs out. It judges nothing:
+    /// the caller must have a proof that the list stays accepted. Every other caller uses `push`.
     pub fn push_accepted(&mut self, item: AceRef<'_>) -> Result<(), AllocError>
         requires { IsAccepted full (self.old ++ ace item ∷ []) }
-        // What is taken stands at the end.
+        // At `Ok` the ACE is at the end.
         ensures ok { OnOk result (self.new ≡ self.old ++ ace item.entry ∷ []) }
-        // Without memory the list is as it was.
+        // If memory runs out, the list is as it was.
         ensures err { OnErr result (self.new ≡ self.old) }
     {
         self.append(item)
@@ -208,17 +210,17 @@ impl Acl {
     }
 }
 
-// Adds the piece of an ACE at the end, or nothing.
+// Adds the bytes of an ACE at the end, or nothing.
 fn append_piece(body: &mut Vec<u8>, item: &AceRef<'_>) -> Result<(), AllocError>
     requires { length item.now.who.now ≤ longest_who }
     ensures { Extended body.old.items body.new.items (piece (ace item.now)) result }
 {
     let len = item.who.len();
-    // With this room nothing below wants memory, so no ACE is left half written.
+    // With this room nothing below requests memory, so no ACE is left half written.
     body.reserve(16 + len + 3)?;
     body.extend_from_slice(&head(item))?;
     body.extend_from_slice(item.who)?;
-    // Three bytes and a cut cost less than a copy of as many as are wanted.
+    // Three bytes and a cut take less time than a copy of the bytes that are needed.
     let end = body.len() + (4 - len % 4) % 4;
     body.extend_from_slice(&[0; 3])?;
     body.truncate(end);

@@ -6,7 +6,7 @@ use crate::who::WhoFault;
 use std::alloc::AllocError;
 use thiserror::Error;
 
-/// Why a list doesn't take one more ACE, in the order in which it is judged.
+/// Why a list does not accept one more ACE, in the order in which this is judged.
 #[derive(Clone, Copy, Debug, PartialEq, Eq, Error)]
 pub enum PushFault {
     /// The list has 65,536 ACEs.
@@ -18,7 +18,7 @@ pub enum PushFault {
     /// The who has no byte, or more than 1,024.
     #[error("WhoLength")]
     WhoLength,
-    /// The who isn't UTF-8.
+    /// The who is not UTF-8.
     #[error("WhoUtf8")]
     WhoUtf8,
     /// The who has a byte below 0x20, or 0x7f.
@@ -27,7 +27,7 @@ pub enum PushFault {
     /// The who ends in `@` and is none of `OWNER@`, `GROUP@` and `EVERYONE@`.
     #[error("SpecialWho")]
     SpecialWho,
-    /// There is no memory for the ACE.
+    /// Memory ran out.
     #[error("out of memory")]
     Memory,
 }

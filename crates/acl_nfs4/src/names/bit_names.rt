@@ -7,7 +7,7 @@ ghost use Rattle.acl_nfs4.specs.Within.{IsWithin};
 
 use acl_perm::internal::place_of;
 
-/// A row of a table: a bit, its name, and its second name, where it has two.
+/// A row of a table: a bit, its name, and its second name if it has two.
 pub(crate) struct BitName {
     pub bit: u32,
     pub name: &'static str,
@@ -15,7 +15,7 @@ pub(crate) struct BitName {
 }
 
 impl BitName {
-    // Whether the word is one of its names.
+    // Returns whether the word is one of its names.
     fn is_named(&self, word: &[u8]) -> bool
         ensures { result ≡ is_name_of word.now (row_of self.now) }
     {
@@ -27,7 +27,7 @@ impl BitName {
     }
 }
 
-/// The set that a field names, where this one has all of it.
+/// Returns the set that a field names, if this set has all of it.
 #[tactic(auto, unfolding(crate::specs::internal::NameTable::set_within))]
 pub(crate) fn set_within(table: &[BitName], field: &[u8], whole: u32) -> Option<u32>
     ensures exact { result ≡ set_within (table_of table.now) whole field.now }
@@ -37,8 +37,7 @@ pub(crate) fn set_within(table: &[BitName], field: &[u8], whole: u32) -> Option<
     if set & whole == set { Some(set) } else { None }
 }
 
-/// The set that a field names: the empty one by `-`, or the union of the bits that the names with `|` between them
-/// stand for.
+/// Returns the set that a field names: the empty set for `-`, or the union of the bits of names with `|` between them.
 #[tactic(auto, unfolding(crate::specs::BitNames::set_named))]
 pub(crate) fn set_in(table: &[BitName], field: &[u8]) -> Option<u32>
     ensures { result ≡ set_named (table_of table.now) field.now }
@@ -49,7 +48,7 @@ pub(crate) fn set_in(table: &[BitName], field: &[u8]) -> Option<u32>
     bits_in(table, field)
 }
 
-// The part of a field before the first `|`, and what stands after it.
+// The part of a field before the first `|`, and the part after it.
 #[derive(Clone, Copy)]
 struct FirstWord<'a> {
     word: &'a [u8],
@@ -90,7 +89,7 @@ fn bar_in(field: &[u8]) -> Option<usize>
     place_of(field, b'|')
 }
 
-// The bit that a word names.
+// Returns the bit that a word names.
 fn bit_in(table: &[BitName], word: &[u8]) -> Option<u32>
     ensures { result ≡ bit_in (table_of table.now) word.now }
 {
@@ -100,14 +99,14 @@ fn bit_in(table: &[BitName], word: &[u8]) -> Option<u32>
     }
 }
 
-// The row that a word names.
+// Returns the row that a word names.
 fn row_named<'a>(table: &'a [BitName], word: &[u8]) -> Option<&'a BitName>
     ensures { option_copied result ≡ find (λ r. is_name_of word.now (row_of r)) table.now }
 {
     table.iter().find(|row| row.is_named(word))
 }
 
-/// The first name of a bit.
+/// Returns the first name of a bit.
 pub(crate) fn first_name(table: &[BitName], bit: u32) -> Option<&'static str>
     ensures { option_map (λ name. name.now) result ≡ first_name (table_of table.now) bit }
 {

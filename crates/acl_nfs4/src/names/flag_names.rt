@@ -1,4 +1,4 @@
-//! The names of the flags, as texts spell a set of flags by them.
+//! The names of the flags in texts.
 
 use crate::names::bit_names::BitName;
 

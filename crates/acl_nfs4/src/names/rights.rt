@@ -1,4 +1,4 @@
-//! The names of the access rights, as texts spell a mask by them.
+//! The names of the access rights in texts.
 ghost use Rattle.std.specs.Prelude.{◌≡◌, ℕ, IfSome, IsSomeAnd, option_map};
 ghost use Rattle.acl_nfs4.specs.BitNames.{first_name};
 ghost use Rattle.acl_nfs4.specs.Rights.{SpellsMask, mask_named, rights};
@@ -6,7 +6,7 @@ ghost use Rattle.acl_nfs4.specs.Rights.{SpellsMask, mask_named, rights};
 use crate::names::bit_names::{BitName, first_name, set_in};
 use acl_perm::Mask;
 
-// A right has a second name where it is called otherwise at directories.
+// A right has a second name if it has another name for directories.
 pub(crate) static RIGHTS: [BitName; 16] = [
     BitName {
         bit: 0x0000_0001,
@@ -90,20 +90,20 @@ pub(crate) static RIGHTS: [BitName; 16] = [
     },
 ];
 
-/// The mask that a field of the text form names: the empty one by `-`, or the union of the rights that the names with
-/// `|` between them stand for, each the first or the second name of a right (RFC 8881, section 6.2.1.3.1). None where
-/// the bytes name no mask. It takes no memory.
+/// Returns the mask that a field of the text form names, or `None` if the field names no mask: the empty mask for `-`,
+/// or the union of rights with `|` between their names, each the first or the second name of a right (RFC 8881, section
+/// 6.2.1.3.1). It takes no memory.
 ///
 /// ```rust
 /// let mask = read_mask(b"READ_DATA|EXECUTE").ok_or("no such right")?;
 /// assert!(rt; mask.bits() == 0x21);
 /// ```
 pub fn read_mask(field: &[u8]) -> Option<Mask>
-    // What is answered is spelled.
+    // The field spells the mask that is returned.
     ensures named { IfSome result (λ mask. SpellsMask field.now mask.bits) }
-    // What is spelled is answered.
+    // A mask that the field spells is returned.
     ensures only { (mask : ℕ) → SpellsMask field.now mask → IsSomeAnd result (λ m. m.bits ≡ mask) }
-    // The definition that computes says the same.
+    // The definition that computes gives the same.
     ensures value { option_map (λ mask. mask.bits) result ≡ mask_named field.now }
 {
     mask_in(field)
@@ -115,11 +115,11 @@ fn mask_in(field: &[u8]) -> Option<Mask>
     Mask::new(set_in(&RIGHTS, field)?)
 }
 
-/// The first name of the right of a mask of one bit (RFC 8881, section 6.2.1.3.1), and None for every other mask. It
-/// takes no memory.
+/// Returns the first name of the right of a mask with one bit (RFC 8881, section 6.2.1.3.1), or `None` for every other
+/// mask. It takes no memory.
 pub fn bit_name(bit: Mask) -> Option<&'static str>
     ensures value { option_map (λ name. name.now) result ≡ first_name rights bit.bits }
-    // The name is that of the mask.
+    // The name spells the mask.
     ensures named { IfSome result (λ name. SpellsMask name.now bit.bits) }
 {
     first_name(&RIGHTS, bit.bits())

@@ -160,6 +160,25 @@ pub fn an_ace_is_shown_as_its_line(rt: &impl Abort, alloc: Global) -> Result<(),
     Ok(())
 }
 
+// Principals, and the whos that show them (RFC 8881, section 6.2.1.5): the flag IDENTIFIER_GROUP is not shown.
+static PRINCIPALS: [(Principal<'static>, &str); 6] = [
+    (Principal::Owner, "OWNER@"),
+    (Principal::Group, "GROUP@"),
+    (Principal::Everyone, "EVERYONE@"),
+    (Principal::User(b"alice"), "alice"),
+    (Principal::GroupNamed(b"\xc3\xa9"), "\u{e9}"),
+    (Principal::GroupNamed(b"\xff"), "\u{fffd}"),
+];
+
+/// A principal is shown as its who.
+pub fn a_principal_is_shown_as_its_who(rt: &impl Abort, alloc: Global) -> Result<(), PushFault> {
+    for (principal, who) in PRINCIPALS {
+        let name = PrincipalName { principal };
+        assert!(rt; is_told(alloc, &name, who)?, "{who}");
+    }
+    Ok(())
+}
+
 #[test]
 fn a_name_that_begins_like_the_owner_is_a_user(rt: HostRuntime) {
     let Some(ace) = item((Kind::Allow, 0, 1, b"OWNER@x")) else {

@@ -11,6 +11,7 @@ fn tables(rt: &impl Abort, alloc: Global) -> Result<(), PushFault> {
     list::a_list_from_a_view_is_what_the_view_shows(rt, alloc)?;
     list::lists_are_ordered_by_their_bytes(rt, alloc)?;
     list::an_ace_is_shown_as_its_line(rt, alloc)?;
+    list::a_principal_is_shown_as_its_who(rt, alloc)?;
     push::a_push_is_judged_by_its_who(rt, alloc)?;
     list::a_list_fits_the_profile_of_its_bits(rt, alloc)?;
     parse::the_weight_of_a_list_is_limited(rt, alloc)?;

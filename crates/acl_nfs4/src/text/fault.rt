@@ -1,11 +1,11 @@
-//! Why a text is no list, by line and column.
+//! Why a text is not a list, by line and column.
 ghost use Rattle.std.specs.Prelude.{◌≡◌};
 
 use std::alloc::AllocError;
 use thiserror::Error;
 
-/// Why a text is no list of ACEs. Lines and columns count from 1, columns in bytes. A field without a byte stands at
-/// the byte just after it.
+/// Why a text is not a list of ACEs. Lines and columns count from 1, and columns count bytes. The column of an empty
+/// field is that of the byte after it.
 #[derive(Clone, Copy, Debug, PartialEq, Eq, Error)]
 pub enum AceTextFault {
     /// The line would be ACE 65,537.
@@ -17,13 +17,13 @@ pub enum AceTextFault {
     /// The type is neither `ALLOW` nor `DENY`.
     #[error("AceType at line {line} column {column}")]
     AceType { line: usize, column: usize },
-    /// The field here names no flags, or one outside the profile.
+    /// The field here names no flags, or a flag outside the profile.
     #[error("Flag at line {line} column {column}")]
     Flag { line: usize, column: usize },
     /// The field here names no mask, or a right outside the profile.
     #[error("Mask at line {line} column {column}")]
     Mask { line: usize, column: usize },
-    /// With the mask here the weight passes 65,536.
+    /// With the mask here the weight is above 65,536.
     #[error("TooHeavy at line {line} column {column}")]
     TooHeavy { line: usize, column: usize },
     /// The who here has no byte, or more than 1,024.

@@ -27,7 +27,7 @@ pub(crate) struct LineFields<'a> {
     pub who: &'a [u8],
 }
 
-/// Whether a line is to spell no ACE: it begins with `#`, or has no byte but blanks.
+/// Returns whether a line should spell no ACE: it begins with `#`, or all its bytes are blanks.
 pub(crate) fn is_skipped(line: &[u8]) -> bool
     ensures { result ≡ is_skipped line.now }
 {
@@ -37,7 +37,7 @@ pub(crate) fn is_skipped(line: &[u8]) -> bool
     }
 }
 
-/// The ACE that a line spells, as the next of a list that has so many of this weight.
+/// Returns the ACE that a line spells, as the next ACE of a list with this length and weight.
 #[tactic(auto, unfolding(crate::specs::internal::AceReading::read_ace))]
 pub(crate) fn read_ace(
     line: &[u8],
@@ -84,14 +84,14 @@ pub(crate) fn read_ace(
     })
 }
 
-/// What stands before the first space, and what behind it.
+/// Returns the bytes before the first space, and the bytes behind it.
 #[derive(Clone, Copy)]
 pub(crate) struct FirstField<'a> {
     pub field: &'a [u8],
     pub rest: &'a [u8],
 }
 
-// The fields of a line, where it has four.
+// Returns the fields of a line, if it has four.
 #[tactic(auto, unfolding(crate::specs::internal::AceReading::fields_of))]
 fn fields(line: &[u8]) -> Option<LineFields<'_>>
     ensures value { option_map view_fields result ≡ fields_of line.now }
@@ -137,7 +137,7 @@ fn kind_named(word: &[u8]) -> Option<Kind>
     }
 }
 
-// The flags of a field, which are those of the profile.
+// Returns the flags of a field, which must be flags of the profile.
 #[tactic(auto, using(crate::proofs::Within::within))]
 fn flags_at(
     field: &[u8],
@@ -153,7 +153,7 @@ fn flags_at(
     }
 }
 
-// The mask of a field, which is of the profile's rights, after ACEs of this weight.
+// Returns the mask of a field, which must have rights of the profile alone, after ACEs of this weight.
 #[tactic(auto, using(crate::proofs::Within::within))]
 fn mask_at(
     field: &[u8],
@@ -176,7 +176,7 @@ fn mask_at(
     Ok(Mask { bits })
 }
 
-// The who of a field.
+// Returns the who of a field.
 fn who_at(field: &[u8], line: usize, column: usize) -> Result<&[u8], AceTextFault>
     ensures exact { Gives (λ who. who.now) result (read_who line column field.now) }
     ensures who { IfOk result (λ who. IsWho who.now) }

@@ -15,9 +15,9 @@ use acl_perm::Profile;
 use acl_perm::internal::cut_line;
 use std::alloc::Global;
 
-/// The list that a text spells: a line an ACE, `TYPE FLAGS MASK WHO`, with one space between the fields. A line without
-/// a byte but blanks, and one that begins with `#`, is skipped. A text that spells no list is refused by the first line
-/// that is wrong. Time linear in the text, and one growing list.
+/// Returns the list that a text spells: one line per ACE, `TYPE FLAGS MASK WHO`, with one space between the fields. It
+/// skips lines of blanks and lines that begin with `#`. A text that spells no list is refused because of its first
+/// wrong line. Time linear in the text, and one growing list.
 ///
 /// ```rust
 /// let text = b"ALLOW - READ_DATA OWNER@\nDENY GROUP WRITE_DATA staff\n";
@@ -26,38 +26,38 @@ use std::alloc::Global;
 /// assert!(rt; list.weight() == 2);
 /// ```
 pub fn parse_text(alloc: Global, text: &[u8]) -> Result<Acl, AceTextFault>
-    // What is read is spelled by the text.
+    // The text spells the list that is returned.
     ensures found { IfOk result (λ list. IsAceText full list text.now) }
-    // What the text spells is read.
+    // If the text spells a list, that list is returned.
     ensures only { (list : List Ace) → IsAceText full list text.now
         → MatchResult result (λ read. read ≡ list) (λ fault. fault ≡ Memory) }
-    // A refusal is that of the text.
+    // A refusal is the fault of the text.
     ensures fault { IfErr result (IsTextRefusal full text.now) }
-    // A text with a fault is refused by it.
+    // A text with a fault is refused with that fault.
     ensures refused { (wrong : FaultValue) → IsAceTextFault full text.now wrong
         → MatchResult result (λ _. ⊥) (λ fault. (fault ≡ wrong) ⊎ (fault ≡ Memory)) }
 {
     parse_text_with(alloc, text, Profile::FULL)
 }
 
-/// The list that a text spells whose flags and masks the profile has, as `parse_text` reads it; a name of another flag
-/// or right is Flag or Mask.
+/// Returns the list that a text spells, as `parse_text` does, if the profile has its flags and masks. The name of
+/// another flag or right is Flag or Mask.
 pub fn parse_text_with(alloc: Global, text: &[u8], profile: Profile) -> Result<Acl, AceTextFault>
-    // What is read is spelled by the text.
+    // The text spells the list that is returned.
     ensures found { IfOk result (λ list. IsAceText (profile_of profile) list text.now) }
-    // What the text spells is read.
+    // If the text spells a list, that list is returned.
     ensures only { (list : List Ace) → IsAceText (profile_of profile) list text.now
         → MatchResult result (λ read. read ≡ list) (λ fault. fault ≡ Memory) }
-    // A refusal is that of the text.
+    // A refusal is the fault of the text.
     ensures fault { IfErr result (IsTextRefusal (profile_of profile) text.now) }
-    // A text with a fault is refused by it.
+    // A text with a fault is refused with that fault.
     ensures refused { (wrong : FaultValue) → IsAceTextFault (profile_of profile) text.now wrong
         → MatchResult result (λ _. ⊥) (λ fault. (fault ≡ wrong) ⊎ (fault ≡ Memory)) }
 {
     read_text(alloc, text, profile)
 }
 
-// The list of the lines.
+// Returns the list of the lines.
 fn read_text(alloc: Global, text: &[u8], profile: Profile) -> Result<Acl, AceTextFault>
     ensures { MatchResult result
         (λ acl. read_lines (profile_of profile) [] (ace_lines text.now) ≡ Ok acl)
@@ -75,7 +75,7 @@ fn read_text(alloc: Global, text: &[u8], profile: Profile) -> Result<Acl, AceTex
     Ok(acl)
 }
 
-// Adds the ACE of a line, where it is to spell one.
+// Adds the ACE of a line, if the line should spell one.
 fn add_line(acl: &mut Acl, line: &[u8], number: usize, profile: Profile) -> Result<(), AceTextFault>
     ensures { MatchResult result
         (λ _. read_lines (profile_of profile) acl.old (ace_lines_from number (line.now ∷ []))

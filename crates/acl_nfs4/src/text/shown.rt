@@ -1,20 +1,22 @@
-//! ACEs, masks and flags as `Display` shows them: by the names of the text form.
+//! ACEs, masks, flags and principals as `Display` shows them: by the names of the text form.
 ghost use Rattle.std.specs.Prelude.{◌≡◌, Some};
 ghost use Rattle.acl_nfs4.specs.Ace.{ace};
-ghost use Rattle.acl_nfs4.specs.AceText.{ace_shown, as_text};
+ghost use Rattle.acl_nfs4.specs.AceText.{ace_shown, as_text, principal_shown};
 ghost use Rattle.acl_nfs4.specs.BitNames.{set_text};
 ghost use Rattle.acl_nfs4.specs.FlagNames.{flag_names};
 ghost use Rattle.acl_nfs4.specs.Rights.{rights};
+ghost use Rattle.acl_perm.specs.Principal.{principal};
 
 use crate::ace::AceRef;
 use crate::names::bit_names::BitName;
 use crate::names::flag_names::FLAGS;
 use crate::names::rights::RIGHTS;
 use crate::text::writer::{Line, add_set};
-use acl_perm::{Flags, Mask};
+use acl_perm::{Flags, Mask, Principal};
 use std::fmt;
 
-/// Shows flags by their names in the text form, in rising order of their bits with `|` between them, and no flag as `-`.
+/// Shows flags by their names in the text form, in ascending order of their bits with `|` between them, and no flag as
+/// `-`.
 #[derive(Clone, Copy, Debug, PartialEq, Eq, Hash)]
 pub struct FlagNames {
     /// The flags that are shown.
@@ -32,7 +34,8 @@ impl fmt::Display for FlagNames {
     }
 }
 
-/// Shows a mask by the names of its rights, in rising order of their bits with `|` between them, and no right as `-`.
+/// Shows a mask by the names of its rights, in ascending order of their bits with `|` between them, and no right as
+/// `-`.
 #[derive(Clone, Copy, Debug, PartialEq, Eq, Hash)]
 pub struct RightNames {
     /// The mask that is shown.
@@ -50,8 +53,29 @@ impl fmt::Display for RightNames {
     }
 }
 
-/// The line of the ACE in the text form, without a line feed. A who that is not UTF-8, which no list has, is shown as
-/// U+FFFD.
+/// Shows a principal by the who that names it: `OWNER@`, `GROUP@`, `EVERYONE@`, or the name of the user or of the
+/// group, which are shown alike. A name that is not UTF-8, which no list has, is shown as U+FFFD.
+#[derive(Clone, Copy, Debug)]
+pub struct PrincipalName<'a> {
+    /// The principal that is shown.
+    pub principal: Principal<'a>,
+}
+
+impl<'a> fmt::Display for PrincipalName<'a> {
+    ghost output = { λ shown. Some (principal_shown (principal shown.principal)) };
+
+    fn fmt<W: fmt::Write>(&self, f: &mut fmt::Formatter<W>) -> fmt::Result {
+        match self.principal {
+            Principal::Owner => f.write_str("OWNER@"),
+            Principal::Group => f.write_str("GROUP@"),
+            Principal::Everyone => f.write_str("EVERYONE@"),
+            Principal::User(name) | Principal::GroupNamed(name) => f.write_str(as_text(name)),
+        }
+    }
+}
+
+/// Writes the line of the ACE in the text form, without a line feed. A who that is not UTF-8, which no list has, is
+/// shown as U+FFFD.
 impl<'a> fmt::Display for AceRef<'a> {
     ghost output = { λ a. Some (ace_shown (ace a)) };
 
@@ -64,7 +88,7 @@ impl<'a> fmt::Display for AceRef<'a> {
     }
 }
 
-// Bytes as text, where they are UTF-8.
+// Returns bytes as text, if they are UTF-8.
 #[tactic(auto, using(crate::proofs::PlainText::text_tests))]
 fn as_text(bytes: &[u8]) -> &str
     ensures { result.now ≡ as_text bytes.now }

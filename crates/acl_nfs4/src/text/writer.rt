@@ -1,4 +1,4 @@
-//! The text of a list, to a sink: each line is made in a room of its own, without memory.
+//! Writes the text of a list to a sink. Each line is made in a buffer of its own, without memory.
 ghost use Rattle.std.specs.Prelude.{◌≡◌, ◌+◌, ◌*◌, ◌^◌, ◌<◌, ◌≤◌, ◌++◌, ◌↔◌, OnErr, OnOk, List, length, true};
 ghost use Rattle.std.specs.List.{join_with_byte, list_all};
 ghost use Rattle.arrayvec.specs.ArrayVec.{array_vec_len};
@@ -22,10 +22,10 @@ use acl_perm::internal::put_next;
 use acl_perm::{Kind, Sink, WriteFault};
 use arrayvec::ArrayVec;
 
-/// Room for a line: a type, all flags, all rights, the longest who, and what stands between them.
+/// Room for a line: a type, all flags, all rights, the longest who, and the bytes between them.
 pub(crate) type Line = ArrayVec<u8, 1600>;
 
-// Writes the lines of the ACEs, and answers how many bytes are out then.
+// Writes the lines of the ACEs, and returns how many bytes are out then.
 fn put_lines<S: Sink>(sink: &mut S, aces: Aces<'_>) -> Result<u64, WriteFault>
     requires { length aces ≤ most_aces }
     ensures written { WritesFrom (S.contents sink.old) (S.contents sink.new) 0
@@ -100,7 +100,7 @@ fn add_names(line: &mut Line, table: &[BitName], set: u32)
 {
     let mut is_first = true;
     for row in table {
-        // The bits of the rows behind this one are greater still.
+        // The bits of the later rows are greater.
         if row.bit > set {
             break;
         }
@@ -111,7 +111,7 @@ fn add_names(line: &mut Line, table: &[BitName], set: u32)
     }
 }
 
-// Adds a name, and a `|` before it where it is not the first.
+// Adds a name, with a `|` before it unless it is the first.
 fn add_name(line: &mut Line, name: &[u8], is_first: bool)
     requires { array_vec_len line.old + length name.now + 1 ≤ 1600 }
     ensures text { line.new.items ≡ line.old.items ++ lead is_first ++ name.now }
@@ -127,18 +127,18 @@ fn add(line: &mut Line, bytes: &[u8])
     requires { array_vec_len line.old + length bytes.now ≤ 1600 }
     ensures { line.new.items ≡ line.old.items ++ bytes.now }
 {
-    // The line has room for the bytes, so none is refused.
+    // The line has room for the bytes, so none are refused.
     let _ = line.try_extend_from_slice(bytes);
 }
 
 impl Acl {
-    /// Writes the text of the list: a line an ACE, with the names of its flags and rights in rising order of their
-    /// bits. The first put that fails ends it: `written` bytes went out, and nothing is tried again. No memory; time
-    /// linear in the text.
+    /// Writes the text of the list: one line per ACE, with the names of its flags and rights in ascending order of
+    /// their bits. It ends at the first put that fails: then `written` bytes went out. It tries nothing again. No
+    /// memory; time linear in the text.
     pub fn write_text<S: Sink>(&self, sink: &mut S) -> Result<(), WriteFault>
         ensures written { Writes S.contents S.failure_count sink.old sink.new
             (ace_text self.now) result }
-        // What is written spells this list and no other.
+        // The text that is written spells this list and no other.
         ensures again { (other : List Ace) → IsAceText full other (ace_text self.now)
             ↔ (other ≡ self.now) }
     {
@@ -147,13 +147,13 @@ impl Acl {
 }
 
 impl<'a> AclView<'a> {
-    /// Writes the text of the list: a line an ACE, with the names of its flags and rights in rising order of their
-    /// bits. The first put that fails ends it: `written` bytes went out, and nothing is tried again. No memory; time
-    /// linear in the text.
+    /// Writes the text of the list: one line per ACE, with the names of its flags and rights in ascending order of
+    /// their bits. It ends at the first put that fails: then `written` bytes went out. It tries nothing again. No
+    /// memory; time linear in the text.
     pub fn write_text<S: Sink>(&self, sink: &mut S) -> Result<(), WriteFault>
         ensures written { Writes S.contents S.failure_count sink.old sink.new
             (ace_text self.now) result }
-        // What is written spells this list and no other.
+        // The text that is written spells this list and no other.
         ensures again { (other : List Ace) → IsAceText full other (ace_text self.now)
             ↔ (other ≡ self.now) }
     {

@@ -1,8 +1,8 @@
-//! What is left of bytes that are read, which tells the offset.
+//! The rest of the bytes that are read, from which the offset follows.
 ghost use Rattle.std.specs.Prelude.{◌≤◌, length};
 
-/// The bytes that are left, and how many there were.
-#[derive(Drop)]
+/// The rest of the bytes, and how many bytes there were.
+#[derive(Clone, Copy)]
 pub(crate) struct Cursor<'a> {
     pub len: usize,
     pub rest: &'a [u8],

@@ -1,4 +1,4 @@
-//! A list from a source, of which no byte behind the list is taken.
+//! Reads a list from a source and takes no byte behind the list.
 ghost use Rattle.std.specs.Prelude.{◌≡◌, ◌⊎◌, ◌++◌, ℕ, List, Some, IfErr, OnOk};
 ghost use Rattle.std.specs.Io.KnownBytes.{Consumes, IsAtEnd};
 ghost use Rattle.acl_perm.specs.Devices.{one_more};
@@ -19,9 +19,9 @@ use acl_perm::{Profile, Source};
 use std::alloc::Global;
 
 /// Reads the list at the front of a source (RFC 8881, section 6.2.1, in the layout of RFC 4506), and no byte after it.
-/// A pull asks for no more than the field that is being read lacks, and no count and no length makes it ask for memory
-/// before the bytes are there. The first pull that fails ends it, with the place of the field that was being read;
-/// nothing is tried again. After a refusal, the bytes to the end of the refused field were taken.
+/// A pull asks for no more bytes than the field that is being read lacks. No memory is requested for a count or a
+/// length before the bytes have arrived. It ends at the first pull that fails, with the place of the field that was
+/// being read, and tries nothing again. After a refusal, the bytes to the end of the refused field have been taken.
 ///
 /// ```rust
 /// let mut source = Counted::new(b"\0\0\0\0 and more".as_slice());
@@ -29,21 +29,21 @@ use std::alloc::Global;
 /// assert!(rt; list.is_empty());
 /// ```
 pub fn decode<S: Source>(alloc: Global, source: &mut S) -> Result<Acl, Fault>
-    // What was taken is the value, or what the fault says.
+    // The bytes that were taken are the value, or what the fault says.
     ensures given { (given : List ℕ)
         × Consumes (S.remaining source.old) (S.remaining source.new) given
         × Decodes full given (IsAtEnd (S.remaining source.new)) result }
-    // What stands at the front is found.
+    // A list at the front is found.
     ensures only { (list : List Ace) (text rest : List ℕ) → Xdr full list text
         → S.remaining source.old ≡ Some (text ++ rest) → IsOrFails result list }
-    // What was encoded is read again, whatever follows it.
+    // An encoded list is read again, whatever follows it.
     ensures again { (list : List Ace) (rest : List ℕ) → IsAccepted full list
         → S.remaining source.old ≡ Some (spelling list ++ rest) → IsOrFails result list }
-    // An input with a fault is refused by it.
+    // An input with a fault is refused with that fault.
     ensures refused { (input : List ℕ) (o : ℕ) (r : Reason) → S.remaining source.old ≡ Some input
         → IsFault full input o r → FaultsOrFails result (record { offset = o; reason = r }) }
     ensures none_failed { OnOk result (S.failure_count source.new ≡ S.failure_count source.old) }
-    // Read is told exactly where a pull failed.
+    // Read is returned if and only if a pull failed.
     ensures read { IfErr result (λ f. f.reason ≡ Read
         → S.failure_count source.new ≡ one_more (S.failure_count source.old)) }
     ensures unread { IfErr result (λ f. (f.reason ≡ Read)
@@ -52,25 +52,25 @@ pub fn decode<S: Source>(alloc: Global, source: &mut S) -> Result<Acl, Fault>
     decode_with(alloc, source, Profile::FULL)
 }
 
-/// Reads the list at the front of a source whose flags and masks the profile has, as `decode` does; a bit of another
+/// Reads the list at the front of a source, as `decode` does, if the profile has its flags and masks. A bit of another
 /// flag or right is FlagBits or MaskBits.
 pub fn decode_with<S: Source>(alloc: Global, source: &mut S, profile: Profile) -> Result<Acl, Fault>
-    // What was taken is the value, or what the fault says.
+    // The bytes that were taken are the value, or what the fault says.
     ensures given { (given : List ℕ)
         × Consumes (S.remaining source.old) (S.remaining source.new) given
         × Decodes (profile_of profile) given (IsAtEnd (S.remaining source.new)) result }
-    // What stands at the front is found.
+    // A list at the front is found.
     ensures only { (list : List Ace) (text rest : List ℕ) → Xdr (profile_of profile) list text
         → S.remaining source.old ≡ Some (text ++ rest) → IsOrFails result list }
-    // What was encoded is read again, whatever follows it.
+    // An encoded list is read again, whatever follows it.
     ensures again { (list : List Ace) (rest : List ℕ) → IsAccepted (profile_of profile) list
         → S.remaining source.old ≡ Some (spelling list ++ rest) → IsOrFails result list }
-    // An input with a fault is refused by it.
+    // An input with a fault is refused with that fault.
     ensures refused { (input : List ℕ) (o : ℕ) (r : Reason) → S.remaining source.old ≡ Some input
         → IsFault (profile_of profile) input o r
         → FaultsOrFails result (record { offset = o; reason = r }) }
     ensures none_failed { OnOk result (S.failure_count source.new ≡ S.failure_count source.old) }
-    // Read is told exactly where a pull failed.
+    // Read is returned if and only if a pull failed.
     ensures read { IfErr result (λ f. f.reason ≡ Read
         → S.failure_count source.new ≡ one_more (S.failure_count source.old)) }
     ensures unread { IfErr result (λ f. (f.reason ≡ Read)

@@ -1,4 +1,4 @@
-//! The bytes of a list, to a sink or in memory.
+//! Writes the bytes of a list to a sink or into memory.
 ghost use Rattle.std.specs.Prelude.{◌≡◌, ◌<◌, ◌^◌, ℕ, List, IfOk, OnOk, length};
 ghost use Rattle.std.specs.Io.KnownBytes.{Appends};
 ghost use Rattle.acl_perm.specs.Pieces.{Writes};
@@ -12,7 +12,7 @@ use byteorder::{BigEndian, ByteOrder};
 use std::alloc::{AllocError, Global};
 
 impl Acl {
-    /// The number of bytes that spell the list, which are those that `encode` writes, in constant time.
+    /// Returns the number of bytes that spell the list, which `encode` writes, in constant time.
     pub fn encoded_len(&self) -> u64
         ensures value { result ≡ length (spelling self.now) }
         ensures small { result < 2 ^ 31 }
@@ -20,16 +20,16 @@ impl Acl {
         self.view().encoded_len()
     }
 
-    /// The bytes that spell the list, which are those that `encode` writes, in time linear in their number and with one
-    /// allocation. Only want of memory fails.
+    /// Returns the bytes that spell the list, which `encode` writes, in time linear in their number and with one
+    /// allocation. Fails only if memory runs out.
     pub fn to_bytes(&self, alloc: Global) -> Result<Vec<u8>, AllocError>
         ensures { IfOk result (λ bytes. bytes.items ≡ spelling self.now) }
     {
         self.view().to_bytes(alloc)
     }
 
-    /// Writes the bytes that spell the list (RFC 4506 over RFC 8881, section 6.2.1), without memory. The first write
-    /// that fails ends it: `written` bytes went out, and nothing is tried again.
+    /// Writes the bytes that spell the list (RFC 4506 over RFC 8881, section 6.2.1), without memory. It ends at the
+    /// first write that fails: then `written` bytes went out. It tries nothing again.
     ///
     /// ```rust
     /// let list = parse_text(alloc, b"ALLOW - READ_DATA OWNER@")?;
@@ -40,10 +40,10 @@ impl Acl {
     pub fn encode<K: Sink>(&self, sink: &mut K) -> Result<(), WriteFault>
         ensures written { Writes K.contents K.failure_count sink.old sink.new
             (spelling self.now) result }
-        // What was read as this list is written as it was read.
+        // If the list was read from bytes, the same bytes are written.
         ensures read { (p : Profile) (text : List ℕ) → Xdr p self.now text
             → OnOk result (Appends (K.contents sink.old) (K.contents sink.new) text) }
-        // What is written is a spelling, which is read again as this list.
+        // The bytes that are written spell the list, and are read again as this list.
         ensures again { Xdr full self.now (spelling self.now) }
     {
         self.view().encode(sink)
@@ -51,19 +51,19 @@ impl Acl {
 }
 
 impl<'a> AclView<'a> {
-    /// The number of bytes that spell the list, which are those that `encode` writes, in constant time.
+    /// Returns the number of bytes that spell the list, which `encode` writes, in constant time.
     #[tactic(auto, using(crate::proofs::Lengths::list_len, crate::proofs::Lengths::spelling_short))]
     pub fn encoded_len(&self) -> u64
         ensures value { result ≡ length (spelling self.now) }
         ensures small { result < 2 ^ 31 }
     {
-        // Every list that a view shows is accepted, and an accepted list is spelled in less than 2^31 bytes.
+        // Every list of a view is accepted, and the spelling of an accepted list has less than 2^31 bytes.
         let _accepted = self.aces();
         4 + self.body.len() as u64
     }
 
-    /// The bytes that spell the list, which are those that `encode` writes, in time linear in their number and with one
-    /// allocation. Only want of memory fails.
+    /// Returns the bytes that spell the list, which `encode` writes, in time linear in their number and with one
+    /// allocation. Fails only if memory runs out.
     pub fn to_bytes(&self, alloc: Global) -> Result<Vec<u8>, AllocError>
         ensures { IfOk result (λ bytes. bytes.items ≡ spelling self.now) }
     {
@@ -73,15 +73,15 @@ impl<'a> AclView<'a> {
         Ok(bytes)
     }
 
-    /// Writes the bytes that spell the list (RFC 4506 over RFC 8881, section 6.2.1), without memory. The first write
-    /// that fails ends it: `written` bytes went out, and nothing is tried again.
+    /// Writes the bytes that spell the list (RFC 4506 over RFC 8881, section 6.2.1), without memory. It ends at the
+    /// first write that fails: then `written` bytes went out. It tries nothing again.
     pub fn encode<K: Sink>(&self, sink: &mut K) -> Result<(), WriteFault>
         ensures written { Writes K.contents K.failure_count sink.old sink.new
             (spelling self.now) result }
-        // What was read as this list is written as it was read.
+        // If the list was read from bytes, the same bytes are written.
         ensures read { (p : Profile) (text : List ℕ) → Xdr p self.now text
             → OnOk result (Appends (K.contents sink.old) (K.contents sink.new) text) }
-        // What is written is a spelling, which is read again as this list.
+        // The bytes that are written spell the list, and are read again as this list.
         ensures again { Xdr full self.now (spelling self.now) }
     {
         put_all(sink, &count_word(self.count))?;
@@ -94,7 +94,7 @@ impl<'a> AclView<'a> {
     }
 }
 
-/// The word that a list begins with.
+/// Returns the word with which a list begins.
 pub(crate) fn count_word(count: u32) -> [u8; 4]
     ensures { result ≡ word count }
 {

@@ -1,4 +1,4 @@
-//! Why bytes are no list, and where.
+//! Why bytes are not a list, and where.
 ghost use Rattle.std.specs.Prelude.{◌≡◌};
 
 use std::alloc::AllocError;
@@ -8,23 +8,23 @@ use thiserror::Error;
 #[derive(Clone, Copy, Debug, PartialEq, Eq, Error)]
 #[error("{:?}", self)]
 pub enum Reason {
-    /// The bytes end before the field does.
+    /// The bytes end before the end of the field.
     Truncated,
     /// The list would have more than 65,536 ACEs.
     TooManyAces,
-    /// The type is AUDIT or ALARM, which this library does not take.
+    /// The type is AUDIT or ALARM, which this library does not accept.
     AuditOrAlarm,
-    /// The type is none of the standard.
+    /// The type is not a type of the standard.
     AceType,
-    /// A flag is none of the standard, or is outside the profile.
+    /// A flag is not a flag of the standard, or is outside the profile.
     FlagBits,
-    /// A right is none of the standard, or is outside the profile.
+    /// A right is not a right of the standard, or is outside the profile.
     MaskBits,
     /// With this mask the list would have more than 65,536 mask bits, over all its ACEs.
     TooHeavy,
     /// The who has no byte, or more than 1,024.
     WhoLength,
-    /// The who isn't UTF-8.
+    /// The who is not UTF-8.
     WhoUtf8,
     /// The who has a byte below 0x20, or 0x7f.
     WhoControl,
@@ -32,26 +32,26 @@ pub enum Reason {
     SpecialWho,
     /// A byte of the padding behind the who is not zero.
     Padding,
-    /// A byte stands behind the list, where nothing may.
+    /// There is a byte behind the list, where none may be.
     TrailingBytes,
     /// The source failed. The offset is that of the field that was being read.
     Read,
-    /// There is no memory for the list. The offset says nothing.
+    /// Memory ran out for the list. The offset has no meaning.
     Memory,
 }
 
-/// The first field that is refused, by its first byte.
+/// The first field that is refused, with the place of its first byte.
 #[derive(Clone, Copy, Debug, PartialEq, Eq, Error)]
 #[error("{reason} at byte {offset}")]
 pub struct Fault {
-    /// The place of the field's first byte, where the list's first is 0.
+    /// The place of the field's first byte. The list's first byte is at 0.
     pub offset: u64,
-    /// What is wrong with it.
+    /// What is wrong with the field.
     pub reason: Reason,
 }
 
 impl Fault {
-    /// What is told of the list as a whole, at its first byte.
+    /// The fault of a list as a whole, at its first byte.
     pub(crate) fn at_front(reason: Reason) -> Fault
         ensures { result ≡ record { offset = 0; reason = reason } }
     {

@@ -1,5 +1,5 @@
-//! What each field of the layout may hold: the same in memory, in a stream and from a source.
-ghost use Rattle.std.specs.Prelude.{◌≡◌, ◌==◌, ◌+◌, ◌≤◌, IfOk, count_ones, false, length};
+//! What each field of the layout may hold. The same functions judge fields in memory, in a stream and from a source.
+ghost use Rattle.std.specs.Prelude.{◌≡◌, ◌==◌, ◌+◌, ◌-◌, ◌*◌, ◌^◌, ◌≤◌, IfOk, IsTrue, count_ones, false, true, length, take};
 ghost use Rattle.std.specs.List.{list_all};
 ghost use Rattle.acl_perm.specs.Profile.{profile_of};
 ghost use Rattle.acl_nfs4.specs.Fields.{count_of, kind_of, flags_of, mask_of, who_len_of, who_of, who_reason, padding_of};
@@ -11,6 +11,7 @@ use crate::limits::{MOST_ACES, MOST_WEIGHT};
 use crate::who::{WhoFault, is_no_who_len, judge_text};
 use crate::xdr::fault::Reason;
 use acl_perm::{Flags, Kind, Mask, Profile};
+use byteorder::{ByteOrder, LittleEndian};
 
 /// The number of ACEs.
 #[inline(always)]
@@ -79,7 +80,7 @@ pub(crate) fn who_len_of(number: u32) -> Result<usize, Reason>
     Ok(len)
 }
 
-/// The who, of a length that one may have.
+/// The who, of a length that a who may have.
 #[inline(always)]
 pub(crate) fn who_of(bytes: &[u8]) -> Result<&[u8], Reason>
     requires { is_no_who_len (length bytes.now) ≡ false }
@@ -120,4 +121,28 @@ fn is_zero(bytes: &[u8]) -> bool
     ensures { result ≡ list_all (λ b. b == 0) bytes.now }
 {
     bytes.iter().all(|byte| *byte == 0)
+}
+
+/// Whether the first `n` bytes are zero, by the word that they begin. `true` is certain.
+#[inline(always)]
+pub(crate) fn begins_zero(bytes: &[u8], n: usize) -> bool
+    requires word { 4 ≤ length bytes.now }
+    requires few { n ≤ 3 }
+    ensures { IsTrue result → list_all (λ b. b == 0) (take n bytes.now) ≡ true }
+{
+    LittleEndian::read_u32(bytes) & low_bytes(n) == 0
+}
+
+// All bits of the lowest `n` bytes of a word.
+#[inline(always)]
+fn low_bytes(n: usize) -> u32
+    requires { n ≤ 3 }
+    ensures { result ≡ 2 ^ (8 * n) - 1 }
+{
+    match n {
+        0 => 0,
+        1 => 0xff,
+        2 => 0xffff,
+        _ => 0xff_ffff,
+    }
 }

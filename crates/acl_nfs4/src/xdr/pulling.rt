@@ -1,4 +1,4 @@
-//! The fields of an ACE from a source: each is judged before the next is asked for.
+//! The fields of an ACE from a source. Each field is judged before the next is asked for.
 ghost use Rattle.std.specs.Prelude.{◌≡◌, ◌+◌, ◌-◌, ◌<◌, ◌≤◌, ◌^◌, ℕ, List, length};
 ghost use Rattle.std.specs.Io.KnownBytes.{Consumes};
 ghost use Rattle.acl_nfs4.specs.Limits.{most_weight};
@@ -14,15 +14,15 @@ use acl_perm::{Profile, Source};
 /// The greatest number of bytes that an ACE has. A who of the greatest length has no padding.
 pub(crate) const ROOM: usize = 16 + LONGEST_WHO;
 
-/// An ACE at the front of a room: how many bytes it has there, and how many bits its mask.
+/// An ACE at the front of a buffer: how many bytes it has there, and how many bits its mask has.
 #[derive(Clone, Copy)]
 pub(crate) struct Pulled {
     pub len: usize,
     pub bits: u32,
 }
 
-/// The next ACE of the source. Each pull asks for no more than the field that is being read lacks, and a field is
-/// judged before the next one is asked for.
+/// Reads the next ACE of the source. Each pull asks for no more bytes than the field that is being read lacks, and a
+/// field is judged before the next one is asked for.
 #[inline(always)]
 pub(crate) fn pull_ace<S: Source>(
     source: &mut S,
@@ -54,7 +54,7 @@ pub(crate) fn pull_ace<S: Source>(
     })
 }
 
-// The four words of an ACE, of which each is judged before the next is asked for.
+// Reads the four words of an ACE. Each is judged before the next is asked for.
 #[inline(always)]
 fn pull_words<S: Source>(source: &mut S, room: &mut [u8], next: NextAce) -> Result<Words, Fault>
     requires room { length room.old ≡ 1040 }
@@ -83,7 +83,7 @@ fn pull_words<S: Source>(source: &mut S, room: &mut [u8], next: NextAce) -> Resu
     })
 }
 
-/// Where the next ACE begins, how many bits the masks of those before it have, and what it may have.
+/// Where the next ACE begins, how many bits the masks of the earlier ACEs have, and which flags and rights it may have.
 #[derive(Clone, Copy)]
 pub(crate) struct NextAce {
     pub offset: usize,
@@ -91,14 +91,14 @@ pub(crate) struct NextAce {
     pub profile: Profile,
 }
 
-// What the four words of an ACE say of the rest: the length of its who, and how many bits its mask has.
+// What the four words of an ACE say about the rest: the length of its who, and how many bits its mask has.
 #[derive(Clone, Copy)]
 struct Words {
     len: usize,
     bits: u32,
 }
 
-// The next word of the source.
+// Reads the next word of the source.
 #[inline(always)]
 pub(crate) fn word<S: Source>(
     source: &mut S,
@@ -115,8 +115,8 @@ pub(crate) fn word<S: Source>(
     Ok(word_in(room, held))
 }
 
-// The next bytes of the source, into the room from `held` to `end`. Where it ends or fails before, the fault stands at
-// the offset.
+// Reads the next bytes of the source, into the buffer from `held` to `end`. If the source ends or fails before that,
+// the fault has this offset.
 #[inline(always)]
 fn fill<S: Source>(
     source: &mut S,

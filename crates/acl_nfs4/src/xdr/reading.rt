@@ -1,5 +1,5 @@
-//! The fields of a list in memory, one after the other, and the offset of the one that is refused.
-ghost use Rattle.std.specs.Prelude.{◌≡◌, ℕ, ◌+◌, ◌-◌, ◌<◌, ◌≤◌, ◌^◌, length, Ok, IfOk, count_ones, false};
+//! Reads the fields of a list in memory, one after the other, and gives the offset of a field that is refused.
+ghost use Rattle.std.specs.Prelude.{◌≡◌, ℕ, ◌+◌, ◌-◌, ◌<◌, ◌≤◌, ◌^◌, length, Ok, IfOk, IfSome, count_ones, false};
 ghost use Rattle.acl_perm.specs.Profile.{profile_of};
 ghost use Rattle.acl_nfs4.specs.Fields.{count_of, kind_of, flags_of, mask_of, who_len_of, who_of, padding_of};
 ghost use Rattle.acl_nfs4.specs.Limits.{most_aces, most_weight};
@@ -10,9 +10,10 @@ ghost use Rattle.acl_nfs4.specs.internal.Cursor.{place};
 ghost use Rattle.acl_nfs4.specs.Ace.{ace};
 
 use crate::ace::AceRef;
+use crate::who::begins_plain_who;
 use crate::xdr::cursor::Cursor;
 use crate::xdr::fault::{Fault, Reason};
-use crate::xdr::judges;
+use crate::xdr::judges::{self, begins_zero};
 use acl_perm::{Flags, Kind, Mask, Profile};
 use byteorder::{BigEndian, ByteOrder};
 
@@ -38,8 +39,8 @@ pub(crate) fn skip_aces(cursor: &mut Cursor<'_>, count: u32, profile: Profile) -
     Ok(())
 }
 
-// The next ACE. Both ways are the same: behind the test that its four words are there, the compiler leaves out the test
-// of each.
+// The next ACE. Most are plain, and their fields are read at one go. Any other is judged field by field, which also says
+// what refuses it.
 #[inline(always)]
 pub(crate) fn next_ace<'a>(
     cursor: &mut Cursor<'a>,
@@ -51,14 +52,78 @@ pub(crate) fn next_ace<'a>(
         (ace_at (profile_of profile) weight (place cursor.old)) }
     ensures light { IfOk result (λ x. weight + count_ones x.mask.bits ≤ most_weight) }
 {
-    if cursor.rest.len() < 16 {
-        return fields(cursor, weight, profile);
+    // Each way has a cursor of its own, so that the compiler keeps all of them in registers.
+    let mut ahead = *cursor;
+    if let Some(ace) = plain_ace(&mut ahead, weight, profile) {
+        *cursor = ahead;
+        return Ok(ace);
     }
-    fields(cursor, weight, profile)
+    let mut judged = *cursor;
+    let ace = fields(&mut judged, weight, profile)?;
+    *cursor = judged;
+    Ok(ace)
+}
+
+// The next ACE where it is right and its who is plain. `None` says nothing of it. Behind the test of the length, the
+// compiler leaves out the test that each field is there.
+#[tactic(auto, unfolding(crate::specs::internal::Reading::ace_at))]
+#[inline(always)]
+fn plain_ace<'a>(cursor: &mut Cursor<'a>, weight: u32, profile: Profile) -> Option<AceRef<'a>>
+    requires { weight ≤ most_weight }
+    ensures exact { IfSome result (λ x. ace_at (profile_of profile) weight (place cursor.old)
+        ≡ Ok (ace x, place cursor.new)) }
+    ensures light { IfSome result (λ x. weight + count_ones x.mask.bits ≤ most_weight) }
+{
+    if cursor.rest.len() < 36 {
+        return None;
+    }
+    let kind = kind(cursor).ok()?;
+    let flags = flags(cursor, profile).ok()?;
+    let mask = mask(cursor, weight, profile).ok()?;
+    let len = who_len(cursor).ok()?;
+    let who = plain_who(cursor, len)?;
+    plain_padding(cursor, len)?;
+    Some(AceRef {
+        kind,
+        flags,
+        mask,
+        who,
+    })
+}
+
+// The who where a test of many bytes at once shows that it is one.
+#[inline(always)]
+fn plain_who<'a>(cursor: &mut Cursor<'a>, len: usize) -> Option<&'a [u8]>
+    requires { is_no_who_len len ≡ false }
+    ensures { IfSome result (λ x. field len who_of (place cursor.old)
+        ≡ Ok (x.now, place cursor.new)) }
+{
+    let rest = cursor.rest;
+    let who = bytes(cursor, len).ok()?;
+    if begins_plain_who(rest, len) {
+        Some(who)
+    } else {
+        None
+    }
+}
+
+// The padding where it is zero and a whole word stands there, of which it is the front.
+#[inline(always)]
+fn plain_padding(cursor: &mut Cursor<'_>, len: usize) -> Option<()>
+    ensures { IfSome result (λ _. field (pad_len len) padding_of (place cursor.old)
+        ≡ Ok (tt, place cursor.new)) }
+{
+    let rest = cursor.rest;
+    let pad = (4 - len % 4) % 4;
+    if rest.len() < 4 || !begins_zero(rest, pad) {
+        return None;
+    }
+    bytes(cursor, pad).ok()?;
+    Some(())
 }
 
 #[tactic(auto, unfolding(crate::specs::internal::Reading::ace_at))]
-#[inline(always)]
+#[inline(never)]
 fn fields<'a>(cursor: &mut Cursor<'a>, weight: u32, profile: Profile) -> Result<AceRef<'a>, Fault>
     requires { weight ≤ most_weight }
     ensures exact { Gives (λ x. (ace x, place cursor.new)) result
@@ -147,7 +212,7 @@ fn padding(cursor: &mut Cursor<'_>, len: usize) -> Result<(), Fault>
     )
 }
 
-// What a field gives, or its fault at its first byte.
+// Returns the value of a field, or its fault at its first byte.
 #[inline(always)]
 pub(crate) fn placed<T>(offset: u64, judged: Result<T, Reason>) -> Result<T, Fault>
     ensures { Placed offset judged result }
@@ -174,7 +239,7 @@ fn bytes<'a>(cursor: &mut Cursor<'a>, n: usize) -> Result<&'a [u8], Fault>
     Ok(front)
 }
 
-// How many bytes were read. No cursor keeps it, since only a fault wants it.
+// Returns how many bytes were read. No cursor keeps this number, because only a fault needs it.
 #[inline(always)]
 fn offset_of(cursor: &Cursor<'_>) -> u64
     ensures { result ≡ (place cursor.now).at }

@@ -1,4 +1,4 @@
-//! A list that lies in the bytes that spell it, so that to read it takes no memory.
+//! A list in the bytes that spell it, so that reading it takes no memory.
 ghost use Rattle.std.specs.Prelude.{◌≡◌, ◌++◌, ◌≤◌, ◌↔◌, ℕ, List, [], length, IfOk, IfErr, IsOkAnd, IsTrue, Ok, Err};
 ghost use Rattle.acl_nfs4.specs.Ace.{Ace};
 ghost use Rattle.acl_nfs4.specs.Limits.{most_weight};
@@ -19,7 +19,7 @@ use acl_perm::Profile;
 use std::alloc::AllocError;
 use std::marker::Model;
 
-/// A list of ACEs that lies in the bytes that spell it.
+/// A list of ACEs that borrows the bytes that spell it.
 #[derive(Debug, Drop)]
 pub struct AclView<'a> {
     pub(crate) count: u32,
@@ -39,37 +39,37 @@ impl<'a> Model for AclView<'a> {
 }
 
 impl<'a> AclView<'a> {
-    /// The list at the front, and the number of bytes that spell it. What follows is left unread. The names lie in
-    /// the input, and no memory is taken. A fault is that of the first field that is refused, at its first byte
-    /// (RFC 8881, section 6.2.1, in the layout of RFC 4506).
+    /// Returns the list at the front, and the number of bytes that spell it. It does not read what follows. The names
+    /// are slices of the input, and it takes no memory. Fails with the fault of the first field that is refused, at its
+    /// first byte (RFC 8881, section 6.2.1, in the layout of RFC 4506).
     pub fn parse(bytes: &'a [u8]) -> Result<(AclView<'a>, usize), Fault>
-        // What is found stands at the front.
+        // The bytes begin with the list that is returned.
         ensures found { IfOk result (StandsAtFront full bytes.now) }
-        // What stands at the front is found.
+        // If the bytes begin with a list, that list is returned.
         ensures only { (list : List Ace) (text rest : List ℕ) → Xdr full list text
             → bytes.now ≡ text ++ rest → IsOkAnd result (IsListOf list text) }
-        // A fault is that of the bytes.
+        // A fault is the fault of the bytes.
         ensures fault { IfErr result (λ f. IsFault full bytes.now f.offset f.reason) }
-        // Bytes with a fault are refused by it.
+        // Bytes with a fault are refused with that fault.
         ensures refused { (offset : ℕ) (r : Reason) → IsFault full bytes.now offset r
             → result ≡ Err (record { offset = offset; reason = r }) }
     {
         AclView::parse_with(bytes, Profile::FULL)
     }
 
-    /// The list at the front whose flags and masks the profile has, as `parse` finds it; a bit of another flag or right
-    /// is FlagBits or MaskBits.
+    /// Returns the list at the front, as `parse` does, if the profile has its flags and masks. A bit of another flag or
+    /// right is FlagBits or MaskBits.
     #[inline(always)]
     pub fn parse_with(bytes: &'a [u8], profile: Profile) -> Result<(AclView<'a>, usize), Fault>
-        // What is found stands at the front.
+        // The bytes begin with the list that is returned.
         ensures found { IfOk result (StandsAtFront (profile_of profile) bytes.now) }
-        // What stands at the front is found.
+        // If the bytes begin with a list, that list is returned.
         ensures only { (list : List Ace) (text rest : List ℕ) → Xdr (profile_of profile) list text
             → bytes.now ≡ text ++ rest → IsOkAnd result (IsListOf list text) }
-        // A fault is that of the bytes.
+        // A fault is the fault of the bytes.
         ensures fault { IfErr result (λ f. IsFault
             (profile_of profile) bytes.now f.offset f.reason) }
-        // Bytes with a fault are refused by it.
+        // Bytes with a fault are refused with that fault.
         ensures refused { (offset : ℕ) (r : Reason)
             → IsFault (profile_of profile) bytes.now offset r
             → result ≡ Err (record { offset = offset; reason = r }) }
@@ -77,7 +77,8 @@ impl<'a> AclView<'a> {
         view_of(bytes, profile)
     }
 
-    /// The list that all of the bytes spell. Beside the faults of `parse`, a byte behind the list is TrailingBytes.
+    /// Returns the list that all of the bytes spell. Fails as `parse` does, and also with TrailingBytes if there is a
+    /// byte behind the list.
     ///
     /// ```rust
     /// let bytes = b"\0\0\0\x01\0\0\0\0\0\0\0\0\0\0\0\x01\0\0\0\x06OWNER@\0\0";
@@ -88,32 +89,32 @@ impl<'a> AclView<'a> {
     /// }
     /// ```
     pub fn parse_whole(bytes: &'a [u8]) -> Result<AclView<'a>, Fault>
-        // What is found is spelled by the bytes.
+        // The bytes spell the list that is returned.
         ensures found { IfOk result (λ list. Xdr full list bytes.now) }
-        // What the bytes spell is found.
+        // If the bytes spell a list, that list is returned.
         ensures only { (list : List Ace) → Xdr full list bytes.now
             → IsOkAnd result (λ x. x ≡ list) }
-        // A fault is that of the bytes.
+        // A fault is the fault of the bytes.
         ensures fault { IfErr result (λ f. IsWholeFault full bytes.now f.offset f.reason) }
-        // Bytes with a fault are refused by it.
+        // Bytes with a fault are refused with that fault.
         ensures refused { (offset : ℕ) (r : Reason) → IsWholeFault full bytes.now offset r
             → result ≡ Err (record { offset = offset; reason = r }) }
     {
         AclView::parse_whole_with(bytes, Profile::FULL)
     }
 
-    /// The list that all of the bytes spell, whose flags and masks the profile has, as `parse_whole` finds it.
+    /// Returns the list that all of the bytes spell, as `parse_whole` does, if the profile has its flags and masks.
     #[inline(always)]
     pub fn parse_whole_with(bytes: &'a [u8], profile: Profile) -> Result<AclView<'a>, Fault>
-        // What is found is spelled by the bytes.
+        // The bytes spell the list that is returned.
         ensures found { IfOk result (λ list. Xdr (profile_of profile) list bytes.now) }
-        // What the bytes spell is found.
+        // If the bytes spell a list, that list is returned.
         ensures only { (list : List Ace) → Xdr (profile_of profile) list bytes.now
             → IsOkAnd result (λ x. x ≡ list) }
-        // A fault is that of the bytes.
+        // A fault is the fault of the bytes.
         ensures fault { IfErr result (λ f. IsWholeFault
             (profile_of profile) bytes.now f.offset f.reason) }
-        // Bytes with a fault are refused by it.
+        // Bytes with a fault are refused with that fault.
         ensures refused { (offset : ℕ) (r : Reason)
             → IsWholeFault (profile_of profile) bytes.now offset r
             → result ≡ Err (record { offset = offset; reason = r }) }
@@ -128,22 +129,22 @@ impl<'a> AclView<'a> {
         Ok(view)
     }
 
-    /// The number of ACEs, in constant time.
+    /// Returns the number of ACEs, in constant time.
     pub fn len(&self) -> usize
         ensures { result ≡ length self.now }
     {
         self.count as usize
     }
 
-    /// Whether there is no ACE, in constant time.
+    /// Returns whether there is no ACE, in constant time.
     pub fn is_empty(&self) -> bool
         ensures { IsTrue result ↔ (self.now ≡ []) }
     {
         self.count == 0
     }
 
-    /// The number of mask bits set, over all ACEs. A view does not keep this number, so each call counts the bits, in
-    /// time linear in the ACEs; `Acl::weight` takes constant time.
+    /// Returns the number of mask bits that are set, over all ACEs. A view does not keep this number, so each call
+    /// counts the bits, in time linear in the ACEs; `Acl::weight` takes constant time.
     pub fn weight(&self) -> u32
         ensures value { result ≡ spelled.weight self.now }
         ensures within { result ≤ most_weight }
@@ -151,19 +152,20 @@ impl<'a> AclView<'a> {
         weight_of(self.aces())
     }
 
-    /// Whether the profile has every flag and every right of every ACE, in time linear in the ACEs, without memory.
+    /// Returns whether the profile has every flag and every right of every ACE, in time linear in the ACEs, without
+    /// memory.
     pub fn fits(&self, profile: Profile) -> bool
         ensures exact { IsTrue result ↔ Fits (profile_of profile) self.now }
-        // A list that fits a profile is one that is accepted under it.
+        // A list fits a profile if and only if it is accepted under it.
         ensures accepted { IsTrue result ↔ IsAccepted (profile_of profile) self.now }
     {
         fit(self.aces(), profile)
     }
 
-    /// The ACEs in order.
+    /// Returns the ACEs in order.
     pub fn aces(&self) -> Aces<'a>
         ensures same { result ≡ self.now }
-        // Every list that a view shows is accepted.
+        // Every list of a view is accepted.
         ensures accepted { IsAccepted full self.now }
     {
         Aces {
@@ -216,7 +218,7 @@ impl<'a> IntoIterator for &'a AclView<'_> {
     }
 }
 
-// The list at the front, as reading gives it.
+// Returns the list at the front, as `reading` gives it.
 #[inline(always)]
 fn view_of(bytes: &[u8], profile: Profile) -> Result<(AclView<'_>, usize), Fault>
     ensures { Gives (λ x. x) result (value_at (profile_of profile) bytes.now) }
