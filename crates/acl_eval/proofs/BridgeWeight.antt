@@ -17,10 +17,8 @@ use Rattle.acl_perm.specs.Profile.{full}
 use Rattle.acl_nfs4.specs.Ace.{Ace}
 use Rattle.acl_nfs4.specs.Spelling.{weight, IsAccepted}
 use Rattle.acl_nfs4.proofs.Lists.{weight-cons}
-use Rattle.acl_eval.specs.declared.bridging.BridgeFault.{BridgeFault}
-use Rattle.acl_eval.specs.declared.bridging.BridgeFault.TheVariants.{Limits, Memory}
-use Rattle.acl_eval.specs.Bridge.{image, who_of, flags_of, ace_of, allow_of, deny_of, decide_of, each, is_user_tag, is_group_tag, is_other_tag, bridge_list, IsBridgeFault}
-use Rattle.acl_eval.specs.internal.BridgeBody.{cost_of, Refuses}
+use Rattle.acl_eval.specs.Bridge.{image, who_of, flags_of, ace_of, allow_of, deny_of, decide_of, each, is_user_tag, is_group_tag, is_other_tag, bridge_list}
+use Rattle.acl_eval.specs.internal.BridgeBody.{cost_of}
 use Rattle.acl_eval.proofs.Images.{four_bits, image_none}
 use Rattle.acl_eval.proofs.EntryRuns.{effective_lt}
 use Rattle.acl_eval.proofs.Accepted.{aces_stand, length_within}
@@ -173,8 +171,3 @@ light_enough E es i sum within is le so_far small =
     let whole : sum_by cost (fin.entries E) ≡ sum = ap (sum_by cost) (sym is) ∙ costs es
     ∙ ap (sum_by (λ (x : Entry). cost (pair_of x))) (sym (take_all i es le)) ∙ sym so_far in
     (λ _. (accepted_by_weight E all).0 (omega (arith, whole)), λ _. refl)
-
--- of an accepted list only want of memory is answered
-pub then_memory : (list : List Ace) (f : BridgeFault) → IsAccepted full list → Refuses list f → IsBridgeFault list f
-then_memory list Limits ok h = h
-then_memory list Memory ok h = ok

@@ -15,12 +15,20 @@ use Rattle.std.specs.Str.{bytes_eq}
 use Rattle.std.specs.declared.cmp.Ordering.{Ordering}
 use Rattle.std.specs.declared.cmp.Ordering.TheVariants.{Less, Equal, Greater}
 use Rattle.acl_eval.specs.internal.GroupOrder.{AreInOrder}
+use Rattle.acl_eval.specs.internal.GroupTable.{is_same_name}
 
 -- a test of what each reference points to
 pub any_now : (p : List ℕ → Bool) (xs : List (Bor (List ℕ)))
     → list_any p (map (λ g. g.now) xs) ≡ list_any (λ g. p g.now) xs
 any_now p [] = refl
 any_now p (x ∷ xs) = ap (λ (b : Bool). p x.now || b) (any_now p xs)
+
+-- a name is that of a group of a set exactly if it is one of the names
+pub named_alike : (groups : List (Bor (List ℕ))) (name : Bor (List ℕ))
+    → list_any (is_same_name (record { bytes = name })) (map (λ g. record { bytes = g }) groups)
+    ≡ list_any (bytes_eq name.now) (map (λ g. g.now) groups)
+named_alike [] name = refl
+named_alike (group ∷ groups) name = ap (λ (b : Bool). bytes_eq name.now group.now || b) (named_alike groups name)
 
 -- no name is empty, said of the references and of what they point to
 pub all_named : (names : List (Bor (List ℕ)))

@@ -1,6 +1,5 @@
--- More ACEs at the end of a list, entry by entry and part by part.
+-- More ACEs at the end of a list that stays accepted, entry by entry and part by part.
 use Rattle.std.proofs.Common.{◌≡◌, ℕ, ◌+◌, ◌<◌, Bool, true, false, cond, eqb, List, [], ◌∷◌, ◌++◌, length, get_or, take, drop, refl, sym, ap, subst, ◌∙◌, append_assoc}
-use Rattle.std.specs.Prelude.{Option, Some, None, Err}
 use Rattle.std.specs.List.{filter, flat_map}
 use Rattle.std.specs.FinMap as fin
 use Rattle.std.proofs.lemmas.Bool.{eqb-true}
@@ -13,28 +12,12 @@ use Rattle.acl_posix.specs.Tag.{Tag}
 use Rattle.acl_posix.specs.Entries.{Entries, pairs, pair_of}
 use Rattle.acl_nfs4.specs.Ace.{Ace}
 use Rattle.acl_nfs4.specs.Spelling.{IsAccepted}
-use Rattle.acl_nfs4.specs.Push.{push_refusal, PushAnswers}
-use Rattle.acl_nfs4.specs.declared.list.push_fault.PushFault.{PushFault}
-use Rattle.acl_nfs4.specs.declared.list.push_fault.PushFault.TheVariants as refused
 use Rattle.acl_eval.specs.declared.bridging.Part.{Part}
 use Rattle.acl_eval.specs.declared.bridging.Part.TheVariants.{Users, GroupAllows, GroupDenies, Others}
-use Rattle.acl_eval.specs.declared.bridging.BridgeFault.{BridgeFault}
-use Rattle.acl_eval.specs.declared.bridging.BridgeFault.TheVariants.{Limits, Memory}
 use Rattle.acl_eval.specs.Bridge.{image, who_of, flags_of, ace_of, each, is_user_tag, is_group_tag, is_other_tag, allow_of, deny_of, decide_of, bridge_list}
-use Rattle.acl_eval.specs.internal.BridgeBody.{part_of, Refuses, fault_of}
+use Rattle.acl_eval.specs.internal.BridgeBody.{part_of}
 use Rattle.acl_nfs4.proofs.Lists.{front_accepted}
 use Rattle.acl_perm.specs.Profile.{full}
-
--- ---- what is refused stays refused with more behind it
-
--- what is refused stays refused with more ACEs behind it
-refuses_more : (xs ys : List Ace) (f : BridgeFault) → Refuses xs f → Refuses (xs ++ ys) f
-refuses_more xs ys Limits h = λ ok. h (front_accepted full xs ys ok)
-refuses_more xs ys Memory h = tt
-
--- also where they are added as one
-pub refuses_then : (old a b : List Ace) (f : BridgeFault) → Refuses (old ++ a) f → Refuses (old ++ (a ++ b)) f
-refuses_then old a b f h = subst (λ (l : List Ace). Refuses l f) (append_assoc old a b) (refuses_more (old ++ a) b f h)
 
 -- ---- one ACE
 
@@ -60,26 +43,18 @@ one_of k l p flags rights who some fe me we =
       | false ↦ λ e i. record { kind = k; flags = fe i; mask = me i; who = we i } ∷ []
     ] refl
 
--- an ACE that is refused for another reason than want of memory would pass a limit
-pub push_refused : (list whole : List Ace) (a : Ace) (f : PushFault) → whole ≡ list ++ a ∷ []
-    → (IsAccepted full (list ++ a ∷ []) → push_refusal list a ≡ None) → PushAnswers (Err f) (push_refusal list a)
-    → Refuses whole (fault_of f)
-push_refused list whole a refused.TooManyAces e ok h = λ w. let n =
-    ok (subst (λ (l : List Ace). IsAccepted full l) e w) in not_both _ _ h n
-  where
-    not_both : (o : Option PushFault) (x : PushFault) → o ≡ Some x → o ≡ None → ⊥
-    not_both o x h n = cc
-push_refused list whole a refused.TooHeavy e ok h = λ w. let n =
-    ok (subst (λ (l : List Ace). IsAccepted full l) e w) in cc
-push_refused list whole a refused.WhoLength e ok h = λ w. let n =
-    ok (subst (λ (l : List Ace). IsAccepted full l) e w) in cc
-push_refused list whole a refused.WhoUtf8 e ok h = λ w. let n = ok (subst (λ (l : List Ace). IsAccepted full l) e w) in
-    cc
-push_refused list whole a refused.WhoControl e ok h = λ w. let n =
-    ok (subst (λ (l : List Ace). IsAccepted full l) e w) in cc
-push_refused list whole a refused.SpecialWho e ok h = λ w. let n =
-    ok (subst (λ (l : List Ace). IsAccepted full l) e w) in cc
-push_refused list whole a refused.Memory e ok h = tt
+-- ---- what an entry allows, and then what it denies
+
+-- a list that stays accepted with both stays so with the first
+pub first_fits : (old a b : List Ace) → IsAccepted full (old ++ (a ++ b)) → IsAccepted full (old ++ a)
+first_fits old a b ok =
+    front_accepted full (old ++ a) b (subst (λ (l : List Ace). IsAccepted full l) (sym (append_assoc old a b)) ok)
+
+-- and with the second behind the first
+pub second_fits : (old mid a b : List Ace) → mid ≡ old ++ a → IsAccepted full (old ++ (a ++ b))
+    → IsAccepted full (mid ++ b)
+second_fits old mid a b so_far ok = subst (λ (l : List Ace). IsAccepted full l)
+    (sym (ap (λ (l : List Ace). l ++ b) so_far ∙ append_assoc old a b)) ok
 
 -- ---- one entry after the other
 
@@ -113,12 +88,12 @@ part_kept E part es i e old mid next lt read so_far step =
     ∙ append_assoc old (part_of E part (pairs (take i es))) (part_of E part (pair_of e ∷ []))
     ∙ ap (λ (l : List Ace). old ++ l) (sym (part_more E part es i e lt read))
 
--- where the ACEs of one entry are refused, the list is
-pub part_refused : (E : Entries) (part : Part) (es : List Entry) (i : ℕ) (e : Entry) (old mid : List Ace)
-    (f : BridgeFault) → i < length es → e ≡ get_or es i e → pairs es ≡ fin.entries E
-    → mid ≡ old ++ part_of E part (pairs (take i es)) → Refuses (mid ++ part_of E part (pair_of e ∷ [])) f
-    → Refuses (old ++ part_of E part (fin.entries E)) f
-part_refused E part es i e old mid f lt read is so_far h =
+-- where the list stays accepted with the part, it stays so with the ACEs of one entry more
+pub entry_fits : (E : Entries) (part : Part) (es : List Entry) (i : ℕ) (e : Entry) (old mid : List Ace)
+    → i < length es → e ≡ get_or es i e → pairs es ≡ fin.entries E
+    → mid ≡ old ++ part_of E part (pairs (take i es)) → IsAccepted full (old ++ part_of E part (fin.entries E))
+    → IsAccepted full (mid ++ part_of E part (pair_of e ∷ []))
+entry_fits E part es i e old mid lt read is so_far ok =
     let front : List Ace = part_of E part (pairs (take (i + 1) es)) in
     let more : List Ace = part_of E part (pairs (drop (i + 1) es)) in
     let here : mid ++ part_of E part (pair_of e ∷ []) ≡ old ++ front =
@@ -127,8 +102,8 @@ part_refused E part es i e old mid f lt read is so_far h =
     sym (part-append E part (pairs (take (i + 1) es)) (pairs (drop (i + 1) es)))
     ∙ ap (part_of E part) (sym (map-append pair_of (take (i + 1) es) (drop (i + 1) es))
     ∙ ap pairs (take-append-drop (i + 1) es) ∙ is) in
-    subst (λ (l : List Ace). Refuses (old ++ l) f) whole
-    (refuses_then old front more f (subst (λ (l : List Ace). Refuses l f) here h))
+    subst (λ (l : List Ace). IsAccepted full l) (sym here)
+    (first_fits old front more (subst (λ (l : List Ace). IsAccepted full (old ++ l)) (sym whole) ok))
 
 -- ---- one part after the other
 
@@ -145,38 +120,47 @@ whole E a b c d e ae be ce de ee =
     ∙ ap (λ (l : List Ace). l ++ all_of E GroupAllows) (be
     ∙ ap (λ (l : List Ace). l ++ all_of E Users) ae)))
 
--- where the first part is refused, the list is
-pub refused_at_users : (E : Entries) (a : List Ace) (f : BridgeFault) → a ≡ [] → Refuses (a ++ all_of E Users) f
-    → Refuses (bridge_list E) f
-unfolding bridge_list
-refused_at_users E a f ae h =
-    refuses_more (all_of E Users ++ all_of E GroupAllows ++ all_of E GroupDenies) (all_of E Others) f
-    (refuses_more (all_of E Users ++ all_of E GroupAllows) (all_of E GroupDenies) f
-    (refuses_more (all_of E Users) (all_of E GroupAllows) f
-    (subst (λ (l : List Ace). Refuses (l ++ all_of E Users) f) ae h)))
+-- what each part stands behind
+record Fronts (E : Entries) : Type 0 where
+  pub users : IsAccepted full (all_of E Users)
+  pub allows : IsAccepted full (all_of E Users ++ all_of E GroupAllows)
+  pub denies : IsAccepted full (all_of E Users ++ all_of E GroupAllows ++ all_of E GroupDenies)
+  pub others : IsAccepted full (all_of E Users ++ all_of E GroupAllows ++ all_of E GroupDenies ++ all_of E Others)
 
--- and where the second is
-pub refused_at_allows : (E : Entries) (a b : List Ace) (f : BridgeFault) → a ≡ [] → b ≡ a ++ all_of E Users
-    → Refuses (b ++ all_of E GroupAllows) f → Refuses (bridge_list E) f
+fronts : (E : Entries) → IsAccepted full (bridge_list E) → Fronts E
 unfolding bridge_list
-refused_at_allows E a b f ae be h =
-    refuses_more (all_of E Users ++ all_of E GroupAllows ++ all_of E GroupDenies) (all_of E Others) f
-    (refuses_more (all_of E Users ++ all_of E GroupAllows) (all_of E GroupDenies) f
-    (subst (λ (l : List Ace). Refuses (l ++ all_of E GroupAllows) f)
-    (be ∙ ap (λ (l : List Ace). l ++ all_of E Users) ae) h))
+fronts E ok =
+    let U = all_of E Users in
+    let A = all_of E GroupAllows in
+    let D = all_of E GroupDenies in
+    let denies = front_accepted full (U ++ A ++ D) (all_of E Others) ok in
+    let allows = front_accepted full (U ++ A) D denies in
+    record { users = front_accepted full U A allows; allows = allows; denies = denies; others = ok }
 
--- and where the third is
-pub refused_at_denies : (E : Entries) (a b c : List Ace) (f : BridgeFault) → a ≡ [] → b ≡ a ++ all_of E Users
-    → c ≡ b ++ all_of E GroupAllows → Refuses (c ++ all_of E GroupDenies) f → Refuses (bridge_list E) f
-unfolding bridge_list
-refused_at_denies E a b c f ae be ce h =
-    refuses_more (all_of E Users ++ all_of E GroupAllows ++ all_of E GroupDenies) (all_of E Others) f
-    (subst (λ (l : List Ace). Refuses (l ++ all_of E GroupDenies) f) (ce
-    ∙ ap (λ (l : List Ace). l ++ all_of E GroupAllows) (be ∙ ap (λ (l : List Ace). l ++ all_of E Users) ae)) h)
+-- the list stays accepted with the first part
+pub users_fit : (E : Entries) (a : List Ace) → a ≡ [] → IsAccepted full (bridge_list E)
+    → IsAccepted full (a ++ all_of E Users)
+users_fit E a ae ok =
+    subst (λ (l : List Ace). IsAccepted full (l ++ all_of E Users)) (sym ae) (fronts E ok).users
 
--- and where the last is
-pub refused_at_others : (E : Entries) (a b c d : List Ace) (f : BridgeFault) → a ≡ [] → b ≡ a ++ all_of E Users
-    → c ≡ b ++ all_of E GroupAllows → d ≡ c ++ all_of E GroupDenies → Refuses (d ++ all_of E Others) f
-    → Refuses (bridge_list E) f
-refused_at_others E a b c d f ae be ce de h =
-    subst (λ (l : List Ace). Refuses l f) (whole E a b c d (d ++ all_of E Others) ae be ce de refl) h
+-- and with the second
+pub allows_fit : (E : Entries) (a b : List Ace) → a ≡ [] → b ≡ a ++ all_of E Users → IsAccepted full (bridge_list E)
+    → IsAccepted full (b ++ all_of E GroupAllows)
+allows_fit E a b ae be ok =
+    subst (λ (l : List Ace). IsAccepted full (l ++ all_of E GroupAllows))
+    (sym (be ∙ ap (λ (l : List Ace). l ++ all_of E Users) ae)) (fronts E ok).allows
+
+-- and with the third
+pub denies_fit : (E : Entries) (a b c : List Ace) → a ≡ [] → b ≡ a ++ all_of E Users → c ≡ b ++ all_of E GroupAllows
+    → IsAccepted full (bridge_list E) → IsAccepted full (c ++ all_of E GroupDenies)
+denies_fit E a b c ae be ce ok =
+    subst (λ (l : List Ace). IsAccepted full (l ++ all_of E GroupDenies))
+    (sym (ce ∙ ap (λ (l : List Ace). l ++ all_of E GroupAllows) (be ∙ ap (λ (l : List Ace). l ++ all_of E Users) ae)))
+    (fronts E ok).denies
+
+-- and with the last
+pub others_fit : (E : Entries) (a b c d : List Ace) → a ≡ [] → b ≡ a ++ all_of E Users
+    → c ≡ b ++ all_of E GroupAllows → d ≡ c ++ all_of E GroupDenies → IsAccepted full (bridge_list E)
+    → IsAccepted full (d ++ all_of E Others)
+others_fit E a b c d ae be ce de ok =
+    subst (λ (l : List Ace). IsAccepted full l) (sym (whole E a b c d (d ++ all_of E Others) ae be ce de refl)) ok

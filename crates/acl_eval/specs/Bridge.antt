@@ -1,5 +1,5 @@
--- The NFSv4 list that stands for a POSIX access ACL (this library's own: neither RFC 8881 nor acl(5) has one). What an
--- entry decides in the access check of acl(5), it decides here by an ACE that allows and one that denies.
+-- The NFSv4 list of a POSIX access ACL (this library's own: neither RFC 8881 nor acl(5) has one). What an entry decides
+-- in the access check of acl(5), it decides here by an ACE that allows and one that denies.
 use Rattle.std.specs.Prelude.{ℕ, ◌+◌, ◌-◌, ◌==◌, Bool, ◌&&◌, ◌||◌, List, [], ◌∷◌, ◌++◌, if◌then◌else◌}
 use Rattle.std.specs.List.{filter, flat_map}
 use Rattle.std.specs.Fmt.{decimal}
@@ -18,8 +18,8 @@ use Rattle.acl_eval.specs.Permissions.{read, write, execute}
 use Rattle.acl_eval.specs.declared.bridging.BridgeFault.{BridgeFault}
 use Rattle.acl_eval.specs.declared.bridging.BridgeFault.TheVariants.{Limits, Memory}
 
--- the rights that permissions stand for: read is READ_DATA (0x1), write is WRITE_DATA (0x2) and APPEND_DATA (0x4),
--- execute is EXECUTE (0x20)
+-- the rights of permissions: read is READ_DATA (0x1), write is WRITE_DATA (0x2) and APPEND_DATA (0x4), execute is
+-- EXECUTE (0x20)
 unfoldable pub image : ℕ → ℕ
 image perm = (if has_bit perm read then 0x1 else 0) + (if has_bit perm write then 0x2 + 0x4 else 0)
     + (if has_bit perm execute then 0x20 else 0)
@@ -49,11 +49,11 @@ is_other_tag tag = rank tag == 5
 abbrev pub identifier_group_alone : ℕ
 identifier_group_alone = 0x40
 
--- the flags of the ACEs of an entry: IDENTIFIER_GROUP on named groups, and no other
+-- the flags of the ACEs of an entry: IDENTIFIER_GROUP for named groups, and no flag for others
 abbrev pub flags_of : Tag → ℕ
 flags_of tag = if is_group_tag tag && is_named tag then identifier_group_alone else 0
 
--- the ACE of a tag with what these permissions stand for; there is none where there are no permissions
+-- the ACE of a tag with the rights of these permissions, or none if there are no permissions
 unfoldable pub ace_of : Kind → Tag → ℕ → List Ace
 ace_of kind tag perm = if perm == 0 then []
     else record { kind = kind; flags = flags_of tag; mask = image perm; who = who_of tag } ∷ []
@@ -62,7 +62,7 @@ ace_of kind tag perm = if perm == 0 then []
 abbrev pub allow_of : Entries → Tag × ℕ → List Ace
 allow_of entries entry = ace_of Allow entry.0 (effective_of entries entry)
 
--- what an entry denies: those of read, write and execute that it doesn't allow
+-- what an entry denies: those of read, write and execute that it does not allow
 abbrev pub deny_of : Entries → Tag × ℕ → List Ace
 deny_of entries entry = ace_of Deny entry.0 (7 - effective_of entries entry)
 
@@ -75,8 +75,8 @@ abbrev pub each : (Tag → Bool) → (Tag × ℕ → List Ace) → List (Tag × 
 each which aces entries = flat_map aces (filter (λ entry. which entry.0) entries)
 
 -- over the entries in canonical order: what USER_OBJ and each USER allow and then deny, one after the other; what
--- GROUP_OBJ and each GROUP allow, and only after all of these what they deny, since one group that has a permission is
--- enough; and what OTHER allows
+-- GROUP_OBJ and each GROUP allow, and only after all of these what they deny, because one group that has a permission
+-- is enough; and what OTHER allows
 unfoldable pub bridge_list : Entries → List Ace
 bridge_list entries =
     each is_user_tag (decide_of entries) (set.entries entries)
@@ -84,7 +84,7 @@ bridge_list entries =
     ++ each is_group_tag (deny_of entries) (set.entries entries)
     ++ each is_other_tag (allow_of entries) (set.entries entries)
 
--- Limits where the list is not accepted, and nowhere else; memory is wanted only where it is
+-- Limits if and only if the list is not accepted; memory is requested only if it is accepted
 abbrev pub IsBridgeFault : List Ace → BridgeFault → Type 0
 IsBridgeFault list Limits = IsAccepted full list → ⊥
 IsBridgeFault list Memory = IsAccepted full list

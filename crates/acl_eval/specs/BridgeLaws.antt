@@ -1,4 +1,4 @@
--- What the list of a POSIX ACL grants (this library's own), against the access check of acl(5), "ACCESS CHECK
+-- What the list of a POSIX ACL grants (this library's own), compared with the access check of acl(5), "ACCESS CHECK
 -- ALGORITHM".
 use Rattle.std.specs.Prelude.{ℕ, ◌≡◌, ◌<◌, ◌↔◌, ◌⊎◌, map, All, IsTrue}
 use Rattle.std.specs.Fmt.{decimal}
@@ -11,19 +11,19 @@ use Rattle.acl_posix.specs.Check.{Object, Requester, grants}
 use Rattle.acl_eval.specs.Grant.{Grant}
 use Rattle.acl_eval.specs.Bridge.{image, bridge_list}
 
--- a valid set, whose ids and permissions are within their limits
+-- a valid set, with ids and permissions that are within their limits
 pub record IsAccess (entries : Entries) : Type 0 where
   pub valid : IsValid entries
   pub within : All IsEntry (set.entries entries)
 
--- who asks, and whose object it is, are told by ids
+-- a requester and the owner and group of an object, given by ids
 pub record IsAsked (object : Object) (requester : Requester) : Type 0 where
   pub owner : IsId object.user
   pub owning_group : IsId object.group
   pub asker : IsId requester.user
   pub groups : All IsId requester.groups
 
--- who asks and whose object it is, told by the names of the ids, which are their decimal digits
+-- a requester and the owner and group of an object, given by the names of the ids, which are their decimal digits
 abbrev pub by_name : Object → Requester → Situation
 by_name object requester = record {
   owner_name = decimal object.user;
@@ -36,22 +36,22 @@ by_name object requester = record {
 abbrev pub IsSingle : ℕ → Type 0
 IsSingle want = (want ≡ 4) ⊎ (want ≡ 2) ⊎ (want ≡ 1)
 
--- one permission is granted by the list exactly if it is by the check
+-- the list grants one permission if and only if the check grants it
 abbrev pub GrantsSingles : Type 0
 GrantsSingles = (entries : Entries) (object : Object) (requester : Requester) (want : ℕ)
     → IsAccess entries → IsAsked object requester → IsSingle want
     → Grant (bridge_list entries) (by_name object requester) (image want)
     ↔ IsTrue (grants entries object requester want)
 
--- what the check grants together, the list grants together
+-- the list grants together what the check grants together
 abbrev pub KeepsGrants : Type 0
 KeepsGrants = (entries : Entries) (object : Object) (requester : Requester) (want : ℕ)
     → IsAccess entries → IsAsked object requester → want < 8
     → IsTrue (grants entries object requester want)
     → Grant (bridge_list entries) (by_name object requester) (image want)
 
--- what the check answers of ids, the list answers of their names: of one permission the same, and of any set at least
--- what the check grants
+-- what the check answers for ids, the list answers for their names: the same for one permission, and for any set at
+-- least what the check grants
 pub record AnswersAlike (entries : Entries) (object : Object) (requester : Requester) (want : ℕ) : Type 0 where
   pub single : IsSingle want → Grant (bridge_list entries) (by_name object requester) (image want)
       ↔ IsTrue (grants entries object requester want)

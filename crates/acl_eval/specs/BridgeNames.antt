@@ -1,4 +1,4 @@
--- The names of the list that stands for a POSIX ACL, and when it is accepted (this library's own).
+-- The names of the list of a POSIX ACL, and when the list is accepted (this library's own).
 use Rattle.std.specs.Prelude.{ℕ, ◌≡◌, ◌≤◌, ◌↔◌, IsFalse, length}
 use Rattle.std.specs.Fmt.{decimal}
 use Rattle.acl_perm.specs.Profile.{full}
@@ -14,11 +14,11 @@ use Rattle.acl_eval.specs.BridgeLaws.{IsAccess}
 abbrev pub NamesDiffer : Type 0
 NamesDiffer = (m n : ℕ) → IsId m → IsId n → decimal m ≡ decimal n → m ≡ n
 
--- each name may stand as a who, and none is a special identifier
+-- each name is valid as a who, and none is a special identifier
 abbrev pub NamesStand : Type 0
 NamesStand = (n : ℕ) → IsId n → IsWho (decimal n) × IsFalse (is_special (decimal n))
 
--- nothing but the limits of a list refuses the list of a valid ACL
+-- only the limits of a list refuse the list of a valid ACL
 abbrev pub OnlyLimitsRefuse : Type 0
 OnlyLimitsRefuse = (entries : Entries) → IsAccess entries
     → IsAccepted full (bridge_list entries)

@@ -12,7 +12,7 @@ use Rattle.acl_nfs4.specs.Who.{principal_of}
 abbrev pub takes_part : Ace → Bool
 takes_part a = not (has_bit a.flags inherit_only)
 
--- keys in order: whom each names, and whether it denies or allows
+-- keys in order: the principal of each, and whether it denies or allows
 abbrev pub Column : Type 0
 Column = List (Principal × Kind)
 
@@ -25,7 +25,7 @@ abbrev pub first_kind : (Principal → Bool) → Column → Option Kind
 first_kind test [] = None
 first_kind test ((p, kind) ∷ entries) = if test p then Some kind else first_kind test entries
 
--- what a column decides by the principals that pass the test: the first of them decides, and without one it denies
+-- what a column decides, given which principals match: the first of them decides, and without one the column denies
 abbrev pub verdict : (Principal → Bool) → Column → Kind
 verdict test entries = unwrap_or (first_kind test entries) Deny
 

@@ -1,5 +1,5 @@
--- Which ACE decides a right (RFC 8881, section 6.2.1): of those that have it, take part and speak of the requester, the
--- first. Places are counted from 0 (this library's own).
+-- Which ACE decides a right (RFC 8881, section 6.2.1): the first of those that have it, take part and match the
+-- requester. Places are counted from 0 (this library's own).
 use Rattle.std.specs.Prelude.{ℕ, Bool, ◌&&◌, List, Option, None, option_map, position, slice_index_or}
 use Rattle.std.specs.List.{find}
 use Rattle.acl_perm.specs.Bits.{has_bit}
@@ -10,7 +10,7 @@ use Rattle.acl_eval.specs.Scan.{speaks}
 use Rattle.acl_eval.specs.declared.deciding.Decision.{Decision}
 use Rattle.acl_eval.specs.declared.deciding_all.Decisions.{Decisions}
 
--- the ACE has the bit, takes part and speaks of the requester
+-- the ACE has the bit, takes part and matches the requester
 abbrev pub decides : Situation → ℕ → Ace → Bool
 decides s bit a = has_bit a.mask bit && speaks s a
 
@@ -22,6 +22,6 @@ deciding_place list s bit = position (decides s bit) list
 abbrev pub deciding_kind : List Ace → Situation → ℕ → Option Kind
 deciding_kind list s bit = option_map (λ a. a.kind) (find (decides s bit) list)
 
--- what is held for the right with this bit
+-- what is kept for the right with this bit
 abbrev pub decision_of : Decisions → ℕ → Option Decision
 decision_of decisions bit = slice_index_or decisions.by_bit bit None

@@ -1,4 +1,4 @@
--- What a list grants (RFC 8881, section 6.2.1): for each bit the first ACE that has it, takes part and speaks of the
+-- What a list grants (RFC 8881, section 6.2.1): for each bit the first ACE that has it, takes part and matches the
 -- requester decides; a bit that no such ACE has is denied.
 use Rattle.std.specs.Prelude.{◌≡◌, ◌↔◌, ℕ, List, Bool, IsTrue}
 use Rattle.acl_perm.specs.Bits.{has_bit, IsSubset}

@@ -1,5 +1,5 @@
--- What an object that is created takes from the list of its parent: this library's own table, in the manner of RFC
--- 8881, section 6.4. The flags are those of its section 6.2.1.4.1.
+-- What a new object gets from the list of its parent: this library's own table, in the manner of RFC 8881, section 6.4.
+-- The flags are those of its section 6.2.1.4.1.
 use Rattle.std.specs.Prelude.{ℕ, bit_and, bit_or, if◌then◌else◌, List, filter_map, Option, None, Some, option_map}
 use Rattle.acl_perm.specs.Bits.{has_bit}
 use Rattle.acl_nfs4.specs.Ace.{Ace}
@@ -22,13 +22,12 @@ no_propagate_inherit = 2
 abbrev pub inherited : ℕ
 inherited = 7
 
--- the flags that say nothing of inheritance: SUCCESSFUL_ACCESS (0x10), FAILED_ACCESS (0x20) and IDENTIFIER_GROUP
--- (0x40)
+-- the flags that are not about inheritance: SUCCESSFUL_ACCESS (0x10), FAILED_ACCESS (0x20) and IDENTIFIER_GROUP (0x40)
 abbrev pub kept_at_the_end : ℕ
 kept_at_the_end = 0x70
 
--- the flags that say nothing of inheritance, and FILE_INHERIT (0x01), DIRECTORY_INHERIT (0x02) and NO_PROPAGATE_INHERIT
--- (0x04): all but INHERIT_ONLY and INHERITED
+-- the flags that are not about inheritance, and FILE_INHERIT (0x01), DIRECTORY_INHERIT (0x02) and NO_PROPAGATE_INHERIT
+-- (0x04): all flags except INHERIT_ONLY and INHERITED
 abbrev pub kept_on_the_way : ℕ
 kept_on_the_way = 0x77
 
@@ -36,19 +35,19 @@ kept_on_the_way = 0x77
 abbrev pub inherit_only_alone : ℕ
 inherit_only_alone = 0x08
 
--- the ACE is handed on no further
+-- the child does not pass the ACE on
 abbrev pub ends : ℕ → ℕ
 ends flags = bit_and flags kept_at_the_end
 
--- the ACE is handed on, and takes part
+-- the child passes the ACE on, and the ACE takes part
 abbrev pub goes_on : ℕ → ℕ
 goes_on flags = bit_and flags kept_on_the_way
 
--- the ACE is handed on, and takes no part
+-- the child passes the ACE on, and the ACE takes no part
 abbrev pub waits : ℕ → ℕ
 waits flags = bit_or (goes_on flags) inherit_only_alone
 
--- the flags of an ACE of the parent in the child, or none where the child doesn't have the ACE
+-- the flags of an ACE of the parent in the child, or none if the child does not have the ACE
 abbrev pub child_flags : ChildKind → ℕ → Option ℕ
 child_flags File flags = if has_bit flags file_inherit then Some (ends flags) else None
 child_flags Directory flags =
@@ -65,6 +64,6 @@ with_flags a flags = record { kind = a.kind; flags = flags; mask = a.mask; who =
 abbrev pub child_ace : ChildKind → Ace → Option Ace
 child_ace kind a = option_map (with_flags a) (child_flags kind a.flags)
 
--- the list of the child: what it has of each ACE, in order
+-- the list of the child: what it has from each ACE, in order
 abbrev pub children : ChildKind → List Ace → List Ace
 children kind list = filter_map (child_ace kind) list

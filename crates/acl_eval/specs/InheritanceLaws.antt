@@ -11,9 +11,9 @@ successful_access = 4
 abbrev pub failed_access : ℕ
 failed_access = 5
 
--- the flags f of an ACE in the child, by its flags in the parent and whether the child hands it on: FILE_INHERIT and
--- DIRECTORY_INHERIT are as they were if it does, and else clear; INHERIT_ONLY is set if it does and DIRECTORY_INHERIT
--- is clear; NO_PROPAGATE_INHERIT and INHERITED are clear; the other three flags are as they were
+-- the flags f of an ACE in the child, given its flags in the parent and whether the child passes it on: FILE_INHERIT
+-- and DIRECTORY_INHERIT are as they were if it does, and otherwise clear; INHERIT_ONLY is set if it does and
+-- DIRECTORY_INHERIT is clear; NO_PROPAGATE_INHERIT and INHERITED are clear; the other three flags are as they were
 pub record IsByFlag (is_handed_on : Bool) (flags f : ℕ) : Type 0 where
   pub file : has_bit f file_inherit ≡ (is_handed_on && has_bit flags file_inherit)
   pub directory : has_bit f directory_inherit ≡ (is_handed_on && has_bit flags directory_inherit)

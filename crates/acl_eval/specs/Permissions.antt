@@ -1,5 +1,5 @@
--- The bits of read, write and execute in a set of permissions (POSIX.1e draft 17, section 23.1.2), and those of the
--- rights that they stand for in a mask (RFC 8881, section 6.2.1.3.1).
+-- The bits of read, write and execute in a set of permissions (POSIX.1e draft 17, section 23.1.2), and the bits of
+-- their rights in a mask (RFC 8881, section 6.2.1.3.1).
 use Rattle.std.specs.Prelude.{ℕ}
 
 -- read, the permission 4

@@ -1,4 +1,4 @@
--- The evaluation as RFC 8881, section 6.2.1, words it: ACE by ACE, over the bits of the request that are left.
+-- The evaluation in the words of RFC 8881, section 6.2.1: ACE by ACE, over the bits of the request that are left.
 use Rattle.std.specs.Prelude.{ℕ, Bool, true, ◌&&◌, not, ◌==◌, if◌then◌else◌, List, [], ◌∷◌, bit_and, bit_xor}
 use Rattle.acl_perm.specs.Situation.{Situation, matches}
 use Rattle.acl_nfs4.specs.Ace.{Ace}
@@ -10,12 +10,12 @@ use Rattle.acl_eval.specs.Grant.{is_allow}
 abbrev pub speaks : Situation → Ace → Bool
 speaks s a = takes_part a && matches s (principal_of a)
 
--- the bits of one set that another has not
+-- the bits of one set that another does not have
 abbrev pub without : ℕ → ℕ → ℕ
 without bits others = bit_xor bits (bit_and bits others)
 
--- What is left of a request is granted: ACEs are gone over until all bits have been allowed. A bit that was allowed is
--- no longer looked at. A bit that is left and denied denies the request, and so does one that no ACE decides.
+-- The rest of a request is granted: ACEs are processed until all bits have been allowed. A bit that was allowed is no
+-- longer looked at. A bit of the rest that is denied denies the request, and so does a bit that no ACE decides.
 abbrev pub scan : List Ace → Situation → ℕ → Bool
 scan [] s left = left == 0
 scan (a ∷ list) s left = if left == 0 then true

@@ -1,4 +1,4 @@
--- What an object and a requester show, and the situation of both (this library's own types, in the words of RFC 8881,
+-- What an object and a requester hold, and the situation of both (this library's own types, in the words of RFC 8881,
 -- section 6.2.1.5).
 use Rattle.std.specs.Prelude.{ℕ, List, map}
 use Rattle.acl_perm.specs.Situation.{Situation}
@@ -21,7 +21,7 @@ user_of requester = requester.user.now
 abbrev pub groups_of : Requester → List (List ℕ)
 groups_of requester = map (λ g. g.now) requester.groups.names.now
 
--- the requester asks of the object
+-- the situation in which the requester requests access to the object
 abbrev pub situation : Object → Requester → Situation
 situation object requester = record {
   owner_name = owner_of object;

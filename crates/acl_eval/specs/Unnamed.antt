@@ -1,4 +1,4 @@
--- Lists without the ACEs of users and groups that they name (RFC 8881, section 6.3.2, has no part for these in a mode).
+-- Lists without the ACEs of user names and group names (RFC 8881, section 6.3.2, does not use these for a mode).
 use Rattle.std.specs.Prelude.{Bool, ◌||◌, List, filter}
 use Rattle.acl_perm.specs.Principal.{Principal}
 use Rattle.acl_nfs4.specs.Ace.{Ace}

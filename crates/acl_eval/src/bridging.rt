@@ -1,15 +1,15 @@
-//! The NFSv4 list that stands for a POSIX ACL, which is made part by part once its weight is known.
-ghost use Rattle.std.specs.Prelude.{◌≡◌, ◌≤◌, ◌↔◌, ◌==◌, ◌-◌, IsTrue, IfErr, IfOk, OnOk, [], ◌∷◌, bit_and, if◌then◌else◌};
+//! The NFSv4 list of a POSIX ACL. It is made part by part, after its weight is known.
+ghost use Rattle.std.specs.Prelude.{◌≡◌, ◌≤◌, ◌↔◌, ◌==◌, ◌-◌, IsTrue, IfErr, IfOk, OnOk, [], ◌∷◌, ◌++◌, bit_and, if◌then◌else◌};
 ghost use Rattle.std.specs.FinMap as set;
 ghost use Rattle.acl_perm.specs.Profile.{full};
 ghost use Rattle.acl_posix.specs.Tag.{tag_of};
 ghost use Rattle.acl_posix.specs.Entries.{pair_of};
 ghost use Rattle.acl_nfs4.specs.Spelling.{IsAccepted};
 ghost use Rattle.acl_eval.specs.Bridge.{IsBridgeFault, ace_of, allow_of, bridge_list, decide_of, deny_of, flags_of, image, is_group_tag, is_other_tag, is_user_tag, who_of};
-ghost use Rattle.acl_eval.specs.internal.BridgeBody.{Adds, cost_of, fault_of, part_of};
+ghost use Rattle.acl_eval.specs.internal.BridgeBody.{cost_of, part_of};
 
 use crate::permissions::{EXECUTE, READ, WRITE, WRITE_RIGHTS};
-use acl_nfs4::{AceRef, Acl, Flags, Kind, MOST_WEIGHT, Mask, PushFault};
+use acl_nfs4::{AceRef, Acl, Flags, Kind, MOST_WEIGHT, Mask};
 use acl_perm::Perm;
 use acl_posix::{Entry, PosixAcl, Tag};
 use itoa::Buffer;
@@ -22,7 +22,7 @@ pub enum BridgeFault {
     /// The list would have more than 65,536 ACEs, or more than 65,536 mask bits, over all its ACEs.
     #[error("Limits")]
     Limits,
-    /// There is no memory for the list.
+    /// Memory ran out for the list.
     #[error("out of memory")]
     Memory,
 }
@@ -48,12 +48,13 @@ enum Part {
     Others,
 }
 
-/// The NFSv4 list that stands for a POSIX access ACL (this library's own: neither RFC 8881 nor acl(5) has one). It has
-/// what USER_OBJ and each USER allow and deny, then what GROUP_OBJ and each GROUP allow, then what these deny, then
-/// what OTHER allows. Groups deny after all of them have allowed, since acl(5), "ACCESS CHECK ALGORITHM", asks whether
-/// any group's entry grants. Permissions are effective ones, read stands for READ_DATA, write for WRITE_DATA and
-/// APPEND_DATA, execute for EXECUTE, and names are decimal ids. `Limits` is judged before memory is asked for. Time is
-/// linear in the number of entries.
+/// Returns the NFSv4 list of a POSIX access ACL (this library's own: neither RFC 8881 nor acl(5) has one). It has what
+/// USER_OBJ and each USER allow and deny, then what GROUP_OBJ and each GROUP allow, then what these deny, then what
+/// OTHER allows. Groups deny after all groups have allowed, because acl(5), "ACCESS CHECK ALGORITHM", asks whether the
+/// entry of any group grants. Permissions are the effective ones. Read is READ_DATA, write is WRITE_DATA and
+/// APPEND_DATA, execute is EXECUTE, and names are decimal ids. Fails with `Limits` if the list would be above a limit,
+/// which is checked before memory is requested, and with `Memory` if memory runs out. Time is linear in the number of
+/// entries.
 ///
 /// ```rust
 /// let file = parse(alloc, b"u::rw-,g::r--,o::---", &Names::new(alloc))?;
@@ -62,14 +63,22 @@ enum Part {
 /// ```
 pub fn bridge(alloc: Global, acl: &PosixAcl) -> Result<Acl, BridgeFault>
     ensures list { IfOk result (λ list. list ≡ bridge_list acl.now) }
-    // A list is answered only where it is accepted.
+    // A list that is returned is accepted.
     ensures accepted { OnOk result (IsAccepted full (bridge_list acl.now)) }
-    // Limits is answered where it isn't and only there, before any memory is wanted.
+    // Limits is returned if and only if the list is not accepted, before any memory is requested.
     ensures fault { IfErr result (IsBridgeFault (bridge_list acl.now)) }
 {
     if !is_within(acl) {
         return Err(BridgeFault::Limits);
     }
+    Ok(bridged(alloc, acl)?)
+}
+
+// The list, where it is accepted. Only want of memory fails.
+fn bridged(alloc: Global, acl: &PosixAcl) -> Result<Acl, AllocError>
+    requires { IsAccepted full (bridge_list acl.now) }
+    ensures { IfOk result (λ list. list ≡ bridge_list acl.now) }
+{
     let mut list = Acl::new(alloc);
     push_part(&mut list, acl, Part::Users)?;
     push_part(&mut list, acl, Part::GroupAllows)?;
@@ -78,7 +87,7 @@ pub fn bridge(alloc: Global, acl: &PosixAcl) -> Result<Acl, BridgeFault>
     Ok(list)
 }
 
-// Whether the list is within the limits. Its weight tells, since no ACE is without a bit.
+// Whether the list is within the limits. Its weight decides this, because no ACE has an empty mask.
 fn is_within(acl: &PosixAcl) -> bool
     ensures { IsTrue result ↔ IsAccepted full (bridge_list acl.now) }
 {
@@ -93,7 +102,7 @@ fn is_within(acl: &PosixAcl) -> bool
     true
 }
 
-// The number of mask bits that an entry costs, over all its ACEs.
+// The number of mask bits of an entry, over all its ACEs.
 fn cost_of(entry: Entry) -> u32
     ensures cost { result ≡ cost_of (tag_of entry.tag) entry.perm.bits }
     ensures small { result ≤ 32 }
@@ -105,9 +114,11 @@ fn cost_of(entry: Entry) -> u32
     }
 }
 
-// Adds one part of the list.
-fn push_part(list: &mut Acl, acl: &PosixAcl, part: Part) -> Result<(), BridgeFault>
-    ensures { Adds list.old list.new (part_of acl.now part (set.entries acl.now)) result }
+// Adds one part of the list. It is inlined for each part, so that an entry of another part costs a test alone.
+#[inline(always)]
+fn push_part(list: &mut Acl, acl: &PosixAcl, part: Part) -> Result<(), AllocError>
+    requires { IsAccepted full (list.old ++ part_of acl.now part (set.entries acl.now)) }
+    ensures { OnOk result (list.new ≡ list.old ++ part_of acl.now part (set.entries acl.now)) }
 {
     let entries = acl.entries();
     for entry in entries {
@@ -116,9 +127,11 @@ fn push_part(list: &mut Acl, acl: &PosixAcl, part: Part) -> Result<(), BridgeFau
     Ok(())
 }
 
-// Adds what one entry has in a part.
-fn push_entry(list: &mut Acl, acl: &PosixAcl, entry: Entry, part: Part) -> Result<(), BridgeFault>
-    ensures { Adds list.old list.new (part_of acl.now part (pair_of entry ∷ [])) result }
+// Adds the ACEs of one entry in a part.
+#[inline(always)]
+fn push_entry(list: &mut Acl, acl: &PosixAcl, entry: Entry, part: Part) -> Result<(), AllocError>
+    requires { IsAccepted full (list.old ++ part_of acl.now part (pair_of entry ∷ [])) }
+    ensures { OnOk result (list.new ≡ list.old ++ part_of acl.now part (pair_of entry ∷ [])) }
 {
     match part {
         Part::Users if is_user_tag(entry.tag) => push_decided(list, acl, entry),
@@ -147,66 +160,70 @@ fn is_other_tag(tag: Tag) -> bool
     matches!(tag, Tag::Other)
 }
 
-// Adds what an entry allows, and then what it denies.
-fn push_decided(list: &mut Acl, acl: &PosixAcl, entry: Entry) -> Result<(), BridgeFault>
-    ensures { Adds list.old list.new (decide_of acl.now (pair_of entry)) result }
+// Adds what an entry allows, and then what it denies. Its name is written once for both.
+fn push_decided(list: &mut Acl, acl: &PosixAcl, entry: Entry) -> Result<(), AllocError>
+    requires { IsAccepted full (list.old ++ decide_of acl.now (pair_of entry)) }
+    ensures { OnOk result (list.new ≡ list.old ++ decide_of acl.now (pair_of entry)) }
 {
-    push_allowed(list, acl, entry)?;
-    push_denied(list, acl, entry)
+    let mut digits = Buffer::new();
+    let who = who_of(entry.tag, &mut digits);
+    let allowed = acl.effective(entry);
+    push_ace(list, Kind::Allow, entry.tag, allowed, who)?;
+    push_ace(list, Kind::Deny, entry.tag, rest_of(allowed), who)
 }
 
 // Adds what an entry allows.
-fn push_allowed(list: &mut Acl, acl: &PosixAcl, entry: Entry) -> Result<(), BridgeFault>
-    ensures { Adds list.old list.new (allow_of acl.now (pair_of entry)) result }
+fn push_allowed(list: &mut Acl, acl: &PosixAcl, entry: Entry) -> Result<(), AllocError>
+    requires { IsAccepted full (list.old ++ allow_of acl.now (pair_of entry)) }
+    ensures { OnOk result (list.new ≡ list.old ++ allow_of acl.now (pair_of entry)) }
 {
-    push_ace(list, Kind::Allow, entry.tag, acl.effective(entry))
+    let mut digits = Buffer::new();
+    let who = who_of(entry.tag, &mut digits);
+    push_ace(list, Kind::Allow, entry.tag, acl.effective(entry), who)
 }
 
 // Adds what an entry denies.
-fn push_denied(list: &mut Acl, acl: &PosixAcl, entry: Entry) -> Result<(), BridgeFault>
-    ensures { Adds list.old list.new (deny_of acl.now (pair_of entry)) result }
+fn push_denied(list: &mut Acl, acl: &PosixAcl, entry: Entry) -> Result<(), AllocError>
+    requires { IsAccepted full (list.old ++ deny_of acl.now (pair_of entry)) }
+    ensures { OnOk result (list.new ≡ list.old ++ deny_of acl.now (pair_of entry)) }
 {
-    push_ace(list, Kind::Deny, entry.tag, rest_of(acl.effective(entry)))
+    let mut digits = Buffer::new();
+    let who = who_of(entry.tag, &mut digits);
+    push_ace(
+        list,
+        Kind::Deny,
+        entry.tag,
+        rest_of(acl.effective(entry)),
+        who,
+    )
 }
 
-// What is denied where these permissions are allowed.
+// The permissions that are denied if these are allowed.
 fn rest_of(perm: Perm) -> Perm
     ensures { result.bits ≡ 7 - perm.bits }
 {
     Perm::ALL.difference(perm)
 }
 
-// Adds the ACE of a tag with these permissions. Where there are none it adds no ACE, so none is without a bit.
-fn push_ace(list: &mut Acl, kind: Kind, tag: Tag, perm: Perm) -> Result<(), BridgeFault>
-    ensures { Adds list.old list.new (ace_of kind (tag_of tag) perm.bits) result }
+// Adds the ACE of a tag with its name and these permissions. Where there are none it adds no ACE, so none is without a
+// bit.
+fn push_ace(list: &mut Acl, kind: Kind, tag: Tag, perm: Perm, who: &[u8]) -> Result<(), AllocError>
+    requires named { who.now ≡ who_of (tag_of tag) }
+    requires accepted { IsAccepted full (list.old ++ ace_of kind (tag_of tag) perm.bits) }
+    ensures { OnOk result (list.new ≡ list.old ++ ace_of kind (tag_of tag) perm.bits) }
 {
     if perm.bits == 0 {
         return Ok(());
     }
-    let mut digits = Buffer::new();
-    let item = AceRef {
+    list.push_accepted(AceRef {
         kind,
         flags: flags_of(tag),
         mask: image(perm),
-        who: who_of(tag, &mut digits),
-    };
-    match list.push(item) {
-        Ok(()) => Ok(()),
-        Err(fault) => Err(fault_of(fault)),
-    }
+        who,
+    })
 }
 
-// Names are always accepted, so what refuses an ACE is one of the limits, or want of memory.
-fn fault_of(fault: PushFault) -> BridgeFault
-    ensures { result ≡ fault_of fault }
-{
-    match fault {
-        PushFault::Memory => BridgeFault::Memory,
-        _ => BridgeFault::Limits,
-    }
-}
-
-// The name of a tag, written into the buffer where it is a number.
+// The name of a tag. A number is written into the buffer.
 fn who_of<'a>(tag: Tag, digits: &'a mut Buffer) -> &'a [u8]
     ensures { result.now ≡ who_of (tag_of tag) }
 {
@@ -228,7 +245,7 @@ fn flags_of(tag: Tag) -> Flags
     }
 }
 
-// The rights that permissions stand for.
+// The rights of permissions.
 fn image(perm: Perm) -> Mask
     ensures { result.bits ≡ image perm.bits }
 {
@@ -237,7 +254,7 @@ fn image(perm: Perm) -> Mask
         | rights_of(perm, EXECUTE, Mask::EXECUTE)
 }
 
-// The rights of one permission, where it is there.
+// The rights of one permission, if it is there.
 fn rights_of(perm: Perm, permission: Perm, rights: Mask) -> Mask
     ensures { result.bits
         ≡ (if bit_and perm.bits permission.bits == permission.bits then rights.bits else 0) }

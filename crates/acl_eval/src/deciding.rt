@@ -1,4 +1,4 @@
-//! The ACE that decides one right, for whoever wants to know why a request was granted or denied.
+//! The ACE that decides one right, for callers that want to know why a request was granted or denied.
 ghost use Rattle.std.specs.Prelude.{◌≡◌, option_map};
 ghost use Rattle.acl_eval.specs.Deciding.{decides, deciding_kind, deciding_place};
 ghost use Rattle.acl_eval.specs.Situation.{situation};
@@ -13,15 +13,15 @@ use acl_perm::{Kind, Right};
 /// The ACE that decides a right.
 #[derive(Clone, Copy, Debug, PartialEq, Eq)]
 pub struct Decision {
-    /// Its place in the list, from 0.
+    /// The place of the ACE in the list, from 0.
     pub place: usize,
-    /// Whether it denies or allows.
+    /// Whether the ACE denies or allows.
     pub kind: Kind,
 }
 
-/// The ACE that decides the right for the requester of the object, by RFC 8881, section 6.2.1: the first of those
-/// without INHERIT_ONLY that has it and speaks of the requester; none where no ACE does, which denies the right. It
-/// goes over the list once, ends at that ACE, and takes no memory.
+/// Returns the ACE that decides the right for this requester and object, by RFC 8881, section 6.2.1: the first ACE
+/// without INHERIT_ONLY that has the right and matches the requester. Returns `None` if no ACE does, which denies the
+/// right. It reads the list once, stops at that ACE, and takes no memory.
 ///
 /// ```rust
 /// let list = parse_text(alloc, b"ALLOW - READ_DATA bob\nDENY - WRITE_DATA bob")?;
@@ -49,7 +49,7 @@ pub fn deciding_ace(
 fn first_deciding(aces: Aces<'_>, standing: &Standing<'_>, right: Right) -> Option<Decision>
     ensures { result ≡ decision_from 0 (decides (asked standing.now) right.bit) aces.entry }
 {
-    // No place passes the number of ACEs, which has a `usize`.
+    // No place is above the number of ACEs, which fits a `usize`.
     let _number = aces.len();
     let mut place = 0;
     for ace in aces {

@@ -48,7 +48,7 @@ impl Decisions {
     }
 }
 
-/// Finds for each right the ACE that decides it for the requester of the object: what `deciding_ace` finds, for all
+/// Finds for each right the ACE that decides it for this requester and object: what `deciding_ace` finds, for all
 /// sixteen rights at once. The function reads the list once, stops when every right is decided, and allocates no
 /// memory.
 pub fn deciding_aces(aces: Aces<'_>, object: &Object<'_>, requester: &Requester<'_>) -> Decisions
@@ -66,7 +66,7 @@ fn decisions_of(aces: Aces<'_>, standing: &Standing<'_>) -> Decisions
     ensures { (bit : ℕ) → IsTrue (has_bit all_rights bit)
         → decision_of result bit ≡ decision_from 0 (decides (asked standing.now) bit) aces.entry }
 {
-    // No place passes the number of ACEs, which has a `usize`.
+    // No place is above the number of ACEs, which fits a `usize`.
     let _number = aces.len();
     let mut so_far = SoFar::new();
     let mut place = 0;
@@ -98,7 +98,7 @@ impl SoFar {
         }
     }
 
-    // Notes the rights that the ACE at this place decides: those that are left, if it speaks of the requester.
+    // Notes the rights that the ACE at this place decides: those that are left, if the ACE matches the requester.
     fn meet(&mut self, place: usize, item: &AceRef<'_>, standing: &Standing<'_>)
         requires { 1 ≤ length item.now.who.now }
         ensures found { (list : List Ace) (bit : ℕ)

@@ -1,21 +1,24 @@
 //! Whether a list grants a request.
-ghost use Rattle.std.specs.Prelude.{◌≡◌, ◌↔◌, IsTrue};
-ghost use Rattle.acl_eval.specs.Situation.{situation};
+ghost use Rattle.std.specs.Prelude.{◌≡◌, ◌↔◌, IfOk, IsTrue};
+ghost use Rattle.acl_eval.specs.Situation.{groups_of, situation};
+ghost use Rattle.acl_eval.specs.internal.GroupTable.{HoldsGroups};
 ghost use Rattle.acl_eval.specs.Grant.{Grant};
 ghost use Rattle.acl_eval.specs.Scan.{scan};
 ghost use Rattle.acl_eval.specs.internal.Asked.{asked};
 
+use crate::group_table::GroupTable;
 use crate::situation::{Object, Requester};
 use crate::standing::Standing;
-use acl_nfs4::Aces;
+use acl_nfs4::{Aces, AclView};
 use acl_perm::{Kind, Mask};
+use std::alloc::{AllocError, Global};
 
 /// Whether the list grants the requester the whole mask on the object, by RFC 8881, section 6.2.1: of the ACEs without
 /// INHERIT_ONLY, the first that has a bit and speaks of the requester decides it, and what no ACE decides is denied.
 /// The empty mask is granted. It goes over the list once, ends as soon as the answer is known, and takes no memory.
-/// An ACE of a group looks its name up among the requester's groups: by halves where these are more than 128 and stand
+/// An ACE of a group looks its name up among the requester's groups: by halves where these are more than 16 and stand
 /// in the order of their bytes, and else one by one, which at 1,000 groups costs up to a microsecond. So at worst the
-/// cost is the number of ACEs times that of groups.
+/// cost is the number of ACEs times that of groups; for many groups there is `grants_by_table`.
 ///
 /// ```rust
 /// let list = parse_text(alloc, b"ALLOW - READ_DATA|WRITE_DATA bob")?;
@@ -31,7 +34,55 @@ pub fn grants(aces: Aces<'_>, object: &Object<'_>, requester: &Requester<'_>, ma
     scan(aces, &Standing::new(*object, *requester), mask.bits())
 }
 
-// Whether what is left of a request is granted.
+/// Returns whether the list grants the request, as `grants` does, for a requester in many groups. Where it saves time,
+/// the groups are put into a hash table first. Each group of the list is then looked up in constant time, in whatever
+/// order the groups of the requester are. The seed of the hashes is fixed: names that are chosen so that their hashes
+/// are equal are looked up one by one. Returns an error if there is no memory for the table.
+///
+/// ```rust
+/// let list = parse_text(alloc, b"DENY GROUP WRITE_DATA staff\nALLOW - WRITE_DATA EVERYONE@")?;
+/// let object = Object::new(b"alice", b"staff").ok_or("a name is empty")?;
+/// let bob = Requester::new(b"bob", &[b"users", b"staff"]).ok_or("a name is empty")?;
+/// let may_write = grants_by_table(alloc, &list.view(), &object, &bob, Mask::WRITE_DATA)?;
+/// assert!(rt; !may_write);
+/// ```
+pub fn grants_by_table(
+    alloc: Global,
+    list: &AclView<'_>,
+    object: &Object<'_>,
+    requester: &Requester<'_>,
+    mask: Mask,
+) -> Result<bool, AllocError>
+    ensures { IfOk result (λ granted. IsTrue granted
+        ↔ Grant list.now (situation object.now requester.now) mask.bits) }
+{
+    if !requester.is_worth_a_table(list.len()) {
+        return Ok(grants(list.aces(), object, requester, mask));
+    }
+    let table = GroupTable::new(alloc, requester.groups())?;
+    Ok(is_granted_by(list.aces(), object, requester, &table, mask))
+}
+
+// Whether the list grants the request, where the groups are in a table.
+#[tactic(auto, using(crate::proofs::Scans::scan_is))]
+fn is_granted_by(
+    aces: Aces<'_>,
+    object: &Object<'_>,
+    requester: &Requester<'_>,
+    table: &GroupTable<'_>,
+    mask: Mask,
+) -> bool
+    requires { HoldsGroups table.now (groups_of requester.now) }
+    ensures { IsTrue result ↔ Grant aces.entry (situation object.now requester.now) mask.bits }
+{
+    scan(
+        aces,
+        &Standing::with_table(*object, *requester, Some(table)),
+        mask.bits(),
+    )
+}
+
+// Whether the rest of a request is granted.
 #[tactic(auto, using(crate::proofs::Scans::none_left))]
 fn scan(aces: Aces<'_>, standing: &Standing<'_>, mut left: u32) -> bool
     ensures { result ≡ scan aces.entry (asked standing.now) left }

@@ -66,8 +66,8 @@ impl SoFar {
         }
     }
 
-    // After one more ACE, which decides only what no ACE before it has. The mask is judged before the who, which costs
-    // more.
+    // The state after one more ACE, which decides only what no earlier ACE has decided. The mask is judged before the
+    // who, which takes more time.
     #[inline(always)]
     fn after(self, item: &AceRef<'_>, standing: &Standing<'_>) -> SoFar
         requires { 1 ≤ length item.now.who.now }
@@ -81,7 +81,7 @@ impl SoFar {
         self.decide(item.kind, item.mask)
     }
 
-    // After an ACE that speaks of the requester.
+    // The state after an ACE that matches the requester.
     #[tactic(auto)]
     fn decide(self, kind: Kind, mask: Mask) -> SoFar
         ensures { (is_granted : Bool) (bit : ℕ) → decided_by result is_granted bit

@@ -4,10 +4,10 @@ ghost use Rattle.std.specs.List.{list_any};
 ghost use Rattle.std.specs.Str.{bytes_eq};
 ghost use Rattle.acl_eval.specs.internal.GroupOrder.{AreInOrder};
 
-// Few names are gone over faster than by halves.
-const FEW: usize = 128;
+// Few names are looked up one by one faster than by halves or in a table.
+const FEW: usize = 16;
 
-/// The names of groups, and whether they are many and known to stand in the order of their bytes.
+/// The names of groups, and whether they are many and known to be in the order of their bytes.
 #[derive(Clone, Copy, Debug)]
 pub(crate) struct Groups<'a> {
     names: &'a [&'a [u8]],
@@ -16,7 +16,7 @@ pub(crate) struct Groups<'a> {
 }
 
 impl<'a> Groups<'a> {
-    /// Groups of these names.
+    /// Makes the groups of these names.
     pub(crate) fn new(names: &'a [&'a [u8]]) -> Self
         ensures { result.names.now ≡ names.entry.now }
     {
@@ -26,14 +26,24 @@ impl<'a> Groups<'a> {
         }
     }
 
-    /// The names.
+    /// Returns the names.
     pub(crate) fn names(&self) -> &'a [&'a [u8]]
         ensures { result.now ≡ self.now.names.now }
     {
         self.names
     }
 
-    /// Whether one of the groups has the name.
+    /// Whether so many look-ups take longer than to make a table of the names. A look-up by halves takes about as long
+    /// as to put four names into a table.
+    pub(crate) fn are_worth_a_table(&self, look_ups: usize) -> bool {
+        if self.in_order {
+            look_ups > self.names.len() / 4
+        } else {
+            look_ups > FEW && self.names.len() > FEW
+        }
+    }
+
+    /// Returns whether one of the groups has the name.
     pub(crate) fn contains(&self, name: &[u8]) -> bool
         ensures { result ≡ list_any (λ g. bytes_eq name.now g.now) self.now.names.now }
     {
@@ -45,14 +55,14 @@ impl<'a> Groups<'a> {
     }
 }
 
-// Whether no name comes after the next.
+// Returns whether no name comes after the next name.
 fn are_in_order(names: &[&[u8]]) -> bool
     ensures { result ≡ true → AreInOrder names.now }
 {
     names.is_sorted()
 }
 
-// Whether the name is one of names in order, by halves.
+// Returns whether the name is one of these names, which are in order, by binary search.
 fn is_found(names: &[&[u8]], name: &[u8]) -> bool
     requires { AreInOrder names.now }
     ensures { result ≡ list_any (λ g. bytes_eq name.now g.now) names.now }
@@ -60,7 +70,7 @@ fn is_found(names: &[&[u8]], name: &[u8]) -> bool
     names.binary_search(&name).is_ok()
 }
 
-// Whether the name is one of names in any order, one by one.
+// Returns whether the name is one of these names, which are in any order, one by one.
 fn is_met(names: &[&[u8]], name: &[u8]) -> bool
     ensures { result ≡ list_any (λ g. bytes_eq name.now g.now) names.now }
 {

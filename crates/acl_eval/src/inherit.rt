@@ -1,4 +1,4 @@
-//! What a new object inherits of the list of its directory.
+//! What a new object inherits from the list of its directory.
 ghost use Rattle.std.specs.Prelude.{◌≡◌, IfOk, IsTrue, option_map};
 ghost use Rattle.acl_perm.specs.Bits.{has_bit, inherit_only};
 ghost use Rattle.acl_perm.specs.Profile.{Profile};
@@ -18,10 +18,10 @@ pub enum ChildKind {
     Directory,
 }
 
-/// The list that a new object takes from `parent`, the list of the directory in which it is created (this library's
-/// own, in the manner of RFC 8881, section 6.4). Its ACEs are those of the parent that are inherited, in order and as
-/// they were, but for the flags that speak of inheritance. Time is linear in the bytes of the parent, and only want of
-/// memory fails.
+/// Returns the list that a new object gets from `parent`, the list of the directory in which it is created (this
+/// library's own, in the manner of RFC 8881, section 6.4). It has the ACEs of the parent that are inherited, in order
+/// and unchanged except for the flags of inheritance. Time is linear in the bytes of the parent. Fails only if memory
+/// runs out.
 ///
 /// ```rust
 /// let parent = parse_text(alloc, b"ALLOW FILE READ_DATA bob\nDENY - WRITE_DATA bob")?;
@@ -30,7 +30,7 @@ pub enum ChildKind {
 /// ```
 pub fn child(alloc: Global, parent: &Acl, kind: ChildKind) -> Result<Acl, AllocError>
     ensures ok { IfOk result (λ list. list ≡ children kind parent.now) }
-    // A profile with INHERIT_ONLY that the parent fits, the child fits.
+    // If the parent fits a profile with INHERIT_ONLY, the child fits it.
     ensures fits { IfOk result (λ list. (p : Profile) → IsTrue (has_bit p.flags inherit_only)
         → Fits p parent.now → Fits p list) }
 {
@@ -46,7 +46,7 @@ pub fn child_of_view(
     kind: ChildKind,
 ) -> Result<Acl, AllocError>
     ensures ok { IfOk result (λ list. list ≡ children kind parent.now) }
-    // A profile with INHERIT_ONLY that the parent fits, the child fits.
+    // If the parent fits a profile with INHERIT_ONLY, the child fits it.
     ensures fits { IfOk result (λ list. (p : Profile) → IsTrue (has_bit p.flags inherit_only)
         → Fits p parent.now → Fits p list) }
 {
@@ -59,12 +59,12 @@ pub fn child_of_view(
     Ok(list)
 }
 
-// What an ACE that is handed on no further keeps of its flags: those that say nothing of inheritance.
+// The flags that an ACE keeps if the child does not pass it on: those that are not about inheritance.
 const KEPT_AT_THE_END: Flags = Flags {
     bits: Flags::SUCCESSFUL_ACCESS.bits | Flags::FAILED_ACCESS.bits | Flags::IDENTIFIER_GROUP.bits,
 };
 
-// What an ACE that is handed on keeps of its flags: also those that say to what it is handed on.
+// The flags that an ACE keeps if the child passes it on: also those that say to which objects.
 const KEPT_ON_THE_WAY: Flags = Flags {
     bits: KEPT_AT_THE_END.bits
         | Flags::FILE_INHERIT.bits
@@ -72,7 +72,7 @@ const KEPT_ON_THE_WAY: Flags = Flags {
         | Flags::NO_PROPAGATE_INHERIT.bits,
 };
 
-// The flags of an ACE in the child, where the child has it.
+// The flags of an ACE in the child, if the child has it.
 #[tactic(auto, using(crate::proofs::Bits::single_bits))]
 fn inherited(kind: ChildKind, flags: Flags) -> Option<Flags>
     ensures { option_map (λ f. f.bits) result ≡ child_flags kind flags.bits }

@@ -1,4 +1,4 @@
-//! Laws of the evaluation, and of the list that stands for a POSIX ACL.
+//! Laws of the evaluation, and of the list of a POSIX ACL.
 ghost use Rattle.std.specs.Prelude.{◌≡◌, ◌↔◌, ◌^◌, ℕ, List, IsTrue, None, Some, false, not, true};
 ghost use Rattle.acl_perm.specs.Bits.{has_bit, IsMask, inherit_only};
 ghost use Rattle.acl_perm.specs.Situation.{Situation, is_one_of};
@@ -23,14 +23,14 @@ ghost use Rattle.acl_eval.specs.Unnamed.{unnamed};
 use acl_perm::Perm;
 use acl_posix::{Id, PosixAcl};
 
-/// Whether two lists grant the same is an equivalence, within each set of rights.
+/// Granting the same is an equivalence of lists, within each set of rights.
 #[tactic(auto, using(crate::proofs::Same::equivalence))]
 pub fn same_grants_is_an_equivalence()
     ensures { (rights : ℕ) → IsEquivalence (SameGrants rights) }
 {}
 
-/// Two lists grant the same within a set of rights exactly if each bit of it is granted alike in every situation, and
-/// exactly if its columns decide alike.
+/// Two lists grant the same within a set of rights if and only if both grant each bit of it in the same situations, and
+/// if and only if their columns of these bits decide alike.
 pub fn same_grants_bit_by_bit()
     ensures bits { (rights : ℕ) (list other : List Ace)
         → SameGrants rights list other ↔ SameBits rights list other }
@@ -38,15 +38,15 @@ pub fn same_grants_bit_by_bit()
         → SameGrants rights list other ↔ SameColumns rights list other }
 {}
 
-/// Going over the list ACE by ACE, as RFC 8881, section 6.2.1, words it, grants a request exactly if each of its bits
-/// is granted by itself.
+/// The scan of the list ACE by ACE, in the words of RFC 8881, section 6.2.1, grants a request if and only if each of
+/// its bits is granted by itself.
 #[tactic(auto, using(crate::proofs::Scans::scan_is))]
 pub fn scan_is_bit_by_bit()
     ensures { (list : List Ace) (s : Situation) (request : ℕ) → IsMask request
         → IsTrue (scan list s request) ↔ Grant list s request }
 {}
 
-/// A request is granted exactly if an ALLOW decides each of its rights.
+/// A request is granted if and only if an ALLOW decides each of its rights.
 pub fn allows_decide_what_is_granted()
     ensures { (list : List Ace) (s : Situation) (request : ℕ) → Grant list s request
         ↔ ((bit : ℕ) → IsTrue (has_bit request bit) → deciding_kind list s bit ≡ Some Allow) }
@@ -71,7 +71,8 @@ pub fn groups_are_a_set()
         → Grant list s request ↔ Grant list t request }
 {}
 
-/// The flags of an ACE in a new file: none of inheritance, where the ACE has FILE_INHERIT, and else the ACE is absent.
+/// The flags of an ACE in a new file: no flag of inheritance, if the ACE has FILE_INHERIT; otherwise the file does not
+/// have the ACE.
 #[tactic(auto, using(crate::proofs::Children::table))]
 pub fn files_inherit()
     ensures inherited { (flags : ℕ) → has_bit flags file_inherit ≡ true
@@ -98,7 +99,7 @@ pub fn directories_inherit()
         → child_flags Directory flags ≡ None }
 {}
 
-/// The flags of an ACE in a new object, flag by flag: it is handed on no further in a file, and in a directory where it
+/// The flags of an ACE in a new object, flag by flag. A file does not pass the ACE on, nor does a directory if the ACE
 /// has NO_PROPAGATE_INHERIT.
 pub fn flag_by_flag()
     ensures files { (flags f : ℕ) → child_flags File flags ≡ Some f → IsByFlag false flags f }
@@ -106,7 +107,7 @@ pub fn flag_by_flag()
         → IsByFlag (not (has_bit flags no_propagate_inherit)) flags f }
 {}
 
-/// ACEs of user names and of group names have no part in a mode.
+/// ACEs of user names and of group names do not change a mode.
 pub fn names_have_no_mode()
     ensures { (list : List Ace) → mode_of_list (unnamed list) ≡ mode_of_list list }
 {}
@@ -118,12 +119,12 @@ pub fn children_are_accepted()
         → IsAccepted p list → IsAccepted p (children kind list) }
 {}
 
-/// The list of a valid POSIX ACL grants what the access check grants: of read, write and execute each alone exactly
-/// what it grants, and of any set at least what it grants.
+/// The list of a valid POSIX ACL grants read, write or execute alone if and only if the access check grants it, and
+/// grants every set of permissions that the check grants.
 pub fn bridge_grants()
-    // One permission is granted by both or by neither.
+    // Both grant one permission or neither does.
     ensures single { GrantsSingles }
-    // What the check grants together, the list grants together.
+    // The list grants together what the check grants together.
     ensures together { KeepsGrants }
 {}
 
@@ -131,23 +132,23 @@ pub fn bridge_grants()
 pub fn bridge_names()
     // Different ids have different names.
     ensures differ { NamesDiffer }
-    // Each name is accepted, and none is a special identifier.
+    // Each name is valid, and none is a special identifier.
     ensures stand { NamesStand }
 {}
 
-/// Of a valid ACL the list is accepted exactly if it is within the limits of length and weight.
+/// The list of a valid ACL is accepted if and only if it is within the limits of length and weight.
 pub fn bridge_limits()
     ensures { OnlyLimitsRefuse }
 {}
 
-/// Over the list of an ACL, `grants` answers names as `PosixAcl::check` answers their ids: the same of read, write and
-/// execute each alone, and of any set it grants at least what the check grants.
+/// Over the list of an ACL, `grants` answers for names as `PosixAcl::check` answers for their ids: the same for read,
+/// write and execute each alone, and for any set at least what the check grants.
 pub fn bridge_and_check(acl: &PosixAcl, owner: Id, group: Id, user: Id, groups: &[Id], want: Perm)
     ensures { AnswersAlike acl.now
         (record { user = owner.value; group = group.value })
         (record { user = user.value; groups = ids groups.now })
         want.bits }
 {
-    // The entries of an ACL are valid, and the law is one of valid entries.
+    // The entries of an ACL are valid, and the law is about valid entries.
     let _entries = acl.entries();
 }

@@ -1,4 +1,5 @@
-//! Who may do what under a list of ACEs, what a new object inherits of it, its mode, and the list of a POSIX ACL.
+//! Who may do what under a list of ACEs, what a new object inherits from the list, its mode, and the list of a POSIX
+//! ACL.
 #![tactic(auto)]
 
 mod bridging;
@@ -10,6 +11,7 @@ mod deciding_all;
 mod example;
 mod grant;
 mod granting;
+mod group_table;
 mod groups;
 mod inherit;
 pub mod laws;
@@ -25,7 +27,7 @@ mod tests;
 pub use bridging::{BridgeFault, bridge};
 pub use deciding::{Decision, deciding_ace};
 pub use deciding_all::{Decisions, deciding_aces};
-pub use grant::grants;
+pub use grant::{grants, grants_by_table};
 pub use granting::granted;
 pub use inherit::{ChildKind, child, child_of_view};
 pub use mode::mode_of;

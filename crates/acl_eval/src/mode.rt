@@ -12,9 +12,9 @@ use crate::permissions::{EXECUTE, READ, WRITE, WRITE_RIGHTS};
 use acl_nfs4::{AceRef, Aces};
 use acl_perm::{Kind, Mask, Mode, Perm, Principal};
 
-/// The file mode bits of a list (RFC 8881, section 6.3.2): for the owner what the ACEs of `OWNER@` and `EVERYONE@`
-/// grant, for the group what those of `GROUP@` and `EVERYONE@` do, for others what those of `EVERYONE@` do. It goes
-/// over the list once, and takes no memory.
+/// Returns the file mode bits of a list (RFC 8881, section 6.3.2): for the owner what the ACEs of `OWNER@` and
+/// `EVERYONE@` grant, for the group what those of `GROUP@` and `EVERYONE@` grant, and for others what those of
+/// `EVERYONE@` grant. It reads the list once, and takes no memory.
 ///
 /// ```rust
 /// let list = parse_text(alloc, b"ALLOW - READ_DATA|EXECUTE EVERYONE@")?;
@@ -36,7 +36,7 @@ pub fn mode_of(aces: Aces<'_>) -> Mode
     Mode::from_parts(owner.perm(), group.perm(), others.perm())
 }
 
-// Whom one octal digit of a mode speaks of.
+// The users of one octal digit of a mode.
 #[derive(Clone, Copy)]
 enum FileClass {
     Owner,
@@ -76,7 +76,7 @@ impl Decided {
         }
     }
 
-    // What is decided after one more ACE, which names this principal: it decides only what no ACE before it has.
+    // The state after one more ACE, which names this principal. It decides only what no earlier ACE has decided.
     #[tactic(auto)]
     fn after(self, item: &AceRef<'_>, class: FileClass, whom: Principal<'_>) -> Decided
         requires { principal whom ≡ principal_of (ace item.now) }
@@ -126,7 +126,7 @@ fn can_execute(granted: Mask) -> bool
     granted.contains(Mask::EXECUTE)
 }
 
-// The permission where it is granted, and else none.
+// The permission if it is granted, and otherwise none.
 fn part(perm: Perm, is_granted: bool) -> Perm
     ensures { result.bits ≡ (if is_granted then perm.bits else 0) }
 {

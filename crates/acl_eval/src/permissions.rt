@@ -1,4 +1,4 @@
-//! Read, write and execute, and the rights that each stands for: the mode reads them one way, the bridge the other.
+//! Read, write and execute, and the rights of each. The mode uses them in one direction, the bridge in the other.
 
 use acl_perm::{Mask, Perm};
 
@@ -8,7 +8,7 @@ pub(crate) const WRITE: Perm = Perm { bits: 2 };
 
 pub(crate) const EXECUTE: Perm = Perm { bits: 1 };
 
-/// To write is to change what is there and to add to it.
+/// To write is to change the data that is there and to add to it.
 pub(crate) const WRITE_RIGHTS: Mask = Mask {
     bits: Mask::WRITE_DATA.bits | Mask::APPEND_DATA.bits,
 };

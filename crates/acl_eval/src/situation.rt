@@ -1,4 +1,4 @@
-//! Who asks, and of whose object: no name of these is empty.
+//! A requester, and an object with its owner and group. No name is empty.
 ghost use Rattle.std.specs.Prelude.{◌≡◌, ◌<◌, ◌↔◌, IfSome, IsSome, IsTrue, All, length, map};
 ghost use Rattle.std.specs.List.{list_any};
 ghost use Rattle.std.specs.Str.{bytes_eq};
@@ -6,7 +6,7 @@ ghost use Rattle.acl_eval.specs.Situation.{groups_of, owner_of, owning_group_of,
 
 use crate::groups::Groups;
 
-/// What is asked for: an object's owner and its owning group.
+/// The object of a request: its owner and its owning group.
 #[derive(Clone, Copy, Debug)]
 pub struct Object<'a> {
     owner: &'a [u8],
@@ -14,7 +14,7 @@ pub struct Object<'a> {
 }
 
 impl<'a> Object<'a> {
-    /// An object of these names, which stay where they are. None where one is empty.
+    /// Makes an object of these names, which it borrows. Returns `None` if one of them is empty.
     ///
     /// ```rust
     /// let object = Object::new(b"alice", b"staff");
@@ -46,7 +46,7 @@ impl<'a> Object<'a> {
     }
 }
 
-/// Who asks: a user, and the groups of that user.
+/// Who requests access: a user, and the groups of that user.
 #[derive(Clone, Copy, Debug)]
 pub struct Requester<'a> {
     user: &'a [u8],
@@ -54,9 +54,9 @@ pub struct Requester<'a> {
 }
 
 impl<'a> Requester<'a> {
-    /// A requester of these names, which stay where they are. None where one is empty. There may be no group; one
-    /// that is named twice counts once. Many groups are looked up by halves if they stand in the order of their bytes,
-    /// and others one by one.
+    /// Makes a requester of these names, which it borrows. Returns `None` if one of them is empty. There may be no
+    /// group, and a group that is named twice counts once. Many groups are looked up by binary search if they are in
+    /// the order of their bytes, and otherwise one by one.
     ///
     /// ```rust
     /// let requester = Requester::new(b"bob", &[b"staff", b"users"]);
@@ -79,28 +79,33 @@ impl<'a> Requester<'a> {
         }
     }
 
-    /// The name of the user.
+    /// Returns the name of the user.
     pub fn user(&self) -> &'a [u8]
         ensures { result.now ≡ user_of self.now }
     {
         self.user
     }
 
-    /// Whether this is the user.
+    /// Returns whether this is the user.
     pub(crate) fn is_named(&self, name: &[u8]) -> bool
         ensures { result ≡ bytes_eq (user_of self.now) name.now }
     {
         self.user == name
     }
 
-    /// The names of the groups.
+    /// Returns the names of the groups.
     pub fn groups(&self) -> &'a [&'a [u8]]
         ensures { map (λ g. g.now) result.now ≡ groups_of self.now }
     {
         self.groups.names()
     }
 
-    /// Whether the user is in the group.
+    /// Whether so many look-ups of groups take longer than to make a table of the user's groups.
+    pub(crate) fn is_worth_a_table(&self, look_ups: usize) -> bool {
+        self.groups.are_worth_a_table(look_ups)
+    }
+
+    /// Returns whether the user is in the group.
     #[tactic(auto, using(crate::proofs::Members::any_now))]
     pub(crate) fn is_in(&self, name: &[u8]) -> bool
         ensures { result ≡ list_any (bytes_eq name.now) (groups_of self.now) }

@@ -32,7 +32,7 @@ fn name(number: u32) -> [u8; 6] {
     ]
 }
 
-// A list in which ACE i, from 0, is of user i with READ_DATA, and denies where i is even.
+// A list in which ACE i, from 0, is of user i with READ_DATA, and denies if i is even.
 fn spelled(alloc: Global) -> Result<Vec<u8>, AllocError> {
     let mut bytes = Vec::new(alloc);
     push_word(&mut bytes, COUNT)?;

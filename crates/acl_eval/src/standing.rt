@@ -1,27 +1,34 @@
-//! How a requester stands to an object, so that what is the same for each ACE of a list is told once.
+//! What is the same for each ACE of a list about a requester and an object, so that it is computed once.
 ghost use Rattle.std.specs.Prelude.{◌≡◌, ◌≤◌, length};
+ghost use Rattle.std.specs.List.{list_any};
+ghost use Rattle.std.specs.Option.{ForSome};
+ghost use Rattle.std.specs.Str.{bytes_eq};
 ghost use Rattle.acl_perm.specs.Principal.{group, owner, principal};
 ghost use Rattle.acl_perm.specs.Situation.{matches};
 ghost use Rattle.acl_nfs4.specs.Ace.{ace};
-ghost use Rattle.acl_eval.specs.Situation.{situation, user_of};
+ghost use Rattle.acl_eval.specs.Situation.{groups_of, situation, user_of};
+ghost use Rattle.acl_eval.specs.internal.GroupTable.{HoldsGroups};
 ghost use Rattle.acl_eval.specs.internal.LastByte.{last_of};
 ghost use Rattle.acl_eval.specs.Scan.{speaks};
 
+use crate::group_table::GroupTable;
 use crate::situation::{Object, Requester};
 use acl_nfs4::AceRef;
 use acl_perm::Principal;
 
 /// A requester of an object, with what is the same for each ACE told once: whether it is the owner, whether it is in
-/// the owning group, and the last byte of its name.
+/// the owning group, and the last byte of its name. Groups that were put into a table are looked up there.
 #[derive(Drop)]
 pub(crate) struct Standing<'a> {
     object: Object<'a>,
     requester: Requester<'a>,
+    table: Option<&'a GroupTable<'a>>,
     is_owner: bool,
     is_in_owning_group: bool,
     last: u8,
     ghost owns: { is_owner ≡ matches (situation object requester) owner },
     ghost belongs: { is_in_owning_group ≡ matches (situation object requester) group },
+    ghost tabled: { ForSome table (λ t. HoldsGroups t.now (groups_of requester)) },
     ghost ends: { last ≡ last_of (user_of requester) },
 }
 
@@ -40,17 +47,30 @@ impl<'a> Standing<'a> {
     pub(crate) fn new(object: Object<'a>, requester: Requester<'a>) -> Self
         ensures { asked result ≡ situation object.entry requester.entry }
     {
+        Standing::with_table(object, requester, None)
+    }
+
+    /// The same, where the groups of the requester may also be in a table.
+    pub(crate) fn with_table(
+        object: Object<'a>,
+        requester: Requester<'a>,
+        table: Option<&'a GroupTable<'a>>,
+    ) -> Self
+        requires { ForSome table (λ t. HoldsGroups t.now (groups_of requester)) }
+        ensures { asked result ≡ situation object.entry requester.entry }
+    {
         Standing {
             object,
             requester,
+            table,
             is_owner: requester.is_named(object.owner()),
             is_in_owning_group: requester.is_in(object.group()),
             last: last_byte(requester.user()),
         }
     }
 
-    /// Whether the ACE takes part and speaks of the requester. Most ACEs are of a user, which is told first: they have
-    /// neither flag, and a who without `@` at its end is no special one.
+    /// Returns whether the ACE takes part and matches the requester. Most ACEs are of a user, and are tested first:
+    /// they have neither flag, and a who without `@` at its end is no special one.
     #[inline(always)]
     pub(crate) fn is_meant_by(&self, item: &AceRef<'_>) -> bool
         requires { 1 ≤ length item.now.who.now }
@@ -63,7 +83,7 @@ impl<'a> Standing<'a> {
         item.takes_part() && self.is_match(item.principal())
     }
 
-    // Kept out of `is_meant_by`, which is then small enough to be inlined.
+    // Not part of `is_meant_by`, which is then small enough to be inlined.
     #[inline(never)]
     fn is_match(&self, whom: Principal<'_>) -> bool
         ensures { result
@@ -73,8 +93,17 @@ impl<'a> Standing<'a> {
             Principal::Owner => self.is_owner,
             Principal::User(name) => self.requester.is_named(name),
             Principal::Group => self.is_in_owning_group,
-            Principal::GroupNamed(name) => self.requester.is_in(name),
+            Principal::GroupNamed(name) => self.is_in(name),
             Principal::Everyone => true,
+        }
+    }
+
+    fn is_in(&self, name: &[u8]) -> bool
+        ensures { result ≡ list_any (bytes_eq name.now) (groups_of self.now.requester) }
+    {
+        match self.table {
+            Some(table) => table.contains(name),
+            None => self.requester.is_in(name),
         }
     }
 }

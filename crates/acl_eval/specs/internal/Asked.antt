@@ -1,8 +1,8 @@
--- The situation that a requester's standing to an object is: this library's own.
+-- The situation of what the code keeps about a requester and an object: this library's own.
 use Rattle.acl_perm.specs.Situation.{Situation}
 use Rattle.acl_eval.specs.Situation.{situation}
 use Rattle.acl_eval.specs.declared.standing.Standing.{Standing}
 
--- the requester asks of the object
+-- the situation in which the requester requests access to the object
 abbrev pub asked : Standing → Situation
 asked standing = situation standing.object standing.requester

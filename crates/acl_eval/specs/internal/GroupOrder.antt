@@ -1,4 +1,4 @@
--- The order of groups, by which one is looked up: this library's own.
+-- The order of groups, in which a group is looked up: this library's own.
 use Rattle.std.specs.Prelude.{ℕ, List}
 use Rattle.std.specs.Borrow.{Bor}
 use Rattle.std.specs.Cmp.Lexicographic.{slice_cmp}

@@ -1,4 +1,4 @@
--- What is known of a class of a mode before the rest of a list is gone over: this library's own.
+-- What is known about a class of a mode before the rest of a list is read: this library's own.
 use Rattle.std.specs.Prelude.{ℕ, Bool, ◌&&◌, ◌||◌, List}
 use Rattle.acl_perm.specs.Bits.{has_bit}
 use Rattle.acl_perm.specs.Principal.{Principal}
@@ -18,6 +18,6 @@ decides_for Others = is_for_others
 abbrev pub settled : (Principal → Bool) → ℕ → ℕ → List Ace → ℕ → Bool
 settled test granted left list bit = has_bit granted bit || (has_bit left bit && is_granted_by test list bit)
 
--- the bit is settled for a class, by what was granted to it so far and what is left of its rights
+-- the bit is settled for a class, given what was granted to it so far and which of its rights are left
 abbrev pub settled_in : FileClass → Decided → List Ace → ℕ → Bool
 settled_in class so_far list bit = settled (decides_for class) so_far.granted.bits so_far.left.bits list bit

@@ -1,10 +1,11 @@
 //! What each table answers where memory is ample. What one file alone is asked stands there.
 
-use super::{bridging, creation, modes};
+use super::{bridging, creation, modes, naming};
 
 #[test]
 fn every_row_is_answered_as_it_says(rt: HostRuntime) {
     assert!(rt; bridging::lists(&rt, rt.alloc()).is_ok());
     assert!(rt; creation::created(&rt, rt.alloc()).is_ok());
     assert!(rt; modes::modes(&rt, rt.alloc()).is_ok());
+    assert!(rt; naming::tables(&rt, rt.alloc()).is_ok());
 }

@@ -18,6 +18,20 @@ fn of_grants(rt: HostRuntime) -> Result<(), Fail> {
 }
 
 #[test]
+fn of_grants_by_table(rt: HostRuntime) -> Result<(), Fail> {
+    let alloc = rt.alloc();
+    let list = parse_text(
+        alloc,
+        b"DENY GROUP WRITE_DATA staff\nALLOW - WRITE_DATA EVERYONE@",
+    )?;
+    let object = Object::new(b"alice", b"staff").ok_or("a name is empty")?;
+    let bob = Requester::new(b"bob", &[b"users", b"staff"]).ok_or("a name is empty")?;
+    let may_write = grants_by_table(alloc, &list.view(), &object, &bob, Mask::WRITE_DATA)?;
+    assert!(rt; !may_write);
+    Ok(())
+}
+
+#[test]
 fn of_granted(rt: HostRuntime) -> Result<(), Fail> {
     let alloc = rt.alloc();
     let list = parse_text(alloc, b"ALLOW - READ_DATA|WRITE_DATA bob")?;

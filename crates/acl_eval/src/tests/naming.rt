@@ -1,7 +1,12 @@
 //! Whom the names of a list, of an object and of a requester mean.
 
+use super::harness::passes;
 use super::lists::{GROUP_NAMED, LONG_NAMES, OWNING_GROUP, THREE, is_granted};
 use crate::*;
+use acl_nfs4::{AceRef, Acl, PushFault};
+use acl_perm::{Flags, Kind, Mask};
+use std::alloc::Global;
+use std::process::Abort;
 
 // A list, the owner, the requester and its groups, and whether READ_DATA is granted.
 static NAMES: [(&[u8], &str, &str, &[&[u8]], bool); 16] = [
@@ -56,6 +61,61 @@ fn a_group_is_found_among_many(rt: HostRuntime) {
     groups[0] = b"users";
     groups[129] = b"staff";
     assert!(rt; is_granted(GROUP_NAMED, "bob", "alice", &groups, 1) == Some(false));
+}
+
+fn of_group(kind: Kind, who: &[u8]) -> AceRef<'_> {
+    AceRef {
+        kind,
+        flags: Flags::IDENTIFIER_GROUP,
+        mask: Mask::READ_DATA,
+        who,
+    }
+}
+
+// So many ACEs that deny READ_DATA to the group users, and one that allows it to the group staff.
+fn denials(alloc: Global, count: usize) -> Result<Acl, PushFault> {
+    let mut list = Acl::new(alloc);
+    for _ in 0..count {
+        list.push(of_group(Kind::Deny, b"users"))?;
+    }
+    list.push(of_group(Kind::Allow, b"staff"))?;
+    Ok(list)
+}
+
+// Whether the list grants READ_DATA to a requester in these groups: first without a table, then with one.
+fn answers(alloc: Global, list: &Acl, groups: &[&[u8]]) -> Option<[bool; 2]> {
+    let object = Object::new(b"alice", b"ops")?;
+    let requester = Requester::new(b"bob", groups)?;
+    let one_by_one = grants(list.aces(), &object, &requester, Mask::READ_DATA);
+    match grants_by_table(alloc, &list.view(), &object, &requester, Mask::READ_DATA) {
+        Ok(by_table) => Some([one_by_one, by_table]),
+        Err(_) => None,
+    }
+}
+
+/// The first ACE that speaks of the requester decides, also where the groups are in a table.
+pub fn tables(rt: &impl Abort, alloc: Global) -> Result<(), PushFault> {
+    for count in [1usize, 40] {
+        let list = denials(alloc, count)?;
+        for (first, last, granted) in [
+            (b"guests".as_slice(), b"guests".as_slice(), false),
+            (b"guests".as_slice(), b"staff".as_slice(), true),
+            (b"staff".as_slice(), b"guests".as_slice(), true),
+            (b"staff".as_slice(), b"users".as_slice(), false),
+        ] {
+            let mut groups = [b"guests".as_slice(); 40];
+            groups[0] = first;
+            groups[39] = last;
+            let found = answers(alloc, &list, &groups).ok_or(PushFault::Memory)?;
+            assert!(rt; found == [granted, granted]);
+        }
+    }
+    Ok(())
+}
+
+#[test]
+fn a_group_is_found_in_a_table(rt: HostRuntime) {
+    assert!(rt; passes(tables(&rt, rt.alloc())));
 }
 
 #[test]

@@ -1,29 +1,24 @@
-use Rattle.std.proofs.Common.{◌∙◌, ap, sym, List, ◌++◌}
+use Rattle.std.proofs.Common.{sym, subst, List, ◌≡◌, ◌++◌}
+use Rattle.std.specs.Prelude.{OnOk}
+use Rattle.acl_perm.specs.Profile.{full}
 use Rattle.acl_nfs4.specs.Ace.{Ace}
+use Rattle.acl_nfs4.specs.Spelling.{IsAccepted}
 use Rattle.acl_posix.specs.Tag.{tag_of}
-use Rattle.acl_eval.specs.Bridge.{ace_of}
-use Rattle.acl_eval.proofs.Parts.{none_of, one_of, push_refused}
+use Rattle.acl_eval.proofs.Parts.{none_of, one_of}
 use Rattle.acl_eval.proofs.bridging.push_ace.Goals as goal
 
 pub returns-then-perm-eq0 : goal.returns-then-perm-eq0
 returns-then-perm-eq0 c = none_of c.args.kind (tag_of c.args.tag) c.args.perm.bits c.args.list.now c.if-perm-eq0.true
 
-pub returns-in-Ok : goal.returns-in-Ok
-returns-in-Ok c =
+pub push_accepted-requires : goal.push_accepted-requires
+push_accepted-requires c =
     let one = one_of c.args.kind (tag_of c.args.tag) c.args.perm.bits _ _ _ c.if-perm-eq0.false c.flags_of.ensures
-    c.image.ensures c.who_of.ensures in
-    c.in-Ok.ensures.ok ∙ ap (λ (l : List Ace). c.args.list.now ++ l) one
+    c.image.ensures c.requires.named in
+    subst (λ (l : List Ace). IsAccepted full (c.args.list.now ++ l)) (sym one) c.requires.accepted
 
-pub returns-in-Err : goal.returns-in-Err
-returns-in-Err c =
-    let list : List Ace = c.args.list.now in
-    let item : Ace = record {
-      kind = c.args.kind;
-      flags = c.flags_of.result.bits;
-      mask = c.image.result.bits;
-      who = c.who_of.result.now;
-    } in
+pub returns : goal.returns
+returns c =
     let one = one_of c.args.kind (tag_of c.args.tag) c.args.perm.bits _ _ _ c.if-perm-eq0.false c.flags_of.ensures
-    c.image.ensures c.who_of.ensures in
-    rw c.fault_of.ensures (push_refused list (list ++ ace_of c.args.kind (tag_of c.args.tag) c.args.perm.bits) item
-    c.in-Err.fault (ap (λ (l : List Ace). list ++ l) (sym one)) c.in-Err.ensures.only c.in-Err.ensures.fault)
+    c.image.ensures c.requires.named in
+    subst (λ (l : List Ace). OnOk c.push_accepted.result (c.push_accepted.new.self ≡ c.args.list.now ++ l)) one
+    c.push_accepted.ensures.ok
