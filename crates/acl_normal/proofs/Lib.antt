@@ -1,3 +1,9 @@
+-- the names that most proofs import
+pub mod Common
 pub mod unique
+pub mod InPlace
+pub mod NotedPlaces
 pub mod Tables
 pub mod Vectors
+-- whos that do not end in `@`
+pub mod Whoms

@@ -1,24 +1,10 @@
 -- The table of one bit, row by row.
-use Rattle.std.proofs.Common.{◌≡◌, ℕ, ◌+◌, ◌≤◌, ◌<◌, suc, Bool, true, false, List, [], ◌∷◌, ◌++◌, length, take, drop, refl, sym, ◌∙◌, ap, arith, subst}
-use Rattle.std.specs.Prelude.{All, slice_index_or, filter, Option, Some, None}
-use Rattle.std.proofs.lemmas.List.{append-nil, take_more, take_all, map-append}
-use Rattle.acl_perm.specs.Bits.{has_bit, identifier_group}
-use Rattle.acl_perm.specs.Principal.{Principal}
-use Rattle.acl_perm.specs.declared.kind.Kind.{Kind}
-use Rattle.acl_nfs4.specs.Ace.{Ace}
-use Rattle.acl_nfs4.specs.Who.{principal_of}
-use Rattle.acl_eval.specs.Column.{column}
-use Rattle.acl_normal.specs.internal.Alike.{IsAlike}
-use Rattle.acl_normal.specs.internal.Emissions.{IsOnce}
-use Rattle.acl_normal.specs.internal.Rows.{ArePlaces}
-use Rattle.acl_normal.specs.internal.Emitted.{StandInRows, emitted_ace, emitted_aces}
-use Rattle.acl_normal.specs.Left.{KeepsFirsts}
-use Rattle.acl_normal.specs.Keys.{plain_key}
-use Rattle.acl_normal.specs.Places.{first_at}
-use Rattle.acl_normal.specs.Normal.{counts}
-use Rattle.acl_normal.specs.Tables.{AddsRow, AreRows, HasKey, IsRow, with_bit}
-use Rattle.acl_normal.specs.declared.bit_table.Row.{Row}
-use Rattle.acl_normal.specs.declared.emit.emission.Emitted.{Emitted}
+use Rattle.std.proofs.Common.{◌≡◌, ℕ, ◌+◌, ◌≤◌, ◌<◌, suc, Bool, true, false, List, [], ◌∷◌, ◌++◌, length, take, drop, refl}
+use Rattle.std.specs.Prelude.{filter}
+use Rattle.acl_normal.proofs.Common.{Ace, AddsRow, All, ap, append-nil, AreRows, arith, column, counts, Emitted, emitted_ace, emitted_aces, first_at, first_place_of, has_bit, HasKey, HasPlaces, identifier_group, IsAlike, IsOnce, KeepsFirsts, Kind, map, map-append, None, of_borrowed, Option, plain_key, Principal, principal_of, slice_index_or, Some, StandInRows, subst, sym, take_all, take_more, with_bit, ◌∙◌}
+use Rattle.std.proofs.lemmas.List.Elements.{filter-append}
+use Rattle.acl_normal.specs.Tables.{IsRow, TableRow}
+use Rattle.acl_normal.specs.declared.bit_table.BorrowedRow.{BorrowedRow}
 use Rattle.acl_normal.proofs.unique.Columns.{column_has}
 use Rattle.acl_normal.proofs.reduce.LaterBits.{kind_in, kind_first}
 use Rattle.acl_normal.proofs.unique.ListColumns.{column-append}
@@ -29,15 +15,25 @@ use Rattle.acl_normal.proofs.five_forms.Writing.{split_at}
 use Rattle.acl_normal.proofs.rows.Rows.{row_below}
 
 -- an ACE without the bit has no row
-pub no_row : (b : ℕ) (xs : List Ace) (a : Ace) (rows : List Row) → has_bit a.mask b ≡ false → AddsRow b xs a rows rows
-no_row b xs a rows lacks list so = rw lacks (subst (λ v. AreRows b xs v rows) (sym (append-nil list)) so)
+pub no_row : (b : ℕ) (xs : List Ace) (a : Ace) (rows : List BorrowedRow) → has_bit a.mask b ≡ false
+    → AddsRow b xs a rows rows
+no_row b xs a rows lacks list so =
+    rw lacks (subst (λ v. AreRows b xs v (map of_borrowed rows)) (sym (append-nil list)) so)
 
-rows_push : (b : ℕ) (xs list : List Ace) (a : Ace) (rows : List Row) (r : Row) → AreRows b xs list rows → IsRow b xs a r
-    → AreRows b xs (list ++ a ∷ []) (rows ++ r ∷ [])
+rows_push : (b : ℕ) (xs list : List Ace) (a : Ace) (rows : List TableRow) (r : TableRow) → AreRows b xs list rows
+    → IsRow b xs a r → AreRows b xs (list ++ a ∷ []) (rows ++ r ∷ [])
 rows_push b xs [] a [] r so is = (is, tt)
 rows_push b xs [] a (s ∷ rows) r so is = absurd so
 rows_push b xs (c ∷ list) a [] r so is = absurd so
 rows_push b xs (c ∷ list) a (s ∷ rows) r so is = (so.0, rows_push b xs list a rows r so.1 is)
+
+-- an ACE with the bit has a row
+pub row_pushed : (b : ℕ) (xs : List Ace) (a : Ace) (old new : List BorrowedRow) (r : BorrowedRow)
+    → has_bit a.mask b ≡ true → IsRow b xs a (of_borrowed r) → new ≡ old ++ r ∷ [] → AddsRow b xs a old new
+row_pushed b xs a old new r has is more list so =
+    rw has (subst (λ v. AreRows b xs (list ++ a ∷ []) v)
+    (sym (ap (map of_borrowed) more ∙ map-append of_borrowed old (r ∷ [])))
+    (rows_push b xs list a (map of_borrowed old) (of_borrowed r) so is))
 
 some_kind : (j k : Kind) → ◌≡◌ {A = Option Kind} (Some j) (Some k) → j ≡ k
 some_kind j k h = cc
@@ -46,68 +42,56 @@ some_kind j k h = cc
 emitted_counts : (b : ℕ) (e : Emitted) → has_bit e.mask.bits b ≡ true → counts b (emitted_ace e) ≡ true
 emitted_counts b e h = rw (h, no_inherit_only (plain_key e.key).0) refl
 
+-- where a key of the principal is in the column, and the place is that of the first, this is what stands first
+placed : (b : ℕ) (p : Principal) (xs : List Ace) (kind : Kind) (source : ℕ)
+    → kind_in (first_at b p xs) ≡ Some kind
+    → ((place : ℕ) → first_place_of b p xs ≡ Some place → source ≡ place)
+    → first_at b p xs ≡ Some (kind, source)
+placed b p xs kind source there at = go (first_at b p xs) refl
+  where
+    go : (o : Option (Kind × ℕ)) → first_at b p xs ≡ o → first_at b p xs ≡ Some (kind, source)
+    go None e = cc (rw e at there)
+    go (Some (k, i)) e =
+        let same : k ≡ kind = some_kind k kind (rw e at there) in
+        let is : source ≡ i = at i (rw e refl) in
+        e ∙ ap (λ v. Some (v, i)) same ∙ ap (λ v. Some (kind, v)) (sym is)
+
 -- what the row of an ACE says, where its key is in the list
-pub one_row : (b : ℕ) (xs : List Ace) (e : Emitted) (a : Ace) (p : Principal) (kind : Kind) (old new : List Row)
-    (r : Row)
-    → has_bit e.mask.bits b ≡ true → HasKey b xs (emitted_ace e) → a ≡ emitted_ace e → p ≡ principal_of a
-    → Some (kind, r.source) ≡ first_at b p xs → r.kind ≡ a.kind → r.who.items ≡ a.who
-    → r.group ≡ has_bit a.flags identifier_group → new ≡ old ++ r ∷ [] → AddsRow b xs (emitted_ace e) old new
-one_row b xs e a p kind old new r has key is named first own who group more list so =
-    rw (has, more) (rows_push b xs list (emitted_ace e) old r so (record {
+pub one_row : (b : ℕ) (xs : List Ace) (e : Emitted) (a : Ace) (old new : List BorrowedRow) (r : BorrowedRow)
+    → has_bit e.mask.bits b ≡ true → HasKey b xs (emitted_ace e) → a ≡ emitted_ace e
+    → ((place : ℕ) → first_place_of b (principal_of (emitted_ace e)) xs ≡ Some place → r.source ≡ place)
+    → r.kind ≡ a.kind → r.who.now ≡ a.who → r.group ≡ has_bit a.flags identifier_group → new ≡ old ++ r ∷ []
+    → AddsRow b xs (emitted_ace e) old new
+one_row b xs e a old new r has key is at own who group more =
+    row_pushed b xs (emitted_ace e) old new r has (record {
       kind = own ∙ ap (λ v. v.kind) is;
       who = who ∙ ap (λ v. v.who) is;
       group = group ∙ ap (λ v. has_bit v.flags identifier_group) is;
-      place = sym here ∙ ap (λ k. Some (k, r.source)) (same ∙ sym (own ∙ ap (λ v. v.kind) is));
-    }))
+      place = placed b p xs (emitted_ace e).kind r.source (sym (kind_first b p xs) ∙ key (emitted_counts b e has)) at
+          ∙ ap (λ k. Some (k, r.source)) (sym (own ∙ ap (λ v. v.kind) is));
+    }) more
   where
-    whose : p ≡ principal_of (emitted_ace e)
-    whose = named ∙ ap principal_of is
-
-    here : Some (kind, r.source) ≡ first_at b (principal_of (emitted_ace e)) xs
-    here = first ∙ ap (λ v. first_at b v xs) whose
-
-    same : kind ≡ (emitted_ace e).kind
-    same =
-        some_kind kind (emitted_ace e).kind (ap kind_in here ∙ sym (kind_first b (principal_of (emitted_ace e)) xs)
-        ∙ key (emitted_counts b e has))
-
--- an ACE whose key is in the list has a place there
-pub has_place : {A : Type 0} (b : ℕ) (xs : List Ace) (e : Emitted) (a : Ace) (p : Principal)
-    → has_bit e.mask.bits b ≡ true
-    → HasKey b xs (emitted_ace e) → a ≡ emitted_ace e → p ≡ principal_of a → None ≡ first_at b p xs → A
-has_place b xs e a p has key is named first =
-    clash (ap kind_in (first ∙ ap (λ v. first_at b v xs) (named ∙ ap principal_of is))
-    ∙ sym (kind_first b (principal_of (emitted_ace e)) xs) ∙ key (emitted_counts b e has))
-  where
-    clash : {A : Type 0} → ◌≡◌ {A = Option Kind} None (Some (emitted_ace e).kind) → A
-    clash h = cc
+    p : Principal
+    p = principal_of (emitted_ace e)
 
 -- ---- the loop
 
-filter-append : (p : Ace → Bool) (xs ys : List Ace) → filter p (xs ++ ys) ≡ filter p xs ++ filter p ys
-filter-append p [] ys = refl
-filter-append p (a ∷ xs) ys = go (p a) refl (filter-append p xs ys)
-  where
-    go : (t : Bool) → p a ≡ t → filter p (xs ++ ys) ≡ filter p xs ++ filter p ys
-        → filter p (a ∷ (xs ++ ys)) ≡ filter p (a ∷ xs) ++ filter p ys
-    go true e ih = rw e (ap (λ v. a ∷ v) ih)
-    go false e ih = rw e ih
-
 -- one ACE more
-pub rows_on : (b : ℕ) (xs : List Ace) (es : List Emitted) (i : ℕ) (d : Emitted) (old new : List Row) → i < length es
-    → AreRows b xs (with_bit b (emitted_aces (take i es))) old
+pub rows_on : (b : ℕ) (xs : List Ace) (es : List Emitted) (i : ℕ) (d : Emitted) (old new : List BorrowedRow)
+    → i < length es
+    → AreRows b xs (with_bit b (emitted_aces (take i es))) (map of_borrowed old)
     → AddsRow b xs (emitted_ace (slice_index_or es i d)) old new
-    → AreRows b xs (with_bit b (emitted_aces (take (i + 1) es))) new
+    → AreRows b xs (with_bit b (emitted_aces (take (i + 1) es))) (map of_borrowed new)
 rows_on b xs es i d old new l so adds =
     let next = emitted_ace (slice_index_or es i d) in
-    subst (λ v. AreRows b xs v new)
+    subst (λ v. AreRows b xs v (map of_borrowed new))
     (sym (filter-append (λ (a : Ace). has_bit a.mask b) (emitted_aces (take i es)) (next ∷ []))
     ∙ ap (with_bit b) (sym (map-append emitted_ace (take i es) (slice_index_or es i d ∷ []))
     ∙ sym (ap emitted_aces (take_more es i d l))))
     (adds (with_bit b (emitted_aces (take i es))) so)
 
 -- all of them
-pub rows_all : (b : ℕ) (xs : List Ace) (es : List Emitted) (i : ℕ) (rows : List Row) → length es ≤ i
+pub rows_all : (b : ℕ) (xs : List Ace) (es : List Emitted) (i : ℕ) (rows : List TableRow) → length es ≤ i
     → AreRows b xs (with_bit b (emitted_aces (take i es))) rows → AreRows b xs (with_bit b (emitted_aces es)) rows
 rows_all b xs es i rows l so = subst (λ v. AreRows b xs (with_bit b (emitted_aces v)) rows) (take_all i es l) so
 
@@ -129,7 +113,7 @@ key_there b xs es once alike i d l has =
     (record { before = column front b; after = column back b; is = whole })
 
 -- what stands first in a list stands first in the source
-pub rows_from : (b : ℕ) (xs ys list : List Ace) (rows : List Row) → KeepsFirsts xs ys → AreRows b ys list rows
+pub rows_from : (b : ℕ) (xs ys list : List Ace) (rows : List TableRow) → KeepsFirsts xs ys → AreRows b ys list rows
     → AreRows b xs list rows
 rows_from b xs ys [] [] keeps so = tt
 rows_from b xs ys [] (r ∷ rows) keeps so = absurd so
@@ -154,13 +138,13 @@ row_there xs es shown n stand is count = subst (λ v. All (λ e. e.row < n) v) (
         omega (arith, count, at.is, row_below (principal_of (emitted_ace (slice_index_or es k d))) xs at.named)
 
 -- the rows of all, by their places in a list
-pub rows_shown : (b : ℕ) (xs : List Ace) (places held : List (Option ℕ)) (es shown : List Emitted) (rows : List Row)
+pub rows_shown : (b : ℕ) (xs : List Ace) (places held : List ℕ) (es shown : List Emitted) (rows : List TableRow)
     → held ≡ places → shown ≡ es
-    → ((list : List Ace) → ArePlaces b list held → StandInRows list shown
+    → ((list : List Ace) → HasPlaces b list held → StandInRows list shown
     → All (λ e. HasKey b list (emitted_ace e)) shown → AreRows b list (with_bit b (emitted_aces shown)) rows)
-    → ArePlaces b xs places → StandInRows xs es → All (λ e. HasKey b xs (emitted_ace e)) es
+    → HasPlaces b xs places → StandInRows xs es → All (λ e. HasKey b xs (emitted_ace e)) es
     → AreRows b xs (with_bit b (emitted_aces es)) rows
 rows_shown b xs places held es shown rows same is so at stand keys =
     subst (λ v. AreRows b xs (with_bit b (emitted_aces v)) rows) is
-    (so xs (subst (λ v. ArePlaces b xs v) (sym same) at) (subst (λ v. StandInRows xs v) (sym is) stand)
+    (so xs (subst (λ v. HasPlaces b xs v) (sym same) at) (subst (λ v. StandInRows xs v) (sym is) stand)
     (subst (λ v. All (λ e. HasKey b xs (emitted_ace e)) v) (sym is) keys))

@@ -1,13 +1,6 @@
 -- Worked lists: what the definitions make of them.
-use Rattle.std.specs.Prelude.{◌≡◌, true, false, [], ◌∷◌, codes, refl}
-use Rattle.acl_perm.specs.Principal.{owner, user, group, group_named, everyone}
-use Rattle.acl_perm.specs.declared.kind.Kind.TheVariants.{Deny, Allow}
-use Rattle.acl_nfs4.specs.Ace.{Ace}
-use Rattle.acl_nfs4.specs.Who.{principal_of}
-use Rattle.acl_eval.specs.Column.{column}
-use Rattle.acl_normal.specs.Keys.{conflicts, ace_key}
-use Rattle.acl_normal.specs.Normal.{flags_for, is_free}
-use Rattle.acl_normal.specs.internal.Plain.{reduced}
+use Rattle.std.specs.Prelude.{codes}
+use Rattle.acl_normal.proofs.Common.{[], Ace, ace_key, Allow, column, conflicts, Deny, everyone, false, flags_for, group, group_named, is_free, owner, principal_of, reduced, refl, true, user, ◌∷◌, ◌≡◌}
 
 -- DENY bob, ALLOW alice: the denial isn't needed
 two_users : reduced ((user (codes "bob"), Deny) ∷ (user (codes "alice"), Allow) ∷ [])

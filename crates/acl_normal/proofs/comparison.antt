@@ -30,3 +30,9 @@ pub mod TableFacts
 pub mod Assembly
 -- what a difference has to have, so that an object, a requester and a right can be made of it
 pub mod Asked
+-- the rights on which two lists may differ, by a walk over both
+pub mod ApartLemmas
+-- what a list grants to principals by their numbers
+pub mod MembersFacts
+-- lists that name the same as another, place by place
+pub mod SamePlacesLemmas

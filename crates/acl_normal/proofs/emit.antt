@@ -18,8 +18,10 @@ pub mod Leaving
 pub mod Drained
 -- what is emitted stands in the row of its principal
 pub mod InRows
--- what remains of a list while it is emitted: masks by place of which masks by row leave a part, and queues of places
+-- what remains of a list while it is emitted: masks by place of which masks by row leave a part, and places of queues
 pub mod RemainingLemmas
+-- chains of links: the queues of what waits, made from the last place to the first
+pub mod Chains
 -- what remains of a list, by its fields
 pub mod InRemaining
 -- a list whose keys rise stands in the order of its normal form

@@ -26,5 +26,9 @@ pub mod FirstPlaces
 pub mod HeadOrder
 -- rows of principals by number: among the names in order, each row begins where its principal first stands
 pub mod RowNumbers
+-- rows of ACEs whose principals do not fall
+pub mod RisingRows
+-- the bytes with which all names begin
+pub mod Beginnings
 -- what the public calls on merged rows say, from what those on one bit say
 pub mod Publics

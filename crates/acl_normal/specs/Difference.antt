@@ -16,7 +16,7 @@ situation_of d = record {
   groups = map (λ g. g.items) d.groups.items;
 }
 
--- what a comparison tells of two lists: nothing exactly if they grant the same, else their first difference
+-- the result of a comparison of two lists: nothing if and only if they grant the same, else their first difference
 pub record IsComparison (list other : List Ace) (told : Option Difference) : Type 0 where
   pub same : IsNone told ↔ SameGrants all_rights list other
   pub first : IfSome told (λ d. IsFirstDifference list other (situation_of d) d.bit.bits d.first_grants)

@@ -30,7 +30,7 @@ pub record AreAccepted (p : Profile) (forms : FiveForms) : Type 0 where
   pub file_in_directory : IsAccepted p forms.file_in_directory
   pub directory_in_directory : IsAccepted p forms.directory_in_directory
 
--- each of the five has the spelling of its fellow (RFC 4506)
+-- each of the five has the spelling of the form at the same path of the other list (RFC 4506)
 pub record AreSpelledAlike (forms other : FiveForms) : Type 0 where
   pub object : spelling forms.object ≡ spelling other.object
   pub file : spelling forms.file ≡ spelling other.file
@@ -47,14 +47,15 @@ five_lists forms = forms.object ∷ forms.file ∷ forms.directory ∷ forms.fil
 abbrev pub five_spellings : FiveForms → List ℕ
 five_spellings forms = flat_map spelling (five_lists forms)
 
--- the five forms of two accepted lists are the same in this sense exactly if the lists grant the same at every path
+-- the five forms of two accepted lists are the same in this sense if and only if the lists grant the same at every path
 abbrev pub TellApart : (FiveForms → FiveForms → Type 0) → Type 0
 TellApart Same = (p : Profile) (list other : List Ace) (five other_five : FiveForms) → IsProfile p
     → IsAccepted p list → AreFormsOf list five
     → IsAccepted p other → AreFormsOf other other_five
     → Same five other_five ↔ SameAtEveryPath p.masks list other
 
--- each of the five has the spelling of its fellow, as a test; of accepted lists that is that they are the same
+-- each of the five has the spelling of the form at the same path of the other list, as a test; two accepted lists have
+-- the same spelling if and only if they are the same
 abbrev pub same_forms : FiveForms → FiveForms → Bool
 same_forms = on five_lists (pointwise same_list)
 
@@ -62,6 +63,6 @@ same_forms = on five_lists (pointwise same_list)
 pub same_forms_laws : IsPartialEquivalence same_forms
 same_forms_laws = on_per five_lists (lists_per same_list_laws)
 
--- and by an equivalence
+-- the five are compared by an equivalence
 pub same_forms_equiv : IsEquivalence same_forms
 same_forms_equiv = on_equiv five_lists (lists_equiv same_list_equiv)

@@ -1,5 +1,5 @@
--- Keys of one bit of a list of ACEs (RFC 8881, section 6.2.1): a principal and a kind each, when two of them are the
--- same, when they conflict, and their order.
+-- Keys of one bit of a list of ACEs (RFC 8881, section 6.2.1): a principal and a kind. When two keys are the same, when
+-- they conflict, and their order.
 use Rattle.std.specs.Prelude.{Bool, true, false, not, ◌&&◌}
 use Rattle.std.specs.Str.{bytes_eq}
 use Rattle.std.specs.declared.cmp.Ordering.{Ordering}
@@ -12,11 +12,11 @@ use Rattle.acl_perm.specs.declared.kind.Kind.TheVariants.{Deny, Allow}
 use Rattle.acl_nfs4.specs.Ace.{Ace}
 use Rattle.acl_nfs4.specs.Who.{principal_of}
 
--- a key of a column: whom it names, and whether it denies or allows
+-- a key of a column: its principal, and whether it denies or allows
 abbrev pub Key : Type 0
 Key = Principal × Kind
 
--- the key that an ACE is in the column of each of its bits
+-- the key of an ACE in the column of each of its bits
 abbrev pub ace_key : Ace → Key
 ace_key a = (principal_of a, a.kind)
 
@@ -55,7 +55,7 @@ kind_eq Deny Allow = false
 kind_eq Allow Deny = false
 kind_eq Allow Allow = true
 
--- the kinds differ, and one requester may be spoken of by both
+-- the kinds differ, and one requester can match both principals
 abbrev pub conflicts : Key → Key → Bool
 conflicts e f = may_overlap e.0 f.0 && not (kind_eq e.1 f.1)
 
@@ -67,6 +67,6 @@ key_record e = record { principal = e.0; kind = e.1 }
 abbrev pub compare_keys : Key → Key → Ordering
 compare_keys e f = key_cmp (key_record e) (key_record f)
 
--- whom a key of the code names, and whether it denies or allows
+-- the principal of a key of the code, and whether the key denies or allows
 abbrev pub plain_key : CodeKey → Key
 plain_key k = (principal k.principal, k.kind)

@@ -15,12 +15,12 @@ abbrev pub left : List Ace → List Ace
 left [] = []
 left (a ∷ list) = if a.mask == 0 then left list else a ∷ left list
 
--- what stands first for a principal and a bit stands first in the source too, at the same place
+-- what is first for a principal and a bit is first in the source too, at the same place
 abbrev pub KeepsFirsts : List Ace → List Ace → Type 0
 KeepsFirsts source list = (bit : ℕ) (p : Principal) (kind : Kind) (place : ℕ) → first_at bit p list ≡ Some (kind, place)
     → first_at bit p source ≡ Some (kind, place)
 
--- at one of the bits, a key of the principal stands in the column and none before it conflicts with it
+-- at one of the bits, a key of the principal is in the column and no key before it conflicts with it
 abbrev pub HasFree : List Ace → Principal → ℕ → Type 0
 HasFree list p bits =
     (bit : ℕ) × (kind : Kind) × IsTrue (has_bit bits bit) × IsTrue (is_free (column list bit) (p, kind))
@@ -29,7 +29,7 @@ HasFree list p bits =
 abbrev pub IsLowest : ℕ → ℕ → Type 0
 IsLowest bit bits = IsTrue (has_bit bits bit) × ((other : ℕ) → other < bit → has_bit bits other ≡ false)
 
--- each column has each principal once, and what takes no part or is no bit of the twenty-one is absent
+-- each column has each principal once; an ACE that takes no part has no bit, and no bit is above the twenty-one
 pub record IsTidy (list : List Ace) : Type 0 where
   pub once : HasOnceColumns list
   pub quiet : IsQuiet list

@@ -32,12 +32,12 @@ pub record IsIrreducibleList (list : List Ace) : Type 0 where
   pub needed : (before : List Ace) (a : Ace) (after : List Ace) (bit : ℕ) → list ≡ before ++ a ∷ after
       → IsTrue (has_bit a.mask bit) → IsNeeded before a after bit
 
--- the key is free in a column: it stands there, and none before it conflicts with it
+-- the key is free in a column: the column has it, and no key before it conflicts with it
 abbrev pub is_free : Column → Key → Bool
 is_free [] e = false
 is_free (first ∷ c) e = (principal_eq first.0 e.0 && kind_eq first.1 e.1) || (not (conflicts first e) && is_free c e)
 
--- at each place stands the least key that is free at some bit from there on, with all bits at which it is free
+-- at each place is the least key that is free at some bit from there on, with all bits at which it is free
 abbrev pub IsOrdered : List Ace → Type 0
 IsOrdered [] = ⊤
 IsOrdered (a ∷ list) =
@@ -81,6 +81,6 @@ IsQuiet list = AllByRecursion (λ a. is_inherit_only a ≡ true → a.mask ≡ 0
 abbrev pub HasMasks : List Ace → Type 0
 HasMasks list = AllByRecursion (λ a. IsSubset a.mask all_rights) list
 
--- each who that is a user or group name is one that a situation may have
+-- each who that is a user or group name is a name that a situation may have
 abbrev pub HasNames : List Ace → Type 0
 HasNames list = AllByRecursion (λ a. HasName (principal_of a)) list

@@ -1,4 +1,4 @@
--- What the normal form of a list of ACEs is to that list (this library's own; what a list grants is of RFC 8881,
+-- How the normal form of a list of ACEs relates to the list (this library's own; what a list grants is of RFC 8881,
 -- section 6.2.1).
 use Rattle.std.specs.Prelude.{◌≡◌, ◌≤◌, ℕ, List}
 use Rattle.acl_perm.specs.Bits.{all_rights}
@@ -9,7 +9,7 @@ use Rattle.acl_eval.specs.Grant.{SameGrants}
 use Rattle.acl_normal.specs.Normal.{IsNormal}
 
 -- the second list is normal and grants the same; it is accepted, no heavier, fits each profile that the source fits, is
--- the only such list, and is the source itself where that is normal
+-- the only such list, and is the source itself if the source is normal
 pub record IsNormalFormOf (source result : List Ace) : Type 0 where
   pub normal : IsNormal result
   pub grants : SameGrants all_rights source result

@@ -1,5 +1,5 @@
--- What stands at a path of creations below a directory (this library's own, over its table of inheritance), and what
--- two lists agree on there.
+-- The lists at a path of creations below a directory (this library's own, over its table of inheritance), and when two
+-- lists agree there.
 use Rattle.std.specs.Prelude.{ℕ, zero, suc, List, [], ◌∷◌}
 use Rattle.std.specs.List.{AllByRecursion}
 use Rattle.acl_nfs4.specs.Ace.{Ace}
@@ -18,7 +18,7 @@ abbrev pub directory_below : List Ace → ℕ → List Ace
 directory_below list zero = list
 directory_below list (suc count) = children Directory (directory_below list count)
 
--- the list of what stands at the path
+-- the list of the object at the path
 abbrev pub at : List Ace → Path → List Ace
 at list here = list
 at list (below count kind) = children kind (directory_below list count)

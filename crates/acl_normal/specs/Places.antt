@@ -1,4 +1,4 @@
--- ACEs by their places in a list (RFC 8881, section 6.2.1): which wait at a bit, by kind and class, and which stands
+-- ACEs by their places in a list (RFC 8881, section 6.2.1): which wait with a bit, by kind and class, and which is
 -- first.
 use Rattle.std.specs.Prelude.{ℕ, ◌+◌, ◌*◌, zero, suc, Bool, true, false, cond, not, ◌&&◌, ◌||◌, List, [], ◌∷◌, Option, Some, None, option_map, map}
 use Rattle.acl_perm.specs.Kind.{other_kind}
@@ -13,7 +13,7 @@ use Rattle.acl_eval.specs.Scan.{without}
 use Rattle.acl_normal.specs.Keys.{principal_eq, Key, ace_key, kind_eq}
 use Rattle.acl_normal.specs.Normal.{counts, is_inherit_only}
 
--- whom a who names, with IDENTIFIER_GROUP or without it
+-- the principal of a who, with IDENTIFIER_GROUP or without it
 abbrev pub principal_named : List ℕ → Bool → Principal
 principal_named who is_group = if bytes_eq who owner_name then owner
     else (if bytes_eq who group_name then group
@@ -43,7 +43,7 @@ waits_before k users b [] i = false
 waits_before k users b (a ∷ xs) zero = false
 waits_before k users b (a ∷ xs) (suc i) = is_waiting k users b a || waits_before k users b xs i
 
--- a key of the other kind waits before a place, in a class that overlaps
+-- a key of the other kind, in a class that overlaps, waits before a place
 abbrev pub is_blocked : Kind → Bool → ℕ → List Ace → ℕ → Bool
 is_blocked k of_user b xs i =
     waits_before (other_kind k) false b xs i || (not of_user && waits_before (other_kind k) true b xs i)
@@ -55,12 +55,12 @@ first_at b p (a ∷ xs) =
     cond (counts b a && principal_eq (principal_of a) p) (Some (a.kind, 0))
     (option_map (λ e. (e.0, suc e.1)) (first_at b p xs))
 
--- the key without bits, where it is the principal's
+-- the key without these bits, if it is a key of the principal
 abbrev pub without_bits : Principal → ℕ → Ace → Ace
 without_bits p m a =
     cond (principal_eq (principal_of a) p && not (is_inherit_only a)) (record a { mask = without a.mask m }) a
 
--- the list without bits of a principal
+-- the list without these bits of a principal
 abbrev pub take_out : Principal → ℕ → List Ace → List Ace
 take_out p m = map (without_bits p m)
 

@@ -1,4 +1,4 @@
--- What the requester of a difference shows while it is borrowed (this library's own type).
+-- The names of the requester of a difference, which are borrowed from it (this library's own type).
 use Rattle.std.specs.Prelude.{ℕ, List, map, take}
 use Rattle.acl_normal.specs.declared.comparison.requester_names.RequesterNames.{RequesterNames}
 

@@ -1,5 +1,5 @@
--- The small situations of two lists, and the first of them in which the lists grant otherwise (this library's own; what
--- a list grants is RFC 8881, section 6.2.1).
+-- The small situations of two lists, and the first of them in which the lists differ (this library's own; what a list
+-- grants is RFC 8881, section 6.2.1).
 use Rattle.std.specs.Prelude.{◌≡◌, ◌≢◌, ◌↔◌, ℕ, ◌+◌, ◌<◌, ◌^◌, Bool, not, ◌&&◌, if◌then◌else◌, IsTrue, IsFalse, List, [], ◌∷◌, ◌++◌, length, map, max}
 use Rattle.std.specs.List.{AllByRecursion}
 use Rattle.std.specs.BTreeSet.{insert_key}
@@ -15,11 +15,11 @@ use Rattle.acl_perm.specs.Overlap.{may_overlap}
 use Rattle.acl_perm.specs.Principal.{Principal, everyone}
 use Rattle.acl_perm.specs.Situation.{IsSituation, Situation}
 
--- the ACE takes part, and is not of everyone
+-- the ACE takes part, and does not name everyone
 abbrev pub is_mentioning : Ace → Bool
 is_mentioning a = takes_part a && not (principal_eq (principal_of a) everyone)
 
--- the principals that a list mentions, whatever their masks, each in its place among those given
+-- the principals that a list mentions, whatever their masks, each inserted in its place among the given ones
 abbrev pub mentioned_with : List Principal → List Ace → List Principal
 mentioned_with given [] = given
 mentioned_with given (a ∷ list) =
@@ -29,7 +29,7 @@ mentioned_with given (a ∷ list) =
 abbrev pub mentioned : List Ace → List Ace → List Principal
 mentioned list other = mentioned_with (mentioned_with [] list) other
 
--- the number of bytes of the longest name, or 0 where none is a name
+-- the number of bytes of the longest name, or 0 if there is no name
 abbrev pub longest : List Principal → ℕ
 longest [] = 0
 longest (p ∷ set) = max (length (principal_name p)) (longest set)
@@ -53,7 +53,7 @@ pairs (p ∷ rest) = partners p rest ++ pairs rest
 abbrev pub small_sets : List Principal → List (List Principal)
 small_sets whole = [] ∷ (singles whole ++ pairs whole)
 
--- the number of bytes of the strange names: more than any that the lists mention has
+-- the number of bytes of the strange names: more than any name that the lists mention has
 abbrev pub strange_length : List Ace → List Ace → ℕ
 strange_length list other = longest (mentioned list other) + 1
 
@@ -62,12 +62,12 @@ abbrev pub small_situations : List Ace → List Ace → List Situation
 small_situations list other =
     map (small_situation (strange_length list other)) (small_sets (mentioned list other))
 
--- each right is granted by both lists or by none
+-- each right is granted by both lists or by neither
 abbrev pub GrantAlike : List Ace → List Ace → Situation → Type 0
 GrantAlike list other s = (bit : ℕ) → IsTrue (has_bit all_rights bit) → grants_bit list s bit ≡ grants_bit other s bit
 
--- The first small situation in which the lists grant otherwise, the lowest bit on which they do, as a set of one right,
--- and whether the first list grants it there.
+-- The first small situation in which the lists differ; the lowest right on which they differ there, as a set of one
+-- right; and whether the first list grants it there.
 pub record IsFirstDifference (list other : List Ace) (s : Situation) (mask : ℕ) (first_grants : Bool) : Type 0 where
   pub before : List Situation
   pub after : List Situation
@@ -80,13 +80,13 @@ pub record IsFirstDifference (list other : List Ace) (s : Situation) (mask : ℕ
   pub lowest : (b : ℕ) → b < bit → IsTrue (has_bit all_rights b) → grants_bit list s b ≡ grants_bit other s b
   pub first : first_grants ≡ grants_bit list s bit
 
--- In a situation whose names are names, one list grants a request and the other denies it.
+-- In a situation whose names are not empty, one list grants a request and the other denies it.
 pub record TellsApart (list other : List Ace) (s : Situation) (request : ℕ) (first_grants : Bool) : Type 0 where
   pub valid : IsSituation s
   pub first : Grant list s request ↔ IsTrue first_grants
   pub second : Grant other s request ↔ IsFalse first_grants
 
--- lists that grant alike in each of their small situations grant the same
+-- lists that agree in each of their small situations grant the same
 abbrev pub SmallSituationsSuffice : Type 0
 SmallSituationsSuffice = (list other : List Ace)
     → AllByRecursion (GrantAlike list other) (small_situations list other) → SameGrants all_rights list other

@@ -1,5 +1,5 @@
--- Situations in which just some given principals match, and everyone (this library's own; what matches is of RFC 8881,
--- section 6.2.1.5).
+-- Situations that match exactly some given principals, and everyone (this library's own; which principals match is of
+-- RFC 8881, section 6.2.1.5).
 use Rattle.std.specs.Prelude.{⊤, ℕ, Bool, false, if◌then◌else◌, ◌||◌, List, [], ◌∷◌, Option, Some, None, unwrap_or, length, replicate, max}
 use Rattle.std.specs.List.{AllByRecursion}
 use Rattle.acl_perm.specs.Principal.{Principal, owner, user, group, group_named, everyone}
@@ -31,17 +31,17 @@ abbrev pub is_among : Principal → List Principal → Bool
 is_among p [] = false
 is_among p (q ∷ ps) = principal_eq p q || is_among p ps
 
--- the first name, or else a given one
+-- the first name, or a given one if there is no name
 abbrev pub first_or : List (List ℕ) → List ℕ → List ℕ
 first_or [] name = name
 first_or (x ∷ names) name = x
 
--- the names, or else a given one alone
+-- the names, or a given one alone if there is no name
 abbrev pub names_or : List (List ℕ) → List ℕ → List (List ℕ)
 names_or [] name = name ∷ []
 names_or (x ∷ names) name = x ∷ names
 
--- the situation in which, of the principals with names below n bytes, just these match, and everyone; other names that
+-- the situation that matches, of the principals with names below n bytes, exactly these, and everyone; other names that
 -- it needs are n times `o`, `u` and `g`
 abbrev pub small_situation : ℕ → List Principal → Situation
 small_situation n ps =

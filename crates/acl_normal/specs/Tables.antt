@@ -1,42 +1,74 @@
 -- The table of one bit: the ACEs of a normal form that have it, and where they come from (this library's own; the bits
 -- are those of RFC 8881, section 6.2.1.3.1).
-use Rattle.std.specs.Prelude.{⊤, ◌≡◌, true, ℕ, List, [], ◌∷◌, ◌++◌, filter, Some}
+use Rattle.std.specs.Prelude.{⊤, ◌≡◌, true, ℕ, List, [], ◌∷◌, ◌++◌, filter, map, slice_index_or, Bool, Some}
 use Rattle.acl_perm.specs.Bits.{has_bit, identifier_group}
+use Rattle.acl_perm.specs.Principal.{Principal}
+use Rattle.acl_perm.specs.declared.kind.Kind.{Kind}
 use Rattle.acl_nfs4.specs.Ace.{Ace}
 use Rattle.acl_nfs4.specs.Who.{principal_of}
 use Rattle.acl_eval.specs.Column.{column, first_kind}
 use Rattle.acl_normal.specs.internal.Alike.{is_either}
+use Rattle.acl_normal.specs.internal.Rows.{IsRowOf, first_place_of}
 use Rattle.acl_normal.specs.NormalForm.{IsNormalFormOf}
 use Rattle.acl_normal.specs.Places.{first_at}
 use Rattle.acl_normal.specs.Normal.{counts}
+use Rattle.acl_normal.specs.declared.bit_table.BorrowedRow.{BorrowedRow}
 use Rattle.acl_normal.specs.declared.bit_table.Row.{Row}
 
 -- the ACEs that have the bit, in order
 abbrev pub with_bit : ℕ → List Ace → List Ace
 with_bit bit list = filter (λ a. has_bit a.mask bit) list
 
+-- what a row says: a type, a who, whether that is the name of a group, and a place in the given list, from 0
+pub record TableRow : Type 0 where
+  pub kind : Kind
+  pub who : List ℕ
+  pub group : Bool
+  pub source : ℕ
+
+-- what a row says that has its who
+abbrev pub of_row : Row → TableRow
+of_row r = record { kind = r.kind; who = r.who.items; group = r.group; source = r.source }
+
+-- what a row says whose who is lent
+abbrev pub of_borrowed : BorrowedRow → TableRow
+of_borrowed r = record { kind = r.kind; who = r.who.now; group = r.group; source = r.source }
+
 -- the row shows the ACE: its kind, its who, and whether that is the name of a group; and the first ACE of the source
 -- that names the same, takes part and has the bit has that kind and stands at that place
-pub record IsRow (bit : ℕ) (source : List Ace) (a : Ace) (r : Row) : Type 0 where
+pub record IsRow (bit : ℕ) (source : List Ace) (a : Ace) (r : TableRow) : Type 0 where
   pub kind : r.kind ≡ a.kind
-  pub who : r.who.items ≡ a.who
+  pub who : r.who ≡ a.who
   pub group : r.group ≡ has_bit a.flags identifier_group
   pub place : first_at bit (principal_of a) source ≡ Some (r.kind, r.source)
 
 -- a row for each ACE, in order
-abbrev pub AreRows : ℕ → List Ace → List Ace → List Row → Type 0
+abbrev pub AreRows : ℕ → List Ace → List Ace → List TableRow → Type 0
 AreRows bit source [] [] = ⊤
 AreRows bit source [] (r ∷ rows) = ⊥
 AreRows bit source (a ∷ list) [] = ⊥
 AreRows bit source (a ∷ list) (r ∷ rows) = IsRow bit source a r × AreRows bit source list rows
 
--- the rows of the ACEs of the source's normal form that have the bit
-pub record IsTable (bit : ℕ) (source : List Ace) (rows : List Row) : Type 0 where
+-- the rows say which ACEs of the source's normal form have the bit
+pub record IsTableOf (bit : ℕ) (source : List Ace) (rows : List TableRow) : Type 0 where
   pub form : List Ace
   pub is_form : IsNormalFormOf source form
   pub shown : AreRows bit source (with_bit bit form) rows
 
+-- the rows of the ACEs of the source's normal form that have the bit
+abbrev pub IsTable : ℕ → List Ace → List Row → Type 0
+IsTable bit source rows = IsTableOf bit source (map of_row rows)
+
+-- the same of rows whose whos are lent
+abbrev pub IsBorrowedTable : ℕ → List Ace → List BorrowedRow → Type 0
+IsBorrowedTable bit source rows = IsTableOf bit source (map of_borrowed rows)
+
 -- ---- words that only code needs
+
+-- by row, the place of the first ACE of the principal that has the bit, where one has it
+abbrev pub HasPlaces : ℕ → List Ace → List ℕ → Type 0
+HasPlaces bit list places = (row : ℕ) (p : Principal) (place : ℕ) → IsRowOf row p list
+    → first_place_of bit p list ≡ Some place → slice_index_or places row 0 ≡ place
 
 -- where the ACE has the bit, its key is in the list
 abbrev pub HasKey : ℕ → List Ace → Ace → Type 0
@@ -44,6 +76,6 @@ HasKey bit list a =
     counts bit a ≡ true → first_kind (is_either (principal_of a) (principal_of a)) (column list bit) ≡ Some a.kind
 
 -- the row of an ACE was added, where it has the bit
-abbrev pub AddsRow : ℕ → List Ace → Ace → List Row → List Row → Type 0
-AddsRow bit source a old new =
-    (list : List Ace) → AreRows bit source list old → AreRows bit source (list ++ with_bit bit (a ∷ [])) new
+abbrev pub AddsRow : ℕ → List Ace → Ace → List BorrowedRow → List BorrowedRow → Type 0
+AddsRow bit source a old new = (list : List Ace) → AreRows bit source list (map of_borrowed old)
+    → AreRows bit source (list ++ with_bit bit (a ∷ [])) (map of_borrowed new)

@@ -4,7 +4,7 @@
 pub mod Alike
 -- the keys that play a part, without a look at any situation
 pub mod Plain
--- what is left of a list without bits that play no part
+-- what is left of a list after bits that play no part are removed
 pub mod Reduced
 -- lists that are put into order key by key
 pub mod Emissions
@@ -12,13 +12,13 @@ pub mod Emissions
 pub mod Counts
 -- the plain way to the normal form, pass by pass
 pub mod Passes
--- what lists of the code's ACEs show
+-- the lists of the code's ACEs, as plain data
 pub mod Shown
 -- the two classes of principals
 pub mod Classes
 -- the rights of a mask, one after the other
 pub mod NextRight
--- how the rows of principals are numbered, and where each right of theirs stands
+-- how the rows of principals are numbered, and the place of each of their rights
 pub mod Rows
 -- lists of the places that wait
 pub mod Waiting
@@ -26,27 +26,29 @@ pub mod Waiting
 pub mod Heads
 -- what is sorted for the numbers of rows
 pub mod RowNumbers
--- what the sets of places of merged rows are to the list that is left
+-- how the sets of places of merged rows relate to the list that is left
 pub mod Merged
--- what the fields of what remains are to the list that is left
+-- how the fields of what remains relate to the list that is left
 pub mod Remaining
+-- queues of the places that wait, as chains of links
+pub mod Queues
 -- the keys that have a free bit, by number
 pub mod Ready
--- what the fields of the numbers of ready keys are to their bits
+-- how the fields of the numbers of ready keys relate to their bits
 pub mod Heaped
 -- an ACE of a normal form as it is made
 pub mod Emitted
--- which bits are needed, told from masks
+-- which bits are needed, computed from masks
 pub mod Needed
--- the search for the first small set of principals at which two lists grant otherwise
+-- the search for the first small set of principals at which two lists differ
 pub mod SetSearch
--- where two lists first speak of each principal, and what they say there
+-- where two lists first mention each principal, and what they say there
 pub mod FirstPlaces
--- two lists that are compared, and what is asked of them
+-- two lists that are compared, and what is asked about them
 pub mod TwoLists
--- what the fields of what is compared are to the two lists
+-- how the fields of a comparison relate to the two lists
 pub mod Compared
--- tables that tell at once whether a row inverts another
+-- tables that show at once whether a row inverts another
 pub mod PlaceTables
 -- the principals that lists mention, by row and by number
 pub mod MentionedRows
@@ -54,3 +56,9 @@ pub mod MentionedRows
 pub mod CodeSets
 -- lists whose keys rise
 pub mod Rising
+-- sets of principals by their numbers
+pub mod Members
+-- the rights on which two lists may differ
+pub mod RightsApart
+-- where a list names the same as another
+pub mod SamePlaces

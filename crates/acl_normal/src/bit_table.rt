@@ -1,18 +1,25 @@
 //! The table of one right: what the normal form says of it, and where that comes from.
-ghost use Rattle.std.specs.Prelude.{◌≡◌, ◌<◌, ℕ, List, [], All, IfOk, IsOkAnd, OnOk, length, vec_len};
-ghost use Rattle.acl_nfs4.specs.Ace.{Ace};
+ghost use Rattle.std.specs.Prelude.{◌≡◌, ◌<◌, ◌^◌, ℕ, List, [], All, IfOk, IsOk, IsOkAnd, OnOk, Some, length, map, vec_len};
+ghost use Rattle.acl_perm.specs.Bits.{has_bit, identifier_group};
+ghost use Rattle.acl_nfs4.specs.Ace.{Ace, ace};
 ghost use Rattle.acl_nfs4.specs.Who.{principal_of};
 ghost use Rattle.acl_normal.specs.internal.Emitted.{StandInRows, emitted_ace, emitted_aces};
-ghost use Rattle.acl_normal.specs.Left.{IsLowest};
-ghost use Rattle.acl_normal.specs.internal.Rows.{ArePlaces, first_place_of};
-ghost use Rattle.acl_normal.specs.Tables.{AddsRow, AreRows, HasKey, IsTable, with_bit};
+ghost use Rattle.acl_normal.specs.Left.{IsLowest, IsTidy, left};
+ghost use Rattle.acl_normal.specs.Normal.{flags_for};
+ghost use Rattle.acl_normal.specs.internal.Reduced.{IsReducedOf};
+ghost use Rattle.acl_normal.specs.internal.Remaining.{IsNumbered};
+ghost use Rattle.acl_normal.specs.internal.Rising.{IsRising, all_cleared};
+ghost use Rattle.acl_normal.specs.internal.Rows.{AreRowNumbers, first_place_of};
+ghost use Rattle.acl_normal.specs.internal.Shown.{bits_in, with_masks};
+ghost use Rattle.acl_normal.specs.Tables.{AddsRow, AreRows, HasKey, HasPlaces, IsBorrowedTable, IsTable, of_borrowed, of_row, with_bit};
 
 use crate::emit::emission::{Emitted, normalize_left};
-use crate::normal_form::ace_of;
-use crate::reduce::remaining;
+use crate::emit::rising::rises;
+use crate::normal_form::{ace_of, flags_of};
+use crate::reduce::{Reduced, reduced_list};
 use crate::rows::merged::lowest;
 use crate::rows::remaining::Remaining;
-use acl_nfs4::{Acl, AclView};
+use acl_nfs4::{AceRef, Acl, AclView};
 use acl_perm::internal::Bit;
 use acl_perm::{Kind, Mask};
 use std::alloc::{AllocError, Global};
@@ -27,6 +34,19 @@ pub struct Row {
     pub who: Vec<u8>,
     /// Whether the who is the name of a group.
     pub group: bool,
+    /// The place in the given list, from 0.
+    pub source: usize,
+}
+
+/// A [`Row`] whose who is borrowed from the bytes of the list.
+#[derive(Clone, Copy, Debug)]
+pub struct BorrowedRow<'a> {
+    /// Whether it denies or allows.
+    pub kind: Kind,
+    /// Whether the who is the name of a group.
+    pub group: bool,
+    /// The who of the ACE.
+    pub who: &'a [u8],
     /// The place in the given list, from 0.
     pub source: usize,
 }
@@ -54,77 +74,218 @@ pub fn table_of_view(alloc: Global, list: &AclView<'_>, bit: Mask) -> Result<Vec
         → IsTable b list.now rows.items) }
     ensures none { bit.bits ≡ 0 → IsOkAnd result (λ rows. rows.items ≡ []) }
 {
+    let rows = borrowed_rows(alloc, list, bit)?;
+    let table = owned_rows(alloc, &rows)?;
+    Ok(table)
+}
+
+// The rows, each with a copy of its who.
+fn owned_rows(alloc: Global, rows: &[BorrowedRow<'_>]) -> Result<Vec<Row>, AllocError>
+    ensures rows { IfOk result (λ table. map of_row table.items ≡ map of_borrowed rows.now) }
+    ensures empty { rows.now ≡ [] → IsOk result }
+{
+    let mut table = Vec::new(alloc);
+    for row in rows {
+        let who = Vec::from_slice(alloc, row.who)?;
+        table.push(Row {
+            kind: row.kind,
+            who,
+            group: row.group,
+            source: row.source,
+        })?;
+    }
+    Ok(table)
+}
+
+/// Returns the rows of a right of the list of a view, as [`table_of_view`] does, but copies no who: each is borrowed
+/// from the bytes of the list. The only error is that memory runs out.
+///
+/// ```rust
+/// let list = parse_text(alloc, b"ALLOW - READ_DATA amy\nALLOW - READ_DATA amy\n")?;
+/// let bytes = list.to_bytes(alloc)?;
+/// let rows = borrowed_rows(alloc, &AclView::parse_whole(&bytes)?, Mask::READ_DATA)?;
+/// assert!(rt; rows.len() == 1);
+/// assert!(rt; rows.first().is_some_and(|row| row.who == b"amy".as_slice()));
+/// ```
+pub fn borrowed_rows<'a>(
+    alloc: Global,
+    list: &AclView<'a>,
+    bit: Mask,
+) -> Result<Vec<BorrowedRow<'a>>, AllocError>
+    ensures rows { IfOk result (λ rows. (b : ℕ) → IsLowest b bit.bits
+        → IsBorrowedTable b list.now rows.items) }
+    ensures none { bit.bits ≡ 0 → IsOkAnd result (λ rows. rows.items ≡ []) }
+{
     let Some(right) = lowest(bit) else {
         return Ok(Vec::new(alloc));
     };
-    // The call is for its clause alone, that the list is accepted.
+    let reduced = reduced_list(alloc, list)?;
+    if rises(&reduced.aces, &reduced.masks, &reduced.numbers.rows) {
+        return risen_rows(alloc, list, &reduced, right);
+    }
+    emitted_rows(alloc, list, reduced, right)
+}
+
+// The rows of a list whose keys rise when what no situation needs is out: it is its own normal form, in which each ACE
+// stands at its place.
+fn risen_rows<'a>(
+    alloc: Global,
+    list: &AclView<'_>,
+    reduced: &Reduced<'a>,
+    right: Bit,
+) -> Result<Vec<BorrowedRow<'a>>, AllocError>
+    requires places { vec_len reduced.now.masks ≡ vec_len reduced.now.aces }
+    requires reduced { IsReducedOf list.now
+        (with_masks reduced.now.aces.items (bits_in reduced.now.masks.items)) }
+    requires rising { IsRising
+        (left (with_masks reduced.now.aces.items (bits_in reduced.now.masks.items))) }
+    ensures { IfOk result (λ rows. IsBorrowedTable right.bit list.now rows.items) }
+{
+    // The call is made for its clause alone, which says that the list is accepted.
     let _accepted = list.aces();
-    let mut rows = remaining(alloc, list)?;
-    let places = places(alloc, &rows, right)?;
+    let rows = rows_in_place(alloc, &reduced.aces, &reduced.masks, right)?;
+    Ok(rows)
+}
+
+// The rows of the ACEs that have the right, each with its own place.
+fn rows_in_place<'a>(
+    alloc: Global,
+    aces: &[AceRef<'a>],
+    masks: &[Mask],
+    right: Bit,
+) -> Result<Vec<BorrowedRow<'a>>, AllocError>
+    requires masks { length masks.now ≡ length aces.now }
+    requires tidy { IsTidy (with_masks aces.now (bits_in masks.now)) }
+    ensures { IfOk result (λ rows. AreRows right.bit (with_masks aces.now (bits_in masks.now))
+        (with_bit right.bit (all_cleared (left (with_masks aces.now (bits_in masks.now)))))
+        (map of_borrowed rows.items)) }
+{
+    let mut rows = Vec::with_capacity(alloc, aces.len())?;
+    for place in 0..aces.len() {
+        if right.is_in(masks[place]) {
+            rows.push(row_at(aces[place], place))?;
+        }
+    }
+    Ok(rows)
+}
+
+// The row of an ACE at a place, of whose flags those alone count that say whom it names.
+fn row_at<'a>(item: AceRef<'a>, source: usize) -> BorrowedRow<'a>
+    ensures kind { result.kind ≡ item.entry.kind }
+    ensures who { result.who.now ≡ item.entry.who.now }
+    ensures group { result.group
+        ≡ has_bit (flags_for (principal_of (ace item.entry))) identifier_group }
+    ensures source { result.source ≡ source }
+{
+    BorrowedRow {
+        kind: item.kind,
+        who: item.who,
+        group: names_group(item),
+        source,
+    }
+}
+
+// Whether the who of an ACE is the name of a group. Where the flag lacks, the who is not read.
+#[tactic(auto, using(crate::proofs::InPlace::no_group_name))]
+fn names_group(item: AceRef<'_>) -> bool
+    ensures { result ≡ has_bit (flags_for (principal_of (ace item.entry))) identifier_group }
+{
+    item.flags.is_group() && flags_of(item.principal()).is_group()
+}
+
+// The rows of a list whose keys do not rise: those of the normal form, which is made key by key.
+fn emitted_rows<'a>(
+    alloc: Global,
+    list: &AclView<'_>,
+    reduced: Reduced<'a>,
+    right: Bit,
+) -> Result<Vec<BorrowedRow<'a>>, AllocError>
+    requires few { vec_len reduced.aces < 2 ^ 32 }
+    requires places { vec_len reduced.masks ≡ vec_len reduced.aces }
+    requires rows { IsNumbered (with_masks reduced.aces.items (bits_in reduced.masks.items))
+        reduced.numbers.rows.items reduced.numbers.order.items }
+    requires reduced { IsReducedOf list.now
+        (with_masks reduced.aces.items (bits_in reduced.masks.items)) }
+    ensures { IfOk result (λ rows. IsBorrowedTable right.bit list.now rows.items) }
+{
+    // The call is made for its clause alone, which says that the list is accepted.
+    let _accepted = list.aces();
+    let numbers = &reduced.numbers;
+    let places = places(alloc, &reduced.aces, &reduced.masks, &numbers.rows, right)?;
+    let mut rows = Remaining::of(alloc, reduced)?;
     let form = normalize_left(alloc, &mut rows)?;
+    drop(rows);
     let table = rows_of(alloc, &places, &form, right)?;
     Ok(table)
 }
 
-// By row, the place of the ACE that has the right.
-fn places(alloc: Global, rows: &Remaining<'_>, right: Bit) -> Result<Vec<Option<usize>>, AllocError>
-    ensures count { IfOk result (λ places. vec_len places ≡ length rows.now) }
-    ensures places { IfOk result (λ places. ArePlaces right.bit rows.now places.items) }
+// By row, the place of the ACE that has the right, where one has it.
+fn places(
+    alloc: Global,
+    aces: &[AceRef<'_>],
+    masks: &[Mask],
+    rows: &[usize],
+    right: Bit,
+) -> Result<Vec<usize>, AllocError>
+    requires masks { length masks.now ≡ length aces.now }
+    requires tidy { IsTidy (with_masks aces.now (bits_in masks.now)) }
+    requires rows { AreRowNumbers (with_masks aces.now (bits_in masks.now)) rows.now }
+    ensures count { IfOk result (λ places. vec_len places ≡ length aces.now) }
+    ensures places { IfOk result (λ places. HasPlaces right.bit
+        (with_masks aces.now (bits_in masks.now)) places.items) }
 {
-    let mut places = Vec::with_capacity(alloc, rows.len())?;
-    for row in 0..rows.len() {
-        places.push(rows.place_in(row, right))?;
+    let mut places = vec![in alloc; 0; aces.len()]?;
+    for place in 0..aces.len() {
+        let mask = masks[place];
+        if right.is_in(mask) {
+            places[rows[place]] = place;
+        }
     }
     Ok(places)
 }
 
 // The rows of the ACEs that have the right, by the places of their principals.
-fn rows_of(
+fn rows_of<'a>(
     alloc: Global,
-    places: &[Option<usize>],
-    form: &[Emitted<'_>],
+    places: &[usize],
+    form: &[Emitted<'a>],
     right: Bit,
-) -> Result<Vec<Row>, AllocError>
+) -> Result<Vec<BorrowedRow<'a>>, AllocError>
     requires { All (λ e. e.row < length places.now) form.now }
-    ensures { IfOk result (λ table. (list : List Ace) → ArePlaces right.bit list places.now
+    ensures { IfOk result (λ table. (list : List Ace) → HasPlaces right.bit list places.now
         → StandInRows list form.now → All (λ e. HasKey right.bit list (emitted_ace e)) form.now
-        → AreRows right.bit list (with_bit right.bit (emitted_aces form.now)) table.items) }
+        → AreRows right.bit list (with_bit right.bit (emitted_aces form.now))
+        (map of_borrowed table.items)) }
 {
     let mut table = Vec::new(alloc);
     for item in form {
-        add_row(alloc, places[item.row], *item, right, &mut table)?;
+        add_row(places[item.row], *item, right, &mut table)?;
     }
     Ok(table)
 }
 
 // The row of an ACE, where that has the right.
-fn add_row(
-    alloc: Global,
-    place: Option<usize>,
-    item: Emitted<'_>,
+fn add_row<'a>(
+    place: usize,
+    item: Emitted<'a>,
     right: Bit,
-    table: &mut Vec<Row>,
+    table: &mut Vec<BorrowedRow<'a>>,
 ) -> Result<(), AllocError>
-    ensures { OnOk result ((list : List Ace)
-        → place ≡ first_place_of right.bit (principal_of (emitted_ace item.entry)) list
+    ensures { OnOk result ((list : List Ace) → ((first : ℕ)
+        → first_place_of right.bit (principal_of (emitted_ace item.entry)) list ≡ Some first
+        → place ≡ first)
         → HasKey right.bit list (emitted_ace item.entry)
         → AddsRow right.bit list (emitted_ace item.entry) table.old.items table.new.items) }
 {
     if !right.is_in(item.mask) {
         return Ok(());
     }
-    match place {
-        Some(source) => {
-            let shown = ace_of(item);
-            let who = Vec::from_slice(alloc, shown.who)?;
-            table.push(Row {
-                kind: shown.kind,
-                who,
-                group: shown.flags.is_group(),
-                source,
-            })?;
-            Ok(())
-        }
-        None => Ok(()),
-    }
+    let shown = ace_of(item);
+    table.push(BorrowedRow {
+        kind: shown.kind,
+        who: shown.who,
+        group: shown.flags.is_group(),
+        source: place,
+    })?;
+    Ok(())
 }

@@ -8,11 +8,12 @@ ghost use Rattle.acl_normal.specs.Keys.{principal_eq};
 ghost use Rattle.acl_normal.specs.Normal.{counts};
 ghost use Rattle.acl_normal.specs.internal.NextRight.{IsNextRight, LacksFrom};
 
+use crate::whom::whom;
 use acl_nfs4::AceRef;
 use acl_perm::Mask;
 use acl_perm::internal::Bit;
 
-/// The rights with which the ACE takes part.
+/// Returns the rights with which the ACE takes part.
 pub(crate) fn active(item: AceRef<'_>) -> Mask
     ensures { (b : ℕ) → has_bit result.bits b ≡ counts b (ace item.entry) }
 {
@@ -23,19 +24,20 @@ pub(crate) fn active(item: AceRef<'_>) -> Mask
     }
 }
 
-/// The rights of a mask, where its ACE names everyone.
+/// Returns the rights of a mask, if its ACE names everyone, and otherwise none.
+#[inline(always)]
 pub(crate) fn of_everyone(item: AceRef<'_>, mask: Mask) -> Mask
     ensures { (b : ℕ) → has_bit result.bits b
         ≡ (has_bit mask.bits b && principal_eq (principal_of (ace item.entry)) everyone) }
 {
-    if item.principal().is_everyone() {
+    if whom(&item).is_everyone() {
         mask
     } else {
         Mask::NONE
     }
 }
 
-/// The first right of the mask at or above a bit.
+/// Returns the first right of the mask at or above a bit.
 pub(crate) fn next_right(mask: Mask, from: usize) -> Option<Bit>
     requires { from ≤ 21 }
     ensures some { IfSome result (λ right. IsNextRight mask.bits from right.bit) }
@@ -44,7 +46,7 @@ pub(crate) fn next_right(mask: Mask, from: usize) -> Option<Bit>
     numbered(from + (mask.bits >> from).trailing_zeros() as usize)
 }
 
-// The bit of a number; none above 20.
+// The bit of a number, or none for numbers above 20.
 fn numbered(bit: usize) -> Option<Bit>
     ensures within { IsSome result ↔ (bit < 21) }
     ensures value { IfSome result (λ right. right.bit ≡ bit) }
@@ -56,7 +58,7 @@ fn numbered(bit: usize) -> Option<Bit>
     }
 }
 
-/// The mask of one right. Of a bit that is in no mask it is empty.
+/// Returns the mask of one right. For a bit that is in no mask it is empty.
 pub(crate) fn alone(right: Bit) -> Mask
     ensures { has_bit all_rights right.bit ≡ true → result.bits ≡ 2 ^ right.bit }
 {
@@ -65,7 +67,7 @@ pub(crate) fn alone(right: Bit) -> Mask
     }
 }
 
-/// The number of a set of bits with one more.
+/// Returns the number of a set of bits with one more bit.
 pub(crate) fn with(bits: u32, right: Bit) -> u32
     ensures { result ≡ bit_or bits (2 ^ right.bit) }
 {

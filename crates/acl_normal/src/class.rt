@@ -5,7 +5,7 @@ ghost use Rattle.acl_normal.specs.internal.Classes.{is_users};
 
 use acl_perm::Principal;
 
-/// Users, of whom no two different ones overlap, or all other principals, who overlap with everyone.
+/// Users, of whom no two different ones overlap, or all other principals, who overlap with every principal.
 #[derive(Clone, Copy)]
 pub(crate) enum Class {
     Users,
@@ -13,21 +13,21 @@ pub(crate) enum Class {
 }
 
 impl Class {
-    /// The class of a principal.
+    /// Returns the class of a principal.
     pub(crate) fn of(p: Principal<'_>) -> Class
         ensures { is_users result ≡ is_user (principal p.entry) }
     {
         Class::from_users(p.is_user())
     }
 
-    /// Users, or others.
+    /// Makes the class of users, or that of others.
     pub(crate) fn from_users(users: bool) -> Class
         ensures { is_users result ≡ users }
     {
         if users { Class::Users } else { Class::Others }
     }
 
-    /// Whether it is that of users.
+    /// Returns whether the class is that of users.
     pub(crate) fn is_users(self) -> bool
         ensures { result ≡ is_users self }
     {

@@ -2,14 +2,17 @@
 ghost use Rattle.std.specs.Prelude.{◌<◌, ◌≤◌, All, length};
 ghost use Rattle.acl_normal.specs.OneRight.{IsOneRight};
 
+mod apart;
 pub(crate) mod compared;
 mod comparing;
 pub(crate) mod evaluation;
 mod inversions;
+pub(crate) mod members;
 pub(crate) mod mentioned;
 mod outcome;
 mod question;
 mod requester_names;
+mod same_places;
 mod search;
 mod situation;
 pub(crate) mod small_set;

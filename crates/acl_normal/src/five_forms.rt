@@ -1,4 +1,5 @@
-//! The normal forms of what a directory's list grants in it and in all that will ever stand below it.
+//! The normal forms of what a directory's list grants in the directory and in everything that will ever be made below
+//! it.
 ghost use Rattle.std.specs.Prelude.{◌≡◌, ◌+◌, ◌^◌, ◌<◌, ◌≤◌, ℕ, IfOk, OnErr, OnOk};
 ghost use Rattle.acl_perm.specs.Devices.{one_more};
 ghost use Rattle.acl_perm.specs.Pieces.{Writes, WritesFrom};
@@ -19,23 +20,24 @@ use acl_perm::{Sink, WriteFault};
 use std::alloc::{AllocError, Global};
 
 /// The normal forms of the lists of an object, of a new file and a new directory in it, and of a new file and a new
-/// directory in that directory. Of what is created further below, each has the list of its kind in the new directory.
+/// directory in that new directory. An object that is created further below has the list of its kind in the new
+/// directory.
 #[derive(Debug, Drop)]
 pub struct FiveForms {
-    /// Of the list itself.
+    /// The normal form of the list itself.
     pub object: Acl,
-    /// Of a new file.
+    /// The normal form of the list of a new file.
     pub file: Acl,
-    /// Of a new directory.
+    /// The normal form of the list of a new directory.
     pub directory: Acl,
-    /// Of a new file in a new directory.
+    /// The normal form of the list of a new file in a new directory.
     pub file_in_directory: Acl,
-    /// Of a new directory in a new directory.
+    /// The normal form of the list of a new directory in a new directory.
     pub directory_in_directory: Acl,
 }
 
 impl FiveForms {
-    /// The same five again, with one allocation each.
+    /// Returns the same five again, with one allocation each. Fails if memory runs out.
     pub fn copy(&self, alloc: Global) -> Result<FiveForms, AllocError>
         ensures { IfOk result (λ forms. forms ≡ self.now) }
     {
@@ -49,8 +51,8 @@ impl FiveForms {
     }
 
     /// Writes the bytes that spell the five, one behind the other in the order of the fields (RFC 4506 over RFC 8881,
-    /// section 6.2.1), without memory. The first write that fails ends it: `written` bytes went out, and nothing is
-    /// tried again.
+    /// section 6.2.1), without memory. It ends at the first write that fails: then `written` bytes went out. It tries
+    /// nothing again.
     pub fn encode<K: Sink>(&self, sink: &mut K) -> Result<(), WriteFault>
         ensures { Writes K.contents K.failure_count sink.old sink.new
             (five_spellings self.now) result }
@@ -88,7 +90,7 @@ impl Eq for FiveForms {
     ghost laws = { same_forms_equiv };
 }
 
-// Writes the bytes that spell the five, and answers how many they are.
+// Writes the bytes that spell the five, and returns how many they are.
 fn put_forms<K: Sink>(sink: &mut K, forms: &FiveForms) -> Result<u64, WriteFault>
     ensures written { WritesFrom (K.contents sink.old) (K.contents sink.new) 0
         (five_spellings forms.now) result }
@@ -102,7 +104,7 @@ fn put_forms<K: Sink>(sink: &mut K, forms: &FiveForms) -> Result<u64, WriteFault
     put_list(sink, inner_file, &forms.directory_in_directory)
 }
 
-// Writes the bytes that spell a list, after `done` bytes, and answers how many are out then.
+// Writes the bytes that spell a list, after `done` bytes, and returns how many are out then.
 fn put_list<K: Sink>(sink: &mut K, done: u64, list: &Acl) -> Result<u64, WriteFault>
     requires { done < 2 ^ 62 }
     ensures written { WritesFrom (K.contents sink.old) (K.contents sink.new) done
@@ -120,9 +122,9 @@ fn put_list<K: Sink>(sink: &mut K, done: u64, list: &Acl) -> Result<u64, WriteFa
     }
 }
 
-/// The five normal forms of a list, by this library's table of inheritance. Two lists have the same five exactly if
-/// they grant the same now, and their children do for ever. It takes time that is nearly linear in the bytes of the
-/// list.
+/// Returns the five normal forms of a list, by this library's table of inheritance. Two lists have the same five if and
+/// only if they grant the same, and their children always will. It takes time that is nearly linear in the bytes of the
+/// list. Fails if memory runs out.
 ///
 /// ```rust
 /// let list = parse_text(alloc, b"ALLOW FILE READ_DATA amy")?;
@@ -144,7 +146,7 @@ pub fn normalize_inherit(alloc: Global, list: &Acl) -> Result<FiveForms, AllocEr
     // Further below, the lists are those one directory below.
     ensures further { (count : ℕ) (kind : Kind) → 1 ≤ count
         → at list.now (below count kind) ≡ at list.now (below 1 kind) }
-    // Under a profile under which the list is accepted, so is each of the five.
+    // Under each profile under which the list is accepted, each of the five is accepted.
     ensures accepted { IfOk result (λ forms. (p : Profile) → IsProfile p → IsAccepted p list.now
         → AreAccepted p forms) }
 {
@@ -153,7 +155,7 @@ pub fn normalize_inherit(alloc: Global, list: &Acl) -> Result<FiveForms, AllocEr
     forms_of(alloc, list, &file_list, &directory_list)
 }
 
-// The five forms of a list, of which the lists of a new file and a new directory in it are given.
+// The five forms of a list. The lists of a new file and of a new directory in it are given.
 fn forms_of(
     alloc: Global,
     list: &Acl,
@@ -184,7 +186,7 @@ fn forms_of(
     })
 }
 
-// The normal form of what a directory's list gives a new object in it, beside a list and its form.
+// The normal form of what a directory's list gives a new object in it. A list and its form are given.
 fn child_form(
     alloc: Global,
     list: &Acl,
@@ -199,8 +201,8 @@ fn child_form(
     form_beside(alloc, &child_list, other, other_form)
 }
 
-// The normal form of a list, beside a list and its form: a copy of that where the lists are equal, as they mostly are,
-// since few ACEs end on their way down.
+// The normal form of a list. Another list and its form are given, and if the lists are equal, the form is copied. This
+// is mostly so, because few ACEs end on their way down.
 fn form_beside(alloc: Global, list: &Acl, other: &Acl, other_form: &Acl) -> Result<Acl, AllocError>
     requires { IsNormalFormOf other.now other_form.now }
     ensures { IfOk result (λ form. IsNormalFormOf list.now form) }

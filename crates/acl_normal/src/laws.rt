@@ -24,7 +24,7 @@ pub fn same_bits()
         → Has (column list bit) e ↔ Has (column other bit) e }
 {}
 
-/// In irreducible lists that grant the same, each two conflicting keys of a bit stand in the same order.
+/// In irreducible lists that grant the same, each two conflicting keys of a bit are in the same order.
 pub fn same_order()
     ensures { (list other : List Ace) → IsIrreducibleList list → IsIrreducibleList other
         → SameGrants all_rights list other → (bit : ℕ) (e f : Key) → conflicts e f ≡ true
@@ -38,8 +38,8 @@ pub fn one_normal_form()
         → list ≡ other }
 {}
 
-/// A list that fits a profile denies every right outside it, so that two such lists grant the same rights of the
-/// profile exactly if they grant the same rights.
+/// A list that fits a profile denies every right outside it. So two such lists grant the same rights of the profile if
+/// and only if they grant the same rights.
 pub fn nothing_outside_a_profile()
     ensures denied { (p : Profile) (list : List Ace) (s : Situation) (bit : ℕ) → Fits p list
         → has_bit p.masks bit ≡ false → grants_bit list s bit ≡ false }
@@ -47,22 +47,22 @@ pub fn nothing_outside_a_profile()
         → SameGrants p.masks list other ↔ SameGrants all_rights list other }
 {}
 
-/// Normal lists with the grants of two sources have equal spellings exactly if the sources grant the same, whatever the
-/// profile under which they are accepted.
+/// Normal lists with the grants of two sources have equal spellings if and only if the sources grant the same, under
+/// each profile under which they are accepted.
 pub fn equal_bytes()
     ensures spelled { (p : Profile) (source other form other_form : List Ace) → IsProfile p
         → IsAccepted p form → IsNormal form → SameGrants p.masks source form
         → IsAccepted p other_form → IsNormal other_form → SameGrants p.masks other other_form
         → (spelling form ≡ spelling other_form) ↔ SameGrants p.masks source other }
-    // So the bytes of the normal forms of two accepted lists tell whether these grant the same.
+    // So the bytes of the normal forms of two accepted lists show whether these grant the same.
     ensures forms { (p : Profile) (source other form other_form : List Ace) → IsProfile p
         → IsAccepted p source → IsNormalFormOf source form
         → IsAccepted p other → IsNormalFormOf other other_form
         → (spelling form ≡ spelling other_form) ↔ SameGrants p.masks source other }
 {}
 
-/// The bytes to which two spelled lists normalize are equal if and only if the lists grant the same, under every profile.
-/// Bytes that spell a normal form normalize to themselves.
+/// The bytes to which two spelled lists normalize are equal if and only if the lists grant the same, under every
+/// profile. Bytes that spell a normal form normalize to themselves.
 pub fn normal_bytes_tell_apart()
     ensures apart { (p : Profile) (a b x y : List ℕ) (source other : List Ace) → IsProfile p
         → Xdr p source a → Xdr p other b → Normalises p a x → Normalises p b y
@@ -74,25 +74,25 @@ pub fn normal_bytes_tell_apart()
     acl_nfs4::laws::one_spelling();
 }
 
-/// Two lists that grant alike in each of their small situations grant the same in every situation.
+/// Two lists that agree in each of their small situations grant the same in every situation.
 pub fn small_situations_suffice()
     ensures { SmallSituationsSuffice }
 {}
 
-/// Lists grant the same at every path of creations exactly if they do at five: here, in a new file, in a new directory,
-/// and in a new file and a new directory in that.
+/// Lists grant the same at every path of creations if and only if they grant the same at five: the directory itself, a
+/// new file, a new directory, and a new file and a new directory in that new directory.
 pub fn five_paths_suffice()
     ensures { (rights : ℕ) (list other : List Ace) → SameAtFive rights list other
         ↔ SameAtEveryPath rights list other }
 {}
 
-/// The five normal forms of two lists that are accepted under a profile tell whether the lists grant the same at every
+/// The five normal forms of two lists that are accepted under a profile show whether the lists grant the same at every
 /// path of creations.
 pub fn five_forms_tell_apart()
-    // Equal forms tell it.
+    // Equal forms show it.
     ensures forms { TellApart (λ five other. five ≡ other) }
-    // Equal spellings of each form and its fellow tell it.
+    // Equal spellings of the forms at each path show it.
     ensures spelled { TellApart AreSpelledAlike }
-    // Equal bytes of all five spellings, one behind the other, tell it.
+    // Equal bytes of all five spellings, one behind the other, show it.
     ensures joined { TellApart (λ five other. five_spellings five ≡ five_spellings other) }
 {}

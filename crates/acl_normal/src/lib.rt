@@ -14,8 +14,9 @@ mod reduce;
 mod rows;
 #[cfg(test)]
 mod tests;
+mod whom;
 
-pub use bit_table::{Row, table, table_of_view};
+pub use bit_table::{BorrowedRow, Row, borrowed_rows, table, table_of_view};
 pub use comparison::{Difference, RequesterNames, compare, compare_views};
 pub use five_forms::{FiveForms, normalize_inherit};
 pub use normal_form::{is_normal, normal_bytes, normal_bytes_with, normalize, normalize_view};

@@ -25,17 +25,18 @@ use acl_nfs4::{AceRef, Acl, AclView, Fault, Reason};
 use acl_perm::{Flags, Principal, Profile};
 use std::alloc::{AllocError, Global};
 
-/// Whether a list is its own normal form.
+/// Returns whether a list is its own normal form. Fails if memory runs out.
 pub fn is_normal(alloc: Global, list: &Acl) -> Result<bool, AllocError>
     ensures answer { IfOk result (λ answer. IsTrue answer ↔ IsNormal list.now) }
-    // Of the empty list it never wants memory.
+    // For the empty list memory never runs out.
     ensures empty { list.now ≡ [] → IsOk result }
 {
     let form = normalize(alloc, list)?;
     Ok(form == *list)
 }
 
-/// The bytes that spell the normal form of the list that the bytes spell, all of them.
+/// Returns the bytes that spell the normal form of the list that all of the bytes spell. Fails with the fault of the
+/// bytes, or if memory runs out.
 ///
 /// ```rust
 /// let list = parse_text(alloc, b"ALLOW - READ_DATA amy\nALLOW - READ_DATA amy\n")?;
@@ -45,18 +46,18 @@ pub fn is_normal(alloc: Global, list: &Acl) -> Result<bool, AllocError>
 /// ```
 pub fn normal_bytes(alloc: Global, bytes: &[u8]) -> Result<Vec<u8>, Fault>
     ensures ok { IfOk result (λ text. Normalises full bytes.now text.items) }
-    // A fault is that of the bytes, or want of memory.
+    // A fault is that of the bytes, or Memory.
     ensures fault { IfErr result (λ f. (f ≡ no_memory)
         ⊎ IsWholeFault full bytes.now f.offset f.reason) }
-    // Bytes with a fault are refused by it, and never for want of memory.
+    // Bytes with a fault are refused with that fault, and never with Memory.
     ensures refused { (offset : ℕ) (r : Reason) → IsWholeFault full bytes.now offset r
         → result ≡ Err (record { offset = offset; reason = r }) }
 {
     normal_bytes_with(alloc, bytes, Profile::FULL)
 }
 
-/// The bytes that spell the normal form of the list that the bytes spell, all of them, whose flags and rights are among
-/// those of the profile. A fault is that of the bytes, or want of memory.
+/// Returns the bytes that spell the normal form of the list that all of the bytes spell, if the profile has its flags
+/// and rights. Fails with the fault of the bytes, or if memory runs out.
 pub fn normal_bytes_with(alloc: Global, bytes: &[u8], profile: Profile) -> Result<Vec<u8>, Fault>
     ensures ok { IfOk result (λ text. Normalises (profile_of profile) bytes.now text.items) }
     ensures fault { IfErr result (λ f. (f ≡ no_memory)
@@ -75,7 +76,7 @@ pub fn normal_bytes_with(alloc: Global, bytes: &[u8], profile: Profile) -> Resul
     }
 }
 
-// The bytes of the normal form of the list that a view shows.
+// The bytes of the normal form of the list of a view.
 fn spelled_form(alloc: Global, view: &AclView<'_>) -> Result<Vec<u8>, AllocError>
     ensures { IfOk result (λ text. (form : List Ace) × IsNormalFormOf view.now form
         × (text.items ≡ spelling form)) }
@@ -84,9 +85,9 @@ fn spelled_form(alloc: Global, view: &AclView<'_>) -> Result<Vec<u8>, AllocError
     form.to_bytes(alloc)
 }
 
-/// The normal form of a list (this library's own, over RFC 8881, section 6.2.1): the one list that grants the same in
-/// every situation, in which each bit is needed, and which stands in one order. It takes time that is nearly linear in
-/// the bytes of the list. An error is want of memory.
+/// Returns the normal form of a list (this library's own, over RFC 8881, section 6.2.1): the one list that grants the
+/// same in every situation, in which each bit is needed, in the one order. It takes time that is nearly linear in the
+/// bytes of the list. Fails if memory runs out.
 ///
 /// ```rust
 /// let list = parse_text(alloc, b"DENY - WRITE_DATA bob\nALLOW - READ_DATA|WRITE_DATA OWNER@\n")?;
@@ -96,7 +97,7 @@ fn spelled_form(alloc: Global, view: &AclView<'_>) -> Result<Vec<u8>, AllocError
 /// ```
 pub fn normalize(alloc: Global, list: &Acl) -> Result<Acl, AllocError>
     ensures form { IfOk result (λ form. IsNormalFormOf list.now form) }
-    // Of the empty list it never wants memory.
+    // For the empty list memory never runs out.
     ensures empty { list.now ≡ [] → IsOk result }
 {
     normalize_view(alloc, &list.view())
@@ -106,7 +107,7 @@ pub fn normalize(alloc: Global, list: &Acl) -> Result<Acl, AllocError>
 /// first. The only error is that memory runs out.
 pub fn normalize_view(alloc: Global, list: &AclView<'_>) -> Result<Acl, AllocError>
     ensures form { IfOk result (λ form. IsNormalFormOf list.now form) }
-    // Of the empty list it never wants memory.
+    // For the empty list memory never runs out.
     ensures empty { list.now ≡ [] → IsOk result }
 {
     if list.is_empty() {
@@ -120,7 +121,8 @@ pub fn normalize_view(alloc: Global, list: &AclView<'_>) -> Result<Acl, AllocErr
     written(alloc, &form)
 }
 
-// The normal form of a list whose keys rise when what no situation needs is out: only flags are to be cleared.
+// The normal form of a list whose keys rise after the bits that no situation needs are removed: only flags have to be
+// cleared.
 #[tactic(auto, using(crate::proofs::emit::Risen::rising_form_of))]
 fn risen(alloc: Global, list: &AclView<'_>, reduced: &Reduced<'_>) -> Result<Acl, AllocError>
     requires places { vec_len reduced.now.masks ≡ vec_len reduced.now.aces }
@@ -130,7 +132,7 @@ fn risen(alloc: Global, list: &AclView<'_>, reduced: &Reduced<'_>) -> Result<Acl
         (left (with_masks reduced.now.aces.items (bits_in reduced.now.masks.items))) }
     ensures { IfOk result (λ form. IsNormalFormOf list.now form) }
 {
-    // The call is for its clause alone, that the list is accepted.
+    // The call is made for its clause alone, which says that the list is accepted.
     let _accepted = list.aces();
     cleared(alloc, &reduced.aces, &reduced.masks)
 }
@@ -149,7 +151,7 @@ fn form_of<'a>(
         (with_masks reduced.aces.items (bits_in reduced.masks.items)) }
     ensures { IfOk result (λ form. IsNormalFormOf list.now (emitted_aces form.items)) }
 {
-    // The call is for its clause alone, that the list is accepted.
+    // The call is made for its clause alone, which says that the list is accepted.
     let _accepted = list.aces();
     let mut rows = Remaining::of(alloc, reduced)?;
     let form = normalize_left(alloc, &mut rows)?;

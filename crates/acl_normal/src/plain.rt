@@ -1,5 +1,5 @@
-//! The normal form and the comparison in a plain way, as a measure for tests: each ACE is held against all others, and
-//! all small situations are gone over.
+//! The normal form and the comparison in a plain way, which tests use as a measure: each ACE is compared with all
+//! others, and all small situations are tried.
 
 ghost use Rattle.std.specs.Prelude.{IfOk};
 ghost use Rattle.acl_perm.specs.Profile.{full};
@@ -19,8 +19,8 @@ use reduction::{drop_needless, drop_shadowed};
 pub use small_sets::compare;
 use std::alloc::{AllocError, Global};
 
-/// The normal form of a list, as the call of this name above makes it, but in time that grows with the third power of
-/// the number of ACEs.
+/// Returns the normal form of a list, as [`crate::normalize`] does, but in time that grows with the third power of the
+/// number of ACEs.
 pub fn normalize(alloc: Global, source: &Acl) -> Result<Acl, AllocError>
     ensures { IfOk result (λ list. IsNormalFormOf source.now list) }
 {

@@ -8,6 +8,7 @@ mod five_forms;
 mod forms;
 mod harness;
 mod merged_rows;
+mod names;
 mod plain_forms;
 mod small_situations;
 mod tables;

@@ -1,7 +1,6 @@
 pub mod LineLemmas
 pub mod TableLemmas
 pub mod CheckNfsLemmas
-pub mod GroupLemmas
 pub mod ValueLemmas
 pub mod NameLemmas
 pub mod ShowLemmas

@@ -1,4 +1,4 @@
--- What a command makes of an input, and what a run of it answers (this library's own).
+-- What a command makes of an input, and what a run of it returns (this library's own).
 use Rattle.std.specs.Prelude.{◌≡◌, ◌<◌, ◌∷◌, ◌++◌, [], List, ℕ, Bool, true, false, Option, codes, length, take, IfSome, Result, Ok, Err}
 use Rattle.std.specs.Io.KnownBytes.{Appends}
 use Rattle.acl_perm.specs.Lines.{line_feed}
@@ -22,7 +22,7 @@ pub data Answer : Type 0 where
   done : Outcome → List ℕ → Answer
   refused : RunFault → Answer
 
--- the line that tells a decision
+-- the line that reports a decision
 abbrev pub decision_line : Outcome → List ℕ
 decision_line outcome.Yes = codes "granted" ++ line_feed ∷ []
 decision_line outcome.No = codes "denied" ++ line_feed ∷ []
@@ -39,7 +39,7 @@ IsXdrFault p input = IsListFault (IsWholeFault p input)
 
 -- ---- faults
 
--- whose a fault is: the one table of all faults
+-- the cause of a fault: the one table of all faults
 abbrev pub cause_of : RunFault → Cause
 cause_of (fault.Nfs f) = cause.Input
 cause_of (fault.NfsText f) = cause.Input
@@ -49,7 +49,7 @@ cause_of fault.Read = cause.Source
 cause_of (fault.Write w) = cause.Sink w
 cause_of fault.Memory = cause.Memory
 
--- one of four, by whose a fault is: the input's, the source's, the sink's, or want of memory
+-- one of four, by the cause of a fault: the input, the source, the sink, or memory
 abbrev pub by_cause : {X : Type 0} → X → X → X → X → Cause → X
 by_cause input source sink memory cause.Input = input
 by_cause input source sink memory cause.Source = source
@@ -68,29 +68,29 @@ is_source = by_cause false true false false
 abbrev pub is_sink : Cause → Bool
 is_sink = by_cause false false true false
 
--- the fault is the input's
+-- the fault is one of the input
 abbrev pub is_refusal : RunFault → Bool
 is_refusal e = is_input (cause_of e)
 
--- the fault is the source's
+-- the fault is one of the source
 abbrev pub is_read : RunFault → Bool
 is_read e = is_source (cause_of e)
 
--- the fault is the sink's
+-- the fault is one of the sink
 abbrev pub is_write : RunFault → Bool
 is_write e = is_sink (cause_of e)
 
--- the faults of whole reads as an engine tells them
+-- the faults of whole reads as an engine reports them
 abbrev pub run_fault_of : ReadFault → RunFault
 run_fault_of read.Read = fault.Read
 run_fault_of read.Memory = fault.Memory
 
--- the answer is that a read failed
+-- the result is that a read failed
 abbrev pub has_read_failed : {X : Type 0} → Result X RunFault → Bool
 has_read_failed (Ok x) = false
 has_read_failed (Err e) = is_read e
 
--- the answer is that a write failed
+-- the result is that a write failed
 abbrev pub has_write_failed : Result Outcome RunFault → Bool
 has_write_failed (Ok o) = false
 has_write_failed (Err e) = is_write e
@@ -121,7 +121,7 @@ pub record Refuses (Means : List ℕ → Answer → Type 0) (known : Option (Lis
   pub is_input : IfSome known (λ bytes. input ≡ bytes)
   pub means : Means input (refused f)
 
--- what a fault of this cause says of the input and of what was written
+-- what a fault of this cause says about the input and about what was written
 abbrev pub FailsBy : (List ℕ → Answer → Type 0) → Option (List ℕ) → Option (List ℕ) → Option (List ℕ)
     → RunFault → Cause → Type 0
 FailsBy Means known held holds e cause.Input = Refuses Means known e
@@ -129,12 +129,12 @@ FailsBy Means known held holds e cause.Source = Unit {0}
 FailsBy Means known held holds e (cause.Sink w) = Begins Means known held holds w.written
 FailsBy Means known held holds e cause.Memory = Unit {0}
 
--- what a fault says of the input and of what was written
+-- what a fault says about the input and about what was written
 abbrev pub Fails :
     (List ℕ → Answer → Type 0) → Option (List ℕ) → Option (List ℕ) → Option (List ℕ) → RunFault → Type 0
 Fails Means known held holds e = FailsBy Means known held holds e (cause_of e)
 
--- a run that is to find an input's answer and write its text
+-- a run that should find an input's answer and write its text
 abbrev pub Ran :
     (List ℕ → Answer → Type 0) → Option (List ℕ) → Option (List ℕ) → Option (List ℕ) → Result Outcome RunFault → Type 0
 Ran Means known held holds (Ok o) = Finishes Means known held holds o

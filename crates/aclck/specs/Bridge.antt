@@ -14,13 +14,13 @@ use Rattle.aclck.specs.declared.answer.RunFault.{RunFault}
 use Rattle.aclck.specs.declared.answer.RunFault.TheVariants as fault
 use Rattle.aclck.specs.Definition.{Definition, of_names}
 
--- the input is the text of a file, and these bytes spell the list of its access ACL; the default ACL takes no part
+-- the input is the text of a file, and these bytes spell the list of its access ACL; the default ACL does not matter
 pub record Bridges (names : Table) (input text : List ℕ) : Type 0 where
   pub file : PosixFile
   pub read : Reads input names file
   pub spelled : Xdr full (bridge_list file.access) text
 
--- the input is the text of a file, and the list of its access ACL is past a limit
+-- the input is the text of a file, and the list of its access ACL is above a limit
 pub record IsPastLimits (names : Table) (input : List ℕ) (f : RunFault) : Type 0 where
   pub file : PosixFile
   pub read : Reads input names file

@@ -29,36 +29,36 @@ abbrev pub check_nfs_terms : List Term
 check_nfs_terms = required (codes "owner") ∷ required (codes "group") ∷ required (codes "user")
     ∷ required (codes "mask") ∷ default (codes "profile") (codes "full") ∷ any_words ∷ []
 
--- whose object it is
+-- the owner and the owning group of the object
 pub record ObjectNames : Type 0 where
   pub owner : Text
   pub group : Text
 
--- who asks
+-- who requests access
 pub record RequesterNames : Type 0 where
   pub user : Text
   pub groups : List Text
 
--- who asks of what, for which rights, and what a list may have
+-- the object, the requester, the rights that are requested, and the profile
 pub record CheckNfsValues : Type 0 where
   pub object : ObjectNames
   pub requester : RequesterNames
   pub mask : ℕ
   pub profile : Profile
 
--- an object's owner and group, where both are names
+-- an object's owner and group, if both are names
 abbrev pub object_named : Option Text → Option Text → Option ObjectNames
 object_named owner group = option_and_then (λ owner_name. option_and_then (λ group_name.
     if is_name owner_name && is_name group_name
     then Some (record { owner = owner_name; group = group_name }) else None) group) owner
 
--- a user and its groups, where all are names
+-- a user and the groups, if all are names
 abbrev pub requester_named : Option Text → List Text → Option RequesterNames
 requester_named user groups = option_and_then (λ user_name.
     if is_name user_name && are_names groups
     then Some (record { user = user_name; groups = groups }) else None) user
 
--- the values, where all are there and the profile has the rights of the mask
+-- the values, if all are there and the profile has the rights of the mask
 abbrev pub check_nfs_values :
     Option ObjectNames → Option RequesterNames → Option Text → Option Profile → Option CheckNfsValues
 check_nfs_values object requester mask profile =
@@ -66,7 +66,7 @@ check_nfs_values object requester mask profile =
     record { object = whose; requester = who; mask = rights; profile = allowed })
     (option_and_then (mask_within allowed.masks) mask)) profile) requester) object
 
--- the values that the rows of a parse and the words that are no option's spell
+-- the values that the rows of a parse and the words that are no option give
 unfoldable pub check_nfs_in : List Row → List Text → Option CheckNfsValues
 check_nfs_in rows groups = check_nfs_values
     (object_named (first_of (codes "owner") rows) (first_of (codes "group") rows))
@@ -74,15 +74,15 @@ check_nfs_in rows groups = check_nfs_values
     (first_of (codes "mask") rows)
     (profile_in rows)
 
--- the names that an object has
+-- the names of an object
 abbrev pub object_names : Object → ObjectNames
 object_names object = record { owner = owner_of object; group = owning_group_of object }
 
--- the names that a requester has
+-- the names of a requester
 abbrev pub requester_names : Requester → RequesterNames
 requester_names requester = record { user = user_of requester; groups = groups_of requester }
 
--- the values that a call is given
+-- the values with which a call is made
 abbrev pub values_of : Object → Requester → Mask → HeldProfile → CheckNfsValues
 values_of object requester mask profile = record {
   object = object_names object;
@@ -97,7 +97,7 @@ check_nfs_held task = values_of task.object task.requester task.mask task.profil
 
 -- ---- the answer
 
--- the requester asks of the object
+-- the situation in which the requester requests access to the object
 abbrev pub situation_of : CheckNfsValues → Situation
 situation_of values = record {
   owner_name = values.object.owner;
@@ -113,7 +113,7 @@ pub record Decides (values : CheckNfsValues) (input : List ℕ) (o : Outcome) : 
   pub spelled : Xdr values.profile list input
   pub answer : (o ≡ outcome.Yes) ↔ Grant list (situation_of values) values.mask
 
--- the outcome with the line that tells it, or a fault that the input has
+-- the outcome with the line that reports it, or a fault that the input has
 abbrev pub CheckNfsAnswer : CheckNfsValues → List ℕ → Answer → Type 0
 CheckNfsAnswer values input (done o text) = Decides values input o × (text ≡ decision_line o)
 CheckNfsAnswer values input (refused f) = IsXdrFault values.profile input f

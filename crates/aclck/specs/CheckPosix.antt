@@ -25,34 +25,34 @@ abbrev pub check_posix_terms : List Term
 check_posix_terms = required (codes "owner") ∷ required (codes "group") ∷ required (codes "user")
     ∷ optional (codes "groups") ∷ required (codes "want") ∷ any_words ∷ []
 
--- who asks of whose object, for which permissions, and which names a text may have
+-- the requester, the object, the permissions that are requested, and which names a text may have
 pub record CheckPosixValues : Type 0 where
   pub object : Object
   pub requester : Requester
   pub want : ℕ
   pub names : Table
 
--- the groups of `--groups`, and none where it is absent
+-- the groups of `--groups`, or none if it is absent
 abbrev pub groups_value : Option Text → Option (List ℕ)
 groups_value None = Some []
 groups_value (Some text) = ids_value text
 
--- an object's owner and owning group, where both are there
+-- an object's owner and owning group, if both are there
 abbrev pub object_of : Option ℕ → Option ℕ → Option Object
 object_of owner group = option_and_then (λ o. option_map (λ g. record { user = o; group = g }) group) owner
 
--- a user and its groups, where both are there
+-- a user and the groups, if both are there
 abbrev pub requester_of : Option ℕ → Option (List ℕ) → Option Requester
 requester_of user groups = option_and_then (λ u. option_map (λ gs. record { user = u; groups = gs }) groups) user
 
--- the values, where all are there
+-- the values, if all are there
 abbrev pub check_posix_values :
     Option Object → Option Requester → Option ℕ → Option Table → Option CheckPosixValues
 check_posix_values object requester want names =
     option_and_then (λ o. option_and_then (λ r. option_and_then (λ w. option_map (λ n.
     record { object = o; requester = r; want = w; names = n }) names) want) requester) object
 
--- the values that the rows of a parse spell
+-- the values that the rows of a parse give
 unfoldable pub check_posix_in : List Row → Option CheckPosixValues
 check_posix_in rows = check_posix_values
     (object_of (option_and_then id_value (first_of (codes "owner") rows))
@@ -62,7 +62,7 @@ check_posix_in rows = check_posix_values
     (option_and_then want_value (first_of (codes "want") rows))
     (names_value (words_of rows))
 
--- the values that a call is given
+-- the values with which a call is made
 abbrev pub values_of : Id → Id → Id → List Id → Perm → Table → CheckPosixValues
 values_of owner group user groups want names = record {
   object = record { user = owner.value; group = group.value };
@@ -83,7 +83,7 @@ pub record Checks (v : CheckPosixValues) (input : List ℕ) (o : Outcome) : Type
   pub read : Reads input v.names file
   pub answer : (o ≡ outcome.Yes) ↔ (grants file.access v.object v.requester v.want ≡ true)
 
--- the outcome with the line that tells it, or a fault that the input has
+-- the outcome with the line that reports it, or a fault that the input has
 abbrev pub CheckPosixAnswer : CheckPosixValues → List ℕ → Answer → Type 0
 CheckPosixAnswer v input (done o text) = Checks v input o × (text ≡ decision_line o)
 CheckPosixAnswer v input (refused f) = IsPosixFault v.names input f

@@ -22,7 +22,7 @@ use Rattle.aclck.specs.Definition.{Definition, on_list}
 abbrev pub child_terms : List Term
 child_terms = required (codes "kind") ∷ default (codes "profile") (codes "full") ∷ []
 
--- what is created, and what a list may have
+-- what is created, and the profile
 pub record ChildValues : Type 0 where
   pub created : ChildKind
   pub profile : Profile
@@ -32,12 +32,12 @@ unfoldable pub kind_value : Text → Option ChildKind
 kind_value text = if bytes_eq text (codes "file") then Some kind.File
     else (if bytes_eq text (codes "dir") then Some kind.Directory else None)
 
--- the values, where all are there
+-- the values, if all are there
 abbrev pub child_values : Option ChildKind → Option Profile → Option ChildValues
 child_values created profile =
     option_and_then (λ c. option_map (λ p. record { created = c; profile = p }) profile) created
 
--- the values that the rows of a parse spell
+-- the values that the rows of a parse give
 unfoldable pub child_in : List Row → Option ChildValues
 child_in rows = child_values (option_and_then kind_value (first_of (codes "kind") rows))
     (profile_in rows)

@@ -26,11 +26,11 @@ pub record ChmodValues : Type 0 where
   pub mode : ℕ
   pub names : Table
 
--- the values, where all are there
+-- the values, if all are there
 abbrev pub chmod_values : Option ℕ → Option Table → Option ChmodValues
 chmod_values mode names = option_and_then (λ m. option_map (λ n. record { mode = m; names = n }) names) mode
 
--- the values that the rows of a parse spell
+-- the values that the rows of a parse give
 unfoldable pub chmod_in : List Row → Option ChmodValues
 chmod_in rows =
     chmod_values (option_and_then mode_value (first_of (codes "mode") rows)) (names_value (words_of rows))

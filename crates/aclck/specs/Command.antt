@@ -1,4 +1,4 @@
--- What the exit status of the program tells (this library's own).
+-- What the exit status of the program says (this library's own).
 use Rattle.std.specs.Prelude.{◌==◌, List, ℕ, Option, if◌then◌else◌, IsSomeAnd}
 use Rattle.aclck.specs.Answer.{Begins, Finishes, Refuses}
 use Rattle.aclck.specs.Run.{Ends, Stops, Takes}
@@ -7,7 +7,7 @@ use Rattle.aclck.specs.declared.answer.Outcome.{Outcome}
 use Rattle.aclck.specs.declared.answer.Outcome.TheVariants as outcome
 use Rattle.aclck.specs.declared.answer.RunFault.{RunFault}
 
--- the outcome that a status of 0 or 1 tells
+-- the outcome of status 0 or 1
 abbrev pub outcome_at : ℕ → Outcome
 outcome_at status = if status == 0 then outcome.Yes else outcome.No
 
@@ -23,7 +23,7 @@ IsBegun task known held holds = IsSomeAnd task (λ t. (n : ℕ) × Begins (Answe
 abbrev pub IsDone : Option Task → Option (List ℕ) → Option (List ℕ) → Option (List ℕ) → Outcome → Type 0
 IsDone task known held holds o = IsSomeAnd task (λ t. Finishes (Answers t) known held holds o)
 
--- little was taken for the task
+-- little of the input was taken for the task
 abbrev pub IsTaken : Option Task → Option (List ℕ) → Option (List ℕ) → Type 0
 IsTaken task known left = IsSomeAnd task (λ t. Takes (shape_of t) known left)
 
@@ -31,6 +31,6 @@ IsTaken task known left = IsSomeAnd task (λ t. Takes (shape_of t) known left)
 abbrev pub IsStopped : Option Task → Option (List ℕ) → Option (List ℕ) → Type 0
 IsStopped task known left = IsSomeAnd task (λ t. Stops (shape_of t) known left)
 
--- the text was read whole, if the task reads one
+-- the text was read to its end, if the task reads a text
 abbrev pub IsEnded : Option Task → Option (List ℕ) → Type 0
 IsEnded task left = IsSomeAnd task (λ t. Ends (shape_of t) left)

@@ -31,8 +31,8 @@ pub record AreTwo (p : Profile) (list other : List Ace) (input : List ℕ) : Typ
   pub first_spelled : Xdr p list first
   pub second_spelled : Xdr p other second
 
--- the fault of an input that is to be two lists and nothing more: that of the first list, or else that of what stands
--- behind it, which is to be one list and nothing more; each counts from the start of the input
+-- the fault of an input that should be two lists and nothing more: that of the first list, or else that of the bytes
+-- behind it, which should be one list and nothing more; both count from the start of the input
 pub data IsFaultOfTwo (p : Profile) (input : List ℕ) : ℕ → Reason → Type 0 where
   of_first : (offset : ℕ) (r : Reason) → IsFault p input offset r → IsFaultOfTwo p input offset r
   of_second : (list : List Ace) (first rest : List ℕ) (offset : ℕ) (r : Reason)
@@ -45,20 +45,20 @@ IsRefusedTwo p input = IsListFault (IsFaultOfTwo p input)
 
 -- ---- the text
 
--- a line of a word and what it is followed by
+-- a line of a word and what follows it
 abbrev pub line : List ℕ → List ℕ → List ℕ
 line word value = word ++ space ∷ (value ++ line_feed ∷ [])
 
--- the line that two lists grant the same
+-- the line which says that two lists grant the same
 abbrev pub same_text : List ℕ
 same_text = codes "same" ++ line_feed ∷ []
 
--- the word for what a list answers
+-- the word for the answer of a list
 abbrev pub decision : Bool → List ℕ
 decision true = codes "granted"
 decision false = codes "denied"
 
--- who requests of whose object, and what both lists answer where they are asked for one right
+-- the requester and the object, and what both lists answer when they are asked for one right
 abbrev pub difference_text : Situation → ℕ → Bool → List ℕ
 difference_text s mask first_grants =
     (codes "differ" ++ line_feed ∷ [])
@@ -72,7 +72,7 @@ difference_text s mask first_grants =
 
 -- ---- the answer
 
--- the lists grant otherwise first in a small situation, and the text tells it
+-- the first small situation in which the lists differ, and the text that describes it
 pub record TellsDifference (list other : List Ace) (text : List ℕ) : Type 0 where
   pub situation : Situation
   pub mask : ℕ
@@ -80,12 +80,12 @@ pub record TellsDifference (list other : List Ace) (text : List ℕ) : Type 0 wh
   pub is_first : IsFirstDifference list other situation mask first_grants
   pub told : text ≡ difference_text situation mask first_grants
 
--- what the comparison of two lists comes to: Yes where they grant the same, and else No
+-- the outcome of a comparison of two lists: Yes if they grant the same, and otherwise No
 abbrev pub Compares : List Ace → List Ace → Outcome → List ℕ → Type 0
 Compares list other outcome.Yes text = SameGrants all_rights list other × (text ≡ same_text)
 Compares list other outcome.No text = TellsDifference list other text
 
--- the input is two lists of the profile, which compare so
+-- the input is two lists of the profile, and this is their outcome and text
 pub record ComparesInput (p : Profile) (input : List ℕ) (o : Outcome) (text : List ℕ) : Type 0 where
   pub list : List Ace
   pub other : List Ace

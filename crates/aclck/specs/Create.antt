@@ -28,12 +28,12 @@ pub record CreateValues : Type 0 where
   pub is_directory : Bool
   pub names : Table
 
--- the values, where all are there
+-- the values, if all are there
 abbrev pub create_values : Option ℕ → Option ℕ → Bool → Option Table → Option CreateValues
 create_values mode umask is_directory names = option_and_then (λ m. option_and_then (λ u. option_map (λ n.
     record { mode = m; umask = u; is_directory = is_directory; names = n }) names) umask) mode
 
--- the values that the rows of a parse spell
+-- the values that the rows of a parse give
 unfoldable pub create_in : List Row → Option CreateValues
 create_in rows = create_values (option_and_then mode_value (first_of (codes "mode") rows))
     (option_and_then mode_value (first_of (codes "umask") rows)) (is_given (codes "dir") rows)
@@ -45,7 +45,7 @@ create_held v = record { mode = v.mode.bits; umask = v.umask.bits; is_directory 
 
 -- ---- the answer
 
--- the canonical text of the new object, in a directory of this file
+-- the canonical text of the new object, in a directory with the ACLs of this file
 abbrev pub created_text : ℕ → ℕ → Bool → PosixFile → List ℕ
 created_text mode umask is_directory file =
     canonical_text (created_access file.default mode umask) (created_default file.default is_directory)

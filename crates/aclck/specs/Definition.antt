@@ -1,4 +1,4 @@
--- What a command is: its words, what it makes of an input, and what that input is to be (this library's own).
+-- What a command is: its words, what it makes of an input, and what kind of input that is (this library's own).
 use Rattle.std.specs.Prelude.{List, ℕ, Option}
 use Rattle.clap.specs.Words.{Row, Text}
 use Rattle.acl_perm.specs.Profile.{Profile}
@@ -11,17 +11,17 @@ use Rattle.aclck.specs.Run.{Shape, of_list, of_text}
 
 -- a command
 pub record Definition : Type 1 where
-  -- the word that names it
+  -- the word that names the command
   pub word : Text
   -- its arguments
   pub terms : List Term
-  -- what its words give
+  -- the type of the values of its words
   pub Values : Type 0
-  -- the values that the rows of a parse and the words that are no option's spell
+  -- the values that the rows of a parse and the words that are no option give
   pub read : List Row → List Text → Option Values
   -- what it makes of an input at these values
   pub Answers : Values → List ℕ → Answer → Type 0
-  -- what an input is to be
+  -- the kind of its input
   pub shape : Values → Shape
 
 -- a command that reads a text
@@ -59,6 +59,6 @@ of_profile word answers shape = record {
   shape = shape;
 }
 
--- a command that reads a text, and takes the names that it may have and no other word
+-- a command that reads a text, and takes the names of the text and no other word
 abbrev pub of_names : Text → (Table → List ℕ → Answer → Type 0) → Definition
 of_names word answers = on_text word names_terms names_in answers

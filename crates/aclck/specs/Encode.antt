@@ -25,7 +25,7 @@ pub record Encodes (p : Profile) (input bytes : List ℕ) : Type 0 where
   pub spelled : IsAceText p list input
   pub is : bytes ≡ spelling list
 
--- those bytes, which are never No, or a fault that the input has
+-- those bytes, with an outcome that is never No, or a fault that the input has
 abbrev pub EncodeAnswer : Profile → List ℕ → Answer → Type 0
 EncodeAnswer p input (done o bytes) = (o ≡ outcome.Yes) × Encodes p input bytes
 EncodeAnswer p input (refused f) = IsNfsTextFault p input f

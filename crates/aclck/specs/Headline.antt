@@ -1,5 +1,5 @@
--- The headline: what equal bytes and equal texts say of access control lists (RFC 8881, section 6.2.1; acl(5)). Lists
--- are those that are accepted under a profile, which has a set of the sixteen rights.
+-- The headline: what equal bytes and equal texts say about access control lists (RFC 8881, section 6.2.1; acl(5)). The
+-- lists are accepted under a profile, which has a set of the sixteen rights.
 use Rattle.std.specs.Prelude.{◌≡◌, ◌↔◌, List, ℕ}
 use Rattle.acl_perm.specs.Profile.{Profile}
 use Rattle.acl_nfs4.specs.Ace.{Ace}
@@ -17,20 +17,21 @@ use Rattle.aclck.specs.Normalize.{NormalisesAtPaths}
 
 -- the headline, part by part
 pub record Headline : Type 0 where
-  -- two NFSv4 lists normalise to equal bytes exactly if, in every situation and for every mask, both grant or both deny
+  -- two NFSv4 lists normalise to equal bytes if and only if, in every situation and for every mask, both grant or both
+  -- deny
   pub equal_bytes : TellsListsApart Normalises SameGrants
   -- the normal form grants what its source grants
   pub same_grants : (p : Profile) (list form : List Ace) (input output : List ℕ) → IsProfile p
       → Xdr p list input → Xdr p form output → Normalises p input output → SameGrants p.masks list form
-  -- normalising twice is once
+  -- normalising twice gives the same as normalising once
   pub twice_is_once : (p : Profile) (input once twice : List ℕ) → IsProfile p → Normalises p input once
       → Normalises p once twice ↔ (twice ≡ once)
-  -- two POSIX files have one canonical text exactly if they have the same entries
+  -- two POSIX files have the same canonical text if and only if they have the same entries
   pub one_text : TellsApart canonical_text
-  -- and the canonical text reads back
+  -- the canonical text reads back as the same file
   pub reads_back : ReadsBack canonical_text
 
--- each of the five lists grants what stands at its path grants
+-- each of the five lists grants what the list at its path grants
 pub record GrantAtPaths (rights : ℕ) (list : List Ace) (forms : FiveForms) : Type 0 where
   pub object : SameGrants rights (at list here) forms.object
   pub file : SameGrants rights (at list (below 0 File)) forms.file
@@ -40,12 +41,12 @@ pub record GrantAtPaths (rights : ℕ) (list : List Ace) (forms : FiveForms) : T
 
 -- the headline over paths of creations, part by part
 pub record HeadlineOverPaths : Type 0 where
-  -- the five normal forms of two lists have equal bytes exactly if, at every path, in every situation and for every
+  -- the five normal forms of two lists have equal bytes if and only if, at every path, in every situation and for every
   -- mask, both grant or both deny
   pub equal_bytes : TellsListsApart NormalisesAtPaths SameAtEveryPath
-  -- each of the five grants what stands at its path grants
+  -- each of the five grants what the list at its path grants
   pub same_grants : (p : Profile) (list : List Ace) (input output : List ℕ) → IsProfile p → Xdr p list input
       → (five : NormalisesAtPaths p input output) → GrantAtPaths p.masks list five.forms
-  -- normalising each of the five once more changes none
+  -- normalising each of the five once more changes none of them
   pub twice_is_once : (p : Profile) (input output : List ℕ) → IsProfile p → NormalisesAtPaths p input output
       → IsFiveForms p output

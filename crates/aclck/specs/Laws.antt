@@ -27,7 +27,8 @@ abbrev pub ShowsCanonical : Table → List ℕ → List ℕ → Type 0
 ShowsCanonical names input text =
     ShowPosixAnswer (record { form = form.Canonical; names = names }) input (done outcome.Yes text)
 
--- two texts of files, each with its names, get one canonical text exactly if the entries of both parts are equal
+-- two texts of files, each with its names, get the same canonical text if and only if the entries of both parts are
+-- equal
 abbrev pub ShowPosixTellsApart : Type 0
 ShowPosixTellsApart =
     (names other_names : Table) (input other_input text other_text : List ℕ) (file other : PosixFile)
@@ -35,39 +36,39 @@ ShowPosixTellsApart =
     → ShowsCanonical names input text → ShowsCanonical other_names other_input other_text
     → (text ≡ other_text) ↔ (file.access ≡ other.access) × (file.default ≡ other.default)
 
--- what `show-nfs` makes of bytes is a text that `encode` takes, and it makes these bytes of it and no others
+-- what `show-nfs` makes of bytes is a text that `encode` accepts, and `encode` makes these bytes of it and no others
 abbrev pub EncodeUndoesShow : Type 0
 EncodeUndoesShow = (p : Profile) (input text bytes : List ℕ) → IsProfile p
     → ShowNfsAnswer p input (done outcome.Yes text)
     → EncodeAnswer p text (done outcome.Yes bytes) ↔ (bytes ≡ input)
 
--- what `encode` makes of the text of a list are bytes that `show-nfs` takes, and it makes the written text of that list
--- of them and no other
+-- what `encode` makes of the text of a list is bytes that `show-nfs` accepts, and `show-nfs` makes of them the written
+-- text of that list and no other
 abbrev pub ShowUndoesEncode : Type 0
 ShowUndoesEncode = (p : Profile) (input bytes text : List ℕ) (list : List Ace) → IsProfile p → IsAceText p list input
     → EncodeAnswer p input (done outcome.Yes bytes)
     → ShowNfsAnswer p bytes (done outcome.Yes text) ↔ (text ≡ ace_text list)
 
--- two inputs, each of which spells a list of a profile, get equal bytes exactly if the lists are the same to the rights
--- of the profile
+-- two inputs, each of which spells a list of a profile, get equal bytes if and only if the lists are the same for the
+-- rights of the profile
 abbrev pub TellsListsApart : (Profile → List ℕ → List ℕ → Type 0) → (ℕ → List Ace → List Ace → Type 0) → Type 0
 TellsListsApart Gets Same =
     (p : Profile) (list other : List Ace) (input other_input output other_output : List ℕ) → IsProfile p
     → Xdr p list input → Xdr p other other_input → Gets p input output → Gets p other_input other_output
     → (output ≡ other_output) ↔ Same p.masks list other
 
--- `normalize` tells lists apart by what they grant: in every situation, for every mask within the profile, both lists
+-- `normalize` distinguishes lists by what they grant: in every situation, for every mask within the profile, both lists
 -- grant or both deny
 abbrev pub NormalizeTellsApart : Type 0
 NormalizeTellsApart = TellsListsApart (λ p input output. NormalizeAnswer p input (done outcome.Yes output)) SameGrants
 
--- what `normalize` makes of bytes it makes of that too, and nothing else
+-- of its own output `normalize` makes the same bytes, and nothing else
 abbrev pub NormalizeTwice : Type 0
 NormalizeTwice = (p : Profile) (input once twice : List ℕ) → IsProfile p
     → NormalizeAnswer p input (done outcome.Yes once)
     → NormalizeAnswer p once (done outcome.Yes twice) ↔ (twice ≡ once)
 
--- `normalize --inherit` tells lists apart by what they grant at every path of creations
+-- `normalize --inherit` distinguishes lists by what they grant at every path of creations
 abbrev pub NormalizeInheritTellsApart : Type 0
 NormalizeInheritTellsApart =
     TellsListsApart (λ p input output. NormalizeInheritAnswer p input (done outcome.Yes output)) SameAtEveryPath

@@ -30,7 +30,7 @@ pub data Term : Type 0 where
   flag : Text → Term
   any_words : Term
 
--- `clap`'s rule for it: `--NAME VALUE` which has to be there, which may be absent, which is VALUE where it is absent;
+-- `clap`'s rule for an argument: `--NAME VALUE` that is required, that may be absent, or that is VALUE if it is absent;
 -- `--NAME`; any number of words
 abbrev pub rule_from : Term → Rule
 rule_from (required name) = record (new_rule name) { long = Some name; required = true }
@@ -58,7 +58,7 @@ is_none_of (k ∷ ks) = false
 unfoldable pub is_taken : App → List Text → Bool
 is_taken app words = is_none_of (fault_of app words)
 
--- what the command's arguments are at these words, where it takes them
+-- the values of the command's arguments at these words, if it takes the words
 unfoldable pub rows_at : App → List Text → List Row
 rows_at app words = matches_of app words
 
@@ -68,13 +68,13 @@ rows_at app words = matches_of app words
 abbrev pub rows_in : ArgMatches → List Row
 rows_in matches = rows_of (found_of matches)
 
--- the answer of a call that reads values: those that are expected, or usage where there are none
+-- the result of a call that reads values: the expected values, or usage if there are none
 abbrev pub Reads : {X V : Type 0} → (X → V) → Option V → Result X LineFault → Type 0
 Reads held expected (Ok x) = expected ≡ Some (held x)
 Reads held expected (Err line.Usage) = expected ≡ None
 Reads held expected (Err line.Memory) = Unit {0}
 
--- the words that are no option's
+-- the words that are no option
 abbrev pub words_of : List Row → List Text
 words_of rows = unwrap_or (all_of (codes "words") rows) []
 

@@ -21,7 +21,7 @@ pub record TakesTo (IsEnd : List ℕ → ℕ → Type 0) (known left : Option (L
   pub is_end : IsEnd given end
   pub near : length given ≤ end + piece_len
 
--- what was taken of a source may go on
+-- what was taken of a source may continue
 pub record TakesPart (MayGoOn : List ℕ → Type 0) (known left : Option (List ℕ)) : Type 0 where
   pub given : List ℕ
   pub taken : Consumes known left given
@@ -34,13 +34,13 @@ pub record ValueEnds (p : Profile) (text : List ℕ) (end : ℕ) : Type 0 where
   pub list : List Ace
   pub spelled : Xdr p list (take end text)
 
--- the field ends there that a text is refused or cut short in
+-- the field in which a text is refused or cut short ends there
 pub record RefusalEnds (p : Profile) (text : List ℕ) (end : ℕ) : Type 0 where
   pub offset : ℕ
   pub reason : Reason
   pub has : IsFirstFault p text offset end reason
 
--- the value of a text ends there, or the refused field
+-- the value of a text ends there, or the refused field does
 abbrev pub ListEnds : Profile → List ℕ → ℕ → Type 0
 ListEnds p text end = ValueEnds p text end ⊎ RefusalEnds p text end
 
@@ -48,17 +48,17 @@ ListEnds p text end = ValueEnds p text end ⊎ RefusalEnds p text end
 abbrev pub TakesLittle : Profile → Option (List ℕ) → Option (List ℕ) → Type 0
 TakesLittle p = TakesTo (ListEnds p)
 
--- a text that may go on: it is cut short, or a whole value with nothing behind it
+-- a text that may continue: it is cut short, or it is a whole value with nothing behind it
 abbrev pub IsOpen : Profile → List ℕ → Type 0
 IsOpen p text = IsCut p text ⊎ ((list : List Ace) × Xdr p list text)
 
--- what was taken of a source has no fault, but that it may go on
+-- what was taken of a source has no fault, except that it may continue
 abbrev pub TakesOpen : Profile → Option (List ℕ) → Option (List ℕ) → Type 0
 TakesOpen p = TakesPart (IsOpen p)
 
 -- ---- two lists
 
--- a text begins with one value, and of its bytes and of what stands behind it this holds
+-- a text begins with one value, and this holds for the number of its bytes and for the bytes behind it
 pub record ValueFirst (p : Profile) (Holds : List ℕ → List ℕ → Type 0) (text : List ℕ) : Type 0 where
   pub list : List Ace
   pub first : List ℕ
@@ -85,14 +85,14 @@ TwoEnd p text end = SecondEnds p text end ⊎ RefusalEnds p text end
 abbrev pub TakesLittleOfTwo : Profile → Option (List ℕ) → Option (List ℕ) → Type 0
 TakesLittleOfTwo p = TakesTo (TwoEnd p)
 
--- a text begins with one value, and what stands behind it may go on
+-- a text begins with one value, and the bytes behind it may continue
 abbrev pub SecondIsOpen : Profile → List ℕ → Type 0
 SecondIsOpen p = ValueFirst p (λ first. IsOpen p)
 
--- a text of two values that may go on: it is cut short in the first, or the second may go on
+-- a text of two values that may continue: it is cut short in the first, or the second may continue
 abbrev pub AreOpen : Profile → List ℕ → Type 0
 AreOpen p text = IsCut p text ⊎ SecondIsOpen p text
 
--- what was taken of a source has no fault, but that it may go on
+-- what was taken of a source has no fault, except that it may continue
 abbrev pub TakesOpenOfTwo : Profile → Option (List ℕ) → Option (List ℕ) → Type 0
 TakesOpenOfTwo p = TakesPart (AreOpen p)

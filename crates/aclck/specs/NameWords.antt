@@ -11,7 +11,7 @@ use Rattle.aclck.specs.Values.{id_value}
 
 -- ---- cuts of a word
 
--- a text cut at a byte: what stands before it, and what stands behind it
+-- a text that is cut at a byte: the bytes before it, and the bytes behind it
 pub record Cut : Type 0 where
   pub before : Text
   pub behind : Text
@@ -24,7 +24,7 @@ first_cut byte text = if nat_lt (position_or_len (λ b. b == byte) text) (length
       behind = after_first (λ b. b == byte) text;
     }) else None
 
--- a byte, and what is cut of the bytes behind it
+-- a byte, and the cut of the bytes behind it
 abbrev pub cut_behind : ℕ → ℕ → Text → Option Cut → Option Cut
 cut_behind byte b rest None = if b == byte then Some (record { before = []; behind = rest }) else None
 cut_behind byte b rest (Some cut) = Some (record { before = b ∷ cut.before; behind = cut.behind })
@@ -41,7 +41,7 @@ pub data Half : Type 0 where
   users : Half
   groups : Half
 
--- the half that a letter means
+-- the half that a letter names
 abbrev pub half_named : Text → Option Half
 half_named text = if bytes_eq text (codes "u") then Some users
     else (if bytes_eq text (codes "g") then Some groups else None)
@@ -56,20 +56,20 @@ pub record NamedId : Type 0 where
 abbrev pub equals_sign : ℕ
 equals_sign = 61
 
--- a word, cut at its last equals sign, and what is before that at its first colon
+-- a word, cut at its last equals sign, and the part before that sign, cut at its first colon
 unfoldable pub named_id : Text → Option NamedId
 named_id word = option_and_then (λ whole. option_and_then (λ front. option_and_then (λ half.
     option_map (λ id. record { half = half; name = front.behind; id = id })
     (id_value whole.behind)) (half_named front.before)) (first_cut colon whole.before)) (last_cut equals_sign word)
 
--- the table with one more name in one half, where it may be added
+-- the table with one more name in one half, if the name may be added
 abbrev pub with_half : Half → Table → Text → ℕ → Option Table
 with_half users table name id =
     if is_none (name_fault table.users name) then Some (with_user table name id) else None
 with_half groups table name id =
     if is_none (name_fault table.groups name) then Some (with_group table name id) else None
 
--- the table with one more name, where it may be added
+-- the table with one more name, if the name may be added
 abbrev pub with_name : Table → NamedId → Option Table
 with_name table named = with_half named.half table named.name named.id
 
@@ -89,6 +89,6 @@ names_value words = with_words no_names words
 abbrev pub names_terms : List Term
 names_terms = any_words ∷ []
 
--- the table of the words that are no option's in the rows of a parse
+-- the table of the words that are no option in the rows of a parse
 abbrev pub names_in : List Row → Option Table
 names_in rows = names_value (words_of rows)

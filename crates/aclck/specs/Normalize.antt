@@ -21,12 +21,12 @@ use Rattle.aclck.specs.Definition.{Definition, on_list}
 abbrev pub normalize_terms : List Term
 normalize_terms = flag (codes "inherit") ∷ default (codes "profile") (codes "full") ∷ []
 
--- whether inheritance counts, and what a list may have
+-- whether inheritance counts, and the profile
 pub record NormalizeValues : Type 0 where
   pub inherit : Bool
   pub profile : Profile
 
--- the values that the rows of a parse spell
+-- the values that the rows of a parse give
 unfoldable pub normalize_in : List Row → Option NormalizeValues
 normalize_in rows = option_map (λ p. record { inherit = is_given (codes "inherit") rows; profile = p })
     (profile_in rows)
@@ -37,7 +37,7 @@ normalize_held v = record { inherit = v.inherit; profile = profile_of v.profile 
 
 -- ---- the answer
 
--- the bytes that spell the normal form of the list, which are never No, or a fault that the input has
+-- the bytes that spell the normal form of the list, with an outcome that is never No, or a fault that the input has
 abbrev pub NormalizeAnswer : Profile → List ℕ → Answer → Type 0
 NormalizeAnswer p input (done o bytes) = (o ≡ outcome.Yes) × Normalises p input bytes
 NormalizeAnswer p input (refused f) = IsXdrFault p input f
@@ -51,12 +51,13 @@ pub record NormalisesAtPaths (p : Profile) (bytes text : List ℕ) : Type 0 wher
   pub accepted : AreAccepted p forms
   pub spelled : text ≡ five_spellings forms
 
--- the bytes that spell the five normal forms of the list, which are never No, or a fault that the input has
+-- the bytes that spell the five normal forms of the list, with an outcome that is never No, or a fault that the input
+-- has
 abbrev pub NormalizeInheritAnswer : Profile → List ℕ → Answer → Type 0
 NormalizeInheritAnswer p input (done o bytes) = (o ≡ outcome.Yes) × NormalisesAtPaths p input bytes
 NormalizeInheritAnswer p input (refused f) = IsXdrFault p input f
 
--- the five forms where inheritance counts, and else the one
+-- the five forms if inheritance counts, and otherwise the one
 abbrev pub NormalizedAnswer : NormalizeValues → List ℕ → Answer → Type 0
 NormalizedAnswer v = by v.inherit v.profile
   where

@@ -22,7 +22,7 @@ pub record Writes (names : Table) (made : PosixFile → List ℕ) (input text : 
   pub read : Reads input names file
   pub is : text ≡ made file
 
--- the text that is made of the file, which is never No, or a fault that the input has
+-- the text that is made of the file, with an outcome that is never No, or a fault that the input has
 abbrev pub WritesAnswer : Table → (PosixFile → List ℕ) → List ℕ → Answer → Type 0
 WritesAnswer names made input (done o text) = (o ≡ outcome.Yes) × Writes names made input text
 WritesAnswer names made input (refused f) = IsPosixFault names input f

@@ -1,4 +1,4 @@
--- `--profile`, and the words of the commands that take it and no other (this library's own).
+-- `--profile`, and the words of the commands that take it and no other word (this library's own).
 use Rattle.std.specs.Prelude.{◌∷◌, [], List, Option, Some, None, codes, if◌then◌else◌}
 use Rattle.std.specs.Option.{option_and_then}
 use Rattle.std.specs.Str.{bytes_eq}
@@ -15,6 +15,6 @@ unfoldable pub profile_value : Text → Option Profile
 profile_value text = if bytes_eq text (codes "full") then Some full
     else (if bytes_eq text (codes "narrow") then Some narrow else None)
 
--- the profile that the rows of a parse spell
+-- the profile that the rows of a parse give
 unfoldable pub profile_in : List Row → Option Profile
 profile_in rows = option_and_then profile_value (first_of (codes "profile") rows)

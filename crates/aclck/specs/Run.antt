@@ -8,49 +8,50 @@ use Rattle.aclck.specs.ListInput.{TakesLittle, TakesLittleOfTwo, TakesOpen, Take
 use Rattle.aclck.specs.declared.answer.Outcome.{Outcome}
 use Rattle.aclck.specs.declared.answer.RunFault.{RunFault}
 
--- what an input is to be: a text, one list, or two
+-- what kind an input is: a text, one list, or two
 pub data Shape : Type 0 where
   of_text : Shape
   of_list : Profile → Shape
   of_two : Profile → Shape
 
--- what a run takes of its source: of a text whatever it gives, and of lists little more than they have
+-- what a run takes of its source: of a text everything that the source gives, and of lists little more than their bytes
 abbrev pub Takes : Shape → Option (List ℕ) → Option (List ℕ) → Type 0
 Takes of_text known left = Unit {0}
 Takes (of_list p) known left = TakesLittle p known left
 Takes (of_two p) known left = TakesLittleOfTwo p known left
 
--- what a run has taken of its source when a read fails: of a text whatever came, and of lists nothing that refuses them
+-- what a run has taken of its source when a read fails: of a text whatever the source gave, and of lists nothing that
+-- refuses them
 abbrev pub Stops : Shape → Option (List ℕ) → Option (List ℕ) → Type 0
 Stops of_text known left = Unit {0}
 Stops (of_list p) known left = TakesOpen p known left
 Stops (of_two p) known left = TakesOpenOfTwo p known left
 
--- a text that is refused was read whole
+-- a text that is refused was read to its end
 abbrev pub Ends : Shape → Option (List ℕ) → Type 0
 Ends of_text left = IsAtEnd left
 Ends (of_list p) left = Unit {0}
 Ends (of_two p) left = Unit {0}
 
--- a run over an input of this shape, which means these answers, from a source and to a sink as they were, and as they
--- are after it: by the bytes that the source has left and that the sink holds, and by how many of their calls failed
+-- the effect of a run over an input of this shape, with answers of this meaning, on a source and a sink: the bytes that
+-- the source has left and the sink holds before and after, and how many of their calls failed
 pub record Runs {S K : Type 0} (Means : List ℕ → Answer → Type 0) (shape : Shape)
     (left : S → Option (List ℕ)) (reads_failed : S → ℕ) (source source_after : S)
     (holds : K → Option (List ℕ)) (writes_failed : K → ℕ) (sink sink_after : K)
     (r : Result Outcome RunFault) : Type 0 where
-  -- the answer is the input's, and its text was written, or a beginning of it where a write failed
+  -- the answer is that of the input, and its text was written, or a beginning of it if a write failed
   pub ran : Ran Means (left source) (holds sink) (holds sink_after) r
-  -- where it ran to its end, the input was read whole
+  -- if the run ended well, the input was read to its end
   pub whole : OnOk r (IsAtEnd (left source_after))
   -- little of the source was taken
   pub bound : Takes shape (left source) (left source_after)
-  -- where a read failed, what was taken is not refused
+  -- if a read failed, what was taken is not refused
   pub stopped : IfErr r (λ e. is_read e ≡ true → Stops shape (left source) (left source_after))
-  -- a text that is refused was read whole
+  -- a text that is refused was read to its end
   pub ended : IfErr r (λ e. is_refusal e ≡ true → Ends shape (left source_after))
   -- nothing was written, unless a write failed
   pub unwritten : IfErr r (λ e. (is_write e ≡ true) ⊎ (sink_after ≡ sink))
-  -- one read failed where the answer says so, and else none
+  -- one read failed if the result says so, and otherwise none
   pub reads : reads_failed source_after ≡ failures_after (reads_failed source) (has_read_failed r)
-  -- one write failed where the answer says so, and else none
+  -- one write failed if the result says so, and otherwise none
   pub writes : writes_failed sink_after ≡ failures_after (writes_failed sink) (has_write_failed r)

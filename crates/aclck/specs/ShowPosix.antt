@@ -33,12 +33,12 @@ form_value text = if bytes_eq text (codes "canonical") then Some form.Canonical
     else (if bytes_eq text (codes "shown") then Some form.Shown
     else (if bytes_eq text (codes "short") then Some form.Short else None))
 
--- the values, where all are there
+-- the values, if all are there
 abbrev pub show_posix_values : Option Form → Option Table → Option ShowPosixValues
 show_posix_values form names =
     option_and_then (λ f. option_map (λ n. record { form = f; names = n }) names) form
 
--- the values that the rows of a parse spell
+-- the values that the rows of a parse give
 unfoldable pub show_posix_in : List Row → Option ShowPosixValues
 show_posix_in rows =
     show_posix_values (option_and_then form_value (first_of (codes "form") rows)) (names_value (words_of rows))

@@ -1,4 +1,4 @@
--- The commands: what the words of the command line ask for, and what comes of it (this library's own).
+-- The commands: what the words of the command line ask for, and what the answer is (this library's own).
 use Rattle.std.specs.Prelude.{◌∷◌, [], List, ℕ, Option, None, Bool, false, find, is_some, if◌then◌else◌}
 use Rattle.std.specs.Option.{option_and_then, option_map}
 use Rattle.std.specs.Str.{bytes_eq}
@@ -34,7 +34,7 @@ abbrev pub names : List Name
 names = name.ShowPosix ∷ name.CheckPosix ∷ name.CalcMask ∷ name.Chmod ∷ name.Create ∷ name.ShowNfs ∷ name.Encode
     ∷ name.CheckNfs ∷ name.Child ∷ name.Mode ∷ name.Bridge ∷ name.Table ∷ name.Normalize ∷ name.Compare ∷ []
 
--- what each is
+-- the definition of each
 abbrev pub definition_of : Name → Definition
 definition_of name.ShowPosix = show_posix
 definition_of name.CheckPosix = check_posix
@@ -55,8 +55,8 @@ definition_of name.Compare = compare
 pub data Task : Type 0 where
   task_at : (n : Name) → (definition_of n).Values → Task
 
--- the values that the rows of a parse and the words that are no option's spell (a row a command, since the check
--- replaces a name by what it is known to be only where no type depends on it)
+-- the values that the rows of a parse and the words that are no option give (one row per command, because the check
+-- replaces a name by its known value only if no type depends on it)
 abbrev pub task_in : Name → List Row → List Text → Option Task
 task_in name.ShowPosix rows words = option_map (task_at name.ShowPosix) (show_posix.read rows words)
 task_in name.CheckPosix rows words = option_map (task_at name.CheckPosix) (check_posix.read rows words)
@@ -96,11 +96,11 @@ task_held (held.Compare p) = task_at name.Compare (profile_of p)
 abbrev pub word_of : Name → Text
 word_of n = (definition_of n).word
 
--- what a task makes of an input
+-- the answers of a task to an input
 unfoldable pub Answers : Task → List ℕ → Answer → Type 0
 Answers (task_at n v) = (definition_of n).Answers v
 
--- what a task reads
+-- the kind of input that a task reads
 abbrev pub shape_of : Task → Shape
 shape_of (task_at n v) = (definition_of n).shape v
 
@@ -114,12 +114,12 @@ command_named word = find (λ n. bytes_eq (word_of n) word) names
 abbrev pub app_named : Name → App
 app_named n = app_from (word_of n) (definition_of n).terms
 
--- what the words of this command ask for; nothing where it does not take them, or a value is bad
+-- what the words of this command ask for, or nothing if it does not take them, or a value is bad
 unfoldable pub task_named : Name → List Text → Option Task
 task_named n words = if is_taken (app_named n) words
     then task_in n (rows_at (app_named n) words) (words_of (rows_at (app_named n) words)) else None
 
--- what the words ask for; nothing where the first names no command
+-- what the words ask for, or nothing if the first word names no command
 abbrev pub task_of : List Text → Option Task
 task_of [] = None
 task_of (word ∷ words) = option_and_then (λ n. task_named n (word ∷ words)) (command_named word)

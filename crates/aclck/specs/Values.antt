@@ -6,6 +6,7 @@ use Rattle.std.specs.Option.{option_and_then, option_map}
 use Rattle.std.specs.Str.{bytes_eq}
 use Rattle.std.specs.Str.Parse.{digits_value}
 use Rattle.clap.specs.Words.{Text}
+use Rattle.acl_perm.specs.Ascii.{letter_r, letter_w, letter_x}
 use Rattle.acl_nfs4.specs.Rights.{mask_named, no_rights}
 use Rattle.acl_posix.specs.Grammar.{comma}
 use Rattle.acl_posix.specs.Fields.{count_of}
@@ -24,7 +25,7 @@ unfoldable pub mask_value : Text → Option ℕ
 mask_value text = if bytes_eq text (codes "none") then Some 0
     else (if bytes_eq text no_rights then None else mask_named text)
 
--- the rights that a value of `--mask` names, where the set of rights has all of them
+-- the rights that a value of `--mask` names, if the set of rights has all of them
 abbrev pub mask_within : ℕ → Text → Option ℕ
 mask_within rights text =
     option_and_then (λ mask. if bit_and rights mask == mask then Some mask else None) (mask_value text)
@@ -58,18 +59,6 @@ greatest_mode = 511
 unfoldable pub mode_value : Text → Option ℕ
 mode_value text = if are_digits 8 text && nat_le (length text) 4 && nat_le (digits_value 8 text) greatest_mode
     then Some (digits_value 8 text) else None
-
--- the letter of the permission to read
-abbrev pub letter_r : ℕ
-letter_r = 114
-
--- the letter of the permission to write
-abbrev pub letter_w : ℕ
-letter_w = 119
-
--- the letter of the permission to execute
-abbrev pub letter_x : ℕ
-letter_x = 120
 
 -- r, w or x
 abbrev pub is_letter : ℕ → Bool

@@ -12,7 +12,7 @@ pub record MakesText (p : Profile) (made : List Ace → List ℕ) (input text : 
   pub spelled : Xdr p list input
   pub is : text ≡ made list
 
--- the text that is made of the list, which is never No, or a fault that the input has
+-- the text that is made of the list, with an outcome that is never No, or a fault that the input has
 abbrev pub MakesAnswer : Profile → (List Ace → List ℕ) → List ℕ → Answer → Type 0
 MakesAnswer p made input (done o text) = (o ≡ outcome.Yes) × MakesText p made input text
 MakesAnswer p made input (refused f) = IsXdrFault p input f

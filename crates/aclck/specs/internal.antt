@@ -5,7 +5,7 @@
 -- Compared: the text and the outcome of what `acl_normal` answers
 -- Held: a command's word and arguments in the program
 -- Adding: names that are cut out of words and added to a table
--- Performing: the answer of a command line before the status tells it
+-- Performing: the result of a command line, from which the status is made
 pub mod Reading
 pub mod Files
 pub mod Telling

@@ -1,4 +1,4 @@
-//! What an engine answers.
+//! The result of an engine.
 ghost use Rattle.std.specs.Prelude.{◌≡◌, ◌↔◌, true};
 ghost use Rattle.acl_nfs4.specs.Spelling.{spelling};
 ghost use Rattle.aclck.specs.Answer.{cause_of, decision_line, is_refusal};
@@ -10,17 +10,17 @@ use acl_posix::TextFault;
 use std::alloc::AllocError;
 use thiserror::Error;
 
-/// The answer of a command that ran to its end: No is denied or different.
+/// The outcome of a command that ran to its end. No is denied or different.
 #[derive(Clone, Copy, Debug, PartialEq, Eq)]
 pub enum Outcome {
-    /// The answer is `granted` or `same`, or the command asks nothing and its whole output was written.
+    /// The answer is `granted` or `same`, or the command decides nothing and its whole output was written.
     Yes,
     /// The answer is denied or different.
     No,
 }
 
 impl Outcome {
-    /// The answer that something is granted, or is not.
+    /// Returns the outcome for something that is granted, or is not.
     pub(crate) fn of(is_granted: bool) -> Outcome
         ensures { (result ≡ Outcome.Yes) ↔ (is_granted ≡ true) }
     {
@@ -35,7 +35,7 @@ impl Outcome {
 /// Why a command did not run to its end.
 #[derive(Clone, Copy, Debug, PartialEq, Eq, Error)]
 pub enum RunFault {
-    /// The input is no accepted NFSv4 list.
+    /// The input is not an accepted NFSv4 list.
     #[error("{0}")]
     Nfs(Fault),
     /// The input is not the text of an accepted NFSv4 list.
@@ -44,7 +44,7 @@ pub enum RunFault {
     /// The input is not the text of a POSIX ACL.
     #[error("{0}")]
     Posix(TextFault),
-    /// The list that would be written is past a limit.
+    /// The list that would be written is above a limit.
     #[error("Limits")]
     Limits,
     #[error("read failed")]
@@ -80,21 +80,21 @@ impl From<WriteFault> for RunFault {
     }
 }
 
-/// Whose a fault is.
+/// The cause of a fault.
 #[derive(Clone, Copy, Debug, PartialEq, Eq)]
 pub enum Cause {
     /// The input is refused.
     Input,
     /// The source failed.
     Source,
-    /// The sink failed, by this fault.
+    /// The sink failed, with this fault.
     Sink(WriteFault),
-    /// There was no memory.
+    /// Memory ran out.
     Memory,
 }
 
 impl RunFault {
-    /// Whose the fault is: the one table of all faults.
+    /// Returns the cause of the fault: the one table of all faults.
     fn cause(self) -> Cause
         ensures { result ≡ cause_of self }
     {
@@ -107,7 +107,7 @@ impl RunFault {
         }
     }
 
-    /// Whether the fault is the input's.
+    /// Returns whether the fault is one of the input.
     pub(crate) fn is_refusal(self) -> bool
         ensures { result ≡ is_refusal self }
     {
@@ -129,7 +129,7 @@ impl From<AllocError> for RunFault {
     }
 }
 
-/// The line that tells a decision.
+/// Returns the line that reports a decision.
 pub(crate) fn decision_line(outcome: Outcome) -> &'static [u8]
     ensures { result.now ≡ decision_line outcome }
 {

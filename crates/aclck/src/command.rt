@@ -15,12 +15,12 @@ use clap::ArgMatches;
 use std::alloc::{AllocError, Global};
 use std::io::Write;
 
-/// Why a command line came to nothing.
+/// Why a command line was not carried out.
 #[derive(Clone, Copy, Debug, PartialEq, Eq)]
 pub enum CommandFault {
     /// The first word names no command, the command does not take the words, or a value is bad.
     Usage,
-    /// The command did not run to its end, or there was no memory to read its words.
+    /// The command did not run to its end, or memory ran out for its words.
     Run(RunFault),
 }
 
@@ -72,8 +72,8 @@ impl CommandFault {
     }
 }
 
-/// Runs the command that the words name, which come without the program's name, and answers the exit status: 0 done or
-/// granted, 1 denied, 2 the input is refused, 3 usage, 4 a device or memory. From 2 on one line on `err` says why; a
+/// Runs the command that the words name. The words come without the program's name. Returns the exit status: 0 done or
+/// granted, 1 denied, 2 the input is refused, 3 usage, 4 a device or memory. From 2 on, one line on `err` says why; a
 /// fault of `err` changes nothing.
 pub fn command<S: Source, K: Sink, E: Sink>(
     alloc: Global,
@@ -84,7 +84,7 @@ pub fn command<S: Source, K: Sink, E: Sink>(
 ) -> u8
     // Below 3 the words ask for a task.
     ensures named { result < 3 → IsSome (task_of (texts words.entry.now)) }
-    // At 0 and 1 it ran to its end, and what was written is the text of its answer.
+    // At 0 and 1 the task ran to its end, and the text of its answer was written.
     ensures done { result < 2 → IsDone (task_of (texts words.entry.now))
         (S.remaining source.old) (K.contents out.old) (K.contents out.new) (outcome_at result) }
     ensures whole { result < 2 → IsAtEnd (S.remaining source.new) }
@@ -94,11 +94,11 @@ pub fn command<S: Source, K: Sink, E: Sink>(
     // At 3 the words ask for nothing, and no input was read.
     ensures usage { result ≡ 3 → task_of (texts words.entry.now) ≡ None }
     ensures unread { result ≡ 3 → source.new ≡ source.old }
-    // Where the first word names no command, or is none, nothing takes memory.
+    // If the first word names no command, or there is no word, no memory is requested.
     ensures unnamed { is_command (texts words.entry.now) ≡ false → result ≡ 3 }
 
-    // Little of the input is taken, if any; what was taken when a read failed does not refuse a list; and a text that
-    // is refused was read whole.
+    // Little of the input is taken, if any. What was taken when a read failed does not refuse a list. A text that is
+    // refused was read to its end.
     ensures bound { (source.new ≡ source.old) ⊎ IsTaken (task_of (texts words.entry.now))
         (S.remaining source.old) (S.remaining source.new) }
     ensures stopped { (S.failure_count source.new ≡ S.failure_count source.old)
@@ -114,7 +114,7 @@ pub fn command<S: Source, K: Sink, E: Sink>(
         ⊎ ((K.failure_count out.new ≡ one_more (K.failure_count out.old))
         × IsBegun (task_of (texts words.entry.now)) (S.remaining source.old)
         (K.contents out.old) (K.contents out.new)) }
-    // Below 4 no read and no write failed, and at 4 at most one of both together.
+    // Below 4 no read and no write failed. At 4 at most one read or one write failed, and not both.
     ensures none_failed { result < 4 → (S.failure_count source.new ≡ S.failure_count source.old)
         × (K.failure_count out.new ≡ K.failure_count out.old) }
     ensures one_read { (S.failure_count source.new ≡ S.failure_count source.old)
@@ -123,7 +123,7 @@ pub fn command<S: Source, K: Sink, E: Sink>(
         ⊎ (K.failure_count out.new ≡ one_more (K.failure_count out.old)) }
     ensures one_device { (S.failure_count source.new ≡ S.failure_count source.old)
         ⊎ (K.failure_count out.new ≡ K.failure_count out.old) }
-    // At 0 and 1 nothing is told.
+    // At 0 and 1 nothing is written to `err`.
     ensures untold { result < 2 → err.new ≡ err.old }
     ensures known { result ≤ 4 }
 {
@@ -134,7 +134,7 @@ pub fn command<S: Source, K: Sink, E: Sink>(
     }
 }
 
-/// The exit status of a fault. One line on `err` says why.
+/// Returns the exit status of a fault, and writes one line on `err` that says why.
 pub(crate) fn fail<E: Sink>(err: &mut E, fault: CommandFault) -> u8
     ensures { result ≡ status_of fault }
 {
@@ -166,7 +166,7 @@ fn perform<'a, S: Source, K: Sink>(
     perform_named(alloc, name, &matches, source, out)
 }
 
-// Runs a command at what it takes from the words.
+// Runs a command with the values of its words.
 fn perform_named<S: Source, K: Sink>(
     alloc: Global,
     name: Name,
@@ -184,7 +184,7 @@ fn perform_named<S: Source, K: Sink>(
     Ok(task.run(alloc, source, out)?)
 }
 
-// The words that are no option's.
+// The words that are no option.
 fn words_in<'a>(alloc: Global, matches: &ArgMatches<'a>) -> Result<Vec<&'a [u8]>, AllocError>
     ensures { IfOk result (λ v. texts v.items ≡ words_of (rows_in matches.now)) }
 {
@@ -204,10 +204,10 @@ fn bytes_of<'a>(alloc: Global, words: &[&'a str]) -> Result<Vec<&'a [u8]>, Alloc
     Ok(all)
 }
 
-// The longest line on a fault is shorter.
+// The longest line about a fault is shorter.
 const LINE_ROOM: usize = 80;
 
-// One line on the fault, made without memory. A fault of `err` changes nothing.
+// Writes one line about the fault, made without memory. A fault of `err` changes nothing.
 fn report<E: Sink>(err: &mut E, fault: CommandFault) {
     let mut buffer = [0u8; LINE_ROOM];
     let mut room = buffer.as_mut_slice();

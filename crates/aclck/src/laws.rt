@@ -2,34 +2,34 @@
 ghost use Rattle.aclck.specs.Headline.{Headline, HeadlineOverPaths};
 ghost use Rattle.aclck.specs.Laws.{EncodeUndoesShow, NormalizeInheritGivesForms, NormalizeInheritTellsApart, NormalizeTellsApart, NormalizeTwice, ShowPosixTellsApart, ShowUndoesEncode};
 
-/// Two texts of files get one canonical text from `show-posix` exactly if their sets of entries are equal.
+/// Two texts of files get the same canonical text from `show-posix` if and only if their sets of entries are equal.
 pub fn show_posix_tells_apart()
     ensures { ShowPosixTellsApart }
 {}
 
-/// What `show-nfs` writes `encode` takes, and it gives the bytes that were read.
+/// `encode` accepts what `show-nfs` writes, and gives the bytes that were read.
 pub fn encode_undoes_show()
     ensures { EncodeUndoesShow }
 {}
 
-/// What `encode` writes `show-nfs` takes, and it gives the written text of the list, whatever text was read.
+/// `show-nfs` accepts what `encode` writes, and gives the written text of the list, whatever text was read.
 pub fn show_undoes_encode()
     ensures { ShowUndoesEncode }
 {}
 
-/// Two lists get equal bytes from `normalize` exactly if both grant or both deny, in every situation and for every
+/// Two lists get equal bytes from `normalize` if and only if both grant or both deny, in every situation and for every
 /// mask.
 pub fn normalize_tells_apart()
     ensures { NormalizeTellsApart }
 {}
 
-/// What `normalize` writes it makes of that too.
+/// Of its own output `normalize` makes the same output.
 pub fn normalize_twice()
     ensures { NormalizeTwice }
 {}
 
-/// Two lists get equal bytes from `normalize --inherit` exactly if both grant or both deny, at every path of creations
-/// below them, in every situation and for every mask.
+/// Two lists get equal bytes from `normalize --inherit` if and only if both grant or both deny, at every path of
+/// creations below them, in every situation and for every mask.
 pub fn normalize_inherit_tells_apart()
     ensures { NormalizeInheritTellsApart }
 {}
@@ -39,14 +39,15 @@ pub fn normalize_inherit_gives_forms()
     ensures { NormalizeInheritGivesForms }
 {}
 
-/// The headline: normal forms have equal bytes exactly if their lists grant the same, they grant what their lists
-/// grant, and normalising twice is once; canonical texts are equal exactly if the entries are, and they read back.
+/// The headline: normal forms have equal bytes if and only if their lists grant the same, they grant what their lists
+/// grant, and normalising twice gives the same as once; canonical texts are equal if and only if the entries are equal,
+/// and they read back.
 pub fn headline()
     ensures { Headline }
 {}
 
-/// The headline over paths: the five normal forms have equal bytes exactly if their lists grant the same at every path
-/// of creations, each grants what stands at its path grants, and normalising each once more changes none.
+/// The headline over paths: the five normal forms have equal bytes if and only if their lists grant the same at every
+/// path of creations, each grants what the list at its path grants, and normalising each once more changes none.
 pub fn headline_over_paths()
     ensures { HeadlineOverPaths }
 {}

@@ -13,11 +13,11 @@ use std::alloc::{AllocError, AllocFailed, Global};
 /// An argument of a command.
 #[derive(Clone, Copy, Debug)]
 pub enum Argument {
-    /// `--NAME VALUE`, which has to be there.
+    /// `--NAME VALUE`, which is required.
     Required(&'static str),
     /// `--NAME VALUE`, which may be absent.
     Optional(&'static str),
-    /// `--NAME VALUE`, which is the second text where it is absent.
+    /// `--NAME VALUE`, which is the second text if it is absent.
     Default(&'static str, &'static str),
     /// `--NAME`.
     Flag(&'static str),
@@ -30,7 +30,7 @@ pub enum Argument {
 pub enum LineFault {
     /// The command does not take the words, or a value is bad.
     Usage,
-    /// There was no memory to read the words.
+    /// Memory ran out for the words.
     Memory,
 }
 
@@ -56,7 +56,7 @@ impl<T: Drop> From<AllocFailed<T>> for LineFault {
     }
 }
 
-/// The command of a name with the arguments of a table.
+/// Returns the command of a name with the arguments of a table.
 pub(crate) fn command_from<'a>(
     alloc: Global,
     name: &'a str,
@@ -104,7 +104,7 @@ fn arg_of<'a>(alloc: Global, argument: Argument) -> Arg<'a>
     }
 }
 
-/// What a simple command takes from the words, of which the first stands in the place of the program's name.
+/// Returns what a simple command takes from the words. The first word is in the place of the program's name.
 pub(crate) fn parse<'a>(
     command: Command<'a>,
     words: &'a [&'a str],
@@ -132,7 +132,7 @@ fn line_fault(error: &clap::Error) -> LineFault
     }
 }
 
-/// Whether a flag was given.
+/// Returns whether a flag was given.
 pub(crate) fn is_set(matches: &ArgMatches<'_>, id: &str) -> bool
     ensures { result ≡ is_given id.now (rows_in matches.now) }
 {
@@ -149,7 +149,7 @@ fn is_true(text: Option<&str>) -> bool
     }
 }
 
-/// The first value of an option.
+/// Returns the first value of an option.
 pub(crate) fn text_of<'a>(matches: &ArgMatches<'a>, id: &str) -> Option<&'a str>
     ensures { text_if_any result ≡ first_of id.now (rows_in matches.now) }
 {

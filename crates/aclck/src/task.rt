@@ -1,4 +1,4 @@
-//! The commands: a row a command in each table, and a file a command.
+//! The commands: one row per command in each table, and one file per command.
 ghost use Rattle.std.specs.Prelude.{◌≡◌, IfErr, IfOk, OnOk, false, find, true};
 ghost use Rattle.std.specs.Str.{bytes_eq};
 ghost use Rattle.clap.specs.Words.{app_of};
@@ -83,14 +83,14 @@ const NAMES: [Name; 14] = [
 ];
 
 impl Name {
-    /// The command that a word names.
+    /// Returns the command that a word names.
     pub(crate) fn of(word: &str) -> Option<Name>
         ensures { result ≡ command_named word.now }
     {
         find_name(&NAMES, word)
     }
 
-    /// What the command takes from the words, of which the first is its own.
+    /// Returns what the command takes from the words. The first word is its own.
     pub(crate) fn matches<'a>(
         self,
         alloc: Global,
@@ -120,14 +120,14 @@ impl Name {
         self.word() == word
     }
 
-    // The word that names it.
+    // The word that names the command.
     fn word<'a>(self) -> &'a str
         ensures { result.now ≡ word_of self }
     {
         self.definition().word
     }
 
-    // Its word and its arguments.
+    // The word and the arguments of the command.
     fn definition(self) -> Definition
         ensures { Defines (definition_of self) result }
     {
@@ -198,7 +198,7 @@ pub enum Task<'a> {
 }
 
 impl<'a> Task<'a> {
-    /// The values that a parse and the words that are no option's spell.
+    /// Returns the values that a parse and the words that are no option give.
     pub(crate) fn read<'w: 'a>(
         alloc: Global,
         name: Name,

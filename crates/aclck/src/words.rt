@@ -1,4 +1,4 @@
-//! What the words of a command line spell.
+//! The values of the words of a command line.
 
 pub(crate) mod names;
 pub(crate) mod profile;

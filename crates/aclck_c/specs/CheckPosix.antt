@@ -6,11 +6,11 @@ use Rattle.acl_posix.specs.declared.file.PosixFile.{PosixFile}
 use Rattle.aclck_c.specs.Posix.{Spells}
 use Rattle.aclck_c.specs.declared.names.Name.{Name}
 
--- whose object it is
+-- the owner and the owning group of the object
 abbrev pub object_of : ℕ → ℕ → Object
 object_of owner group = record { user = owner; group = group }
 
--- who asks
+-- who requests access
 abbrev pub requester_of : ℕ → List ℕ → Requester
 requester_of user groups = record { user = user; groups = groups }
 
@@ -26,7 +26,7 @@ pub record AreGoodIds (owner group user : ℕ) (groups : List ℕ) (want : ℕ) 
   pub numbers : AreNumbers owner group user want
   pub are_groups : All IsId groups
 
--- with these names the text spells a file, and this says whether its access ACL grants the request
+-- with these names the text spells a file, and this is whether its access ACL grants the request
 pub record Checks (names : List Name) (text : List ℕ) (object : Object) (requester : Requester) (want : ℕ)
     (granted : Bool) : Type 0 where
   pub file : PosixFile

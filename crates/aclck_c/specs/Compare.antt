@@ -1,5 +1,5 @@
--- What a comparison of the lists that bytes spell tells a caller from C (this library's own, over RFC 8881, section
--- 6.2.1).
+-- What a comparison of the lists that bytes spell reports to a caller from C (this library's own, over RFC 8881,
+-- section 6.2.1).
 use Rattle.std.specs.Prelude.{◌≡◌, ◌++◌, ◌∷◌, ◌⊎◌, [], ℕ, Bool, List, false, true}
 use Rattle.std.specs.List.{flat_map}
 use Rattle.acl_perm.specs.Bits.{all_rights}
@@ -46,7 +46,7 @@ truth_number true = 1
 abbrev pub distinction : ℕ → Bool → Distinction
 distinction right first_grants = record { right = right; first_grants = truth_number first_grants }
 
--- both spell lists, which first grant otherwise in the situation of these names, at this right
+-- both spell lists, and the first situation in which they differ has these names, at this right
 pub record DifferAt (p : Profile) (first second : List ℕ) (at : Distinction) (names : List ℕ) : Type 0 where
   pub list : List Ace
   pub other : List Ace
@@ -59,7 +59,7 @@ pub record DifferAt (p : Profile) (first second : List ℕ) (at : Distinction) (
   pub is_at : at ≡ distinction right first_grants
   pub told : names ≡ names_text situation
 
--- the first is refused so, or the first spells a list and the second is refused so
+-- the first is refused with this fault, or the first spells a list and the second is refused with this fault
 abbrev pub IsRefusedPair : Profile → List ℕ → List ℕ → Refusal → Type 0
 IsRefusedPair p first second shown =
     IsRefusedList p first 0 shown ⊎ (AreList p first × IsRefusedList p second 1 shown)

@@ -16,7 +16,7 @@ pub record Encodes (p : Profile) (text bytes : List ℕ) : Type 0 where
   pub read : IsAceText p list text
   pub spelled : bytes ≡ spelling list
 
--- the fault of a text, by numbers; none where memory ran out
+-- the fault of a text, by numbers; none if memory ran out
 abbrev pub ace_text_refusal : AceTextFault → Option Refusal
 ace_text_refusal (text.TooManyAces line column) = Some (at_place 2 line column)
 ace_text_refusal (text.AceType line column) = Some (at_place 4 line column)

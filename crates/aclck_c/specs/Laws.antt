@@ -1,4 +1,4 @@
--- What the exports promise of each other (this library's own, over RFC 8881, section 6.2.1).
+-- What the exports promise about each other (this library's own, over RFC 8881, section 6.2.1).
 use Rattle.std.specs.Prelude.{◌≡◌, ◌↔◌, ℕ, List, take}
 use Rattle.acl_nfs4.specs.Ace.{Ace}
 use Rattle.acl_nfs4.specs.Spelling.{Xdr}

@@ -8,7 +8,7 @@ use Rattle.acl_nfs4.specs.Spelling.{Xdr}
 use Rattle.aclck_c.specs.Requests.{AreGranted, asked}
 use Rattle.aclck_c.specs.declared.check_many.Asker.{Asker}
 
--- the situation in which a requester asks
+-- the situation in which a requester requests access
 abbrev pub asked_by : List ℕ → List ℕ → Asker → Situation
 asked_by owner group who = asked owner group who.user.now who.groups.now
 

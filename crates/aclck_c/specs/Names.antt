@@ -4,11 +4,11 @@ use Rattle.std.specs.Option.{is_none, option_and_then}
 use Rattle.acl_posix.specs.Names.{Table, name_fault, no_names, with_group, with_user}
 use Rattle.aclck_c.specs.declared.names.Name.{Name}
 
--- the table with one more user name, where it may be added
+-- the table with one more user name, if the name may be added
 abbrev pub user_added : Table → List ℕ → ℕ → Option Table
 user_added table name id = if is_none (name_fault table.users name) then Some (with_user table name id) else None
 
--- the table with one more group name, where it may be added
+-- the table with one more group name, if the name may be added
 abbrev pub group_added : Table → List ℕ → ℕ → Option Table
 group_added table name id = if is_none (name_fault table.groups name) then Some (with_group table name id) else None
 
@@ -18,7 +18,7 @@ half_added is_group table name id =
     if is_group == 0 then user_added table name id
     else (if is_group == 1 then group_added table name id else None)
 
--- the table with one more name, where its id is one
+-- the table with one more name, if its id is an id
 abbrev pub name_added : Table → Name → Option Table
 name_added table n =
     if nat_lt n.id 4294967295 then half_added n.is_group table n.name.now n.id else None

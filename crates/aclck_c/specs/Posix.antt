@@ -55,7 +55,7 @@ form_in options =
     else (if options == 4 then Some form.Shown
     else (if options == 8 then Some form.Short else None))
 
--- the text of a file in a form; the short one has a line feed after it
+-- the text of a file in a form; the short text has a line feed after it
 abbrev pub form_text : Form → PosixFile → List ℕ
 form_text form.Canonical file = canonical_text file.access file.default
 form_text form.Shown file = shown_text file.access file.default
@@ -80,12 +80,13 @@ chmod_text mode file = canonical_text (chmoded file.access mode) file.default
 abbrev pub is_directory : ℕ → Bool
 is_directory options = options == 2
 
--- the canonical text of a new object in a directory of this file (acl(5), "OBJECT CREATION AND DEFAULT ACLs")
+-- the canonical text of a new object in a directory with the ACLs of this file (acl(5), "OBJECT CREATION AND DEFAULT
+-- ACLs")
 abbrev pub created_text : ℕ → ℕ → Bool → PosixFile → List ℕ
 created_text mode umask directory file =
     canonical_text (created_access file.default mode umask) (created_default file.default directory)
 
--- with these names the text spells a file, and these bytes spell the list that stands for its access ACL
+-- with these names the text spells a file, and these bytes spell the list of its access ACL
 pub record Bridges (names : List Name) (text bytes : List ℕ) : Type 0 where
   pub file : PosixFile
   pub spells : Spells names text file
@@ -107,7 +108,7 @@ abbrev pub part_number : Part → ℕ
 part_number part.Access = 0
 part_number part.Default = 1
 
--- the fault of a text, by numbers; none where memory ran out
+-- the fault of a text, by numbers; none if memory ran out
 abbrev pub posix_refusal : TextFault → Option Refusal
 posix_refusal (fault.Fields line column) = Some (at_place 16 line column)
 posix_refusal (fault.Tag line column) = Some (at_place 19 line column)
@@ -127,7 +128,7 @@ pub record IsRefusedPosix (names : List Name) (text : List ℕ) (shown : Refusal
   pub has : HasFault names text fault
   pub is : Some shown ≡ posix_refusal fault
 
--- the text spells a file, and the list that stands for its access ACL is past a limit
+-- the text spells a file, and the list of its access ACL is above a limit
 pub record IsPastLimits (names : List Name) (text : List ℕ) : Type 0 where
   pub file : PosixFile
   pub spells : Spells names text file

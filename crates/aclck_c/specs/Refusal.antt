@@ -46,7 +46,7 @@ at_place number line column = record {
   tag = 0;
 }
 
--- a part of a POSIX ACL is no valid ACL: the place of an entry, or the number of the tag that is missing
+-- a part of a POSIX ACL is not a valid ACL: the place of an entry, or the number of the tag that is missing
 abbrev pub in_part : ℕ → ℕ → ℕ → ℕ → Refusal
 in_part number which place tag_number = record {
   offset = place;
@@ -58,6 +58,6 @@ in_part number which place tag_number = record {
   tag = tag_number;
 }
 
--- the list that stands for a POSIX ACL is past a limit
+-- the list of a POSIX ACL is above a limit
 abbrev pub past_limits : Refusal
 past_limits = record { offset = 0; line = 0; column = 0; reason = 28; list = 0; part = 0; tag = 0 }

@@ -11,7 +11,7 @@ use Rattle.acl_nfs4.specs.Spelling.{Xdr}
 use Rattle.acl_eval.specs.Deciding.{deciding_kind, deciding_place}
 use Rattle.acl_eval.specs.Grant.{Grant, grants_bit}
 
--- the situation of these names, of which those of groups lie behind references
+-- the situation of these names; the names of groups are behind references
 abbrev pub asked : List ℕ → List ℕ → List ℕ → List (Bor (List ℕ)) → Situation
 asked owner group user groups = record {
   owner_name = owner;
@@ -29,7 +29,7 @@ pub record AreGood (owner group user : List ℕ) (groups : List (Bor (List ℕ))
   pub is_mask : IsMask mask
   pub is_profile : options < 2
 
--- the bytes spell a list, and this says whether it grants the request
+-- the bytes spell a list, and this is whether it grants the request
 pub record Decides (p : Profile) (bytes : List ℕ) (s : Situation) (mask : ℕ) (granted : Bool) : Type 0 where
   pub list : List Ace
   pub spelled : Xdr p list bytes

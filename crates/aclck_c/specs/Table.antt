@@ -11,8 +11,7 @@ use Rattle.acl_nfs4.specs.BitNames.{first_name}
 use Rattle.acl_nfs4.specs.Rights.{rights}
 use Rattle.acl_nfs4.specs.Spelling.{Xdr}
 use Rattle.acl_normal.specs.Left.{IsLowest}
-use Rattle.acl_normal.specs.Tables.{IsTable}
-use Rattle.acl_normal.specs.declared.bit_table.Row.{Row}
+use Rattle.acl_normal.specs.Tables.{IsTableOf, TableRow}
 use Rattle.aclck_c.specs.Options.{profile_in}
 
 -- the table of names has the right (RFC 8881, section 6.2.1.3.1), and so has the profile
@@ -36,18 +35,18 @@ group_word false = codes "-"
 
 -- the place in the given list, from 0, the type, whether the who is the name of a group, and the who, with one space
 -- between them, and a line feed
-abbrev pub row_line : Row → List ℕ
-row_line r = decimal r.source ++ space ∷ (kind_name r.kind ++ space ∷ (group_word r.group ++ space ∷ (r.who.items
+abbrev pub row_line : TableRow → List ℕ
+row_line r = decimal r.source ++ space ∷ (kind_name r.kind ++ space ∷ (group_word r.group ++ space ∷ (r.who
     ++ line_feed ∷ [])))
 
 -- the lines of the rows in order
-abbrev pub rows_text : List Row → List ℕ
+abbrev pub rows_text : List TableRow → List ℕ
 rows_text rows = flat_map row_line rows
 
 -- the bytes spell a list of the profile, and the text is that of the rows of its normal form at this right
 pub record Tabulates (p : Profile) (right : ℕ) (bytes text : List ℕ) : Type 0 where
   pub list : List Ace
-  pub rows : List Row
+  pub rows : List TableRow
   pub spelled : Xdr p list bytes
-  pub are : (bit : ℕ) → IsLowest bit right → IsTable bit list rows
+  pub are : (bit : ℕ) → IsLowest bit right → IsTableOf bit list rows
   pub is : text ≡ rows_text rows

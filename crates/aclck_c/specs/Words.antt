@@ -4,8 +4,8 @@ use Rattle.std.specs.List.{join_with_byte}
 use Rattle.acl_nfs4.specs.BitNames.{bar, names_of}
 use Rattle.acl_nfs4.specs.Rights.{no_rights, rights}
 
--- the names of the rights of a mask (RFC 8881, section 6.2.1.3.1), in rising order of their bits, with `|` between them;
--- `-` for none
+-- the names of the rights of a mask (RFC 8881, section 6.2.1.3.1), in ascending order of their bits, with `|` between
+-- them; `-` for none
 abbrev pub rights_text : ℕ → List ℕ
 rights_text mask = if mask == 0 then no_rights else join_with_byte bar (names_of rights mask)
 

@@ -2,11 +2,11 @@
 
 -- why there is no list for a POSIX ACL
 pub mod Bridging
--- why a call over the text of POSIX ACLs comes to nothing
+-- why a call over the text of POSIX ACLs fails
 pub mod Files
 -- the table of rights as the code holds it
 pub mod NameTable
--- why a call over a list comes to nothing, and what it then answers
+-- why a call over a list fails, and what it then returns
 pub mod Stops
 -- the first difference of two lists
 pub mod Told

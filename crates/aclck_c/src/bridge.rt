@@ -1,4 +1,4 @@
-//! The NFSv4 list that stands for a POSIX ACL.
+//! The NFSv4 list of a POSIX ACL.
 ghost use Rattle.std.specs.Prelude.{◌≡◌, ◌≤◌, ◌≢◌, ◌⊎◌, IfErr, IfOk};
 ghost use Rattle.aclck_c.specs.Names.{AreGoodNames};
 ghost use Rattle.aclck_c.specs.Out.{HandsOut, IsShortFor};
@@ -15,10 +15,10 @@ use crate::refusal::Refusal;
 use acl_eval::{BridgeFault, bridge};
 use std::alloc::{AllocError, Global};
 
-/// Writes the bytes of the NFSv4 list that stands for the access ACL of a text (this library's own, over POSIX.1e draft 17,
-/// section 23, and RFC 8881, section 6.2.1): 0 they are at the front of `out`, 2 the text is refused, or the list is past
-/// a limit, for the reason in `fault`, 3 the names make no table, 4 memory ran out, 5 `out` is too short. At 0 and 5
-/// `needed` is the number of bytes.
+/// Writes the bytes of the NFSv4 list of the access ACL of a text (this library's own, over POSIX.1e draft 17, section
+/// 23, and RFC 8881, section 6.2.1). Returns 0 if they are at the front of `out`; 2 if the text is refused, or the list
+/// is above a limit, with the reason in `fault`; 3 if the names make no table; 4 if memory ran out; 5 if `out` is too
+/// short. At 0 and 5 `needed` is the number of bytes.
 #[unsafe(no_mangle)]
 pub extern "C" fn aclck_bridge(
     alloc: Global,
@@ -35,7 +35,7 @@ pub extern "C" fn aclck_bridge(
     ensures refused { result ≡ 2 → IsRefusedPosix names.now text.now fault.new
         ⊎ (IsPastLimits names.now text.now × (fault.new ≡ past_limits)) }
     ensures bad { result ≡ 3 → AreGoodNames names.now → ⊥ }
-    // Where memory runs out nothing is said of the names.
+    // If memory runs out, nothing is said about the names.
     ensures named { (result ≢ 3) → (result ≢ 4) → AreGoodNames names.now }
     ensures unwritten { (result ≢ 0) → out.new ≡ out.old }
     ensures untold { (result ≢ 0) → (result ≢ 5) → needed.new ≡ needed.old }
@@ -57,7 +57,7 @@ pub extern "C" fn aclck_bridge(
 enum BridgeStop {
     // The names or the text are refused, or memory ran out.
     Refused(FileFault),
-    // The list is past a limit.
+    // The list is above a limit.
     Limits,
 }
 

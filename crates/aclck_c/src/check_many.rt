@@ -23,10 +23,10 @@ pub struct Asker<'a> {
     pub groups: &'a [&'a [u8]],
 }
 
-/// Reports which rights of the mask the list that the bytes spell grants each of the requesters on the object (RFC 8881,
-/// section 6.2.1), over one reading of the list: 0 they are in `granted`, one number for each requester, 2 the bytes are
-/// refused, for the reason in `fault`, 3 a name is empty, a number or an option means nothing, or `granted` has another
-/// length than `requesters`. It takes no memory.
+/// Reports which rights of the mask the list that the bytes spell grants each of the requesters on the object (RFC
+/// 8881, section 6.2.1), and reads the list once. Returns 0 if they are in `granted`, one number for each requester; 2
+/// if the bytes are refused, with the reason in `fault`; 3 if a name is empty, a number or an option has no meaning, or
+/// `granted` has another length than `requesters`. It takes no memory.
 #[unsafe(no_mangle)]
 pub extern "C" fn aclck_check_many(
     acl: &[u8],
@@ -41,7 +41,7 @@ pub extern "C" fn aclck_check_many(
     ensures done { result ≡ 0 → HaveGranted (profile_in options) acl.now owner.now group.now
         requesters.now mask granted.new }
     ensures refused { result ≡ 2 → IsRefusedList (profile_in options) acl.now 0 fault.new }
-    // An argument is bad exactly at 3.
+    // The status is 3 if and only if an argument is bad.
     ensures bad { result ≡ 3 → AreGoodMany owner.now group.now requesters.now
         mask options (length granted.old) → ⊥ }
     ensures good { (result ≢ 3) → AreGoodMany owner.now group.now requesters.now
@@ -68,7 +68,7 @@ pub extern "C" fn aclck_check_many(
     }
 }
 
-// What is asked of, for which rights, and what a list may have.
+// The object, the rights that are requested, and the profile.
 #[derive(Clone, Copy, Debug)]
 struct Many<'a> {
     object: Object<'a>,

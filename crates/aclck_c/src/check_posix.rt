@@ -15,9 +15,10 @@ use acl_perm::Perm;
 use acl_posix::Id;
 use std::alloc::{AllocError, Global};
 
-/// Returns whether the access ACL of the text grants a user, who is in these groups, all of the permissions `want` on an
-/// object of this owner and group (acl(5), "ACCESS CHECK ALGORITHM"): 0 granted, 1 denied, 2 the text is refused, for
-/// the reason in `fault`, 3 the names make no table, or a number is no id or no set of permissions, 4 memory ran out.
+/// Returns whether the access ACL of the text grants a user, who is in these groups, all of the permissions `want` on
+/// an object of this owner and group (acl(5), "ACCESS CHECK ALGORITHM"): 0 if they are granted; 1 if they are denied; 2
+/// if the text is refused, with the reason in `fault`; 3 if the names make no table, or a number is not an id or not a
+/// set of permissions; 4 if memory ran out.
 #[unsafe(no_mangle)]
 pub extern "C" fn aclck_check_posix(
     alloc: Global,
@@ -35,9 +36,10 @@ pub extern "C" fn aclck_check_posix(
     ensures denied { result ≡ 1 → Checks names.now text.now (object_of owner group)
         (requester_of user groups.now) want false }
     ensures refused { result ≡ 2 → IsRefusedPosix names.now text.now fault.new }
-    ensures bad { result ≡ 3 → AreGoodNames names.now → AreGoodIds owner group user groups.now want → ⊥ }
+    ensures bad { result ≡ 3 → AreGoodNames names.now
+        → AreGoodIds owner group user groups.now want → ⊥ }
     ensures good { (result ≢ 3) → AreGoodIds owner group user groups.now want }
-    // Where memory runs out nothing is said of the names.
+    // If memory runs out, nothing is said about the names.
     ensures named { (result ≢ 3) → (result ≢ 4) → AreGoodNames names.now }
     ensures kept { (result ≢ 2) → fault.new ≡ fault.old }
     ensures known { result ≤ 4 }
@@ -59,7 +61,7 @@ pub extern "C" fn aclck_check_posix(
     }
 }
 
-// Who asks of whose object, for which permissions.
+// The requester, the object, and the permissions that are requested.
 #[derive(Clone, Copy, Debug)]
 struct Request {
     owner: Id,

@@ -14,10 +14,10 @@ use crate::refusal::Refusal;
 use acl_eval::child;
 use std::alloc::Global;
 
-/// Writes the bytes of the list that a new object gets in a directory with the list that the bytes spell (RFC 8881, section
-/// 6.2.1.4.1), a directory where `options` has 2 and else a file: 0 they are at the front of `out`, 2 the bytes are
-/// refused, for the reason in `fault`, 3 an option means nothing, 4 memory ran out, 5 `out` is too short. At 0 and 5
-/// `needed` is the number of bytes.
+/// Writes the bytes of the list that a new object gets in a directory with the list that the bytes spell (RFC 8881,
+/// section 6.2.1.4.1). The new object is a directory if `options` has 2, and otherwise a file. Returns 0 if they are at
+/// the front of `out`; 2 if the bytes are refused, with the reason in `fault`; 3 if an option has no meaning; 4 if
+/// memory ran out; 5 if `out` is too short. At 0 and 5 `needed` is the number of bytes.
 #[unsafe(no_mangle)]
 pub extern "C" fn aclck_child(
     alloc: Global,
@@ -32,9 +32,9 @@ pub extern "C" fn aclck_child(
     ensures short { result ≡ 5 → IsShortFor (MakesText (profile_in options)
         (child_bytes (kind_in options)) acl.now) out.old needed.new }
     ensures refused { result ≡ 2 → IsRefusedList (profile_in options) acl.now 0 fault.new }
-    // Bytes with a fault are refused for it, also where memory runs out.
+    // Bytes with a fault are refused with that fault, also if memory runs out.
     ensures memory { result ≡ 4 → AreList (profile_in options) acl.now }
-    // An argument is bad exactly at 3.
+    // The status is 3 if and only if an argument is bad.
     ensures bad { result ≡ 3 → (options < 4) → ⊥ }
     ensures good { (result ≢ 3) → options < 4 }
     ensures unwritten { (result ≢ 0) → out.new ≡ out.old }

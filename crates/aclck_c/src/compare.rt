@@ -1,4 +1,4 @@
-//! Whether two lists treat everybody alike, and where not.
+//! Whether two lists grant everybody the same, and where they differ.
 ghost use Rattle.std.specs.Prelude.{◌≡◌, ◌++◌, ◌<◌, ◌≤◌, ◌≢◌, IfErr, IfOk, OnOk, map};
 ghost use Rattle.std.specs.List.{flat_map};
 ghost use Rattle.acl_normal.specs.Difference.{situation_of};
@@ -16,7 +16,7 @@ use acl_nfs4::Acl;
 use acl_normal::{Difference, compare};
 use std::alloc::{AllocError, Global};
 
-/// `struct aclck_difference`: the right on which two lists differ, as a mask, and 1 where the first list grants it.
+/// `struct aclck_difference`: the right on which two lists differ, as a mask, and 1 if the first list grants it.
 #[repr(C)]
 #[derive(Clone, Copy, Debug)]
 pub struct Distinction {
@@ -24,11 +24,11 @@ pub struct Distinction {
     pub first_grants: u32,
 }
 
-/// Returns whether two lists grant everybody the same (this library's own, over RFC 8881, section 6.2.1): 0 the same, 1
-/// not, 2 the bytes of a list are refused, for the reason in `fault`, 3 an option means nothing, 4 memory ran out, 5 not
-/// the same, and `out` is too short. At 1 `out` begins with the names of a requester on whom they differ, each with a
-/// zero byte behind it: the owner, the owning group, the user, the groups of the user. At 1 and 5 `needed` is the number
-/// of these bytes, and `at` is the right.
+/// Returns whether two lists grant everybody the same (this library's own, over RFC 8881, section 6.2.1): 0 if they do;
+/// 1 if they do not; 2 if the bytes of a list are refused, with the reason in `fault`; 3 if an option has no meaning; 4
+/// if memory ran out; 5 if they do not, and `out` is too short. At 1 `out` begins with the names of a requester for
+/// whom they differ, each with a zero byte behind it: the owner, the owning group, the user, the groups of the user. At
+/// 1 and 5 `needed` is the number of these bytes, and `at` is the right.
 #[unsafe(no_mangle)]
 pub extern "C" fn aclck_compare(
     alloc: Global,
@@ -41,15 +41,17 @@ pub extern "C" fn aclck_compare(
     fault: &mut Refusal,
 ) -> u32
     ensures same { result ≡ 0 → AreSame (profile_in options) first.now second.now }
-    ensures differ { result ≡ 1 → HandsOut (DifferAt (profile_in options) first.now second.now at.new)
+    ensures differ { result ≡ 1
+        → HandsOut (DifferAt (profile_in options) first.now second.now at.new)
         out.old out.new needed.new }
-    ensures short { result ≡ 5 → IsShortFor (DifferAt (profile_in options) first.now second.now at.new)
+    ensures short { result ≡ 5
+        → IsShortFor (DifferAt (profile_in options) first.now second.now at.new)
         out.old needed.new }
     ensures refused { result ≡ 2 →
         IsRefusedPair (profile_in options) first.now second.now fault.new }
-    // Bytes with a fault are refused for it, also where memory runs out.
+    // Bytes with a fault are refused with that fault, also if memory runs out.
     ensures memory { result ≡ 4 → AreList (profile_in options) first.now }
-    // An argument is bad exactly at 3.
+    // The status is 3 if and only if an argument is bad.
     ensures bad { result ≡ 3 → (options < 2) → ⊥ }
     ensures good { (result ≢ 3) → options < 2 }
     ensures unwritten { (result ≢ 1) → out.new ≡ out.old }
@@ -101,7 +103,8 @@ fn first_difference(alloc: Global, list: &Acl, other: &Acl) -> Result<Option<Nam
 }
 
 fn told(alloc: Global, found: &Difference) -> Result<Named, AllocError>
-    ensures { IfOk result (TellsOf (situation_of found.now) found.now.bit.bits found.now.first_grants) }
+    ensures { IfOk result (TellsOf (situation_of found.now)
+        found.now.bit.bits found.now.first_grants) }
 {
     let names = names_of(alloc, found)?;
     Ok(Named {

@@ -16,10 +16,11 @@ use acl_perm::Mode;
 use acl_posix::{Form, create};
 use std::alloc::Global;
 
-/// Writes the canonical text of a new object in a directory, whose ACLs the text spells (acl(5), "OBJECT CREATION AND DEFAULT
-/// ACLs"), a directory where `options` is 2 and a file where it is 0: 0 it is at the front of `out`, 2 the text is
-/// refused, for the reason in `fault`, 3 the names make no table, the mode or the umask is above 0o777, or an option
-/// means nothing, 4 memory ran out, 5 `out` is too short. At 0 and 5 `needed` is the number of bytes.
+/// Writes the canonical text of a new object in a directory with the ACLs that the text spells (acl(5), "OBJECT
+/// CREATION AND DEFAULT ACLs"). The new object is a directory if `options` is 2, and a file if it is 0. Returns 0 if
+/// the text is at the front of `out`; 2 if the text is refused, with the reason in `fault`; 3 if the names make no
+/// table, the mode or the umask is above 0o777, or an option has no meaning; 4 if memory ran out; 5 if `out` is too
+/// short. At 0 and 5 `needed` is the number of bytes.
 #[unsafe(no_mangle)]
 pub extern "C" fn aclck_create(
     alloc: Global,
@@ -39,7 +40,7 @@ pub extern "C" fn aclck_create(
     ensures refused { result ≡ 2 → IsRefusedPosix names.now text.now fault.new }
     ensures bad { result ≡ 3 → AreGoodNames names.now → IsCreation mode umask options → ⊥ }
     ensures good { (result ≢ 3) → IsCreation mode umask options }
-    // Where memory runs out nothing is said of the names.
+    // If memory runs out, nothing is said about the names.
     ensures named { (result ≢ 3) → (result ≢ 4) → AreGoodNames names.now }
     ensures unwritten { (result ≢ 0) → out.new ≡ out.old }
     ensures untold { (result ≢ 0) → (result ≢ 5) → needed.new ≡ needed.old }

@@ -22,9 +22,10 @@ pub struct Deciding {
     pub kind: u32,
 }
 
-/// Reports which ACE of the list that the bytes spell decides one right for the requester of the object (RFC 8881,
-/// section 6.2.1): 0 the one in `decision`, 1 none, which denies the right, 2 the bytes are refused, for the reason in
-/// `fault`, 3 a name is empty, the mask is not exactly one right, or an option means nothing. It takes no memory.
+/// Reports which ACE of the list that the bytes spell decides one right for this requester and object (RFC 8881,
+/// section 6.2.1). Returns 0 if it is in `decision`; 1 if there is none, which denies the right; 2 if the bytes are
+/// refused, with the reason in `fault`; 3 if a name is empty, the mask is not exactly one right, or an option has no
+/// meaning. It takes no memory.
 #[unsafe(no_mangle)]
 pub extern "C" fn aclck_deciding(
     acl: &[u8],
@@ -42,7 +43,7 @@ pub extern "C" fn aclck_deciding(
     ensures undecided { result ≡ 1 → IsUndecided (profile_in options) acl.now
         (asked owner.now group.now user.now groups.now) right }
     ensures refused { result ≡ 2 → IsRefusedList (profile_in options) acl.now 0 fault.new }
-    // An argument is bad exactly at 3.
+    // The status is 3 if and only if an argument is bad.
     ensures bad { result ≡ 3 → AreGood owner.now group.now user.now groups.now right options
         → IsOneRight right → ⊥ }
     ensures good { (result ≢ 3) → AreGood owner.now group.now user.now groups.now right options }

@@ -1,4 +1,4 @@
-//! The text of POSIX ACLs after the mask is calculated, or the mode set.
+//! The text of POSIX ACLs after the mask is calculated, or after the mode is set.
 ghost use Rattle.std.specs.Prelude.{◌≡◌, ◌<◌, ◌≤◌, ◌≢◌, IfErr, IfOk};
 ghost use Rattle.aclck_c.specs.Names.{AreGoodNames};
 ghost use Rattle.aclck_c.specs.Out.{HandsOut, IsShortFor};
@@ -15,10 +15,10 @@ use acl_perm::Mode;
 use acl_posix::Form;
 use std::alloc::Global;
 
-/// Writes the canonical text of the ACLs that a text spells after the mask of the access ACL is calculated, and added where
-/// there is none (POSIX.1e draft 17, section 23.4): 0 it is at the front of `out`, 2 the text is refused, for the reason
-/// in `fault`, 3 the names make no table, 4 memory ran out, 5 `out` is too short. At 0 and 5 `needed` is the number of
-/// bytes.
+/// Writes the canonical text of the ACLs that a text spells after the mask of the access ACL is calculated, and added
+/// if there is none (POSIX.1e draft 17, section 23.4). Returns 0 if it is at the front of `out`; 2 if the text is
+/// refused, with the reason in `fault`; 3 if the names make no table; 4 if memory ran out; 5 if `out` is too short. At
+/// 0 and 5 `needed` is the number of bytes.
 #[unsafe(no_mangle)]
 pub extern "C" fn aclck_calc_mask(
     alloc: Global,
@@ -34,7 +34,7 @@ pub extern "C" fn aclck_calc_mask(
         out.old needed.new }
     ensures refused { result ≡ 2 → IsRefusedPosix names.now text.now fault.new }
     ensures bad { result ≡ 3 → AreGoodNames names.now → ⊥ }
-    // Where memory runs out nothing is said of the names.
+    // If memory runs out, nothing is said about the names.
     ensures named { (result ≢ 3) → (result ≢ 4) → AreGoodNames names.now }
     ensures unwritten { (result ≢ 0) → out.new ≡ out.old }
     ensures untold { (result ≢ 0) → (result ≢ 5) → needed.new ≡ needed.old }
@@ -58,9 +58,9 @@ fn masked(alloc: Global, text: &[u8], names: &[Name<'_>]) -> Result<Vec<u8>, Fil
 }
 
 /// Writes the canonical text of the ACLs that a text spells after the mode of the access ACL is set (acl(5),
-/// "CORRESPONDENCE BETWEEN ACL ENTRIES AND FILE PERMISSION BITS"): 0 it is at the front of `out`, 2 the text is refused,
-/// for the reason in `fault`, 3 the names make no table or the mode is above 0o777, 4 memory ran out, 5 `out` is too
-/// short. At 0 and 5 `needed` is the number of bytes.
+/// "CORRESPONDENCE BETWEEN ACL ENTRIES AND FILE PERMISSION BITS"). Returns 0 if it is at the front of `out`; 2 if the
+/// text is refused, with the reason in `fault`; 3 if the names make no table or the mode is above 0o777; 4 if memory
+/// ran out; 5 if `out` is too short. At 0 and 5 `needed` is the number of bytes.
 #[unsafe(no_mangle)]
 pub extern "C" fn aclck_chmod(
     alloc: Global,
@@ -78,7 +78,7 @@ pub extern "C" fn aclck_chmod(
     ensures refused { result ≡ 2 → IsRefusedPosix names.now text.now fault.new }
     ensures bad { result ≡ 3 → AreGoodNames names.now → (mode < 512) → ⊥ }
     ensures good { (result ≢ 3) → (mode < 512) }
-    // Where memory runs out nothing is said of the names.
+    // If memory runs out, nothing is said about the names.
     ensures named { (result ≢ 3) → (result ≢ 4) → AreGoodNames names.now }
     ensures unwritten { (result ≢ 0) → out.new ≡ out.old }
     ensures untold { (result ≢ 0) → (result ≢ 5) → needed.new ≡ needed.old }

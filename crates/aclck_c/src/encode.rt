@@ -14,9 +14,9 @@ use acl_nfs4::{AceTextFault, parse_text_with};
 use acl_perm::Profile;
 use std::alloc::Global;
 
-/// Writes the bytes that spell the list of a text: 0 they are at the front of `out`, 2 the text is refused, for the reason
-/// in `fault`, 3 an option means nothing, 4 memory ran out, 5 `out` is too short. At 0 and 5 `needed` is the number of
-/// bytes.
+/// Writes the bytes that spell the list of a text. Returns 0 if they are at the front of `out`; 2 if the text is
+/// refused, with the reason in `fault`; 3 if an option has no meaning; 4 if memory ran out; 5 if `out` is too short. At
+/// 0 and 5 `needed` is the number of bytes.
 #[unsafe(no_mangle)]
 pub extern "C" fn aclck_encode(
     alloc: Global,
@@ -31,7 +31,7 @@ pub extern "C" fn aclck_encode(
     ensures short { result ≡ 5 → IsShortFor (Encodes (profile_in options) text.now)
         out.old needed.new }
     ensures refused { result ≡ 2 → IsRefusedText (profile_in options) text.now fault.new }
-    // An argument is bad exactly at 3.
+    // The status is 3 if and only if an argument is bad.
     ensures bad { result ≡ 3 → (options < 2) → ⊥ }
     ensures good { (result ≢ 3) → options < 2 }
     ensures unwritten { (result ≢ 0) → out.new ≡ out.old }
@@ -66,7 +66,7 @@ fn bytes_of(alloc: Global, text: &[u8], profile: Profile) -> Result<Vec<u8>, Ace
     }
 }
 
-// The fault of a text, by numbers; none where memory ran out.
+// The fault of a text, by numbers; none if memory ran out.
 fn ace_text_refusal(fault: AceTextFault) -> Option<Refusal>
     ensures { result ≡ ace_text_refusal fault }
 {

@@ -12,7 +12,7 @@ use acl_perm::Counted;
 use acl_posix::{Form, Names, PosixFile, TextFault, parse};
 use std::alloc::{AllocError, Global};
 
-/// The file that a text spells with these names.
+/// Returns the file that a text spells with these names.
 #[tactic(auto, using(crate::proofs::FileFaults::of_names, crate::proofs::FileFaults::of_text))]
 pub(crate) fn file_of(
     alloc: Global,
@@ -38,7 +38,7 @@ fn read(alloc: Global, text: &[u8], table: &Names) -> Result<PosixFile, FileFaul
     }
 }
 
-/// The text of a file in a form; the short one gets a line feed after it.
+/// Returns the text of a file in a form. The short text gets a line feed after it.
 pub(crate) fn text_in(alloc: Global, file: &PosixFile, form: Form) -> Result<Vec<u8>, AllocError>
     ensures { IfOk result (λ text. text.items ≡ form_text form file.now) }
 {

@@ -1,4 +1,4 @@
-//! Why a call over the text of POSIX ACLs comes to nothing.
+//! Why a call over the text of POSIX ACLs fails.
 ghost use Rattle.std.specs.Prelude.{◌≡◌};
 ghost use Rattle.aclck_c.specs.Posix.{part_number, posix_refusal, tag_number};
 ghost use Rattle.aclck_c.specs.internal.Files.{TellsFault, TellsRefusal};
@@ -7,7 +7,7 @@ use crate::refusal::Refusal;
 use acl_posix::{Cause, NameFault, Part, Tag, TextFault};
 use std::alloc::AllocError;
 
-/// Why a call over the text of POSIX ACLs comes to nothing.
+/// Why a call over the text of POSIX ACLs fails.
 #[derive(Clone, Copy, Debug)]
 pub(crate) enum FileFault {
     /// The names make no table.
@@ -68,7 +68,7 @@ fn tell_refusal(found: Option<Refusal>, shown: &mut Refusal) -> u32
     }
 }
 
-// The fault of a text, by numbers; none where memory ran out.
+// The fault of a text, by numbers; none if memory ran out.
 fn posix_refusal(fault: TextFault) -> Option<Refusal>
     ensures { result ≡ posix_refusal fault }
 {

@@ -13,8 +13,8 @@ use acl_eval::granted;
 use acl_nfs4::{AclView, Fault};
 
 /// Reports which rights of the mask the list that the bytes spell grants the requester on the object (RFC 8881, section
-/// 6.2.1): 0 they are in `granted`, 2 the bytes are refused, for the reason in `fault`, 3 a name is empty, or a number or
-/// an option means nothing. It takes no memory.
+/// 6.2.1). Returns 0 if they are in `granted`; 2 if the bytes are refused, with the reason in `fault`; 3 if a name is
+/// empty, or a number or an option has no meaning. It takes no memory.
 #[unsafe(no_mangle)]
 pub extern "C" fn aclck_granted(
     acl: &[u8],
@@ -30,7 +30,7 @@ pub extern "C" fn aclck_granted(
     ensures done { result ≡ 0 → HasGranted (profile_in options) acl.now
         (asked owner.now group.now user.now groups.now) mask granted.new }
     ensures refused { result ≡ 2 → IsRefusedList (profile_in options) acl.now 0 fault.new }
-    // An argument is bad exactly at 3.
+    // The status is 3 if and only if an argument is bad.
     ensures bad { result ≡ 3 → AreGood owner.now group.now user.now groups.now mask options → ⊥ }
     ensures good { (result ≢ 3) → AreGood owner.now group.now user.now groups.now mask options }
     ensures unwritten { (result ≢ 0) → granted.new ≡ granted.old }

@@ -1,4 +1,4 @@
-//! The library for C: one call for each question, over bytes that stay where they are (`include/aclck.h`).
+//! The library for C: one call for each question, over bytes that are not copied (`include/aclck.h`).
 #![tactic(auto)]
 
 mod bridge;

@@ -1,4 +1,4 @@
-//! Why a call over a list comes to nothing.
+//! Why a call over a list fails.
 ghost use Rattle.std.specs.Prelude.{◌≡◌};
 ghost use Rattle.aclck_c.specs.internal.Stops.{Tells};
 
@@ -6,10 +6,10 @@ use crate::refusal::Refusal;
 use acl_nfs4::Fault;
 use std::alloc::AllocError;
 
-/// Why a call over a list comes to nothing.
+/// Why a call over a list fails.
 #[derive(Clone, Copy, Debug)]
 pub(crate) enum ListFault {
-    /// The bytes are no list.
+    /// The bytes are not a list.
     Refused(Fault),
     /// Memory ran out.
     Memory,

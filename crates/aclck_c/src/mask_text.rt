@@ -13,7 +13,7 @@ use crate::out::put;
 use acl_perm::Mask;
 use arrayvec::ArrayVec;
 
-// Room for the names of all rights, and what is between them.
+// Room for the names of all rights, and the bytes between them.
 type Field = ArrayVec<u8, 400>;
 
 // A row of the table of rights.
@@ -89,8 +89,9 @@ static RIGHTS: [NamedRight; 16] = [
     },
 ];
 
-/// Writes the names of the rights of a mask, with `|` between them, or `-` for none: 0 they are at the front of `out`, 3 a
-/// bit is no right, 5 `out` is too short. At 0 and 5 `needed` is the number of bytes. It takes no memory.
+/// Writes the names of the rights of a mask, with `|` between them, or `-` for none. Returns 0 if they are at the front
+/// of `out`; 3 if a bit is not a right; 5 if `out` is too short. At 0 and 5 `needed` is the number of bytes. It takes
+/// no memory.
 #[unsafe(no_mangle)]
 pub extern "C" fn aclck_mask_text(mask: u32, out: &mut [u8], needed: &mut usize) -> u32
     ensures done { result ≡ 0 → HandsOut (λ text. text ≡ rights_text mask)
@@ -148,7 +149,7 @@ fn add_names(field: &mut Field, table: &[NamedRight], set: u32)
     }
 }
 
-// Adds a name, and a `|` before it where it is not the first.
+// Adds a name, with a `|` before it unless it is the first.
 fn add_name(field: &mut Field, name: &[u8], is_first: bool)
     requires { array_vec_len field.old + length name.now + 1 ≤ 400 }
     ensures text { field.new.items ≡ field.old.items ++ lead is_first ++ name.now }
@@ -157,6 +158,6 @@ fn add_name(field: &mut Field, name: &[u8], is_first: bool)
     if !is_first {
         field.push(b'|');
     }
-    // The field has room for the bytes, so none is refused.
+    // The field has room for the bytes, so none are refused.
     let _ = field.try_extend_from_slice(name);
 }

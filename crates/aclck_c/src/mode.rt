@@ -12,8 +12,8 @@ use acl_eval::mode_of;
 use acl_nfs4::{AclView, Fault};
 use acl_perm::Profile;
 
-/// Reports the mode of the list that the bytes spell (RFC 8881, section 6.3.2): 0 it is in `mode`, 2 the bytes are
-/// refused, for the reason in `fault`, 3 an option means nothing. It takes no memory.
+/// Reports the mode of the list that the bytes spell (RFC 8881, section 6.3.2). Returns 0 if it is in `mode`; 2 if the
+/// bytes are refused, with the reason in `fault`; 3 if an option has no meaning. It takes no memory.
 #[unsafe(no_mangle)]
 pub extern "C" fn aclck_mode(acl: &[u8], options: u32, mode: &mut u32, fault: &mut Refusal) -> u32
     ensures done { result ≡ 0 → HasMode (profile_in options) acl.now mode.new }

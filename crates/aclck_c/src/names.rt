@@ -8,7 +8,7 @@ use crate::file_fault::FileFault;
 use acl_posix::{Id, Names};
 use std::alloc::Global;
 
-/// `struct aclck_name`: a name and its id, of a user where `is_group` is 0, of a group where it is 1.
+/// `struct aclck_name`: a name and its id, for a user if `is_group` is 0, and for a group if it is 1.
 #[repr(C)]
 #[derive(Clone, Copy, Debug)]
 pub struct Name<'a> {
@@ -17,7 +17,7 @@ pub struct Name<'a> {
     pub is_group: u32,
 }
 
-/// The table that the names make.
+/// Returns the table that the names make.
 pub(crate) fn table_of(alloc: Global, names: &[Name<'_>]) -> Result<Names, FileFault>
     ensures { ReadsTable (names_added no_names names.now) result }
 {

@@ -1,4 +1,4 @@
-//! The normal form of a list, and the five of a directory.
+//! The normal form of a list, and the five normal forms of the list of a directory.
 ghost use Rattle.std.specs.Prelude.{◌≡◌, ◌<◌, ◌≤◌, ◌≢◌, IfErr, IfOk};
 ghost use Rattle.acl_perm.specs.Profile.{profile_of};
 ghost use Rattle.acl_normal.specs.FiveForms.{five_spellings};
@@ -18,9 +18,10 @@ use acl_normal::{FiveForms, normalize, normalize_inherit};
 use acl_perm::{Counted, Profile};
 use std::alloc::{AllocError, Global};
 
-/// Writes the bytes that spell the normal form of the list that the bytes spell (this library's own, over RFC 8881, section
-/// 6.2.1): 0 they are at the front of `out`, 2 the bytes are refused, for the reason in `fault`, 3 an option means
-/// nothing, 4 memory ran out, 5 `out` is too short. At 0 and 5 `needed` is the number of bytes.
+/// Writes the bytes that spell the normal form of the list that the bytes spell (this library's own, over RFC 8881,
+/// section 6.2.1). Returns 0 if they are at the front of `out`; 2 if the bytes are refused, with the reason in `fault`;
+/// 3 if an option has no meaning; 4 if memory ran out; 5 if `out` is too short. At 0 and 5 `needed` is the number of
+/// bytes.
 #[unsafe(no_mangle)]
 pub extern "C" fn aclck_normalize(
     alloc: Global,
@@ -35,9 +36,9 @@ pub extern "C" fn aclck_normalize(
     ensures short { result ≡ 5 → IsShortFor (Normalises (profile_in options) acl.now)
         out.old needed.new }
     ensures refused { result ≡ 2 → IsRefusedList (profile_in options) acl.now 0 fault.new }
-    // Bytes with a fault are refused for it, also where memory runs out.
+    // Bytes with a fault are refused with that fault, also if memory runs out.
     ensures memory { result ≡ 4 → AreList (profile_in options) acl.now }
-    // An argument is bad exactly at 3.
+    // The status is 3 if and only if an argument is bad.
     ensures bad { result ≡ 3 → (options < 2) → ⊥ }
     ensures good { (result ≢ 3) → options < 2 }
     ensures unwritten { (result ≢ 0) → out.new ≡ out.old }
@@ -64,10 +65,11 @@ fn normal_form(alloc: Global, acl: &[u8], profile: Profile) -> Result<Vec<u8>, L
     Ok(spelled(alloc, &form)?)
 }
 
-/// Writes the bytes that spell the five normal forms of the list of a directory, one behind the other: of the list itself,
-/// of a new file, of a new directory, and of a new file and a new directory in that (this library's own, over RFC 8881,
-/// section 6.2.1): 0 they are at the front of `out`, 2 the bytes are refused, for the reason in `fault`, 3 an option
-/// means nothing, 4 memory ran out, 5 `out` is too short. At 0 and 5 `needed` is the number of bytes.
+/// Writes the bytes that spell the five normal forms of the list of a directory, one behind the other: of the list
+/// itself, of a new file, of a new directory, and of a new file and a new directory in that new directory (this
+/// library's own, over RFC 8881, section 6.2.1). Returns 0 if they are at the front of `out`; 2 if the bytes are
+/// refused, with the reason in `fault`; 3 if an option has no meaning; 4 if memory ran out; 5 if `out` is too short. At
+/// 0 and 5 `needed` is the number of bytes.
 #[unsafe(no_mangle)]
 pub extern "C" fn aclck_normalize_inherit(
     alloc: Global,
@@ -82,9 +84,9 @@ pub extern "C" fn aclck_normalize_inherit(
     ensures short { result ≡ 5 → IsShortFor (NormalisesAtPaths (profile_in options) acl.now)
         out.old needed.new }
     ensures refused { result ≡ 2 → IsRefusedList (profile_in options) acl.now 0 fault.new }
-    // Bytes with a fault are refused for it, also where memory runs out.
+    // Bytes with a fault are refused with that fault, also if memory runs out.
     ensures memory { result ≡ 4 → AreList (profile_in options) acl.now }
-    // An argument is bad exactly at 3.
+    // The status is 3 if and only if an argument is bad.
     ensures bad { result ≡ 3 → (options < 2) → ⊥ }
     ensures good { (result ≢ 3) → options < 2 }
     ensures unwritten { (result ≢ 0) → out.new ≡ out.old }

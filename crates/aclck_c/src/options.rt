@@ -12,7 +12,7 @@ const DIRECTORY: u32 = 2;
 
 const NARROW_DIRECTORY: u32 = 3;
 
-/// The profile of options that have no other bit.
+/// Returns the profile of options, if they have no other bit.
 pub(crate) fn profile_in(options: u32) -> Option<Profile>
     ensures known { IsSome result ↔ (options < 2) }
     ensures value { IfSome result (λ profile. profile_of profile ≡ profile_in options) }
@@ -31,7 +31,7 @@ pub(crate) struct Creation {
     pub kind: ChildKind,
 }
 
-/// The profile and the kind of options that have no other bit.
+/// Returns the profile and the kind of options, if they have no other bit.
 pub(crate) fn creation_in(options: u32) -> Option<Creation>
     ensures known { IsSome result ↔ (options < 4) }
     ensures profile { IfSome result (λ c. profile_of c.profile ≡ profile_in options) }
@@ -47,7 +47,7 @@ pub(crate) fn creation_in(options: u32) -> Option<Creation>
     Some(Creation { profile, kind })
 }
 
-/// The mode of a number.
+/// Returns the mode of a number.
 pub(crate) fn mode_in(number: u32) -> Option<Mode>
     ensures known { IsSome result ↔ (number < 512) }
     ensures value { IfSome result (λ mode. mode.bits ≡ number) }

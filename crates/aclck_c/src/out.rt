@@ -2,8 +2,8 @@
 ghost use Rattle.std.specs.Prelude.{◌≡◌, ◌<◌, ◌⊎◌, length};
 ghost use Rattle.aclck_c.specs.Out.{Puts};
 
-/// Puts a text at the front of the buffer, at status 0; where it is longer than the buffer, nothing is put, at 5. Its
-/// length is reported in both cases.
+/// Puts a text at the front of the buffer, and returns 0. If the text is longer than the buffer, it puts nothing and
+/// returns 5. It reports the length of the text in both cases.
 pub(crate) fn put(text: &[u8], out: &mut [u8], needed: &mut usize) -> u32
     ensures needed { needed.new ≡ length text.now }
     ensures put { result ≡ 0 → Puts text.now out.old out.new }

@@ -10,7 +10,7 @@ use acl_nfs4::{Acl, AclView};
 use acl_perm::{Counted, Profile};
 use std::alloc::{AllocError, Global};
 
-/// The list that all of the bytes spell.
+/// Returns the list that all of the bytes spell.
 pub(crate) fn list_of(alloc: Global, bytes: &[u8], profile: Profile) -> Result<Acl, ListFault>
     ensures ok { IfOk result (λ list. Xdr (profile_of profile) list bytes.now) }
     ensures err { IfErr result (IsListFault (profile_of profile) bytes.now) }
@@ -19,7 +19,7 @@ pub(crate) fn list_of(alloc: Global, bytes: &[u8], profile: Profile) -> Result<A
     Ok(Acl::from_view(alloc, &view)?)
 }
 
-/// The bytes that spell a list.
+/// Returns the bytes that spell a list.
 pub(crate) fn spelled(alloc: Global, list: &Acl) -> Result<Vec<u8>, AllocError>
     ensures { IfOk result (λ text. text.items ≡ spelling list.now) }
 {
@@ -30,7 +30,7 @@ pub(crate) fn spelled(alloc: Global, list: &Acl) -> Result<Vec<u8>, AllocError>
     }
 }
 
-/// The text of a list.
+/// Returns the text of a list.
 pub(crate) fn text_of(alloc: Global, list: &Acl) -> Result<Vec<u8>, AllocError>
     ensures { IfOk result (λ text. text.items ≡ ace_text list.now) }
 {

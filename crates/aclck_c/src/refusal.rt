@@ -4,7 +4,7 @@ ghost use Rattle.aclck_c.specs.Refusal.{at_place, in_list, in_part, past_limits,
 
 use acl_nfs4::Reason;
 
-/// `struct aclck_fault`: a reason by its number, and where it holds. Fields that the reason does not use are 0.
+/// `struct aclck_fault`: a reason by its number, and its place. Fields that the reason does not use are 0.
 #[repr(C)]
 #[derive(Clone, Copy, Debug)]
 pub struct Refusal {
@@ -25,7 +25,7 @@ pub struct Refusal {
 }
 
 impl Refusal {
-    /// The refusal of a list for this reason, at this byte.
+    /// Makes the refusal of a list for this reason, at this byte.
     pub(crate) fn in_list(offset: u64, reason: Reason, list: u32) -> Refusal
         ensures { result ≡ in_list offset reason list }
     {
@@ -40,7 +40,7 @@ impl Refusal {
         }
     }
 
-    /// The refusal of a text for this reason, at this place.
+    /// Makes the refusal of a text for this reason, at this place.
     pub(crate) fn at_place(reason: u32, line: usize, column: usize) -> Refusal
         ensures { result ≡ at_place reason line column }
     {
@@ -55,7 +55,7 @@ impl Refusal {
         }
     }
 
-    /// The refusal of a part of a POSIX ACL for this reason: for the entry at this place, or for the tag that is
+    /// Makes the refusal of a part of a POSIX ACL for this reason: for the entry at this place, or for the tag that is
     /// missing.
     pub(crate) fn in_part(reason: u32, part: u32, place: usize, tag: u32) -> Refusal
         ensures { result ≡ in_part reason part place tag }
@@ -71,7 +71,7 @@ impl Refusal {
         }
     }
 
-    /// The refusal of a POSIX ACL whose list is past a limit.
+    /// Makes the refusal of a POSIX ACL whose list is above a limit.
     pub(crate) fn past_limits() -> Refusal
         ensures { result ≡ past_limits }
     {

@@ -1,4 +1,4 @@
-//! Who asks of what, for which rights.
+//! A request: the object, the requester, and the rights that are requested.
 ghost use Rattle.std.specs.Prelude.{◌≡◌, ◌<◌, ◌↔◌, ◌^◌, IfSome, IsNone, IsSome};
 ghost use Rattle.acl_perm.specs.Profile.{profile_of};
 ghost use Rattle.acl_eval.specs.Situation.{situation};
@@ -9,7 +9,7 @@ use crate::options::profile_in;
 use acl_eval::{Object, Requester};
 use acl_perm::{Mask, Profile};
 
-/// Who asks of what, for which rights, and what a list may have.
+/// The object, the requester, the rights that are requested, and the profile.
 #[derive(Clone, Copy, Debug)]
 pub(crate) struct Request<'a> {
     pub object: Object<'a>,
@@ -18,7 +18,7 @@ pub(crate) struct Request<'a> {
     pub profile: Profile,
 }
 
-/// The request of these names and numbers.
+/// Makes the request of these names and numbers.
 pub(crate) fn asked<'a>(
     owner: &'a [u8],
     group: &'a [u8],

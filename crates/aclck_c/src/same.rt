@@ -1,4 +1,4 @@
-//! Whether two lists treat everybody alike.
+//! Whether two lists grant everybody the same.
 ghost use Rattle.std.specs.Prelude.{◌≡◌, ◌<◌, ◌≤◌, ◌≢◌, ◌↔◌, IfOk, IsNone, IsTrue};
 ghost use Rattle.acl_perm.specs.Bits.{all_rights};
 ghost use Rattle.acl_eval.specs.Grant.{SameGrants};
@@ -13,8 +13,9 @@ use acl_nfs4::Acl;
 use acl_normal::{Difference, compare};
 use std::alloc::{AllocError, Global};
 
-/// Returns whether two lists grant everybody the same (this library's own, over RFC 8881, section 6.2.1): 0 the same, 1
-/// not, 2 the bytes of a list are refused, for the reason in `fault`, 3 an option means nothing, 4 memory ran out.
+/// Returns whether two lists grant everybody the same (this library's own, over RFC 8881, section 6.2.1): 0 if they do;
+/// 1 if they do not; 2 if the bytes of a list are refused, with the reason in `fault`; 3 if an option has no meaning; 4
+/// if memory ran out.
 #[unsafe(no_mangle)]
 pub extern "C" fn aclck_same(
     alloc: Global,
@@ -27,9 +28,9 @@ pub extern "C" fn aclck_same(
     ensures different { result ≡ 1 → AreDifferent (profile_in options) first.now second.now }
     ensures refused { result ≡ 2 →
         IsRefusedPair (profile_in options) first.now second.now fault.new }
-    // Bytes with a fault are refused for it, also where memory runs out.
+    // Bytes with a fault are refused with that fault, also if memory runs out.
     ensures memory { result ≡ 4 → AreList (profile_in options) first.now }
-    // An argument is bad exactly at 3.
+    // The status is 3 if and only if an argument is bad.
     ensures bad { result ≡ 3 → (options < 2) → ⊥ }
     ensures good { (result ≢ 3) → options < 2 }
     ensures kept { (result ≢ 2) → fault.new ≡ fault.old }

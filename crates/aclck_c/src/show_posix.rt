@@ -13,10 +13,11 @@ use crate::refusal::Refusal;
 use acl_posix::Form;
 use std::alloc::Global;
 
-/// Writes the text of the ACLs that a text spells, in one form (acl(5), "LONG TEXT FORM", "SHORT TEXT FORM"): the canonical
-/// one where `options` is 0, the shown one at 4, the short one with a line feed after it at 8. 0 it is at the front of
-/// `out`, 2 the text is refused, for the reason in `fault`, 3 the names make no table or an option means nothing, 4
-/// memory ran out, 5 `out` is too short. At 0 and 5 `needed` is the number of bytes.
+/// Writes the text of the ACLs that a text spells, in one form (acl(5), "LONG TEXT FORM", "SHORT TEXT FORM"). The form
+/// is the canonical one if `options` is 0, the shown one if it is 4, and the short one if it is 8, with a line feed
+/// after it. Returns 0 if the text is at the front of `out`; 2 if the given text is refused, with the reason in
+/// `fault`; 3 if the names make no table or an option has no meaning; 4 if memory ran out; 5 if `out` is too short. At
+/// 0 and 5 `needed` is the number of bytes.
 #[unsafe(no_mangle)]
 pub extern "C" fn aclck_show_posix(
     alloc: Global,
@@ -34,7 +35,7 @@ pub extern "C" fn aclck_show_posix(
     ensures refused { result ≡ 2 → IsRefusedPosix names.now text.now fault.new }
     ensures bad { result ≡ 3 → AreGoodNames names.now → IsSome (form_in options) → ⊥ }
     ensures good { (result ≢ 3) → IsSome (form_in options) }
-    // Where memory runs out nothing is said of the names.
+    // If memory runs out, nothing is said about the names.
     ensures named { (result ≢ 3) → (result ≢ 4) → AreGoodNames names.now }
     ensures unwritten { (result ≢ 0) → out.new ≡ out.old }
     ensures untold { (result ≢ 0) → (result ≢ 5) → needed.new ≡ needed.old }

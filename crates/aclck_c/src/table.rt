@@ -1,14 +1,12 @@
-//! What the normal form of a list says of one right.
-ghost use Rattle.std.specs.Prelude.{◌≡◌, ◌≤◌, ◌≢◌, ◌++◌, ◌∷◌, ◌↔◌, [], ℕ, IfErr, IfOk, IfSome, IsSome, List, OnOk, decimal};
-ghost use Rattle.acl_perm.specs.Lines.{line_feed};
+//! What the normal form of a list says about one right.
+ghost use Rattle.std.specs.Prelude.{◌≡◌, ◌≤◌, ◌≢◌, ◌++◌, ◌∷◌, ◌↔◌, [], ℕ, IfErr, IfOk, IfSome, IsSome, List, OnOk, map};
 ghost use Rattle.acl_perm.specs.Profile.{profile_of};
 ghost use Rattle.std.specs.Option.{is_some};
 ghost use Rattle.acl_nfs4.specs.AceText.{kind_name, space};
 ghost use Rattle.acl_nfs4.specs.BitNames.{first_name};
 ghost use Rattle.acl_nfs4.specs.Rights.{rights};
 ghost use Rattle.acl_normal.specs.Left.{IsLowest};
-ghost use Rattle.acl_normal.specs.Tables.{IsTable};
-ghost use Rattle.acl_normal.specs.declared.bit_table.Row.{Row as RowValue};
+ghost use Rattle.acl_normal.specs.Tables.{IsTableOf, TableRow, of_borrowed};
 ghost use Rattle.aclck_c.specs.Lists.{AreList, IsRefusedList};
 ghost use Rattle.aclck_c.specs.Options.{profile_in};
 ghost use Rattle.aclck_c.specs.Out.{HandsOut, IsShortFor};
@@ -21,15 +19,16 @@ use crate::out::put;
 use crate::reading::list_of;
 use crate::refusal::Refusal;
 use acl_nfs4::{Acl, bit_name};
-use acl_normal::{Row, table};
+use acl_normal::{BorrowedRow, borrowed_rows};
 use acl_perm::{Kind, Mask, Profile};
 use itoa::Buffer;
 use std::alloc::{AllocError, Global};
 
-/// Writes the ACEs of the normal form of the list that the bytes spell that have one right, one line per ACE, each with
-/// its place in the given list (this library's own, over RFC 8881, section 6.2.1): 0 the text is at the front of `out`,
-/// 2 the bytes are refused, for the reason in `fault`, 3 the mask is not exactly one right of the profile or an option
-/// means nothing, 4 memory ran out, 5 `out` is too short. At 0 and 5 `needed` is the number of bytes.
+/// Writes the rows of one right of the list that the bytes spell: one line for each ACE of its normal form that has the
+/// right, with its place in the given list (this library's own, over RFC 8881, section 6.2.1). Returns 0 if the text is
+/// at the front of `out`; 2 if the bytes are refused, with the reason in `fault`; 3 if the mask is not exactly one
+/// right of the profile or an option has no meaning; 4 if memory ran out; 5 if `out` is too short. At 0 and 5 `needed`
+/// is the number of bytes.
 #[unsafe(no_mangle)]
 pub extern "C" fn aclck_table(
     alloc: Global,
@@ -45,9 +44,9 @@ pub extern "C" fn aclck_table(
     ensures short { result ≡ 5 → IsShortFor (Tabulates (profile_in options) right acl.now)
         out.old needed.new }
     ensures refused { result ≡ 2 → IsRefusedList (profile_in options) acl.now 0 fault.new }
-    // Bytes with a fault are refused for it, also where memory runs out.
+    // Bytes with a fault are refused with that fault, also if memory runs out.
     ensures memory { result ≡ 4 → AreList (profile_in options) acl.now }
-    // An argument is bad exactly at 3.
+    // The status is 3 if and only if an argument is bad.
     ensures bad { result ≡ 3 → IsGoodTable right options → ⊥ }
     ensures good { (result ≢ 3) → IsGoodTable right options }
     ensures unwritten { (result ≢ 0) → out.new ≡ out.old }
@@ -103,68 +102,46 @@ fn tabulated(alloc: Global, acl: &[u8], bit: Mask, profile: Profile) -> Result<V
 }
 
 fn table_text(alloc: Global, list: &Acl, bit: Mask) -> Result<Vec<u8>, AllocError>
-    ensures { IfOk result (λ text. (rows : List RowValue)
-        × ((b : ℕ) → IsLowest b bit.bits → IsTable b list.now rows)
+    ensures { IfOk result (λ text. (rows : List TableRow)
+        × ((b : ℕ) → IsLowest b bit.bits → IsTableOf b list.now rows)
         × (text.items ≡ rows_text rows)) }
 {
-    let rows = table(alloc, list, bit)?;
+    let view = list.view();
+    let rows = borrowed_rows(alloc, &view, bit)?;
     text_of_rows(alloc, &rows)
 }
 
 // The lines of the rows.
-fn text_of_rows(alloc: Global, rows: &[Row]) -> Result<Vec<u8>, AllocError>
-    ensures { IfOk result (λ text. text.items ≡ rows_text rows.now) }
+fn text_of_rows(alloc: Global, rows: &[BorrowedRow<'_>]) -> Result<Vec<u8>, AllocError>
+    ensures { IfOk result (λ text. text.items ≡ rows_text (map of_borrowed rows.now)) }
 {
     let mut text = Vec::new(alloc);
     for row in rows {
-        add_line(&mut text, row)?;
+        add_line(&mut text, *row)?;
     }
     Ok(text)
 }
 
-fn add_line(text: &mut Vec<u8>, row: &Row) -> Result<(), AllocError>
-    ensures { OnOk result (text.new.items ≡ text.old.items ++ row_line row.now) }
-{
-    add_place(text, row.source)?;
-    add_word(text, kind_name(row.kind))?;
-    add_word(text, group_word(row.group))?;
-    add_who(text, &row.who)
-}
-
-fn add_place(text: &mut Vec<u8>, place: usize) -> Result<(), AllocError>
-    ensures { OnOk result (text.new.items ≡ text.old.items ++ (decimal place ++ space ∷ [])) }
+fn add_line(text: &mut Vec<u8>, row: BorrowedRow<'_>) -> Result<(), AllocError>
+    ensures { OnOk result (text.new.items ≡ text.old.items ++ row_line (of_borrowed row.entry)) }
 {
     let mut buffer = Buffer::new();
-    add_word(text, buffer.format(place).as_bytes())
-}
-
-fn add_word(text: &mut Vec<u8>, word: &[u8]) -> Result<(), AllocError>
-    ensures { OnOk result (text.new.items ≡ text.old.items ++ (word.now ++ space ∷ [])) }
-{
-    text.extend_from_slice(word)?;
-    text.push(b' ')?;
-    Ok(())
-}
-
-fn add_who(text: &mut Vec<u8>, who: &[u8]) -> Result<(), AllocError>
-    ensures { OnOk result (text.new.items ≡ text.old.items ++ (who.now ++ line_feed ∷ [])) }
-{
-    text.extend_from_slice(who)?;
+    text.extend_from_slice(buffer.format(row.source).as_bytes())?;
+    text.extend_from_slice(words_between(row.kind, row.group))?;
+    text.extend_from_slice(row.who)?;
     text.push(b'\n')?;
     Ok(())
 }
 
-fn kind_name(kind: Kind) -> &'static [u8]
-    ensures { result.now ≡ kind_name kind }
+// What is between the place and the who: the two words, with a space before, between and behind them.
+fn words_between(kind: Kind, group: bool) -> &'static [u8]
+    ensures { result.now
+        ≡ space ∷ (kind_name kind ++ space ∷ (group_word group ++ space ∷ [])) }
 {
-    match kind {
-        Kind::Allow => b"ALLOW",
-        Kind::Deny => b"DENY",
+    match (kind, group) {
+        (Kind::Allow, true) => b" ALLOW GROUP ",
+        (Kind::Allow, false) => b" ALLOW - ",
+        (Kind::Deny, true) => b" DENY GROUP ",
+        (Kind::Deny, false) => b" DENY - ",
     }
-}
-
-fn group_word(group: bool) -> &'static [u8]
-    ensures { result.now ≡ group_word group }
-{
-    if group { b"GROUP" } else { b"-" }
 }

@@ -7,8 +7,8 @@ ghost use Rattle.aclck_c.specs.Words.{reason_name};
 use crate::out::put;
 use acl_nfs4::read_mask;
 
-/// Reads the rights that a text names, names with `|` between them or `-` for none: 0 they are in `mask`, 1 the text names
-/// no mask. It takes no memory.
+/// Reads the rights that a text names: names with `|` between them, or `-` for none. Returns 0 if they are in `mask`,
+/// and 1 if the text names no mask. It takes no memory.
 #[unsafe(no_mangle)]
 pub extern "C" fn aclck_read_mask(text: &[u8], mask: &mut u32) -> u32
     ensures named { result ≡ 0 → SpellsMask text.now mask.new }
@@ -25,8 +25,8 @@ pub extern "C" fn aclck_read_mask(text: &[u8], mask: &mut u32) -> u32
     }
 }
 
-/// Writes the name of a reason, as the program prints it: 0 it is at the front of `out`, 3 no reason has this number, 5
-/// `out` is too short. At 0 and 5 `needed` is the number of bytes. It takes no memory.
+/// Writes the name of a reason, as the program prints it. Returns 0 if it is at the front of `out`; 3 if no reason has
+/// this number; 5 if `out` is too short. At 0 and 5 `needed` is the number of bytes. It takes no memory.
 #[unsafe(no_mangle)]
 pub extern "C" fn aclck_reason_text(reason: u32, out: &mut [u8], needed: &mut usize) -> u32
     ensures done { result ≡ 0 → HandsOut (λ name. reason_name reason ≡ Some name)

@@ -1,22 +1,14 @@
 -- What a difference has to have, so that an object, a requester and a right can be made of it.
-use Rattle.std.proofs.Common.{◌≡◌, ℕ, ◌^◌, ◌<◌, ◌≤◌, Bool, true, false, List, [], ◌∷◌, length, map, ap, sym, subst, arith, ◌∙◌}
-use Rattle.std.specs.Prelude.{All, if◌then◌else◌}
+use Rattle.std.proofs.Common.{◌≡◌, ℕ, ◌^◌, ◌<◌, ◌≤◌, Bool, true, false, List, [], ◌∷◌, length, map}
+use Rattle.acl_normal.proofs.Common.{All, all_rights, ap, arith, bits_from_mask, everyone, group, group_named, has_bit, if◌then◌else◌, is_among, IsMask, IsName, length-map, owner, Principal, set_of, small_situation, SmallSet, subst, sym, trailing_zeros, user, w32, ◌∙◌}
 use Rattle.std.specs.Borrow.{Bor}
-use Rattle.std.specs.Int.{trailing_zeros, w32}
-use Rattle.std.proofs.lemmas.List.{length-map}
 use Rattle.std.proofs.lemmas.List.Elements.{All-cons, All-head, All-map, All-nil, All-tail}
-use Rattle.acl_perm.specs.Bits.{IsMask, all_rights, has_bit}
-use Rattle.acl_perm.specs.Principal.{Principal, owner, user, group, group_named, everyone, principal}
-use Rattle.acl_perm.specs.Situation.{IsName}
-use Rattle.acl_perm.proofs.Sets.{bits_from_mask}
 use Rattle.std.proofs.lemmas.Nat.{pow_pos}
 use Rattle.acl_normal.proofs.comparison.SetEvaluation.{lowest_is}
 use Rattle.acl_normal.proofs.unique.Bits.{has_power, power_has}
 use Rattle.acl_normal.specs.OneRight.{IsOneRight}
-use Rattle.acl_normal.specs.SmallSituations.{group_names, is_among, names_or, small_situation}
-use Rattle.acl_normal.specs.internal.CodeSets.{set_of}
+use Rattle.acl_normal.specs.SmallSituations.{group_names, names_or}
 use Rattle.acl_normal.specs.declared.comparison.small_set.SmallSet.TheVariants as code
-use Rattle.acl_normal.specs.declared.comparison.small_set.SmallSet.{SmallSet}
 
 -- the bit of a set of one right is that of a right
 pub right_bit : (mask : ℕ) → IsMask mask → IsOneRight mask → has_bit all_rights (trailing_zeros w32 mask) ≡ true

@@ -1,25 +1,15 @@
 -- The first small set, by least numbers.
-use Rattle.std.specs.Prelude.{◌≡◌, ℕ, ◌<◌, ◌≤◌, ◌+◌, ◌-◌, Bool, true, false, ◌&&◌, ◌||◌, cond, nat_lt, List, [], ◌∷◌, ◌++◌, Some, None, refl, length, take, drop, slice_index_or, ◌⊎◌}
-use Rattle.std.specs.List.{AllByRecursion}
-use Rattle.std.proofs.Common.{sym, ◌∙◌, ap, subst, arith, suc, zero, inl, inr}
-use Rattle.std.proofs.lemmas.List.{drop_more, take-append-drop, get_or-take, get_or-drop, length-take, length-drop}
-use Rattle.std.proofs.lemmas.Bool.{cases_order, cases_lt}
-use Rattle.acl_eval.specs.Column.{takes_part}
-use Rattle.acl_eval.specs.Grant.{is_allow}
-use Rattle.acl_nfs4.specs.Ace.{Ace}
-use Rattle.acl_nfs4.specs.Who.{principal_of}
+use Rattle.acl_normal.proofs.Common.{[], Ace, AgreesAt, all_mentioned, all_rights, AllByRecursion, ap, arith, Bool, cases_lt, cond, drop, drop_more, everyone, false, FindSet, FindsFirst, first_place, GrantAlikeTo, has_bit, inl, inr, is_allow, is_granted_to, length, List, may_overlap, nat_lt, None, pairs, partners, Principal, principal_eq, principal_of, refl, singles, slice_index_or, small_sets, Some, subst, sym, take, takes_part, true, TwoLists, ℕ, ◌&&◌, ◌++◌, ◌+◌, ◌-◌, ◌<◌, ◌||◌, ◌∙◌, ◌∷◌, ◌≡◌, ◌≤◌, ◌⊎◌}
+use Rattle.std.proofs.Common.{suc, zero}
+use Rattle.std.proofs.lemmas.List.{take-append-drop, get_or-take, get_or-drop, length-take, length-drop}
+use Rattle.std.proofs.lemmas.Bool.{cases_order}
 use Rattle.acl_normal.proofs.unique.Names.{overlaps_back}
 use Rattle.acl_normal.proofs.comparison.PairGrants.{no_pairs, pair_granted, pairs_after}
 use Rattle.acl_normal.proofs.comparison.SetEvaluation.{granted_to-cons}
 use Rattle.acl_normal.proofs.comparison.SetSearchLemmas.{found_left, found_right}
-use Rattle.acl_normal.specs.Keys.{principal_eq}
-use Rattle.acl_normal.specs.internal.FirstPlaces.{Agrees, AgreesAt, AlikeAlone, AlikeWith, AlikeWithAll, IsLeast, OnAll, first_place}
-use Rattle.acl_normal.specs.internal.SetSearch.{Finds, FindsFirst, GrantAlikeTo, is_granted_to}
-use Rattle.acl_normal.specs.internal.TwoLists.{AreAlikeTo, FindSet, IsFirstMember, IsFirstPartner, IsFirstSingle, TwoLists, all_mentioned, later_than, principal_at}
-use Rattle.acl_normal.specs.SmallSets.{pairs, partners, singles, small_sets}
-use Rattle.acl_perm.specs.Bits.{all_rights, has_bit}
-use Rattle.acl_perm.specs.Overlap.{may_overlap}
-use Rattle.acl_perm.specs.Principal.{Principal, everyone}
+use Rattle.acl_normal.specs.internal.FirstPlaces.{Agrees, AlikeAlone, AlikeWith, AlikeWithAll, IsLeast, OnAll}
+use Rattle.acl_normal.specs.internal.SetSearch.{Finds}
+use Rattle.acl_normal.specs.internal.TwoLists.{AreAlikeTo, IsFirstMember, IsFirstPartner, IsFirstSingle, later_than, principal_at}
 
 -- what holds at each number holds of all
 pub all_from_each : (P : Principal → Type 0) (ps : List Principal)

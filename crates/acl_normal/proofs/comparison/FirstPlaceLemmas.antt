@@ -1,24 +1,10 @@
 -- Where a list first speaks of each principal.
-use Rattle.std.specs.Prelude.{◌≡◌, ℕ, ◌<◌, ◌≤◌, ◌+◌, Bool, true, false, ◌&&◌, cond, List, [], ◌∷◌, refl, length, drop, replicate, slice_index_or, slice_set, ◌⊎◌}
-use Rattle.std.specs.List.{AllZip}
-use Rattle.std.proofs.Common.{sym, ◌∙◌, ap, subst, arith, suc, zero, inl, inr}
-use Rattle.std.proofs.lemmas.List.{get_or-map, drop_more, drop_all, length-map, length-set, length-replicate, get_or-replicate, get_or-set_same, get_or-set_other, get_or_past}
-use Rattle.std.proofs.lemmas.Bool.{cases_lt, cases_eq, ne_eqb, eq-eqb}
-use Rattle.acl_eval.specs.Column.{takes_part}
-use Rattle.acl_eval.specs.Grant.{is_allow}
-use Rattle.acl_nfs4.specs.Ace.{Ace, ace}
-use Rattle.acl_nfs4.specs.Who.{principal_of}
-use Rattle.acl_nfs4.specs.declared.ace.AceRef.{AceRef}
+use Rattle.acl_normal.proofs.Common.{[], Ace, ace, AceRef, aces_in, AllZip, ap, AreFirstFrom, AreWhoms, arith, Bool, cases_eq, cases_lt, cond, drop, drop_all, drop_more, eq-eqb, Everyone, everyone, false, first_place, get_or-map, get_or-replicate, get_or-set_other, get_or-set_same, has_bit, inl, inr, is_allow, is_among, is_granted_to, IsWhom, length, length-map, length-replicate, length-set, List, ne_eqb, no_ace, Nobody, One, Principal, principal_of, refl, replicate, slice_index_or, slice_set, subst, sym, takes_part, true, Whom, ℕ, ◌&&◌, ◌+◌, ◌<◌, ◌∙◌, ◌∷◌, ◌≡◌, ◌≤◌, ◌⊎◌}
+use Rattle.std.proofs.Common.{suc, zero}
+use Rattle.std.proofs.lemmas.List.{get_or_past}
 use Rattle.acl_normal.proofs.comparison.SetEvaluation.{granted_to-cons}
-use Rattle.acl_normal.specs.internal.Shown.{aces_in}
-use Rattle.acl_normal.specs.internal.FirstPlaces.{AreFirstFrom, AreWhoms, IsFirstFrom, IsWhom, IsWithin, first_place, is_of, no_ace, no_first, put, stops, stops_at}
-use Rattle.acl_normal.specs.internal.SetSearch.{is_granted_to}
-use Rattle.acl_normal.specs.SmallSituations.{is_among}
+use Rattle.acl_normal.specs.internal.FirstPlaces.{IsFirstFrom, IsWithin, is_of, no_first, put, stops, stops_at}
 use Rattle.acl_normal.specs.declared.comparison.standing.First.{First}
-use Rattle.acl_normal.specs.declared.comparison.standing.Whom.{Whom}
-use Rattle.acl_normal.specs.declared.comparison.standing.Whom.TheVariants.{Everyone, Nobody, One}
-use Rattle.acl_perm.specs.Bits.{has_bit}
-use Rattle.acl_perm.specs.Principal.{Principal, everyone}
 
 -- both sides are equally long
 pub zip_length : {A B : Type 0} (R : A → B → Type 0) (xs : List A) (ys : List B) → AllZip R xs ys

@@ -1,22 +1,14 @@
 -- What the first small set at which two lists grant otherwise says of them.
-use Rattle.acl_nfs4.specs.Spelling.{IsAccepted}
-use Rattle.acl_perm.specs.Profile.{full}
+use Rattle.acl_normal.proofs.Common.{Ace, all_mentioned, all_rights, ap, Bool, Err, false, FindSet, full, IfOk, IfSome, IsAccepted, IsSituation, IsTrue, List, None, Ok, Option, Principal, refl, Result, SameGrants, small_sets, SmallSet, Some, subst, sym, true, two_lists, TwoLists, ◌↔◌, ◌∙◌, ◌≡◌}
 use Rattle.acl_normal.proofs.unique.Accepted.{accepted_names}
 use Rattle.std.specs.declared.alloc.AllocError.{AllocError}
-use Rattle.std.specs.Prelude.{IsTrue, IsNone, IfOk, IfSome, Ok, Err, Result, ◌≡◌, ◌↔◌, Bool, true, false, List, Option, Some, None, refl}
-use Rattle.std.proofs.Common.{sym, ◌∙◌, ap, subst}
-use Rattle.acl_eval.specs.Grant.{SameGrants}
-use Rattle.acl_nfs4.specs.Ace.{Ace}
+use Rattle.std.specs.Prelude.{IsNone}
 use Rattle.acl_normal.proofs.comparison.SmallSetLemmas.{first_difference, first_set, found_is_situation, none_then_same, some_then_differ, tells_apart}
 use Rattle.acl_normal.specs.Difference.{IsComparison, situation_of}
 use Rattle.acl_normal.specs.internal.CodeSets.{set_or_none}
-use Rattle.acl_normal.specs.internal.TwoLists.{AreAlikeTo, AreNamed, DifferLowestOn, FindSet, TwoLists, all_mentioned, situation_at, two_lists}
-use Rattle.acl_normal.specs.SmallSets.{IsFirstDifference, TellsApart, small_sets}
+use Rattle.acl_normal.specs.internal.TwoLists.{AreAlikeTo, AreNamed, DifferLowestOn, situation_at}
+use Rattle.acl_normal.specs.SmallSets.{IsFirstDifference, TellsApart}
 use Rattle.acl_normal.specs.declared.comparison.Difference.{Difference}
-use Rattle.acl_normal.specs.declared.comparison.small_set.SmallSet.{SmallSet}
-use Rattle.acl_perm.specs.Bits.{all_rights}
-use Rattle.acl_perm.specs.Principal.{Principal}
-use Rattle.acl_perm.specs.Situation.{IsSituation}
 
 -- where no set is found the lists grant the same
 pub told_none : (both : TwoLists) → FindSet both None → IsComparison both.first both.second None

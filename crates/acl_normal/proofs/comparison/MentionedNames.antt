@@ -1,12 +1,7 @@
 -- The longest name of the principals that lists mention.
-use Rattle.std.specs.Prelude.{◌≡◌, ℕ, ◌<◌, ◌≤◌, ◌+◌, List, length, drop, max, slice_index_or}
-use Rattle.std.proofs.Common.{arith}
-use Rattle.std.proofs.lemmas.List.{at_drop_more, at_drop_all}
+use Rattle.acl_normal.proofs.Common.{arith, at_drop_more, drop, length, List, longest, max, principal, principal_name, principals, slice_index_or, ℕ, ◌+◌, ◌<◌, ◌≡◌, ◌≤◌}
+use Rattle.std.proofs.lemmas.List.{at_drop_all}
 use Rattle.acl_perm.specs.declared.principal.Principal.{Principal as PrincipalRef}
-use Rattle.acl_normal.specs.internal.SetSearch.{principals}
-use Rattle.acl_normal.specs.SmallSets.{longest}
-use Rattle.acl_perm.specs.Order.{principal_name}
-use Rattle.acl_perm.specs.Principal.{principal}
 
 -- the longest of all is the longest so far or of the rest
 pub record IsLongest (names : List PrincipalRef) (most i : ℕ) : Type 0 where

@@ -1,26 +1,8 @@
 -- The principals that lists mention.
-use Rattle.std.specs.Prelude.{◌≡◌, ℕ, ◌<◌, ◌≤◌, ◌+◌, Bool, true, false, not, ◌||◌, ◌&&◌, cond, List, [], ◌∷◌, refl, length}
-use Rattle.std.specs.List.{AllByRecursion}
+use Rattle.acl_normal.proofs.Common.{[], Ace, AllByRecursion, and_parts, ap, arith, Bool, Column, column, cond, Equal, everyone, false, Greater, has_bit, HasName, HasNames, is_among, is_mentioning, IsRising, length, Less, List, longest, longest_name, mentioned, mentioned_with, not, or_cases, or_left, or_right, Ordering, Principal, principal_cmp, principal_eq, principal_exact, principal_name, principal_of, principal_total, refl, subst, sym, takes_part, true, ℕ, ⊎_elim, ◌&&◌, ◌+◌, ◌<◌, ◌||◌, ◌∷◌, ◌≡◌, ◌≤◌}
 use Rattle.std.specs.BTreeSet.{insert_key}
-use Rattle.std.specs.declared.cmp.Ordering.{Ordering}
-use Rattle.std.specs.declared.cmp.Ordering.TheVariants.{Less, Equal, Greater}
-use Rattle.std.proofs.Common.{sym, ap, subst, arith, ⊎_elim}
-use Rattle.std.proofs.lemmas.Bool.{or_left, or_right, or_cases, and_parts}
-use Rattle.acl_eval.specs.Column.{Column, column, takes_part}
-use Rattle.acl_nfs4.specs.Ace.{Ace}
-use Rattle.acl_nfs4.specs.Who.{principal_of}
 use Rattle.acl_normal.proofs.unique.Names.{principal_eq_itself, principal_eq_same}
 use Rattle.acl_normal.proofs.unique.Small.{HasOnly, principal_greater}
-use Rattle.acl_normal.specs.Keys.{principal_eq}
-use Rattle.acl_normal.specs.Normal.{HasNames}
-use Rattle.acl_normal.specs.internal.SetSearch.{IsRising}
-use Rattle.acl_normal.specs.SmallSets.{is_mentioning, longest, mentioned, mentioned_with}
-use Rattle.acl_normal.specs.SmallSituations.{HasName, is_among, longest_name}
-use Rattle.acl_perm.proofs.Orders.{principal_exact}
-use Rattle.acl_perm.specs.Bits.{has_bit}
-use Rattle.acl_perm.specs.Order.{principal_cmp, principal_name}
-use Rattle.acl_perm.specs.internal.Totality.{principal_total}
-use Rattle.acl_perm.specs.Principal.{Principal, everyone}
 
 -- an insert keeps what holds of each
 pub all_insert : (P : Principal → Type 0) (ps : List Principal) (p : Principal) → AllByRecursion P ps → P p

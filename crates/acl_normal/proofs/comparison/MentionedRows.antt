@@ -1,42 +1,19 @@
 -- The principals that lists mention, by row and by number.
-use Rattle.std.specs.Prelude.{◌≡◌, ℕ, ◌+◌, ◌<◌, ◌≤◌, zero, suc, Bool, true, false, if◌then◌else◌, List, [], ◌∷◌, ◌++◌, Option, Some, None, length, option_map, slice_index_or, slice_set, take, drop, unwrap_or, ◌⊎◌, refl}
+use Rattle.acl_normal.proofs.Common.{[], Ace, ace, AceRef, aces_in, all_mentioned, AllByRecursion, ap, append-nil, AreRowNumbers, AreWhoms, arith, Bool, cases_eq, cases_lt, drop, Equal, everyone, false, get_or-append_seam, get_or-map, get_or-set_other, get_or-set_same, get_or_append_left, get_or_default, Greater, if◌then◌else◌, inl, inr, is_among, is_mentioning, is_named, IsRising, IsWhom, key_here, length, length-append, length-map, length-set, Less, List, map-append, mentioned_with, no_ace, None, Option, option_map, or_left, or_right, Ordering, Principal, principal, principal_cmp, principal_eq, principal_exact, principal_of, principals, refl, row_of, slice_index_or, slice_set, Some, subst, suc, sym, take, take_more, true, two_lists, unwrap_or, Whom, zero, ℕ, ◌++◌, ◌+◌, ◌<◌, ◌∙◌, ◌∷◌, ◌≡◌, ◌≤◌, ◌⊎◌}
 use Rattle.std.specs.BTreeSet.{insert_key}
-use Rattle.std.specs.List.{AllByRecursion}
-use Rattle.std.specs.declared.cmp.Ordering.{Ordering}
-use Rattle.std.specs.declared.cmp.Ordering.TheVariants.{Less, Equal, Greater}
-use Rattle.std.proofs.Math.Seq.{get_or-append_seam, take-length}
-use Rattle.std.proofs.Common.{sym, ◌∙◌, ap, subst, arith, inl, inr}
-use Rattle.std.proofs.lemmas.Bool.{cases_eq, cases_lt, or_left, or_right}
-use Rattle.std.proofs.lemmas.List.{append-nil, get_or-map, get_or_append_left, get_or_default, get_or-set_other, get_or-set_same, length-append, length-map, length-set, map-append, take_more}
-use Rattle.acl_nfs4.specs.Ace.{Ace, ace}
-use Rattle.acl_nfs4.specs.Who.{principal_of}
-use Rattle.acl_nfs4.specs.declared.ace.AceRef.{AceRef}
+use Rattle.std.proofs.Math.Seq.{take-length}
 use Rattle.acl_normal.proofs.rows.Rows.{named_here, row_below, row_less, row_same}
 use Rattle.acl_normal.proofs.comparison.MentionedPrincipals.{all_with, among_insert_new, mentioned_rising, stays_with}
 use Rattle.acl_normal.proofs.comparison.Numbers.{whom_is, zip_push}
 use Rattle.acl_normal.proofs.comparison.Ordered.{rising_same}
-use Rattle.acl_normal.proofs.comparison.SetEvaluation.{rights_of_both, rights_of_second}
 use Rattle.acl_normal.proofs.comparison.SmallSetLemmas.{below_one}
 use Rattle.acl_normal.proofs.unique.Names.{principal_eq_itself}
 use Rattle.acl_normal.proofs.unique.Realised.{same_answers}
 use Rattle.acl_normal.proofs.unique.Small.{principal_greater}
-use Rattle.acl_normal.specs.Keys.{principal_eq}
-use Rattle.acl_normal.specs.Places.{key_here}
-use Rattle.acl_normal.specs.SmallSets.{is_mentioning, mentioned, mentioned_with}
-use Rattle.acl_normal.specs.SmallSituations.{is_among}
-use Rattle.acl_normal.specs.internal.Shown.{aces_in}
-use Rattle.acl_normal.specs.internal.FirstPlaces.{AreWhoms, IsWhom, no_ace}
 use Rattle.acl_normal.specs.internal.MentionedRows.{AreByRow, AreMentioned, AreMentionedRows, AreNumbers, HasNumber, IsMentionedAt, at_row, held, mentioned_by, noted, whom_of, with_found}
-use Rattle.acl_normal.specs.internal.Rows.{AreRowNumbers, is_named, row_of}
-use Rattle.acl_normal.specs.internal.SetSearch.{IsRising, principals}
-use Rattle.acl_normal.specs.internal.TwoLists.{all_mentioned, two_lists}
 use Rattle.acl_normal.specs.internal.Compared.{IsCompared, lists_in}
 use Rattle.acl_normal.specs.declared.comparison.compared.Compared.TheInside.{Inside}
 use Rattle.acl_normal.specs.declared.comparison.mentioned.Mentions.{Mentions}
-use Rattle.acl_normal.specs.declared.comparison.standing.Whom.{Whom}
-use Rattle.acl_perm.proofs.Orders.{principal_exact}
-use Rattle.acl_perm.specs.Order.{principal_cmp}
-use Rattle.acl_perm.specs.Principal.{Principal, everyone, principal}
 use Rattle.acl_perm.specs.declared.principal.Principal.{Principal as PrincipalRef}
 
 -- ---- a list's ACEs by place
@@ -66,7 +43,7 @@ row_fits : (xs : List Ace) (i : ℕ) → i < length xs → row_of (principal_of 
 row_fits xs i l = row_below (principal_of (ace_at xs i)) xs (named_there xs i l)
 
 -- whom an ACE of the list mentions is mentioned
-mentioned_there : (xs : List Ace) (ps : List Principal) (i : ℕ) → i < length xs → is_mentioning (ace_at xs i) ≡ true
+pub mentioned_there : (xs : List Ace) (ps : List Principal) (i : ℕ) → i < length xs → is_mentioning (ace_at xs i) ≡ true
     → is_among (principal_of (ace_at xs i)) (mentioned_with ps xs) ≡ true
 mentioned_there [] ps i l m = absurd (omega (arith, l))
 mentioned_there (a ∷ xs) ps zero l m =
@@ -328,14 +305,14 @@ rising_held xs (Some q ∷ table) i h = (
 -- ---- both lists
 
 -- a list behind another mentions its principals besides
-with_both : (ps : List Principal) (xs ys : List Ace)
+pub with_both : (ps : List Principal) (xs ys : List Ace)
     → mentioned_with ps (xs ++ ys) ≡ mentioned_with (mentioned_with ps xs) ys
 with_both ps [] ys = refl
 with_both ps (a ∷ xs) ys =
     with_both (if is_mentioning a then insert_key principal_cmp ps (principal_of a) else ps) xs ys
 
 -- who stands in a list is among it
-among_at : (ps : List Principal) (k : ℕ) → k < length ps → is_among (slice_index_or ps k everyone) ps ≡ true
+pub among_at : (ps : List Principal) (k : ℕ) → k < length ps → is_among (slice_index_or ps k everyone) ps ≡ true
 among_at [] k l = absurd (omega (arith, l))
 among_at (p ∷ ps) zero l = or_left _ _ (principal_eq_itself p)
 among_at (p ∷ ps) (suc k) l =
@@ -394,14 +371,6 @@ rows_mentioned xs rows table whole numbers r t n = record {
         (sym all)
         (subst (HasNumber (held table) (principal_of (ace_at xs i))) (sym here)
         (held_at table row (principal_of (ace_at xs i)) e))
-
--- the principals of the table of both lists are those that the two mention
-mentioned_both : (xs ys all : List Ace) (table : List (Option PrincipalRef)) (whole : List Principal)
-    (numbers : List ℕ) → all ≡ xs ++ ys → AreByRow all (length all) table
-    → AreNumbers table (length table) whole numbers → whole ≡ mentioned xs ys
-mentioned_both xs ys all table whole numbers e t n =
-    n.whole_is ∙ ap held (take-length table) ∙ table_mentions all table t ∙ ap (mentioned_with []) e
-    ∙ with_both [] xs ys
 
 -- whom one more ACE names
 pub whoms_more : (ps : List Principal) (refs : List AceRef) (a z : AceRef) (rows numbers : List ℕ) (ws new : List Whom)
@@ -464,16 +433,14 @@ whoms_ready aces a b c rows r table t whole numbers ae be ce re te rn by n =
     (subst (λ v. AreByRow (aces_in v) (length v) table) be by))
     (subst (λ v. AreNumbers v (length v) whole numbers) te n)))
 
--- the principals are those that both lists mention
-pub whole_ready : (list other aces b : List AceRef) (table t : List (Option PrincipalRef)) (whole : List Principal)
-    (numbers : List ℕ) → aces ≡ list ++ other → b ≡ aces → t ≡ table → AreByRow (aces_in b) (length b) table
-    → AreNumbers t (length t) whole numbers → whole ≡ mentioned (aces_in list) (aces_in other)
-whole_ready list other aces b table t whole numbers e be te by n =
-    mentioned_both (aces_in list) (aces_in other) (aces_in aces) table whole numbers
-    (ap aces_in e ∙ map-append ace list other)
-    (subst (λ v. AreByRow (aces_in aces) v table) (sym (length-map aces ace))
-    (subst (λ v. AreByRow (aces_in v) (length v) table) be by))
-    (subst (λ v. AreNumbers v (length v) whole numbers) te n)
+-- the principals are those that the list mentions
+pub whole_ready : (aces : List AceRef) (table t : List (Option PrincipalRef)) (whole : List Principal)
+    (numbers : List ℕ) → t ≡ table → AreByRow (aces_in aces) (length aces) table
+    → AreNumbers t (length t) whole numbers → whole ≡ mentioned_with [] (aces_in aces)
+whole_ready aces table t whole numbers te by n =
+    n.whole_is ∙ ap (λ v. held (take (length v) v)) te ∙ ap held (take-length table)
+    ∙ table_mentions (aces_in aces) table
+    (subst (λ v. AreByRow (aces_in aces) v table) (sym (length-map aces ace)) by)
 
 -- whom two lists mention, in the code's other borrows of the same lists
 pub mentions_same : (list other a b c d : List AceRef) (m : Mentions) → a ≡ list → b ≡ other → c ≡ list → d ≡ other
@@ -510,5 +477,5 @@ whoms_cover ps list other ws h = omega (arith, go (aces_in list) (aces_in other)
 pub all_there : (c : Inside) → IsCompared c → length c.mentioned.now ≡ length (all_mentioned (lists_in c))
 all_there c h = sym (length-map c.mentioned.now principal) ∙ ap length h.mentioned
 
--- what is known of lists that are compared
-pub ruleset compared_parts = (rights_of_both, rights_of_second, whoms_first, whoms_second)
+-- whom the ACEs of either list name
+pub ruleset compared_parts = (whoms_first, whoms_second)

@@ -1,24 +1,12 @@
 -- The numbers of principals that stand in order.
 use Rattle.std.proofs.Math.Bool.{or-false}
-use Rattle.std.specs.Prelude.{◌≡◌, ℕ, ◌<◌, Bool, true, false, List, [], ◌∷◌, ◌++◌, refl, length, slice_index_or}
-use Rattle.std.specs.List.{AllByRecursion, AllZip}
-use Rattle.std.specs.declared.cmp.Ordering.TheVariants.{Less}
-use Rattle.std.proofs.Common.{sym, ◌∙◌, ap, subst, arith, suc, zero}
-use Rattle.std.proofs.lemmas.List.{get_or-map}
-use Rattle.std.proofs.lemmas.Bool.{eq-eqb, eqb-true}
+use Rattle.acl_normal.proofs.Common.{[], Ace, AllByRecursion, AllZip, ap, arith, Bool, eq-eqb, eqb-true, everyone, false, get_or-map, is_mentioning, IsRising, IsWhom, length, Less, List, Principal, principal, principal_cmp, principal_eq, principal_of, principals, refl, slice_index_or, subst, sym, takes_part, true, ℕ, ◌++◌, ◌<◌, ◌∙◌, ◌∷◌, ◌≡◌}
+use Rattle.std.proofs.Common.{suc, zero}
 use Rattle.acl_perm.specs.declared.principal.Principal.{Principal as PrincipalRef}
-use Rattle.acl_eval.specs.Column.{takes_part}
-use Rattle.acl_nfs4.specs.Ace.{Ace}
-use Rattle.acl_nfs4.specs.Who.{principal_of}
 use Rattle.acl_normal.proofs.unique.Names.{principal_eq_itself, principal_eq_same}
 use Rattle.acl_normal.proofs.unique.Realised.{same_answers}
 use Rattle.acl_normal.proofs.comparison.SmallSetLemmas.{not_below_itself}
-use Rattle.acl_normal.specs.Keys.{principal_eq}
-use Rattle.acl_normal.specs.internal.FirstPlaces.{IsWhom, is_of}
-use Rattle.acl_normal.specs.internal.SetSearch.{IsRising, principals}
-use Rattle.acl_perm.specs.Order.{principal_cmp}
-use Rattle.acl_perm.specs.Principal.{Principal, everyone, principal}
-use Rattle.acl_normal.specs.SmallSets.{is_mentioning}
+use Rattle.acl_normal.specs.internal.FirstPlaces.{is_of}
 use Rattle.acl_normal.specs.internal.MentionedRows.{HasNumber, whom_of}
 
 -- the principal of a number
@@ -56,13 +44,16 @@ whom_is ps a n r h = go (takes_part a) refl (principal_eq (principal_of a) every
   where
     go : (t : Bool) → takes_part a ≡ t → (e : Bool) → principal_eq (principal_of a) everyone ≡ e
         → IsWhom ps a (whom_of a n)
-    go false t e f = rw t (record { within = tt; hit = λ k lt. rw t refl })
-    go true t true f = rw (t, f) (record { within = tt; hit = λ k lt. rw (t, f) refl })
+    go false t e f = rw t (record { within = tt; part = t; all = rw t refl; hit = λ k lt. rw t refl })
+    go true t true f =
+        rw (t, f) (record { within = tt; part = t; all = rw (t, f) refl; hit = λ k lt. rw (t, f) refl })
     go true t false f =
         let at = h (rw (t, f) refl) in
         rw (t, f)
         (record {
           within = at.within;
+          part = t;
+          all = rw (t, f) refl;
           hit = λ k lt. is_of_own a (slice_index_or ps k everyone) t f
               ∙ ap (λ v. principal_eq v (slice_index_or ps k everyone)) at.is
               ∙ same_answers _ _ (λ g. eq-eqb k n (apart ps n k r at.within lt (principal_eq_same _ _ g)))

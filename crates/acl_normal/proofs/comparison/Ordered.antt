@@ -1,17 +1,8 @@
 -- Rising lists of the same principals are the same.
-use Rattle.std.specs.Prelude.{◌≡◌, true, List, [], ◌∷◌, refl}
-use Rattle.std.specs.List.{AllByRecursion}
-use Rattle.std.specs.declared.cmp.Ordering.TheVariants.{Less}
-use Rattle.std.proofs.Common.{sym, ◌∙◌, ap, subst, ⊎_elim}
-use Rattle.std.proofs.lemmas.Bool.{false≢true, or_cases, or_left, or_right}
+use Rattle.acl_normal.proofs.Common.{[], AllByRecursion, ap, false≢true, is_among, IsRising, Less, List, or_cases, or_left, or_right, Principal, principal_cmp, principal_eq, refl, subst, sym, true, ⊎_elim, ◌∙◌, ◌∷◌, ◌≡◌}
 use Rattle.acl_normal.proofs.unique.Names.{principal_eq_itself, principal_eq_same}
 use Rattle.acl_normal.proofs.unique.Realised.{same_answers}
 use Rattle.acl_normal.proofs.comparison.SmallSetLemmas.{below_one, not_below_itself, not_both_below}
-use Rattle.acl_normal.specs.Keys.{principal_eq}
-use Rattle.acl_normal.specs.internal.SetSearch.{IsRising}
-use Rattle.acl_normal.specs.SmallSituations.{is_among}
-use Rattle.acl_perm.specs.Order.{principal_cmp}
-use Rattle.acl_perm.specs.Principal.{Principal}
 
 -- who is above the first of a rising list and among another with that first is among its rest
 among_rest : (p : Principal) (ps qs : List Principal) (s : Principal)

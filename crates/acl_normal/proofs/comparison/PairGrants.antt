@@ -1,25 +1,10 @@
 -- What two principals are granted, by what each is granted alone and which comes first.
-use Rattle.std.specs.Prelude.{◌≡◌, ◌≢◌, ℕ, ◌+◌, Bool, true, false, not, ◌&&◌, ◌||◌, cond, nat_lt, List, [], ◌∷◌, ◌++◌, Option, None, refl, ◌⊎◌}
-use Rattle.std.specs.List.{AllByRecursion, AllZip}
-use Rattle.std.proofs.Common.{sym, ◌∙◌, ap, subst, arith, append_assoc, inl, inr}
-use Rattle.std.proofs.lemmas.Bool.{or_cases, or_parts, and_parts, and_from, lt-ltb, le-ltb}
+use Rattle.acl_normal.proofs.Common.{[], Ace, AgreesAt, AllByRecursion, AllZip, and_from, and_parts, ap, append_assoc, arith, Bool, cond, differ, everyone, false, FindsFirst, first_place, has_bit, inl, inr, inverts, inverts_any, is_allow, is_granted_to, is_user, is_users, IsStanding, le-ltb, List, lt-ltb, may_overlap, nat_lt, None, not, Option, or_cases, or_parts, pairs, partners, Principal, principal_eq, principal_of, refl, SameAlone, Standing, subst, sym, takes_part, true, user, ℕ, ◌&&◌, ◌++◌, ◌+◌, ◌||◌, ◌∙◌, ◌∷◌, ◌≡◌, ◌≢◌, ◌⊎◌}
 use Rattle.std.proofs.lemmas.Bool.Decides.{nat_tests}
-use Rattle.acl_eval.specs.Column.{takes_part}
-use Rattle.acl_eval.specs.Grant.{is_allow}
-use Rattle.acl_nfs4.specs.Ace.{Ace}
-use Rattle.acl_nfs4.specs.Who.{principal_of}
 use Rattle.acl_normal.proofs.unique.Names.{bytes_eq_same}
 use Rattle.acl_normal.proofs.comparison.SetEvaluation.{granted_to-cons}
 use Rattle.acl_normal.proofs.comparison.SetSearchLemmas.{found_right}
-use Rattle.acl_normal.specs.Keys.{principal_eq}
-use Rattle.acl_normal.specs.internal.Classes.{is_users}
-use Rattle.acl_normal.specs.internal.FirstPlaces.{Agrees, AgreesAt, IsStanding, SameAlone, first_place, inverts, inverts_any}
-use Rattle.acl_normal.specs.internal.SetSearch.{FindsFirst, differ, is_granted_to}
-use Rattle.acl_normal.specs.SmallSets.{pairs, partners}
-use Rattle.acl_normal.specs.declared.comparison.standing.Standing.{Standing}
-use Rattle.acl_perm.specs.Bits.{has_bit}
-use Rattle.acl_perm.specs.Overlap.{may_overlap}
-use Rattle.acl_perm.specs.Principal.{Principal, everyone, user, is_user}
+use Rattle.acl_normal.specs.internal.FirstPlaces.{Agrees}
 
 -- one more on both sides leaves the order
 shift : (x y : ℕ) → nat_lt (x + 1) (y + 1) ≡ nat_lt x y

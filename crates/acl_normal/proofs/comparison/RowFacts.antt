@@ -1,27 +1,16 @@
 -- The least number of a principal at which two lists grant otherwise, bit by bit.
-use Rattle.std.specs.Prelude.{◌≡◌, ℕ, ◌<◌, ◌≤◌, ◌+◌, true, false, List, [], ◌∷◌, ◌++◌, length, take, drop, slice_index_or, ◌⊎◌}
-use Rattle.std.specs.List.{AllByRecursion, AllZip}
-use Rattle.std.proofs.Common.{sym, ◌∙◌, ap, subst, arith, suc, zero, inl, inr, lit<}
-use Rattle.std.proofs.lemmas.List.{take_more, map-append, get_or_read, length-map}
-use Rattle.std.proofs.lemmas.Bool.{cases_lt, cases_eq, false≢true}
+use Rattle.acl_normal.proofs.Common.{[], Ace, AgreesAt, all_mentioned, all_rights, AllByRecursion, AllZip, ap, AreFirstFrom, AreStandings, arith, bit_at_above, cases_eq, cases_lt, drop, everyone, false, false≢true, get_or_read, has_bit, inl, inr, inverts, inverts_any, is_allow, is_among, is_granted_to, is_user, is_users, IsStanding, length, length-map, List, lit<, map-append, no_standing, Principal, principal, principals, SameAlone, slice_index_or, Standing, subst, sym, take, take_more, true, TwoLists, verdict, ℕ, ◌++◌, ◌+◌, ◌<◌, ◌∙◌, ◌∷◌, ◌≡◌, ◌≤◌, ◌⊎◌}
+use Rattle.std.proofs.Common.{suc, zero}
 use Rattle.std.proofs.Common.{eqb}
-use Rattle.std.proofs.lemmas.Nat.Bits.{bit_at_above}
 use Rattle.acl_perm.specs.declared.principal.Principal.{Principal as PrincipalRef}
-use Rattle.acl_nfs4.specs.Ace.{Ace}
 use Rattle.acl_nfs4.specs.internal.Reading.{read}
 use Rattle.acl_normal.proofs.comparison.FirstPlaceLemmas.{zip_length}
 use Rattle.acl_normal.proofs.comparison.Numbers.{numbered, zip_push}
 use Rattle.acl_normal.proofs.comparison.PairGrants.{agrees_from_rows, inverted, not_agrees_from_rows, not_inverted}
-use Rattle.acl_normal.proofs.comparison.SetEvaluation.{unused_denied}
-use Rattle.acl_normal.specs.internal.Classes.{is_users}
-use Rattle.acl_normal.specs.internal.FirstPlaces.{AgreesAt, AlikeAlone, AlikeWith, AlikeWithAll, AreFirstFrom, AreStandings, IsFirst, IsFirstFrom, IsLeast, IsStanding, OnAll, SameAlone, inverts, inverts_any, no_first, no_standing}
-use Rattle.acl_normal.specs.internal.SetSearch.{is_granted_to, principals}
-use Rattle.acl_normal.specs.internal.TwoLists.{AlikeToOne, AlikeToPair, AlikeToPairs, IsUnused, TwoLists, all_mentioned, later_than, principal_at}
+use Rattle.acl_normal.specs.internal.FirstPlaces.{AlikeAlone, AlikeWith, AlikeWithAll, IsFirst, IsFirstFrom, IsLeast, OnAll, no_first}
+use Rattle.acl_normal.specs.internal.TwoLists.{AlikeToOne, AlikeToPair, AlikeToPairs, HaveSameColumn, later_than, principal_at}
 use Rattle.acl_normal.specs.declared.class.Class.{Class}
 use Rattle.acl_normal.specs.declared.comparison.standing.First.{First}
-use Rattle.acl_normal.specs.declared.comparison.standing.Standing.{Standing}
-use Rattle.acl_perm.specs.Bits.{all_rights, has_bit}
-use Rattle.acl_perm.specs.Principal.{Principal, everyone, principal, is_user}
 
 -- what all ACEs say first
 pub first_of_all : (xs : List Ace) (b : ℕ) (p : Principal) (f : First) → IsFirstFrom xs b 0 p f → IsFirst xs b p f
@@ -259,31 +248,30 @@ partner_loop ps xs ys bit at old new row items slice others lt h is split read a
 
 -- ---- two lists that are compared
 
--- what no ACE of either has is denied by both
-unused_alike : (both : TwoLists) (bit : ℕ) (set : List Principal) → IsUnused both bit
+-- with the same ACEs both grant alike
+pub same_alike : (both : TwoLists) (bit : ℕ) (set : List Principal) → HaveSameColumn both bit
     → is_granted_to both.first set bit ≡ is_granted_to both.second set bit
-unused_alike both bit set h =
-    unused_denied both.first set bit h.first ∙ sym (unused_denied both.second set bit h.second)
+same_alike both bit set h = ap (λ c. is_allow (verdict (λ r. is_among r (everyone ∷ set)) c)) h
 
--- and so they grant it alike to each principal with any of some
-unused_agree : (both : TwoLists) (bit : ℕ) (p : Principal) (ps : List Principal) → IsUnused both bit
+-- and so they grant alike to each principal with any of some
+same_agree : (both : TwoLists) (bit : ℕ) (p : Principal) (ps : List Principal) → HaveSameColumn both bit
     → AgreesAt both.first both.second ps bit p
-unused_agree both bit p [] h = tt
-unused_agree both bit p (q ∷ ps) h =
-    (λ _. unused_alike both bit (p ∷ q ∷ []) h, unused_agree both bit p ps h)
+same_agree both bit p [] h = tt
+same_agree both bit p (q ∷ ps) h =
+    (λ _. same_alike both bit (p ∷ q ∷ []) h, same_agree both bit p ps h)
 
 -- to each principal alone
-pub unused_one : (both : TwoLists) (bit : ℕ) → IsUnused both bit → (k : ℕ) → AlikeToOne both bit k
-unused_one both bit h k = unused_alike both bit (principal_at both k ∷ []) h
+pub same_one : (both : TwoLists) (bit : ℕ) → HaveSameColumn both bit → (k : ℕ) → AlikeToOne both bit k
+same_one both bit h k = same_alike both bit (principal_at both k ∷ []) h
 
 -- to each with all
-pub unused_pairs : (both : TwoLists) (bit : ℕ) → IsUnused both bit → (k : ℕ) → AlikeToPairs both bit k
-unused_pairs both bit h k = unused_agree both bit (principal_at both k) (all_mentioned both) h
+pub same_pairs : (both : TwoLists) (bit : ℕ) → HaveSameColumn both bit → (k : ℕ) → AlikeToPairs both bit k
+same_pairs both bit h k = same_agree both bit (principal_at both k) (all_mentioned both) h
 
 -- and to one with each behind it
-pub unused_pair : (both : TwoLists) (at bit : ℕ) → IsUnused both bit → (k : ℕ) → AlikeToPair both at bit k
-unused_pair both at bit h k _ =
-    unused_alike both bit (principal_at both at ∷ slice_index_or (later_than both at) k everyone ∷ []) h
+pub same_pair : (both : TwoLists) (at bit : ℕ) → HaveSameColumn both bit → (k : ℕ) → AlikeToPair both at bit k
+same_pair both at bit h k _ =
+    same_alike both bit (principal_at both at ∷ slice_index_or (later_than both at) k everyone ∷ []) h
 
 -- the number so far of the first principal to whom alone they don't grant alike
 abbrev pub LeastSingle : TwoLists → ℕ → ℕ → Type 0

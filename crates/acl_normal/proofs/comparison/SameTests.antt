@@ -1,10 +1,7 @@
 -- The test whether two principals are the same.
-use Rattle.std.specs.Prelude.{◌≡◌, ◌↔◌, Bool, true, IsTrue}
-use Rattle.std.proofs.Common.{subst}
+use Rattle.acl_normal.proofs.Common.{Bool, IsTrue, Principal, principal_eq, subst, true, ◌↔◌, ◌≡◌}
 use Rattle.acl_normal.proofs.unique.Names.{principal_eq_itself, principal_eq_same}
 use Rattle.acl_normal.proofs.unique.Realised.{same_answers}
-use Rattle.acl_normal.specs.Keys.{principal_eq}
-use Rattle.acl_perm.specs.Principal.{Principal}
 
 -- an answer that is true exactly at the same principals is the test of them
 pub same_test : (p q : Principal) (answer : Bool) → IsTrue answer ↔ (p ≡ q) → answer ≡ principal_eq p q

@@ -1,26 +1,12 @@
 -- What a list grants to a small set of principals, as the code finds it: for all rights at once.
-use Rattle.std.specs.Prelude.{[], ◌==◌, ◌≡◌, ◌≢◌, ◌↔◌, ℕ, ◌<◌, ◌≤◌, ◌+◌, ◌^◌, Bool, true, false, not, ◌&&◌, ◌||◌, cond, IsTrue, List, ◌∷◌, refl, drop, length, slice_index_or}
+use Rattle.acl_normal.proofs.Common.{Ace, ace, AceRef, aces_in, all_rights, Allow, ap, AreGranted, arith, at_drop_more, bit_at, bits_from_mask, Bool, column, cond, Deny, differ, drop, drop_all, eq-eqb, everyone, false, false_from_ne_true, false≢true, GrantAlikeTo, has_bit, is_allow, is_among, is_granted_to, IsDifference, IsMask, IsMask-lt, IsSubset, IsTrue, IsUnion, length, List, ne_eqb, no_bit, not, or_parts, Principal, principal_of, refl, same_set, slice_index_or, subst, sym, takes_part, trailing_zeros, true, w32, ℕ, ◌&&◌, ◌+◌, ◌<◌, ◌==◌, ◌^◌, ◌||◌, ◌↔◌, ◌∙◌, ◌∷◌, ◌≡◌, ◌≢◌, ◌≤◌}
 use Rattle.std.specs.Bool.{OnFalse}
-use Rattle.std.specs.Int.{bit_at, trailing_zeros, w32}
-use Rattle.std.proofs.Common.{sym, ◌∙◌, ap, subst, arith}
 use Rattle.std.proofs.lemmas.Nat.Bits.{bit_at-trailing_zeros}
-use Rattle.std.proofs.lemmas.Bool.{eq-eqb, false≢true, false_from_ne_true, ne_eqb, or_parts}
-use Rattle.std.proofs.lemmas.List.{at_drop_more, drop_all}
-use Rattle.acl_eval.specs.Column.{column, takes_part, verdict}
-use Rattle.acl_eval.specs.Grant.{is_allow}
-use Rattle.acl_nfs4.specs.Ace.{Ace, ace}
-use Rattle.acl_nfs4.specs.Who.{principal_of}
-use Rattle.acl_nfs4.specs.declared.ace.AceRef.{AceRef}
 use Rattle.acl_normal.proofs.unique.Bits.{has_power, power_has}
 use Rattle.acl_normal.proofs.unique.Realised.{same_answers}
 use Rattle.acl_normal.proofs.unique.SameKeys.{alike}
-use Rattle.acl_normal.specs.internal.Shown.{aces_in}
-use Rattle.acl_normal.specs.internal.SetSearch.{AreDiffering, AreGranted, AreRightsOf, GrantAlikeTo, HasBitsOf, IsLowestBit, IsLowestDifference, differ, is_granted_to}
-use Rattle.acl_normal.specs.SmallSituations.{is_among}
-use Rattle.acl_perm.proofs.Sets.{IsMask-lt, bits_from_mask, mask_from_bits, no_bit, same_set}
-use Rattle.acl_perm.specs.Bits.{IsDifference, IsMask, IsSubset, IsUnion, all_rights, has_bit}
-use Rattle.acl_perm.specs.Principal.{Principal, everyone}
-use Rattle.acl_perm.specs.declared.kind.Kind.TheVariants.{Allow, Deny}
+use Rattle.acl_normal.specs.internal.SetSearch.{AreDiffering, AreRightsOf, HasBitsOf, IsLowestBit, IsLowestDifference}
+use Rattle.acl_perm.proofs.Sets.{mask_from_bits}
 
 -- an ACE that has the bit, takes part and is of the set or everyone decides, and else the rest of the list does
 pub granted_to-cons : (a : Ace) (rest : List Ace) (set : List Principal) (bit : ℕ)
@@ -265,22 +251,3 @@ pub covers_all : (refs : List AceRef) (i rights : ℕ) → length refs ≤ i →
 covers_all refs i rights le h = record {
   unused = λ bit absent. sym (h.columns bit absent) ∙ ap (λ r. column (aces_in r) bit) (drop_all i refs le);
 }
-
--- rights of more are rights of the list
-pub rights_of_both : (list : List Ace) (here there more : ℕ) → AreRightsOf list here → IsUnion here there more
-    → AreRightsOf list more
-rights_of_both list here there more h u = record {
-  unused = λ bit absent. h.unused bit (or_parts (has_bit here bit) (has_bit there bit) (sym (u bit) ∙ absent)).0;
-}
-
--- the same, of the second list
-pub rights_of_second : (list : List Ace) (here there more : ℕ) → AreRightsOf list there → IsUnion here there more
-    → AreRightsOf list more
-rights_of_second list here there more h u = record {
-  unused = λ bit absent. h.unused bit (or_parts (has_bit here bit) (has_bit there bit) (sym (u bit) ∙ absent)).1;
-}
-
--- a right that no ACE has is denied
-pub unused_denied : (list : List Ace) (set : List Principal) (bit : ℕ) → column list bit ≡ []
-    → is_granted_to list set bit ≡ false
-unused_denied list set bit none = ap (λ c. is_allow (verdict (λ r. is_among r (everyone ∷ set)) c)) none

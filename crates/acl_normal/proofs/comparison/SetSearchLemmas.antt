@@ -1,13 +1,7 @@
 -- Going over the small sets, one after the other.
-use Rattle.std.specs.Prelude.{◌≡◌, ℕ, ◌<◌, ◌≤◌, ◌+◌, Bool, true, false, cond, List, [], ◌∷◌, ◌++◌, Option, Some, None, refl, length, drop, slice_index_or}
-use Rattle.std.proofs.Common.{subst, inl, inr}
-use Rattle.std.proofs.lemmas.List.{drop_more, drop_all}
+use Rattle.acl_normal.proofs.Common.{[], Ace, Bool, cond, drop, drop_all, drop_more, false, FindsFirst, GrantAlikeTo, inl, inr, length, List, may_overlap, None, Option, pairs, partners, Principal, principal, principals, refl, singles, slice_index_or, small_sets, Some, subst, true, ℕ, ◌++◌, ◌+◌, ◌<◌, ◌∷◌, ◌≡◌, ◌≤◌}
 use Rattle.acl_perm.specs.declared.principal.Principal.{Principal as PrincipalRef}
-use Rattle.acl_nfs4.specs.Ace.{Ace}
-use Rattle.acl_normal.specs.internal.SetSearch.{Finds, FindsFirst, GrantAlikeTo, principals}
-use Rattle.acl_normal.specs.SmallSets.{pairs, partners, singles, small_sets}
-use Rattle.acl_perm.specs.Overlap.{may_overlap}
-use Rattle.acl_perm.specs.Principal.{Principal, principal}
+use Rattle.acl_normal.specs.internal.SetSearch.{Finds}
 
 -- whatever is found among the rest is found among all
 pub record GoesOn (xs ys : List Ace) (rest whole : List (List Principal)) : Type 0 where

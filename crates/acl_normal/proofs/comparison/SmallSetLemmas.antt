@@ -1,32 +1,14 @@
 -- The small situations of two lists decide whether the lists grant the same.
-use Rattle.std.specs.Prelude.{not, IsTrue, IsFalse, ◌≡◌, ◌≢◌, ◌↔◌, ℕ, ◌<◌, ◌+◌, ◌^◌, Bool, true, false, ◌||◌, List, [], ◌∷◌, ◌++◌, Some, None, refl, length, map, ◌⊎◌, unwrap_or}
-use Rattle.std.specs.List.{AllByRecursion}
-use Rattle.std.specs.declared.cmp.Ordering.TheVariants.{Less}
-use Rattle.std.proofs.Common.{sym, ◌∙◌, ap, subst, arith, ⊎_elim, inl, inr}
-use Rattle.std.proofs.lemmas.List.{map-append}
-use Rattle.std.proofs.lemmas.Bool.{or_cases, or_left, false≢true}
-use Rattle.acl_eval.specs.Column.{column}
-use Rattle.acl_eval.specs.Grant.{Grant, SameGrants, grants_bit, is_allow}
-use Rattle.acl_nfs4.specs.Ace.{Ace}
+use Rattle.std.specs.Prelude.{IsFalse}
+use Rattle.acl_normal.proofs.Common.{[], Ace, all_rights, AllByRecursion, Allow, ap, arith, Bool, column, Deny, everyone, false, false≢true, FindsFirst, GrantAlikeTo, has_bit, HasName, HasNames, inl, inr, is_allow, is_among, is_granted_to, IsRising, IsSituation, IsTrue, Kind, length, Less, List, longest, longest_name, map, map-append, matches, may_overlap, mentioned, None, not, or_cases, or_left, pairs, partners, Principal, principal_cmp, principal_eq, principal_name, principal_total, refl, SameGrants, singles, Situation, small_sets, small_situation, Some, subst, sym, true, unwrap_or, user, ℕ, ⊎_elim, ◌++◌, ◌+◌, ◌<◌, ◌^◌, ◌||◌, ◌↔◌, ◌∙◌, ◌∷◌, ◌≡◌, ◌≢◌, ◌⊎◌}
+use Rattle.acl_eval.specs.Grant.{Grant, grants_bit}
 use Rattle.acl_normal.proofs.unique.Bits.{has_power, power_has}
 use Rattle.acl_normal.proofs.unique.ListColumns.{same_grants_from_columns, same_verdicts}
 use Rattle.acl_normal.proofs.comparison.MentionedPrincipals.{IsOneOf, column_is_short, first_has, mentioned_named, mentioned_others, mentioned_rising, one_is_short, second_has}
 use Rattle.acl_normal.proofs.unique.Names.{overlaps_itself, principal_eq_same}
 use Rattle.acl_normal.proofs.unique.Realised.{AllNamed, AreShort, HasOneUser, first_kind_alike, one_user, small_is_situation, small_matches}
 use Rattle.acl_normal.proofs.unique.Small.{IsSmallSet, none, one, small_suffice, two}
-use Rattle.acl_normal.specs.Keys.{principal_eq}
-use Rattle.acl_normal.specs.Normal.{HasNames}
-use Rattle.acl_normal.specs.internal.SetSearch.{FindsFirst, GrantAlikeTo, IsRising, is_granted_to}
-use Rattle.acl_normal.specs.SmallSets.{GrantAlike, IsFirstDifference, SmallSituationsSuffice, TellsApart, longest, mentioned, pairs, partners, singles, small_sets, strange_length}
-use Rattle.acl_normal.specs.SmallSituations.{HasName, is_among, longest_name, small_situation}
-use Rattle.acl_perm.specs.Bits.{all_rights, has_bit}
-use Rattle.acl_perm.specs.Order.{principal_cmp, principal_name}
-use Rattle.acl_perm.specs.internal.Totality.{principal_total}
-use Rattle.acl_perm.specs.Overlap.{may_overlap}
-use Rattle.acl_perm.specs.Principal.{Principal, everyone, user}
-use Rattle.acl_perm.specs.Situation.{IsSituation, Situation, matches}
-use Rattle.acl_perm.specs.declared.kind.Kind.{Kind}
-use Rattle.acl_perm.specs.declared.kind.Kind.TheVariants.{Allow, Deny}
+use Rattle.acl_normal.specs.SmallSets.{GrantAlike, IsFirstDifference, SmallSituationsSuffice, TellsApart, strange_length}
 
 -- what holds of two parts holds of both together
 pub all_append : {X : Type 0} (P : X → Type 0) (xs ys : List X) → AllByRecursion P xs → AllByRecursion P ys

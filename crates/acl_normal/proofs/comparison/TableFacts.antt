@@ -1,32 +1,16 @@
 -- Tables tell which standings invert another.
-use Rattle.std.specs.Prelude.{◌≡◌, ℕ, ◌<◌, ◌≤◌, ◌+◌, ◌-◌, Bool, true, false, not, ◌&&◌, ◌||◌, ◌==◌, cond, nat_lt, List, [], ◌∷◌, ◌++◌, max, refl, length, take, slice_index_or, slice_set, replicate, ◌⊎◌}
-use Rattle.std.proofs.Common.{sym, ◌∙◌, ap, subst, arith, suc, zero, inl, inr}
-use Rattle.std.proofs.lemmas.List.{take_more, take_all, get_or_read, get_or-set_same, get_or-set_other, get_or-replicate, length-set, length-replicate}
-use Rattle.std.proofs.lemmas.Bool.{cases_eq, cases_order, eq-eqb, ne_eqb, lt-ltb, le-ltb}
+use Rattle.acl_normal.proofs.Common.{[], Ace, all_mentioned, AllByRecursion, Allow, AllZip, and_parts, ap, arith, Bool, cases_eq, cond, Deny, differ, eq-eqb, everyone, false, false≢true, first_place, get_or-replicate, get_or-set_other, get_or-set_same, get_or_read, has_bit, inl, inr, inverts, inverts_any, is_among, is_of_camp, is_users, IsStanding, Kind, le-ltb, length, length-replicate, length-set, List, lt-ltb, max, nat_lt, ne_eqb, no_standing, not, Principal, principal_of, refl, replicate, slice_index_or, slice_set, StandAs, Standing, subst, sym, take, take_all, take_more, takes_part, true, TwoLists, ℕ, ◌&&◌, ◌++◌, ◌+◌, ◌-◌, ◌<◌, ◌==◌, ◌||◌, ◌∙◌, ◌∷◌, ◌≡◌, ◌≤◌, ◌⊎◌}
+use Rattle.std.proofs.Common.{suc, zero}
+use Rattle.std.proofs.lemmas.Bool.{cases_order}
 use Rattle.std.proofs.lemmas.Bool.Decides.{nat_tests}
-use Rattle.std.specs.List.{AllZip}
-use Rattle.std.proofs.lemmas.Bool.{and_parts}
-use Rattle.std.specs.List.{AllByRecursion}
-use Rattle.acl_eval.specs.Column.{takes_part}
-use Rattle.acl_nfs4.specs.Ace.{Ace}
-use Rattle.acl_nfs4.specs.Who.{principal_of}
-use Rattle.acl_normal.specs.internal.FirstPlaces.{IsStanding, first_place, inverts, inverts_any, no_standing}
-use Rattle.acl_normal.specs.internal.Classes.{is_users}
-use Rattle.acl_normal.specs.internal.PlaceTables.{HasPlaces, IsFirstOf, IsScattered, IsPlaceTable, Raises, is_counted, is_of_camp, is_told, most_at, most_before, other_place, place_of}
-use Rattle.acl_normal.specs.internal.SetSearch.{differ}
-use Rattle.acl_normal.specs.internal.TwoLists.{AreWithin, StandAs, TwoLists, all_mentioned}
-use Rattle.acl_normal.specs.SmallSituations.{is_among}
+use Rattle.acl_normal.specs.internal.PlaceTables.{HasNone, HasPlaces, IsFirstOf, IsScattered, IsPlaceTable, Raises, is_counted, is_told, most_at, most_before, other_place, place_of}
+use Rattle.acl_normal.specs.internal.TwoLists.{AreWithin}
 use Rattle.acl_normal.specs.declared.class.Class.{Class}
 use Rattle.acl_normal.specs.declared.class.Class.TheVariants.{Others, Users}
 use Rattle.acl_normal.specs.declared.comparison.inversions.Camp.{Camp}
 use Rattle.acl_normal.specs.declared.comparison.inversions.Side.{Side}
 use Rattle.acl_normal.specs.declared.comparison.inversions.Side.TheVariants.{Here, There}
-use Rattle.acl_normal.specs.declared.comparison.standing.Standing.{Standing}
-use Rattle.acl_perm.specs.Bits.{has_bit}
 use Rattle.acl_perm.specs.Kind.{is_allow}
-use Rattle.acl_perm.specs.declared.kind.Kind.{Kind}
-use Rattle.acl_perm.specs.declared.kind.Kind.TheVariants.{Allow, Deny}
-use Rattle.acl_perm.specs.Principal.{Principal, everyone}
 
 -- the camp of a standing
 abbrev pub camp_of : Standing → Camp
@@ -273,7 +257,7 @@ places_at size zero (r ∷ rows) d lt h = h.0
 places_at size (suc i) (r ∷ rows) d lt h = places_at size i rows d (omega arith) h.1
 
 -- kinds that don't differ are the same
-same_kind : (k l : Kind) → not (differ (is_allow k) (is_allow l)) ≡ true → k ≡ l
+pub same_kind : (k l : Kind) → not (differ (is_allow k) (is_allow l)) ≡ true → k ≡ l
 same_kind Deny Deny h = refl
 same_kind Allow Allow h = refl
 same_kind Deny Allow h = cc
@@ -384,6 +368,15 @@ not_of_camp q size k rows forward back fs bs t lt places f b fe be h e =
     found_false q size rows (slice_index_or rows k no_standing) fs bs t h e
     (places_at size k rows no_standing lt places)
     (subst (λ v. IsPlaceTable q Here size rows v) (sym fe) f) (subst (λ v. IsPlaceTable q There size rows v) (sym be) b)
+
+-- where none is of the camp, none of it inverts another
+pub none_of_camp : (q : Camp) (limit : ℕ) (rows : List Standing) → limit ≤ length rows → HasNone q rows
+    → IsFirstOf q rows limit limit
+none_of_camp q limit rows le h = record {
+  within = omega arith;
+  before = λ k lt own. absurd (false≢true (sym (h.each k (omega arith)) ∙ own));
+  at = λ lt. absurd (omega arith);
+}
 
 -- a standing raises the table, or leaves it
 pub ruleset raising = (raises_set, raises_none)

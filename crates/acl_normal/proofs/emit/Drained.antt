@@ -1,31 +1,9 @@
 -- The loop that emits: what it keeps, what a turn does, and that it ends.
 use Rattle.acl_normal.proofs.unique.Shorter.{without_no_longer, without_shorter}
-use Rattle.std.specs.Prelude.{◌≡◌, ◌≢◌, ℕ, zero, suc, ◌*◌, ◌/◌, ◌<◌, ◌≤◌, Bool, true, false, cond, not, ◌&&◌, ◌⊎◌, ◌==◌, List, [], ◌∷◌, ◌++◌, Some, None, length, slice_index_or, slice_set, refl}
-use Rattle.std.specs.Ordering.{is_le}
-use Rattle.std.specs.Str.{bytes_eq}
-use Rattle.std.proofs.Common.{sym, ◌∙◌, ap, subst, arith, inl, inr, ⊎_elim}
-use Rattle.std.proofs.lemmas.Bool.{cases_eq, cases_lt, or_cases, and_parts, or_left, or_right, and_from, false_from_ne_true}
-use Rattle.std.proofs.lemmas.Nat.Bits.{bit_at-zero}
-use Rattle.acl_perm.specs.Principal.{Principal, user, is_user}
-use Rattle.acl_perm.specs.Overlap.{may_overlap}
-use Rattle.acl_perm.specs.declared.kind.Kind.{Kind}
-use Rattle.acl_perm.specs.declared.kind.Kind.TheVariants.{Deny, Allow}
-use Rattle.acl_perm.specs.Bits.{IsMask, all_rights, has_bit}
+use Rattle.acl_normal.proofs.Common.{[], Ace, ace_key, all_rights, Allow, and_from, and_parts, ap, arith, bit_at-zero, Bool, bytes_eq, cases_eq, cases_lt, Column, column, compare_keys, cond, conflicts, count_left, Deny, Emitted, emitted_ace, emitted_aces, everyone_name, false, false_from_ne_true, first_kind, FitsKeys, flags_for, group_name, has_bit, HasOnceColumns, inl, inr, is_either, is_free, is_le, is_named, is_user, IsEmission, IsMask, IsOnce, IsRowOf, IsStep, Key, key_eq, key_here, key_number, Kind, kind_eq, length, List, Marked, marks, may_overlap, None, not, nothing_left, or_cases, or_left, or_right, other_kind, owner_name, Principal, principal_eq, principal_of, refl, slice_index_or, slice_set, Some, subst, suc, sym, take_out, true, user, who_for, without_principal, zero, ℕ, ⊎_elim, ◌&&◌, ◌*◌, ◌++◌, ◌/◌, ◌<◌, ◌==◌, ◌∙◌, ◌∷◌, ◌≡◌, ◌≢◌, ◌≤◌, ◌⊎◌}
 use Rattle.acl_perm.proofs.Sets.{mask_from_bits}
-use Rattle.acl_nfs4.specs.Ace.{Ace}
-use Rattle.acl_nfs4.specs.Who.{principal_of, owner_name, group_name, everyone_name}
-use Rattle.acl_normal.specs.declared.emit.emission.Emitted.{Emitted}
-use Rattle.acl_eval.specs.Column.{Column, first_kind, column}
-use Rattle.acl_normal.specs.Keys.{principal_eq, Key, compare_keys, ace_key, conflicts, kind_eq}
-use Rattle.acl_normal.specs.Places.{principal_named, take_out, key_here, nothing_left}
-use Rattle.acl_perm.specs.Kind.{other_kind}
-use Rattle.acl_normal.specs.internal.Alike.{is_either}
-use Rattle.acl_normal.specs.Normal.{is_free, flags_for}
-use Rattle.acl_normal.specs.internal.Plain.{without_principal}
-use Rattle.acl_normal.specs.internal.Emissions.{IsOnce, HasOnceColumns, IsStep, IsEmission}
-use Rattle.acl_normal.specs.internal.Ready.{Marked, key_eq, marks, FitsKeys, IsKeyNumber, IsLeastReady, Frees, HoldsFree, Popped, Takes, who_for, emitted}
-use Rattle.acl_normal.specs.internal.Rows.{IsRowOf, is_named, key_number}
-use Rattle.acl_normal.specs.internal.Counts.{count_left}
+use Rattle.acl_normal.specs.Places.{principal_named}
+use Rattle.acl_normal.specs.internal.Ready.{IsKeyNumber, IsLeastReady, Frees, HoldsFree, Popped, Takes, emitted}
 use Rattle.acl_normal.proofs.unique.Names.{principal_eq_same, principal_eq_itself, overlaps_itself, bytes_eq_same, bytes_eq_itself}
 use Rattle.acl_normal.proofs.unique.Free.{kind_eq_same, kind_eq_itself, ahead_from_free, no_conflict, some_same}
 use Rattle.acl_normal.proofs.unique.Realised.{same_answers}
@@ -38,7 +16,6 @@ use Rattle.acl_normal.proofs.rows.TakeOut.{column_taken, none_taken, once_taken,
 use Rattle.acl_normal.proofs.emit.Marks.{key_eq_same, key_eq_itself, fits_written, mark_named, mark_written, number_order, number_row, number_within, some_bits}
 use Rattle.acl_normal.proofs.rows.Rows.{named_outline, outline_taken, row_outline}
 use Rattle.acl_normal.proofs.emit.Walk.{stands_free}
-use Rattle.acl_normal.specs.internal.Emitted.{emitted_ace, emitted_aces}
 use Rattle.acl_normal.proofs.unique.Outline.{outline_length}
 
 kinds_differ : (j k : Kind) → not (kind_eq j k) ≡ true → k ≡ other_kind j

@@ -1,11 +1,5 @@
 -- What is left of a list in memory has few ACEs: twice their number is one of the machine's.
-use Rattle.std.specs.Prelude.{◌≡◌, ℕ, ◌<◌, ◌≤◌, ◌^◌, List, [], ◌∷◌, length}
-use Rattle.std.proofs.Common.{subst, arith}
-use Rattle.acl_nfs4.specs.Ace.{Ace}
-use Rattle.acl_nfs4.specs.declared.ace.AceRef.{AceRef}
-use Rattle.acl_normal.specs.internal.Remaining.{IsRemaining, masks_left, remaining_of}
-use Rattle.acl_normal.specs.internal.Shown.{bits_in, with_masks}
-use Rattle.acl_normal.specs.declared.rows.remaining.Remaining.TheInside.{Inside}
+use Rattle.acl_normal.proofs.Common.{[], Ace, AceRef, arith, bits_in, Inside, IsRemaining, length, List, masks_left, remaining_of, subst, with_masks, ℕ, ◌<◌, ◌^◌, ◌∷◌, ◌≡◌, ◌≤◌}
 
 no_more : (aces : List AceRef) (masks : List ℕ) → length (with_masks aces masks) ≤ length aces
 no_more [] masks = omega arith

@@ -1,17 +1,6 @@
 -- All that is free, bit by bit.
-use Rattle.std.specs.Prelude.{◌≡◌, ℕ, ◌+◌, ◌<◌, ◌≤◌, Bool, true, false, ◌⊎◌, ◌==◌, List, [], refl}
-use Rattle.std.proofs.Common.{sym, ◌∙◌, ap, subst, arith, inl, inr, ⊎_elim}
-use Rattle.std.proofs.lemmas.Bool.{cases_eq, cases_lt}
-use Rattle.std.proofs.lemmas.Nat.Bits.{bit_at-zero}
-use Rattle.acl_perm.specs.Principal.{Principal, is_user}
-use Rattle.acl_perm.specs.declared.kind.Kind.{Kind}
-use Rattle.acl_perm.specs.declared.kind.Kind.TheVariants.{Deny, Allow}
-use Rattle.acl_perm.specs.Bits.{has_bit}
-use Rattle.acl_nfs4.specs.Ace.{Ace}
-use Rattle.acl_eval.specs.Column.{column}
-use Rattle.acl_normal.specs.Keys.{Key}
-use Rattle.acl_normal.specs.Normal.{is_free}
-use Rattle.acl_normal.specs.internal.Ready.{Marked, Grows, Enters, HoldsFree}
+use Rattle.acl_normal.proofs.Common.{[], Ace, Allow, ap, arith, bit_at-zero, Bool, cases_eq, cases_lt, column, Deny, Enters, false, Grows, has_bit, inl, inr, is_free, is_user, Key, Kind, List, Marked, Principal, refl, subst, sym, true, ℕ, ⊎_elim, ◌+◌, ◌<◌, ◌==◌, ◌∙◌, ◌≡◌, ◌≤◌, ◌⊎◌}
+use Rattle.acl_normal.specs.internal.Ready.{HoldsFree}
 use Rattle.acl_normal.proofs.unique.Realised.{same_answers}
 use Rattle.acl_normal.proofs.emit.NewlyFree.{grows_nothing, grows_on}
 

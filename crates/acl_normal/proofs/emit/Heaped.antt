@@ -1,12 +1,8 @@
 -- The heap of the numbers that have bits.
-use Rattle.std.specs.Prelude.{◌≡◌, ◌≢◌, ℕ, ◌+◌, ◌<◌, ◌≤◌, suc, true, false, cond, ◌==◌, ◌⊎◌, List, [], ◌∷◌, length, slice_index_or, slice_set, refl}
+use Rattle.acl_normal.proofs.Common.{[], ap, arith, cases_eq, cases_lt, cond, eq-eqb, eqb-true, false, false_from_ne_true, get_or-set_other, get_or-set_same, inl, inr, is_lt, length, List, lt-ltb, nat_cmp, refl, slice_index_or, slice_set, subst, suc, sym, true, ℕ, ◌+◌, ◌<◌, ◌==◌, ◌∙◌, ◌∷◌, ◌≡◌, ◌≢◌, ◌≤◌, ◌⊎◌}
 use Rattle.std.specs.BinaryHeap.{IsUpperBound, KeepsHeap, PopsGreatest}
 use Rattle.std.specs.List.Sorted.{IsPermutation}
-use Rattle.std.specs.Ordering.{is_lt, nat_cmp}
 use Rattle.std.specs.declared.cmp.Reverse.{Reverse}
-use Rattle.std.proofs.Common.{sym, ◌∙◌, ap, subst, arith, inl, inr}
-use Rattle.std.proofs.lemmas.Bool.{cases_eq, cases_lt, eq-eqb, eqb-true, lt-ltb, false_from_ne_true}
-use Rattle.std.proofs.lemmas.List.{get_or-set_same, get_or-set_other}
 use Rattle.std.proofs.lemmas.List.Sorted.{sum_by-IsPermutation}
 use Rattle.std.proofs.lemmas.List.Sums.{sum_by-cons}
 use Rattle.acl_normal.specs.internal.Heaped.{backwards, times, IsHeapOf}

@@ -1,32 +1,10 @@
 -- What remains of a list, by its fields.
-use Rattle.std.specs.Prelude.{◌≡◌, ◌⊎◌, ℕ, ◌<◌, ◌^◌, zero, suc, Bool, false, List, [], ◌∷◌, ◌++◌, bit_and, length, map, slice_index_or, slice_set, refl, vec_len}
+use Rattle.acl_normal.proofs.Common.{Ace, AceRef, aces_in, all_rights, ap, AreRowNumbers, arith, bit_and, bits_in, column, Inside, IsOnce, IsRemaining, IsRowOf, IsTidy, key_here, length, List, Mask, mask_here, masks_left, nothing_left, Principal, remaining_of, row_of, slice_index_or, slice_set, subst, sym, take_out, vec_len, with_masks, without, ℕ, ◌<◌, ◌^◌, ◌∙◌, ◌≡◌}
 use Rattle.std.specs.Vec.{with_item}
-use Rattle.std.proofs.Common.{Global, sym, ◌∙◌, ap, subst, arith, inl, inr}
-use Rattle.std.specs.declared.vec.Vec.{Vec}
-use Rattle.std.proofs.lemmas.Bool.{cases_eq}
-use Rattle.std.proofs.lemmas.List.{get_or-set_same, get_or-set_other, length-map, length-set, map-append, map-set}
-use Rattle.acl_perm.specs.Bits.{all_rights, has_bit}
-use Rattle.acl_perm.specs.declared.mask.Mask.{Mask}
-use Rattle.acl_perm.specs.Principal.{Principal}
-use Rattle.acl_perm.specs.declared.kind.Kind.{Kind}
-use Rattle.acl_nfs4.specs.Ace.{Ace}
-use Rattle.acl_nfs4.specs.declared.ace.AceRef.{AceRef}
-use Rattle.acl_eval.specs.Column.{column}
-use Rattle.acl_eval.specs.Scan.{without}
-use Rattle.acl_normal.specs.Left.{IsTidy}
-use Rattle.acl_normal.specs.Places.{key_here, mask_here, nothing_left, slot_of, take_out}
-use Rattle.acl_normal.specs.declared.rows.remaining.Queue.{Queue}
-use Rattle.acl_normal.specs.declared.rows.remaining.Remaining.TheInside.{Inside}
-use Rattle.acl_normal.specs.internal.Emissions.{IsOnce}
-use Rattle.acl_normal.specs.internal.Remaining.{AreQueues, IsQueue, IsQueueFrom, IsNumbered, IsRemaining, first_in, masks_left, places_in, remaining_of}
-use Rattle.acl_normal.specs.internal.Rows.{AreRowNumbers, IsRowOf, row_of}
-use Rattle.acl_normal.specs.internal.Shown.{aces_in, bits_in, with_masks}
-use Rattle.acl_normal.specs.internal.Waiting.{HoldWaiting}
-use Rattle.acl_normal.proofs.rows.WaitingPlaces.{all_places}
+use Rattle.acl_normal.specs.internal.Remaining.{IsNumbered}
 use Rattle.acl_normal.proofs.unique.Bits.{bits_length, bits_set, bits_within}
-use Rattle.acl_normal.proofs.emit.Walk.{waits_within}
-use Rattle.acl_normal.proofs.emit.RemainingLemmas.{all_left, left_at, length_left, mask_shown, queue_taken, row_taken, waits_has}
-use Rattle.acl_normal.proofs.rows.BitTaken.{same_default, slot_below, slot_same}
+use Rattle.acl_normal.proofs.emit.RemainingLemmas.{all_left, left_at, length_left, mask_shown, row_taken}
+use Rattle.acl_normal.proofs.rows.BitTaken.{same_default}
 use Rattle.acl_normal.proofs.rows.Quiet.{tidy_taken}
 use Rattle.acl_normal.proofs.rows.Rows.{named_here, order_alike, outline_taken, row_below, row_same, rows_alike}
 use Rattle.acl_normal.proofs.rows.TakeOut.{none_taken}
@@ -118,7 +96,6 @@ pub taken_right : (s : Inside) (row m : ℕ) (mask : Mask) (p : Principal) → I
       rows = s.rows;
       order = s.order;
       left = with_item s.left row mask;
-      queues = s.queues;
     })
 taken_right s row m mask p right at_row is = record {
   few = right.few;
@@ -129,10 +106,6 @@ taken_right s row m mask p right at_row is = record {
     rights = λ b h. ap (λ v. column v b) view ∙ none_taken p m xs b (right.list.rights b h);
     rows = rows_alike xs _ s.rows.items (sym outline) right.list.rows;
     order = order_alike xs _ s.order.items (sym outline) right.list.order;
-  };
-  queues = record {
-    slots = right.queues.slots;
-    each = λ k u b l. rw view (queue_taken k u b p m xs _ _ (right.queues.each k u b l));
   };
 }
   where
@@ -150,142 +123,6 @@ taken_right s row m mask p right at_row is = record {
     outline : nothing_left (with_masks s.aces.items (masks_left (bits_in s.masks.items) s.rows.items
         (bits_in (slice_set s.left.items row mask)))) ≡ nothing_left xs
     outline = ap nothing_left view ∙ outline_taken p m xs
-
--- ---- queues by their slots
-
--- the places of the queue that indexing gives
-pub places_there : (queues : List Queue) (i : ℕ) (d : Queue) → i < length queues
-    → (slice_index_or queues i d).places.items ≡ places_in queues i
-places_there [] i d l = absurd (omega (arith, l))
-places_there (q ∷ queues) zero d l = refl
-places_there (q ∷ queues) (suc i) d l = places_there queues i d (omega (arith, l))
-
--- and its first
-pub first_there : (queues : List Queue) (i : ℕ) (d : Queue) → i < length queues
-    → (slice_index_or queues i d).first ≡ first_in queues i
-first_there [] i d l = absurd (omega (arith, l))
-first_there (q ∷ queues) zero d l = refl
-first_there (q ∷ queues) (suc i) d l = first_there queues i d (omega (arith, l))
-
--- the slot of a queue is there
-pub slot_there : (s : Inside) (k : Kind) (u : Bool) (b at : ℕ) → IsRemaining s → b < 21 → at ≡ slot_of k u b
-    → at < length s.queues.items
-slot_there s k u b at right low is = omega (arith, is, slot_below k u b low, right.queues.slots)
-
--- a queue by its slot
-pub queue_at : (s : Inside) (k : Kind) (u : Bool) (b at : ℕ) → IsRemaining s → b < 21 → at ≡ slot_of k u b
-    → IsQueueFrom k u b (remaining_of s) (places_in s.queues.items at) (first_in s.queues.items at)
-queue_at s k u b at right low is =
-    subst (λ i. IsQueueFrom k u b (remaining_of s) (places_in s.queues.items i) (first_in s.queues.items i)) (sym is)
-    (right.queues.each k u b low)
-
--- what is left is right where a queue goes on behind places that wait no more
-pub moved_right : (s : Inside) (k : Kind) (u : Bool) (b at : ℕ) (q : Queue) → IsRemaining s → b < 21
-    → at ≡ slot_of k u b → q.places.items ≡ places_in s.queues.items at
-    → ((j : ℕ) → j < q.first → j < length (places_in s.queues.items at)
-    → has_bit (mask_here (remaining_of s) (slice_index_or (places_in s.queues.items at) j 0)) b ≡ false)
-    → IsRemaining (record {
-      aces = s.aces;
-      masks = s.masks;
-      rows = s.rows;
-      order = s.order;
-      left = s.left;
-      queues = with_item s.queues at q;
-    })
-moved_right s k u b at q right low is same passed = record {
-  few = right.few;
-  masks = right.masks;
-  left = right.left;
-  list = right.list;
-  queues = record {
-    slots = length-set queues at q ∙ right.queues.slots;
-    each = λ j v c l. from j v c l (cases_eq (slot_of j v c) at);
-  };
-}
-  where
-    queues : List Queue
-    queues = s.queues.items
-
-    within : at < length queues
-    within = slot_there s k u b at right low is
-
-    from : (j : Kind) (v : Bool) (c : ℕ) → c < 21 → (slot_of j v c ≡ at) ⊎ (slot_of j v c ≡ at → ⊥)
-        → IsQueueFrom j v c (remaining_of s) (places_in (slice_set queues at q) (slot_of j v c))
-        (first_in (slice_set queues at q) (slot_of j v c))
-    from j v c l (inr d) =
-        rw (
-          map-set (λ (w : Queue). w.places.items) queues at q,
-          map-set (λ (w : Queue). w.first) queues at q,
-          get_or-set_other (map (λ (w : Queue). w.places.items) queues) at (slot_of j v c) q.places.items [] d,
-          get_or-set_other (map (λ (w : Queue). w.first) queues) at (slot_of j v c) q.first 0 d,
-        )
-        (right.queues.each j v c l)
-    from j v c l (inl e) =
-        let parts = slot_same j k v u c b (e ∙ is) in
-        let places : places_in (slice_set queues at q) (slot_of j v c) ≡ places_in queues at =
-        ap (λ w. slice_index_or w (slot_of j v c) []) (map-set (λ (w : Queue). w.places.items) queues at q)
-        ∙ ap (λ i. slice_index_or (slice_set (map (λ (w : Queue). w.places.items) queues) at q.places.items) i []) e
-        ∙ get_or-set_same (map (λ (w : Queue). w.places.items) queues) at q.places.items []
-        (omega (arith, within, length-map queues (λ (w : Queue). w.places.items)))
-        ∙ same in
-        let first : first_in (slice_set queues at q) (slot_of j v c) ≡ q.first =
-        ap (λ w. slice_index_or w (slot_of j v c) 0) (map-set (λ (w : Queue). w.first) queues at q)
-        ∙ ap (λ i. slice_index_or (slice_set (map (λ (w : Queue). w.first) queues) at q.first) i 0) e
-        ∙ get_or-set_same (map (λ (w : Queue). w.first) queues) at q.first 0
-        (omega (arith, within, length-map queues (λ (w : Queue). w.first))) in
-        let old : IsQueue j v c (remaining_of s) (places_in queues at) =
-        subst (λ i. IsQueue j v c (remaining_of s) (places_in queues i)) e (right.queues.each j v c l).queue in
-        rw (places, first) (record {
-          queue = old;
-          passed = λ i h n. subst
-              (λ m. has_bit (mask_here (remaining_of s) (slice_index_or (places_in queues at) i 0)) m ≡ false)
-              (sym parts.2) (passed i h n);
-        })
-
--- ---- queues of lists of places
-
--- the queues have the places of the lists, and begin with their first
-pub record AreQueuesOf (lists : List (Vec ℕ Global)) (queues : List Queue) : Type 0 where
-  pub places : map (λ q. q.places.items) queues ≡ all_places lists
-  pub first : (slot : ℕ) → first_in queues slot ≡ 0
-
--- one queue more
-pub queues_more : (lists : List (Vec ℕ Global)) (queues new : List Queue) (v : Vec ℕ Global) → AreQueuesOf lists queues
-    → new ≡ queues ++ record { places = v; first = 0 } ∷ [] → AreQueuesOf (lists ++ v ∷ []) new
-queues_more lists queues new v f is = subst (AreQueuesOf (lists ++ v ∷ [])) (sym is) (record {
-  places =
-      map-append (λ (q : Queue). q.places.items) queues (record { places = v; first = 0 } ∷ [])
-      ∙ ap (λ w. w ++ v.items ∷ []) f.places ∙ sym (map-append (λ (w : Vec ℕ Global). w.items) lists (v ∷ []));
-  first = λ slot. none queues slot f.first;
-})
-  where
-    none : (queues : List Queue) (slot : ℕ) → ((slot : ℕ) → first_in queues slot ≡ 0)
-        → first_in (queues ++ record { places = v; first = 0 } ∷ []) slot ≡ 0
-    none [] zero h = refl
-    none [] (suc slot) h = refl
-    none (q ∷ queues) zero h = h 0
-    none (q ∷ queues) (suc slot) h = none queues slot (λ i. h (suc i))
-
--- the queues of what waits
-pub queues_wait : (xs : List Ace) (lists : List (Vec ℕ Global)) (queues : List Queue) → HoldWaiting xs lists
-    → AreQueuesOf lists queues → AreQueues xs queues
-queues_wait xs lists queues f g = record {
-  slots = sym (length-map queues (λ (q : Queue). q.places.items)) ∙ ap length g.places
-      ∙ length-map lists (λ (v : Vec ℕ Global). v.items) ∙ f.slots;
-  each = λ k u b l. each k u b l;
-}
-  where
-    each : (k : Kind) (u : Bool) (b : ℕ) → b < 21
-        → IsQueueFrom k u b xs (places_in queues (slot_of k u b)) (first_in queues (slot_of k u b))
-    each k u b l = record {
-      queue = subst (IsQueue k u b xs) (sym (ap (λ w. slice_index_or w (slot_of k u b) []) g.places)) (record {
-        sorted = f.sorted k u b l;
-        within = λ i h. waits_within k u b xs i (sym (f.waiting k u b i l) ∙ h);
-        listed = λ i h. sym (f.waiting k u b i l) ∙ h ∙ sym (waits_has k u b xs i (sym (f.waiting k u b i l) ∙ h));
-        all = λ i h. f.waiting k u b i l ∙ h;
-      });
-      passed = λ j h n. absurd (omega (arith, h, g.first (slot_of k u b)));
-    }
 
 -- ---- all is left
 
@@ -320,14 +157,12 @@ all_remains aces masks rows left e f numbers full =
 pub begins_right : (s : Inside) → length s.aces.items < 2 ^ 32 → vec_len s.masks ≡ length s.aces.items
     → vec_len s.left ≡ length s.aces.items
     → IsNumbered (with_masks s.aces.items (bits_in s.masks.items)) s.rows.items s.order.items
-    → AreQueues (with_masks s.aces.items (bits_in s.masks.items)) s.queues.items
     → masks_left (bits_in s.masks.items) s.rows.items (bits_in s.left.items) ≡ (bits_in s.masks.items) → IsRemaining s
-begins_right s few masks left reduced queues all = record {
+begins_right s few masks left reduced all = record {
   few = few;
   masks = masks;
   left = left;
   list = subst (λ v. IsNumbered v s.rows.items s.order.items) view reduced;
-  queues = subst (λ v. AreQueues v s.queues.items) view queues;
 }
   where
     view : with_masks s.aces.items (bits_in s.masks.items) ≡ remaining_of s

@@ -1,14 +1,6 @@
 -- What is emitted stands in the row of its principal.
-use Rattle.std.specs.Prelude.{◌≡◌, ℕ, List, [], ◌∷◌, ◌++◌, refl}
-use Rattle.std.proofs.Common.{sym, ◌∙◌, subst, arith}
+use Rattle.acl_normal.proofs.Common.{[], Ace, arith, Emitted, emitted_ace, IsRowOf, Key, List, nothing_left, principal_of, refl, StandInRows, subst, sym, take_out, ℕ, ◌++◌, ◌∙◌, ◌∷◌, ◌≡◌}
 use Rattle.std.proofs.lemmas.List.Elements.{All-push}
-use Rattle.acl_nfs4.specs.Ace.{Ace}
-use Rattle.acl_nfs4.specs.Who.{principal_of}
-use Rattle.acl_normal.specs.Keys.{Key}
-use Rattle.acl_normal.specs.Places.{nothing_left, take_out}
-use Rattle.acl_normal.specs.declared.emit.emission.Emitted.{Emitted}
-use Rattle.acl_normal.specs.internal.Emitted.{StandInRows, emitted_ace}
-use Rattle.acl_normal.specs.internal.Rows.{IsRowOf}
 use Rattle.acl_normal.proofs.emit.Drained.{outline_left}
 use Rattle.acl_normal.proofs.rows.Rows.{is_row_alike}
 

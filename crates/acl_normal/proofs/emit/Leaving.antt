@@ -1,22 +1,6 @@
 -- The list that is left, without its empty ACEs, and what is emitted of it.
-use Rattle.std.specs.Prelude.{◌≡◌, ℕ, zero, suc, Bool, true, false, ◌==◌, List, [], ◌∷◌, Some, None, length, refl, cond}
-use Rattle.std.proofs.Common.{sym, ◌∙◌, ap, subst, arith}
-use Rattle.std.proofs.lemmas.Bool.{eqb-true}
-use Rattle.std.proofs.lemmas.Nat.Bits.{bit_at-zero}
+use Rattle.acl_normal.proofs.Common.{[], Ace, ace_key, all_rights, ap, arith, bit_at-zero, Bool, Column, column, cond, count_left, counts, eqb-true, false, first_kind, has_bit, HasMasks, is_either, IsAlike, IsEmission, IsIrreducibleList, IsNormal, IsOnce, IsQuiet, Kind, left, length, List, None, Principal, principal_eq, refl, SameGrants, Some, subst, suc, sym, true, without_principal, zero, ℕ, ◌==◌, ◌∙◌, ◌∷◌, ◌≡◌}
 use mathlib.Core.Logic.Iff.{symm, trans}
-use Rattle.acl_perm.specs.Principal.{Principal}
-use Rattle.acl_perm.specs.declared.kind.Kind.{Kind}
-use Rattle.acl_perm.specs.Bits.{has_bit, all_rights}
-use Rattle.acl_nfs4.specs.Ace.{Ace}
-use Rattle.acl_eval.specs.Column.{Column, first_kind, column}
-use Rattle.acl_eval.specs.Grant.{SameGrants}
-use Rattle.acl_normal.specs.Keys.{principal_eq, ace_key}
-use Rattle.acl_normal.specs.internal.Alike.{is_either, IsAlike}
-use Rattle.acl_normal.specs.Normal.{IsIrreducibleList, IsNormal, HasMasks, counts, IsQuiet}
-use Rattle.acl_normal.specs.internal.Emissions.{IsOnce, IsEmission}
-use Rattle.acl_normal.specs.internal.Plain.{without_principal}
-use Rattle.acl_normal.specs.Left.{left}
-use Rattle.acl_normal.specs.internal.Counts.{count_left}
 use Rattle.acl_normal.proofs.unique.Names.{overlaps_itself, either_first, principal_eq_itself, principal_eq_same}
 use Rattle.acl_normal.proofs.unique.ListColumns.{no_other_bits, same_grants_from_columns}
 use Rattle.acl_normal.proofs.unique.Unique.{unique}

@@ -1,23 +1,7 @@
 -- The keys and bits that are marked as free, by number.
-use Rattle.std.specs.Prelude.{◌≡◌, ◌≢◌, ℕ, ◌+◌, ◌*◌, ◌/◌, ◌%◌, ◌^◌, ◌<◌, ◌≤◌, Bool, true, false, cond, ◌||◌, ◌&&◌, ◌==◌, ◌⊎◌, List, length, replicate, slice_index_or, slice_set, bit_or, refl}
-use Rattle.std.specs.Ordering.{is_le, nat_cmp}
-use Rattle.std.specs.declared.cmp.Ordering.{Ordering}
-use Rattle.std.specs.declared.cmp.Ordering.TheVariants.{Less, Equal, Greater}
-use Rattle.std.proofs.Common.{sym, ◌∙◌, ap, subst, arith, inl, inr}
-use Rattle.std.proofs.lemmas.Bool.{and_parts, and_from, cases_eq, cases_lt}
-use Rattle.std.proofs.lemmas.List.{get_or-replicate, get_or_past, get_or-set_same, get_or-set_other, length-replicate, length-set}
-use Rattle.std.proofs.lemmas.Nat.Bits.{bit_at-zero}
-use Rattle.acl_perm.specs.declared.kind.Kind.{Kind}
-use Rattle.acl_perm.specs.declared.kind.Kind.TheVariants.{Deny, Allow}
-use Rattle.acl_perm.specs.Bits.{has_bit}
-use Rattle.acl_perm.specs.Order.{kind_rank, principal_cmp}
-use Rattle.acl_perm.proofs.Orders.{principal_exact, principal_order}
-use Rattle.acl_perm.proofs.Sets.{has_bit-or}
-use Rattle.acl_nfs4.specs.Ace.{Ace}
-use Rattle.acl_normal.specs.Keys.{principal_eq, Key, compare_keys, kind_eq}
-use Rattle.acl_normal.specs.Places.{nothing_left}
-use Rattle.acl_normal.specs.internal.Ready.{key_eq, marks, IsKeyNumber, FitsKeys, Adds}
-use Rattle.acl_normal.specs.internal.Rows.{IsRowOf, is_named, key_number, row_of}
+use Rattle.acl_normal.proofs.Common.{Ace, Allow, and_from, and_parts, ap, arith, bit_at-zero, bit_or, Bool, cases_eq, cases_lt, compare_keys, cond, Deny, Equal, false, FitsKeys, get_or-replicate, get_or-set_other, get_or-set_same, Greater, has_bit, has_bit-or, inl, inr, is_le, is_named, IsRowOf, Key, key_eq, key_number, Kind, kind_eq, kind_rank, length, length-replicate, length-set, Less, List, marks, nat_cmp, nothing_left, Ordering, principal_cmp, principal_eq, principal_exact, principal_order, refl, replicate, row_of, slice_index_or, slice_set, subst, sym, true, ℕ, ◌%◌, ◌&&◌, ◌*◌, ◌+◌, ◌/◌, ◌<◌, ◌==◌, ◌^◌, ◌||◌, ◌∙◌, ◌≡◌, ◌≢◌, ◌≤◌, ◌⊎◌}
+use Rattle.std.proofs.lemmas.List.{get_or_past}
+use Rattle.acl_normal.specs.internal.Ready.{IsKeyNumber, Adds}
 use Rattle.acl_normal.proofs.unique.Names.{principal_eq_same, principal_eq_itself}
 use Rattle.acl_normal.proofs.unique.Free.{kind_eq_same, kind_eq_itself}
 use Rattle.acl_normal.proofs.unique.Bits.{has_power}

@@ -1,15 +1,6 @@
 -- What becomes free when bits of a key are taken out.
-use Rattle.std.specs.Prelude.{◌≡◌, ℕ, ◌+◌, ◌<◌, ◌≤◌, Bool, true, false, ◌&&◌, ◌⊎◌, List, refl}
-use Rattle.std.proofs.Common.{sym, ◌∙◌, ap, subst, arith, inl, inr, ⊎_elim}
-use Rattle.std.proofs.lemmas.Bool.{cases_eq, cases_lt}
-use Rattle.acl_perm.specs.Principal.{Principal, is_user}
-use Rattle.acl_perm.specs.Bits.{has_bit}
-use Rattle.acl_nfs4.specs.Ace.{Ace}
-use Rattle.acl_eval.specs.Column.{column}
-use Rattle.acl_perm.specs.Kind.{other_kind}
-use Rattle.acl_normal.specs.Keys.{Key}
-use Rattle.acl_normal.specs.Normal.{is_free}
-use Rattle.acl_normal.specs.internal.Ready.{Marked, Grows, Enters, Frees}
+use Rattle.acl_normal.proofs.Common.{Ace, ap, arith, Bool, cases_eq, cases_lt, column, Enters, false, Grows, has_bit, inl, inr, is_free, is_user, Key, List, Marked, other_kind, Principal, refl, subst, sym, true, ℕ, ⊎_elim, ◌&&◌, ◌+◌, ◌<◌, ◌∙◌, ◌≡◌, ◌≤◌, ◌⊎◌}
+use Rattle.acl_normal.specs.internal.Ready.{Frees}
 
 -- what `Frees` says, of the bits below a place
 pub record FreesBelow (k : Key) (bits : ℕ) (xs : List Ace) (old new : Marked) (n : ℕ) : Type 0 where

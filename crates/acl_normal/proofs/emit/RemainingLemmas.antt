@@ -1,29 +1,6 @@
 -- What remains of a list while it is emitted: masks by place of which masks by row leave a part, and queues of places.
-use Rattle.std.specs.Prelude.{◌≡◌, ◌⊎◌, ℕ, ◌+◌, ◌<◌, ◌≤◌, zero, suc, Bool, true, false, not, ◌&&◌, List, [], ◌∷◌, ◌++◌, Option, None, Some, length, drop, bit_and, slice_index_or, slice_set, refl}
-use Rattle.std.specs.Ordering.{nat_cmp}
-use Rattle.std.specs.BTreeMap.{is_at}
-use Rattle.std.specs.List.{list_any, slice_range, PartBy}
-use Rattle.std.specs.Option.{unwrap_or}
-use Rattle.std.proofs.Common.{sym, ◌∙◌, ap, subst, arith, ⊎_elim, inl, inr}
-use Rattle.std.proofs.lemmas.Bool.{and_parts, cases_eq, or_cases, or_right, false_from_ne_true}
-use Rattle.std.proofs.lemmas.List.{append-nil, drop_all, get_or-set_same, get_or-set_other}
-use Rattle.std.proofs.lemmas.List.Folds.{drop_split}
-use Rattle.std.proofs.Math.Seq.{drop-cons}
-use Rattle.std.proofs.Common.{Bor}
+use Rattle.acl_normal.proofs.Common.{[], Ace, AceRef, and_parts, ap, arith, bit_and, Bool, cases_eq, counts, false, false_from_ne_true, get_or-set_other, get_or-set_same, has_bit, has_bit-without, inl, inr, is_at, is_inherit_only, is_waiting, IsQueue, IsQuiet, key_here, Kind, length, List, list_any, mask_here, masks_left, nat_cmp, not, or_cases, or_right, Principal, principal_eq, principal_of, refl, slice_index_or, slice_set, subst, suc, sym, take_out, true, waits, waits_before, with_masks, without, without_bits, zero, ℕ, ⊎_elim, ◌&&◌, ◌<◌, ◌∙◌, ◌∷◌, ◌≡◌, ◌≤◌, ◌⊎◌}
 use Rattle.std.proofs.lemmas.Map.Keys.{sorted_head, sorted_tail}
-use Rattle.acl_perm.specs.Bits.{has_bit}
-use Rattle.acl_perm.specs.Principal.{Principal}
-use Rattle.acl_perm.specs.declared.kind.Kind.{Kind}
-use Rattle.acl_nfs4.specs.Ace.{Ace}
-use Rattle.acl_nfs4.specs.Who.{principal_of}
-use Rattle.acl_nfs4.specs.declared.ace.AceRef.{AceRef}
-use Rattle.acl_eval.specs.Scan.{without}
-use Rattle.acl_eval.proofs.Scans.{has_bit-without}
-use Rattle.acl_normal.specs.Keys.{principal_eq}
-use Rattle.acl_normal.specs.Normal.{IsQuiet, counts, is_inherit_only}
-use Rattle.acl_normal.specs.Places.{is_waiting, key_here, mask_here, take_out, waits, waits_before, without_bits}
-use Rattle.acl_normal.specs.internal.Remaining.{IsQueue, IsQueueFrom, masks_left}
-use Rattle.acl_normal.specs.internal.Shown.{with_masks}
 use Rattle.acl_normal.proofs.emit.Walk.{head_in, later_than}
 use Rattle.acl_normal.proofs.rows.BitTaken.{is_eq_same}
 use Rattle.acl_normal.proofs.rows.Rows.{outline_taken}
@@ -148,18 +125,6 @@ waits_has k u b (a ∷ xs) zero h =
     both.0
 waits_has k u b (a ∷ xs) (suc i) h = waits_has k u b xs i h
 
--- what does not have a bit has it no more when bits leave
-pub mask_taken : (p : Principal) (m : ℕ) (xs : List Ace) (i b : ℕ) → has_bit (mask_here xs i) b ≡ false
-    → has_bit (mask_here (take_out p m xs) i) b ≡ false
-mask_taken p m [] i b h = h
-mask_taken p m (a ∷ xs) zero b h = go (principal_eq (principal_of a) p && not (is_inherit_only a)) refl
-  where
-    go : (t : Bool) → (principal_eq (principal_of a) p && not (is_inherit_only a)) ≡ t
-        → has_bit (without_bits p m a).mask b ≡ false
-    go true e = rw e (has_bit-without a.mask m b ∙ rw h refl)
-    go false e = rw e h
-mask_taken p m (a ∷ xs) (suc i) b h = mask_taken p m xs i b h
-
 -- what waits when bits left has waited before
 pub waited : (k : Kind) (u : Bool) (b : ℕ) (p : Principal) (m : ℕ) (xs : List Ace) (i : ℕ)
     → waits k u b (take_out p m xs) i ≡ true → waits k u b xs i ≡ true
@@ -188,16 +153,13 @@ listed_taken k u b p m (a ∷ xs) zero h = go (principal_eq (principal_of a) p) 
 listed_taken k u b p m (a ∷ xs) (suc i) h = listed_taken k u b p m xs i h
 
 -- a queue is one when bits left
-pub queue_taken : (k : Kind) (u : Bool) (b : ℕ) (p : Principal) (m : ℕ) (xs : List Ace) (places : List ℕ) (first : ℕ)
-    → IsQueueFrom k u b xs places first → IsQueueFrom k u b (take_out p m xs) places first
-queue_taken k u b p m xs places first q = record {
-  queue = record {
-    sorted = q.queue.sorted;
-    within = λ i h. omega (arith, q.queue.within i h, length_alike (take_out p m xs) xs (outline_taken p m xs));
-    listed = λ i h. listed_taken k u b p m xs i (q.queue.listed i h);
-    all = λ i h. q.queue.all i (waited k u b p m xs i h);
-  };
-  passed = λ j l h. mask_taken p m xs (slice_index_or places j 0) b (q.passed j l h);
+pub queue_taken : (k : Kind) (u : Bool) (b : ℕ) (p : Principal) (m : ℕ) (xs : List Ace) (places : List ℕ)
+    → IsQueue k u b xs places → IsQueue k u b (take_out p m xs) places
+queue_taken k u b p m xs places q = record {
+  sorted = q.sorted;
+  within = λ i h. omega (arith, q.within i h, length_alike (take_out p m xs) xs (outline_taken p m xs));
+  listed = λ i h. listed_taken k u b p m xs i (q.listed i h);
+  all = λ i h. q.all i (waited k u b p m xs i h);
 }
 
 -- a queue whose first place waits no more goes on behind it
@@ -216,17 +178,6 @@ queue_on k u b xs place places q none = record {
         let has = waits_has k u b xs i h in
         let lacks : has_bit (mask_here xs i) b ≡ false = ap (λ v. has_bit (mask_here xs v) b) e ∙ none in
         cc
-
--- a queue from a place on
-pub queue_from : (k : Kind) (u : Bool) (b : ℕ) (xs : List Ace) (places : List ℕ) (first : ℕ)
-    → IsQueue k u b xs places
-    → ((j : ℕ) → j < first → j < length places → has_bit (mask_here xs (slice_index_or places j 0)) b ≡ false)
-    → IsQueue k u b xs (drop first places)
-queue_from k u b xs places zero q passed = q
-queue_from k u b xs [] (suc first) q passed = q
-queue_from k u b xs (place ∷ places) (suc first) q passed =
-    queue_from k u b xs places first (queue_on k u b xs place places q (passed 0 (omega arith) (omega arith)))
-    (λ j l h. passed (suc j) (omega (arith, l)) (omega (arith, h)))
 
 -- of an empty queue none waits
 pub queue_empty : (k : Kind) (u : Bool) (b : ℕ) (xs : List Ace) (i : ℕ) → IsQueue k u b xs []
@@ -256,28 +207,6 @@ pub queue_first : (k : Kind) (u : Bool) (b : ℕ) (xs : List Ace) (place : ℕ) 
 queue_first k u b xs place places q has =
     q.listed place (head_in place places)
     ∙ has
-
--- a part of the queue from its first on, or nothing where there is no such part
-pub queue_part : (k : Kind) (u : Bool) (b : ℕ) (xs : List Ace) (places : List ℕ) (first : ℕ) (o : Option (Bor (List ℕ)))
-    (d : Bor (List ℕ)) → d.now ≡ [] → PartBy (λ x. x.now) places first (length places) o
-    → IsQueue k u b xs (drop first places) → IsQueue k u b xs (unwrap_or o d).now
-queue_part k u b xs places first None d none part q =
-    subst (IsQueue k u b xs) (drop_all first places (beyond part.0) ∙ sym none) q
-  where
-    beyond : (length places < first) ⊎ (length places < length places) → length places ≤ first
-    beyond (inl l) = omega (arith, l)
-    beyond (inr l) = absurd (omega (arith, l))
-queue_part k u b xs places first (Some x) d none part q =
-    subst (IsQueue k u b xs) (drop_split places first (length places) part.0.0
-    ∙ ap (λ v. slice_range places first (length places) ++ v) (drop_all (length places) places (omega arith))
-    ∙ append-nil (slice_range places first (length places)) ∙ sym part.0.2) q
-
--- the places from one on are that place and those from the next on
-pub next_place : (places : List ℕ) (i : ℕ) → i < length places
-    → drop i places ≡ slice_index_or places i 0 ∷ drop (i + 1) places
-next_place places i l =
-    let next : suc i ≡ i + 1 = omega arith in
-    subst (λ n. drop i places ≡ slice_index_or places i 0 ∷ drop n places) next (drop-cons places i 0 l)
 
 -- the places of a queue are of the list
 pub queue_within : (k : Kind) (u : Bool) (b : ℕ) (xs : List Ace) (place : ℕ) (places : List ℕ)

@@ -1,29 +1,8 @@
 -- The numbers of the keys show whether they rise, and the list without its empty ACEs is made place by place.
-use Rattle.std.specs.Prelude.{◌≡◌, ◌≢◌, ◌⊎◌, ℕ, ◌+◌, ◌*◌, ◌≤◌, ◌<◌, zero, suc, Bool, true, false, ◌==◌, List, [], ◌∷◌, ◌++◌, length, take, drop, slice_index_or, refl}
-use Rattle.std.specs.List.{AllByRecursion}
-use Rattle.std.specs.Ordering.{is_le}
-use Rattle.std.specs.declared.cmp.Ordering.{Ordering}
-use Rattle.std.specs.declared.cmp.Ordering.TheVariants.{Less, Equal, Greater}
-use Rattle.std.proofs.Common.{sym, ◌∙◌, ap, subst, arith, inl, inr, ⊎_elim}
-use Rattle.std.proofs.lemmas.Bool.{cases_lt, eqb-false, ne_eqb}
-use Rattle.std.proofs.lemmas.List.{map-append, take_more, take_all}
-use Rattle.acl_perm.specs.Profile.{full}
-use Rattle.acl_perm.specs.Order.{kind_rank}
-use Rattle.acl_perm.specs.declared.mask.Mask.{Mask}
-use Rattle.acl_perm.proofs.Orders.{key_order}
-use Rattle.acl_nfs4.specs.Ace.{Ace}
-use Rattle.acl_nfs4.specs.Spelling.{IsAccepted}
-use Rattle.acl_nfs4.specs.declared.ace.AceRef.{AceRef}
+use Rattle.acl_normal.proofs.Common.{[], Ace, ace_key, AceRef, all_cleared, AllByRecursion, ap, AreRowNumbers, arith, bits_in, Bool, cases_lt, cleared, compare_keys, drop, eqb-false, Equal, false, full, Greater, HasRisen, inl, inr, is_le, is_named, IsAccepted, IsNormalFormOf, IsReducedOf, Key, key_here, key_number, key_order, key_record, kind_rank, left, length, Less, List, map-append, Mask, mask_here, ne_eqb, Ordering, refl, slice_index_or, subst, suc, sym, take, take_all, take_more, true, with_masks, zero, ℕ, ⊎_elim, ◌*◌, ◌++◌, ◌+◌, ◌<◌, ◌==◌, ◌∙◌, ◌∷◌, ◌≡◌, ◌≢◌, ◌≤◌, ◌⊎◌}
 use Rattle.acl_nfs4.proofs.Lists.{front_accepted}
 use Rattle.acl_eval.proofs.Children.{moved}
-use Rattle.acl_normal.specs.Keys.{Key, ace_key, compare_keys, key_record}
-use Rattle.acl_normal.specs.Left.{left}
-use Rattle.acl_normal.specs.Places.{key_here, mask_here}
-use Rattle.acl_normal.specs.internal.Rising.{HasRisen, IsRising, all_cleared, cleared}
-use Rattle.acl_normal.specs.internal.Rows.{AreRowNumbers, is_named, key_number}
-use Rattle.acl_normal.specs.internal.Shown.{bits_in, with_masks}
-use Rattle.acl_normal.specs.internal.Reduced.{IsReducedOf}
-use Rattle.acl_normal.specs.NormalForm.{IsNormalFormOf}
+use Rattle.acl_normal.specs.internal.Rising.{IsRising}
 use Rattle.acl_normal.proofs.emit.Marks.{number_order}
 use Rattle.acl_normal.proofs.emit.RisingKeys.{rising_form}
 use Rattle.acl_normal.proofs.rows.BitsTaken.{key_there}

@@ -1,26 +1,8 @@
 -- A list whose keys rise stands in the order of its normal form.
-use Rattle.std.specs.Prelude.{◌≡◌, ℕ, Bool, true, false, not, ◌&&◌, ◌==◌, List, [], ◌∷◌, ◌++◌, refl}
-use Rattle.std.specs.Str.{bytes_eq}
-use Rattle.std.specs.List.{AllByRecursion}
+use Rattle.acl_normal.proofs.Common.{[], Ace, ace_key, all_cleared, all_rights, AllByRecursion, and_parts, ap, append_assoc, Bool, bytes_eq, cleared, column, compare_keys, conflicts, counts, eqb-false, Equal, everyone_name, false, false_from_ne_true, flags_for, group_name, has_bit, HasNoEmptyMask, HasNormalFlags, HasOnceColumns, identifier_group, is_free, is_inherit_only, is_le, IsAlike, IsEmission, IsIrreducibleList, IsNormal, IsOnce, IsQuiet, Key, key_order, key_record, kind_eq, left, Less, List, matches, ne_eqb, not, or_cases, owner_name, principal_eq, principal_of, refl, SameGrants, subst, sym, true, verdict, without_bit, ℕ, ⊎_elim, ◌&&◌, ◌++◌, ◌==◌, ◌∙◌, ◌∷◌, ◌≡◌}
 use Rattle.std.specs.List.Sorted.{IsStrictlySortedBy}
-use Rattle.std.specs.Ordering.{is_le}
-use Rattle.std.specs.declared.cmp.Ordering.TheVariants.{Less, Equal}
-use Rattle.std.proofs.Common.{sym, ◌∙◌, ap, subst, ⊎_elim, append_assoc}
-use Rattle.std.proofs.lemmas.Bool.{or_cases, and_parts, eqb-false, ne_eqb, false_from_ne_true}
-use Rattle.acl_perm.specs.Bits.{has_bit, identifier_group}
-use Rattle.acl_perm.proofs.Orders.{key_order}
-use Rattle.acl_nfs4.specs.Ace.{Ace}
-use Rattle.acl_nfs4.specs.Who.{principal_of, owner_name, group_name, everyone_name}
-use Rattle.acl_perm.specs.Situation.{matches}
-use Rattle.acl_eval.specs.Column.{column, verdict}
-use Rattle.acl_normal.specs.Keys.{principal_eq, Key, kind_eq, conflicts, ace_key, key_record, compare_keys}
-use Rattle.acl_normal.specs.Left.{left}
-use Rattle.acl_normal.specs.Normal.{IsIrreducibleList, IsNormal, IsOrdered, IsQuiet, HasNoEmptyMask, HasNormalFlags, is_free, is_inherit_only, counts, flags_for, without_bit}
-use Rattle.acl_eval.specs.Grant.{SameGrants}
-use Rattle.acl_perm.specs.Bits.{all_rights}
-use Rattle.acl_normal.specs.internal.Alike.{IsAlike}
-use Rattle.acl_normal.specs.internal.Emissions.{IsOnce, IsEmission, HasOnceColumns}
-use Rattle.acl_normal.specs.internal.Rising.{IsRising, cleared, all_cleared}
+use Rattle.acl_normal.specs.Normal.{IsOrdered}
+use Rattle.acl_normal.specs.internal.Rising.{IsRising}
 use Rattle.acl_normal.proofs.unique.Names.{principal_eq_same}
 use Rattle.acl_normal.proofs.unique.Bits.{no_bits}
 use Rattle.acl_normal.proofs.unique.Irreducible.{clean}
@@ -101,7 +83,7 @@ rising_ordered (a ∷ xs) flags rising = (
 -- ---- with the flags cleared
 
 -- whom a principal's who names does not change with the flags that the principal needs
-named_again : (a : Ace) → principal_of (cleared a) ≡ principal_of a
+pub named_again : (a : Ace) → principal_of (cleared a) ≡ principal_of a
 named_again a = go (bytes_eq a.who owner_name) refl (bytes_eq a.who group_name) refl (bytes_eq a.who everyone_name)
     refl (has_bit a.flags identifier_group) refl
   where

@@ -1,12 +1,6 @@
 -- What was emitted so far, and what completes it.
-use Rattle.std.specs.Prelude.{◌≡◌, List, [], ◌∷◌, ◌++◌, refl}
-use Rattle.std.proofs.Common.{sym, ◌∙◌, ap, subst, append_assoc}
-use Rattle.std.proofs.lemmas.List.{append-nil, map-append}
-use Rattle.acl_nfs4.specs.Ace.{Ace}
-use Rattle.acl_normal.specs.declared.emit.emission.Emitted.{Emitted}
-use Rattle.acl_normal.specs.internal.Emissions.{IsStep, IsEmission, HasEmptyColumns, HasOnceColumns}
+use Rattle.acl_normal.proofs.Common.{[], Ace, ap, append-nil, append_assoc, Emitted, emitted_ace, emitted_aces, HasEmptyColumns, HasOnceColumns, IsEmission, IsStep, List, map-append, refl, subst, sym, ◌++◌, ◌∙◌, ◌∷◌, ◌≡◌}
 use Rattle.acl_normal.proofs.unique.FirstAndRest.{emission_step}
-use Rattle.acl_normal.specs.internal.Emitted.{emitted_ace, emitted_aces}
 
 -- every completion of what is left completes the whole
 abbrev pub Completes : List Ace → List Emitted → List Ace → Type 0

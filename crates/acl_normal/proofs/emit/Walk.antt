@@ -1,27 +1,8 @@
 -- A walk over the places of a queue: those that wait before the first that is blocked are free.
-use Rattle.std.specs.Prelude.{◌≡◌, ℕ, ◌<◌, ◌≤◌, zero, suc, Bool, true, false, not, ◌&&◌, ◌==◌, ◌⊎◌, List, [], ◌∷◌, Option, Some, None, length, refl}
-use Rattle.std.specs.Ordering.{nat_cmp, is_le}
-use Rattle.std.specs.declared.cmp.Ordering.TheVariants.{Less}
-use Rattle.std.specs.BTreeMap.{is_at}
-use Rattle.std.specs.List.{list_any, AllByRecursion}
+use Rattle.acl_normal.proofs.Common.{[], Ace, AllByRecursion, Allow, and_from, and_parts, ap, arith, Bool, cases_eq, column, counts, Deny, Enters, eq-eqb, eqb-true, false, false_from_ne_true, first_at, Grows, has_bit, inl, inr, is_at, is_blocked, is_free, is_le, is_user, is_waiting, IsOnce, IsQueue, Key, key_eq, key_here, Kind, kind_eq, length, Less, List, list_any, Marked, mask_here, nat_cmp, None, not, Option, or_cases, or_left, or_right, other_kind, Principal, principal_eq, principal_of, refl, same_class, Some, subst, suc, sym, true, waits, waits_before, zero, ℕ, ⊎_elim, ◌&&◌, ◌<◌, ◌==◌, ◌∙◌, ◌∷◌, ◌≡◌, ◌≤◌, ◌⊎◌}
 use Rattle.std.specs.List.Sorted.{IsStrictlySortedBy}
-use Rattle.std.proofs.Common.{sym, ◌∙◌, ap, subst, arith, inl, inr, ⊎_elim}
-use Rattle.std.proofs.lemmas.Bool.{and_parts, and_from, or_cases, or_left, or_right, eqb-true, eq-eqb, cases_eq, false_from_ne_true}
 use Rattle.std.proofs.lemmas.Map.Keys.{sorted_head, sorted_tail, le_from_is_le}
-use Rattle.acl_perm.specs.Principal.{Principal, is_user}
-use Rattle.acl_perm.specs.declared.kind.Kind.{Kind}
-use Rattle.acl_perm.specs.declared.kind.Kind.TheVariants.{Deny, Allow}
-use Rattle.acl_perm.specs.Bits.{has_bit}
-use Rattle.acl_nfs4.specs.Ace.{Ace}
-use Rattle.acl_nfs4.specs.Who.{principal_of}
-use Rattle.acl_eval.specs.Column.{column}
-use Rattle.acl_normal.specs.Keys.{principal_eq, Key, kind_eq}
-use Rattle.acl_normal.specs.Places.{same_class, is_waiting, waits, waits_before, is_blocked, first_at, key_here, mask_here}
-use Rattle.acl_perm.specs.Kind.{other_kind}
-use Rattle.acl_normal.specs.Normal.{is_free, counts}
-use Rattle.acl_normal.specs.internal.Emissions.{IsOnce}
-use Rattle.acl_normal.specs.internal.Ready.{Marked, key_eq, Adds, Grows, Enters}
-use Rattle.acl_normal.specs.internal.Remaining.{IsQueue}
+use Rattle.acl_normal.specs.internal.Ready.{Adds}
 use Rattle.acl_normal.proofs.unique.Names.{principal_eq_same, principal_eq_itself}
 use Rattle.acl_normal.proofs.unique.Free.{kind_eq_same, kind_eq_itself}
 use Rattle.acl_normal.proofs.rows.TakeOut.{IsHere, IsThere, first_cases, none_behind, once_rest, waits_first}

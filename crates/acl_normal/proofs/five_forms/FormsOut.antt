@@ -4,8 +4,7 @@ use Rattle.std.specs.List.{flat_map}
 use Rattle.acl_perm.specs.Pieces.{WritesFrom}
 use Rattle.acl_perm.specs.declared.whole.WriteFault.{WriteFault}
 use Rattle.acl_perm.proofs.PieceLemmas.{IsOut, out_all, out_cut, out_more, out_none}
-use Rattle.acl_nfs4.specs.Ace.{Ace}
-use Rattle.acl_nfs4.specs.Spelling.{spelling}
+use Rattle.acl_normal.proofs.Common.{Ace, spelling}
 use Rattle.acl_normal.specs.FiveForms.{five_lists, five_spellings}
 use Rattle.acl_normal.specs.declared.five_forms.FiveForms.{FiveForms}
 

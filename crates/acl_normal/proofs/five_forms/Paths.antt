@@ -1,44 +1,24 @@
 -- Below the first new directory nothing is new, and what fits a profile does at every path.
-use Rattle.std.proofs.Common.{◌≡◌, ◌≤◌, ℕ, zero, suc, Bool, true, false, List, [], ◌∷◌, refl, sym, ap, subst, ◌∙◌, arith, ◌⊎◌, inl, inr}
-use Rattle.std.specs.Prelude.{bit_and, bit_or, ◌&&◌, ◌||◌, ◌↔◌, IsTrue, Option, None, Some}
-use Rattle.std.proofs.lemmas.Option.{same_Some}
-use Rattle.acl_perm.specs.Bits.{has_bit, all_flags, inherit_only}
-use Rattle.acl_perm.specs.Principal.{Principal, owner, user, group, group_named, everyone}
-use Rattle.acl_perm.specs.Profile.{Profile}
-use Rattle.acl_perm.proofs.Sets.{has_bit-and, has_bit-or, no_bit, same_set}
-use Rattle.acl_nfs4.specs.Ace.{Ace}
-use Rattle.acl_nfs4.specs.Spelling.{Fits}
-use Rattle.acl_nfs4.specs.Who.{principal_of}
-use Rattle.acl_nfs4.specs.Within.{IsProfile, IsWithin}
+use Rattle.std.proofs.Common.{◌≡◌, ◌≤◌, ℕ, zero, suc, Bool, true, false, List, [], ◌∷◌, refl, ◌⊎◌}
+use Rattle.acl_normal.proofs.Common.{Ace, ap, arith, bit_and, bit_or, everyone, Fits, flags_for, group, group_named, has_bit, has_bit-and, has_bit-or, HasNormalFlags, inl, inr, IsNormalFormOf, IsProfile, IsTrue, IsWithin, no_bit, None, Option, owner, Principal, principal_of, Profile, same_set, same_Some, Some, subst, sym, user, ◌&&◌, ◌||◌, ◌↔◌, ◌∙◌}
+use Rattle.acl_perm.specs.Bits.{all_flags, inherit_only}
 use Rattle.acl_nfs4.proofs.Within.{within_part}
 use Rattle.acl_eval.specs.Inheritance.{child_flags, children, directory_inherit, ends, file_inherit, goes_on, no_propagate_inherit, waits, with_flags}
 use Rattle.acl_eval.specs.declared.inherit.ChildKind.{ChildKind}
 use Rattle.acl_eval.specs.declared.inherit.ChildKind.TheVariants.{Directory, File}
 use Rattle.acl_eval.proofs.Children.{child_fits, child_has, child_lacks, directory_absent, directory_ended, directory_ended_before, directory_for_files, directory_inherited, file_absent, union_within}
-use Rattle.acl_normal.specs.Normal.{HasNormalFlags, flags_for}
-use Rattle.acl_normal.specs.NormalForm.{IsNormalFormOf}
 use Rattle.acl_normal.specs.Paths.{Path, SameAt, SameAtEveryPath, SameAtFive, at, below, directory_below, here}
 
 -- ---- the flags of an ACE in a new directory, and in a new directory in that
 
 lacks : (b : Bool) → (b && false) ≡ false
-lacks true = refl
-lacks false = refl
+lacks b = grind arith
 
 kept_twice : (h c : Bool) → ((h && c) && c) ≡ (h && c)
-kept_twice true true = refl
-kept_twice true false = refl
-kept_twice false c = refl
-
-absorbed : (e c : Bool) → ((e && c) || e) ≡ e
-absorbed true true = refl
-absorbed true false = refl
-absorbed false c = refl
+kept_twice h c = grind arith
 
 set_twice : (h c e : Bool) → ((((h && c) || e) && c) || e) ≡ ((h && c) || e)
-set_twice true true e = refl
-set_twice true false e = absorbed e false
-set_twice false c e = absorbed e c
+set_twice h c e = grind arith
 
 -- what goes on goes on as it is
 goes_on_again : (flags : ℕ) → goes_on (goes_on flags) ≡ goes_on flags
@@ -183,12 +163,10 @@ abbrev pub with_inherit_only : Profile → Profile
 with_inherit_only p = record { masks = p.masks; flags = bit_or p.flags 0x08 }
 
 is_either : (a b : Bool) → (a && (a || b)) ≡ a
-is_either true b = refl
-is_either false b = refl
+is_either a b = grind arith
 
 or_true : (b : Bool) → (b || true) ≡ true
-or_true true = refl
-or_true false = refl
+or_true b = grind arith
 
 -- it has that flag
 pub has_inherit_only : (p : Profile) → has_bit (with_inherit_only p).flags inherit_only ≡ true
@@ -226,17 +204,10 @@ fits_at p list (below count kind) fits =
     (dirs_fit (with_inherit_only p) list count (has_inherit_only p) (fits_wider p list fits))
 
 inside_first : (b f e : Bool) → (b && (f || e)) ≡ b → (b && e) ≡ false → (b && f) ≡ b
-inside_first false f e whole none = refl
-inside_first true true e whole none = refl
-inside_first true false true whole none = sym none
-inside_first true false false whole none = whole
+inside_first b f e whole none = grind arith
 
 no_inherit_only : (p : Principal) → bit_and (flags_for p) 0x08 ≡ 0
-no_inherit_only owner = refl
-no_inherit_only (user name) = refl
-no_inherit_only group = refl
-no_inherit_only (group_named name) = refl
-no_inherit_only everyone = refl
+no_inherit_only p = grind arith
 
 flags_back : (p : Profile) (flags : ℕ) → bit_and flags 0x08 ≡ 0 → IsWithin (with_inherit_only p).flags flags
     → IsWithin p.flags flags

@@ -1,14 +1,8 @@
 -- That the ACEs of a normal form, one after the other, are a list.
-use Rattle.std.proofs.Common.{◌≡◌, ℕ, ◌+◌, ◌≤◌, ◌<◌, zero, suc, List, [], ◌∷◌, ◌++◌, length, take, drop, refl, sym, ◌∙◌, ap, subst, arith}
-use Rattle.std.specs.Prelude.{slice_index_or}
-use Rattle.std.proofs.lemmas.List.{map-append, take_more, take_all}
-use Rattle.acl_perm.specs.Profile.{full}
-use Rattle.acl_nfs4.specs.Ace.{Ace}
-use Rattle.acl_nfs4.specs.Spelling.{IsAccepted}
+use Rattle.std.proofs.Common.{◌≡◌, ℕ, ◌+◌, ◌≤◌, ◌<◌, zero, suc, List, [], ◌∷◌, ◌++◌, length, take, drop, refl}
+use Rattle.acl_normal.proofs.Common.{Ace, ap, arith, Emitted, emitted_ace, emitted_aces, full, IsAccepted, map-append, slice_index_or, subst, sym, take_all, take_more, ◌∙◌}
 use Rattle.acl_nfs4.proofs.Lists.{front_accepted}
 use Rattle.acl_eval.proofs.Children.{moved}
-use Rattle.acl_normal.specs.internal.Emitted.{emitted_ace, emitted_aces}
-use Rattle.acl_normal.specs.declared.emit.emission.Emitted.{Emitted}
 
 -- a list, split at a place
 pub split_at : (es : List Emitted) (i : ℕ) (d : Emitted) → i < length es

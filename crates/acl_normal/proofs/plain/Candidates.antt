@@ -1,27 +1,8 @@
 -- Which ACE comes first: of those that are free somewhere, the one with the least key.
-use Rattle.std.proofs.Common.{◌≡◌, ℕ, Bool, true, false, List, [], ◌∷◌, ◌++◌, refl, sym, ap, subst, ◌∙◌, ⊎_elim}
-use Rattle.std.specs.Prelude.{◌&&◌, not, Option, None, Some}
-use Rattle.std.specs.List.{AllByRecursion}
-use Rattle.std.specs.Ordering.{is_le, ordering_reverse}
-use Rattle.std.specs.Str.{bytes_eq}
-use Rattle.std.specs.declared.cmp.Ordering.{Ordering}
-use Rattle.std.specs.declared.cmp.Ordering.TheVariants.{Less, Equal, Greater}
-use Rattle.std.proofs.lemmas.Bool.{or_cases, and_parts, false≢true}
-use Rattle.acl_perm.specs.Bits.{has_bit, identifier_group}
-use Rattle.acl_perm.specs.Profile.{Profile}
+use Rattle.std.proofs.Common.{◌≡◌, ℕ, Bool, true, false, List, [], ◌∷◌, ◌++◌, refl}
+use Rattle.acl_normal.proofs.Common.{Ace, ace_key, AllByRecursion, and_parts, ap, arith, Best, bytes_eq, Column, column, compare_keys, conflicts, counts, Equal, everyone_name, false≢true, fits_of, flags_for, Greater, group_name, has_bit, HasEmptyColumns, identifier_group, is_free, is_le, IsAce, IsLeastCandidate, IsWithin, Key, key_order, key_record, kind_eq, Less, no_bit, None, not, Option, or_cases, Ordering, ordering_reverse, owner_name, principal_eq, principal_of, Profile, Some, subst, sym, ⊎_elim, ◌&&◌, ◌∙◌}
 use Rattle.acl_perm.specs.Order.{key_cmp}
-use Rattle.acl_perm.proofs.Orders.{key_order}
-use Rattle.acl_perm.proofs.Sets.{no_bit}
-use Rattle.acl_nfs4.specs.Ace.{Ace}
-use Rattle.acl_nfs4.specs.Who.{principal_of, owner_name, group_name, everyone_name}
-use Rattle.acl_nfs4.specs.Spelling.{IsAce}
-use Rattle.acl_nfs4.specs.Within.{IsWithin}
-use Rattle.acl_nfs4.proofs.Within.{fits_of}
-use Rattle.acl_eval.specs.Column.{Column, column}
-use Rattle.acl_normal.specs.Keys.{Key, ace_key, key_record, compare_keys, principal_eq, kind_eq, conflicts}
-use Rattle.acl_normal.specs.Normal.{is_free, flags_for, counts}
-use Rattle.acl_normal.specs.internal.Emissions.{HasEmptyColumns}
-use Rattle.acl_normal.specs.internal.Passes.{IsNowhereFree, IsCandidate, IsBelow, AreNowhereFree, IsWithinAs, IsLeastCandidate, Best, lesser}
+use Rattle.acl_normal.specs.internal.Passes.{IsNowhereFree, IsCandidate, IsBelow, AreNowhereFree, IsWithinAs, lesser}
 use Rattle.acl_normal.proofs.unique.Names.{principal_eq_same}
 use Rattle.acl_normal.proofs.unique.Free.{kind_eq_same}
 use Rattle.acl_normal.proofs.unique.Bits.{power_has}
@@ -77,12 +58,10 @@ le_itself : (e : Key) → is_le (compare_keys e e) ≡ true
 le_itself e = ap is_le ((key_order.equal (key_record e) (key_record e)).1 refl)
 
 le_turned : (e f : Key) → is_le (compare_keys e f) ≡ false → compare_keys f e ≡ Less
-le_turned e f h = go (compare_keys e f) refl
+le_turned e f h = key_order.reversed (key_record e) (key_record f) ∙ turned (compare_keys e f) h
   where
-    go : (o : Ordering) → compare_keys e f ≡ o → compare_keys f e ≡ Less
-    go Less i = absurd (false≢true (sym h ∙ ap is_le i))
-    go Equal i = absurd (false≢true (sym h ∙ ap is_le i))
-    go Greater i = key_order.reversed (key_record e) (key_record f) ∙ ap ordering_reverse i
+    turned : (o : Ordering) → is_le o ≡ false → ordering_reverse o ≡ Less
+    turned o i = grind arith
 
 lt_le : (e f g : Key) → compare_keys e f ≡ Less → is_le (compare_keys f g) ≡ true → is_le (compare_keys e g) ≡ true
 lt_le e f g h i = go (compare_keys f g) refl
@@ -103,16 +82,6 @@ each_more P (y ∷ xs) x h p = (h.0, each_more P xs x h.1 p)
 each_weaker : (P Q : Ace → Type 0) (xs : List Ace) → ((x : Ace) → P x → Q x) → AllByRecursion P xs → AllByRecursion Q xs
 each_weaker P Q [] f h = tt
 each_weaker P Q (x ∷ xs) f h = (f x h.0, each_weaker P Q xs f h.1)
-
--- one more ACE that is free nowhere changes nothing
-pub best_without : (list seen : List Ace) (item : Ace) (best : Option Ace) → Best list seen best
-    → IsNowhereFree list item → Best list (seen ++ item ∷ []) best
-best_without list seen item None h none = each_more (IsNowhereFree list) seen item h none
-best_without list seen item (Some a) h none = record {
-  candidate = h.candidate;
-  below = each_more (IsBelow list a) seen item h.below (λ bit free. absurd (false≢true (sym (none bit) ∙ free)));
-  within = h.within;
-}
 
 -- one more that is free somewhere: the lesser of its candidate and the best so far is the best
 pub best_with : (list seen : List Ace) (item next : Ace) (best : Option Ace) → Best list seen best
@@ -156,19 +125,13 @@ group_flag : (set flags : ℕ) → IsWithin set flags → has_bit flags identifi
 group_flag set flags is has =
     within_fewer set 0x40 flags is (λ k h. subst (λ n. has_bit flags n ≡ true) (sym (power_has 6 k h)) has)
 
+naming_cases : (set : ℕ) (a : Ace) → IsWithin set 0
+    → (has_bit a.flags identifier_group ≡ true → IsWithin set 0x40) → IsWithin set (flags_for (principal_of a))
+naming_cases set a none own = grind arith
+
 -- the flags that a principal needs are among those of an ACE that names it
 pub naming_within : (set : ℕ) (a : Ace) → IsWithin set a.flags → IsWithin set (flags_for (principal_of a))
-naming_within set a is = go (bytes_eq a.who owner_name) refl (bytes_eq a.who group_name) refl
-    (bytes_eq a.who everyone_name) refl (has_bit a.flags identifier_group) refl
-  where
-    go : (o : Bool) → bytes_eq a.who owner_name ≡ o → (g : Bool) → bytes_eq a.who group_name ≡ g
-        → (e : Bool) → bytes_eq a.who everyone_name ≡ e → (f : Bool) → has_bit a.flags identifier_group ≡ f
-        → IsWithin set (flags_for (principal_of a))
-    go true h g i e j f k = rw h (no_flags set)
-    go false h true i e j f k = rw (h, i) (no_flags set)
-    go false h false i true j f k = rw (h, i, j) (no_flags set)
-    go false h false i false j true k = rw (h, i, j, k) (group_flag set a.flags is k)
-    go false h false i false j false k = rw (h, i, j, k) (no_flags set)
+naming_within set a is = naming_cases set a (no_flags set) (group_flag set a.flags is)
 
 -- bits at which a key is free are rights of the profile
 pub free_within : (p : Profile) (xs : List Ace) (e : Key) (mask : ℕ) → AllByRecursion (IsAce p) xs

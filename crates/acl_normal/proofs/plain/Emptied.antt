@@ -1,17 +1,6 @@
 -- What is left of a list when one ACE has come first: the bits of that ACE are taken from its principal.
-use Rattle.std.proofs.Common.{◌≡◌, ℕ, ◌+◌, ◌<◌, Bool, true, false, List, [], ◌∷◌, ◌++◌, length, take, refl, sym, ap, ◌∙◌}
-use Rattle.std.specs.Prelude.{◌&&◌, not, cond, slice_index_or}
-use Rattle.acl_perm.specs.Bits.{has_bit, IsDifference}
-use Rattle.acl_perm.specs.Principal.{Principal}
-use Rattle.acl_perm.proofs.Bools.{and_false_right}
-use Rattle.acl_nfs4.specs.Ace.{Ace, ace}
-use Rattle.acl_nfs4.specs.Who.{principal_of}
-use Rattle.acl_nfs4.specs.declared.ace.AceRef.{AceRef}
-use Rattle.acl_eval.specs.Column.{Column, column}
-use Rattle.acl_normal.specs.Keys.{ace_key, principal_eq}
-use Rattle.acl_normal.specs.Normal.{is_inherit_only}
-use Rattle.acl_normal.specs.internal.Shown.{aces_in}
-use Rattle.acl_normal.specs.internal.Plain.{without_principal}
+use Rattle.std.proofs.Common.{◌≡◌, ℕ, ◌+◌, ◌<◌, Bool, true, false, List, [], ◌∷◌, ◌++◌, length, take, refl}
+use Rattle.acl_normal.proofs.Common.{Ace, ace, ace_key, AceRef, aces_in, and_false_right, ap, arith, Column, column, cond, has_bit, is_inherit_only, IsDifference, not, Principal, principal_eq, principal_of, slice_index_or, sym, without_principal, ◌&&◌, ◌∙◌}
 use Rattle.acl_normal.proofs.unique.Columns.{column_lacks}
 use Rattle.acl_normal.proofs.unique.ListColumns.{column-append}
 use Rattle.acl_normal.proofs.plain.Passes.{list_of-append, list_of-more}
@@ -23,13 +12,7 @@ emptied p has c = cond has (without_principal p c) c
 without-append : (p : Principal) (c d : Column)
     → without_principal p (c ++ d) ≡ without_principal p c ++ without_principal p d
 without-append p [] d = refl
-without-append p ((q, j) ∷ c) d = go (principal_eq q p) refl (without-append p c d)
-  where
-    go : (b : Bool) → principal_eq q p ≡ b
-        → without_principal p (c ++ d) ≡ without_principal p c ++ without_principal p d
-        → without_principal p ((q, j) ∷ (c ++ d)) ≡ without_principal p ((q, j) ∷ c) ++ without_principal p d
-    go true e ih = rw e ih
-    go false e ih = rw e (ap (λ v. (q, j) ∷ v) ih)
+without-append p ((q, j) ∷ c) d = grind (arith, without-append p c d)
 
 emptied-append : (p : Principal) (has : Bool) (c d : Column)
     → emptied p has (c ++ d) ≡ emptied p has c ++ emptied p has d
@@ -41,38 +24,7 @@ one_emptied : (y r : Ace) (p : Principal) (taken bit : ℕ) → ace_key r ≡ ac
     → is_inherit_only r ≡ is_inherit_only y
     → has_bit r.mask bit ≡ (has_bit y.mask bit && not (principal_eq (principal_of y) p && has_bit taken bit))
     → column (r ∷ []) bit ≡ emptied p (has_bit taken bit) (column (y ∷ []) bit)
-one_emptied y r p taken bit entry part bits =
-    go (has_bit y.mask bit) refl (is_inherit_only y) refl (principal_eq (principal_of y) p) refl
-    (has_bit taken bit) refl
-  where
-    go : (h : Bool) → has_bit y.mask bit ≡ h → (q : Bool) → is_inherit_only y ≡ q → (s : Bool)
-        → principal_eq (principal_of y) p ≡ s → (t : Bool) → has_bit taken bit ≡ t
-        → column (r ∷ []) bit ≡ emptied p (has_bit taken bit) (column (y ∷ []) bit)
-    go false e q f s g true i =
-        let none : has_bit r.mask bit ≡ false = rw e at bits in
-        rw (e, none, i) refl
-    go false e q f s g false i =
-        let none : has_bit r.mask bit ≡ false = rw e at bits in
-        rw (e, none, i) refl
-    go true e true f s g true i =
-        rw (e, f, i) (column_lacks bit r [] (rw (part ∙ f) (and_false_right (has_bit r.mask bit))))
-    go true e true f s g false i =
-        rw (e, f, i) (column_lacks bit r [] (rw (part ∙ f) (and_false_right (has_bit r.mask bit))))
-    go true e false f true g true i =
-        let none : has_bit r.mask bit ≡ false = rw (e, g, i) at bits in
-        rw (e, f, none, i) (rw g refl)
-    go true e false f false g true i =
-        let has : has_bit r.mask bit ≡ true = rw (e, g) at bits in
-        let active : is_inherit_only r ≡ false = part ∙ f in
-        rw (e, f, has, active, i) (rw g (ap (λ v. v ∷ []) entry))
-    go true e false f true g false i =
-        let has : has_bit r.mask bit ≡ true = rw (e, g, i) at bits in
-        let active : is_inherit_only r ≡ false = part ∙ f in
-        rw (e, f, has, active, i) (ap (λ v. v ∷ []) entry)
-    go true e false f false g false i =
-        let has : has_bit r.mask bit ≡ true = rw (e, g) at bits in
-        let active : is_inherit_only r ≡ false = part ∙ f in
-        rw (e, f, has, active, i) (ap (λ v. v ∷ []) entry)
+one_emptied y r p taken bit entry part bits = grind arith
 
 -- one more ACE
 pub emptied_more : (xs : List AceRef) (y : AceRef) (rest : List AceRef) (r : AceRef) (p : Principal) (taken i m : ℕ)

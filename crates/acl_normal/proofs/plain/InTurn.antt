@@ -1,24 +1,10 @@
 -- ACEs that come first one after the other: what has come and what is left.
 use Rattle.acl_normal.proofs.unique.Shorter.{without_shorter}
-use Rattle.std.proofs.Common.{◌≡◌, ◌≢◌, ℕ, ◌+◌, ◌<◌, ◌≤◌, Bool, true, false, List, [], ◌∷◌, ◌++◌, length, refl, sym, ap, subst, ◌∙◌, arith, inl, inr, append_assoc, append-nil}
-use Rattle.std.specs.List.{AllByRecursion}
-use Rattle.std.proofs.lemmas.Bool.{cases_lt, false≢true}
-use Rattle.std.proofs.lemmas.List.{length-append}
-use Rattle.acl_perm.specs.Bits.{has_bit}
-use Rattle.acl_perm.specs.Profile.{full}
-use Rattle.acl_perm.proofs.Sets.{some_bit, IsMask-lt}
-use Rattle.acl_nfs4.specs.Ace.{Ace}
+use Rattle.std.proofs.Common.{◌≡◌, ◌≢◌, ℕ, ◌+◌, ◌<◌, ◌≤◌, Bool, true, false, List, [], ◌∷◌, ◌++◌, length, refl, append-nil}
+use Rattle.acl_normal.proofs.Common.{Ace, ace_key, AllByRecursion, ap, append_assoc, arith, cases_lt, Column, column, count_left, false≢true, flags_for, full, has_bit, HasEmptyColumns, HasNoEmptyMask, HasNormalFlags, HasOnceColumns, inl, inr, is_free, IsAccepted, IsAce, IsEmission, IsLeastCandidate, IsMask-lt, IsStep, KeepsProfiles, length-append, principal_of, subst, sym, without_principal, ◌∙◌}
+use Rattle.acl_perm.proofs.Sets.{some_bit}
 use Rattle.acl_nfs4.specs.Limits.{most_weight}
-use Rattle.acl_nfs4.specs.Spelling.{IsAce, IsAccepted}
-use Rattle.acl_nfs4.specs.Who.{principal_of}
 use Rattle.acl_nfs4.proofs.Push.{each_push}
-use Rattle.acl_eval.specs.Column.{Column, column}
-use Rattle.acl_normal.specs.internal.Counts.{count_left}
-use Rattle.acl_normal.specs.internal.Emissions.{IsEmission, IsStep, HasEmptyColumns, HasOnceColumns}
-use Rattle.acl_normal.specs.Keys.{ace_key}
-use Rattle.acl_normal.specs.Normal.{HasNoEmptyMask, HasNormalFlags, flags_for, is_free}
-use Rattle.acl_normal.specs.internal.Passes.{IsLeastCandidate, KeepsProfiles}
-use Rattle.acl_normal.specs.internal.Plain.{without_principal}
 use Rattle.acl_normal.proofs.unique.Names.{overlaps_itself}
 use Rattle.acl_normal.proofs.unique.Free.{ahead_from_free}
 use Rattle.acl_normal.proofs.unique.ListColumns.{column-append}

@@ -1,20 +1,6 @@
 -- The second pass of the plain reduction: bits that aren't needed go.
-use Rattle.std.proofs.Common.{◌≡◌, ℕ, ◌+◌, ◌<◌, Bool, true, false, List, [], ◌∷◌, ◌++◌, length, drop, refl, sym, ap, ◌∙◌, append_assoc}
-use Rattle.std.specs.Prelude.{◌&&◌, slice_index_or}
-use Rattle.std.proofs.lemmas.List.{drop_more}
-use Rattle.acl_perm.specs.Bits.{has_bit}
-use Rattle.acl_perm.specs.declared.kind.Kind.{Kind}
-use Rattle.acl_perm.specs.declared.kind.Kind.TheVariants.{Deny, Allow}
-use Rattle.acl_perm.proofs.Bools.{and_false_right}
-use Rattle.acl_nfs4.specs.Ace.{Ace, ace}
-use Rattle.acl_nfs4.specs.Who.{principal_of}
-use Rattle.acl_nfs4.specs.declared.ace.AceRef.{AceRef}
-use Rattle.acl_eval.specs.Column.{Column, column}
-use Rattle.acl_normal.specs.Keys.{ace_key, kind_eq}
-use Rattle.acl_normal.specs.Normal.{is_inherit_only}
-use Rattle.acl_normal.specs.internal.Needed.{default_at}
-use Rattle.acl_normal.specs.internal.Shown.{aces_in}
-use Rattle.acl_normal.specs.internal.Plain.{default, is_needed, needed_keys}
+use Rattle.std.proofs.Common.{◌≡◌, ℕ, ◌+◌, ◌<◌, Bool, true, false, List, [], ◌∷◌, ◌++◌, length, drop, refl}
+use Rattle.acl_normal.proofs.Common.{Ace, ace, ace_key, AceRef, aces_in, Allow, and_false_right, ap, append_assoc, arith, Column, column, default, default_at, Deny, drop_more, has_bit, is_inherit_only, is_needed, Kind, kind_eq, needed_keys, principal_of, slice_index_or, sym, ◌&&◌, ◌∙◌}
 use Rattle.acl_normal.proofs.unique.Columns.{column_lacks}
 use Rattle.acl_normal.proofs.unique.ListColumns.{column-append}
 use Rattle.acl_normal.proofs.plain.Passes.{Marks, list_of-append}
@@ -22,38 +8,14 @@ use Rattle.acl_normal.proofs.plain.Passes.{Marks, list_of-append}
 -- the default, by the set of the bits that it allows
 pub default_is : (allowed bit : ℕ) (c : Column) → has_bit allowed bit ≡ kind_eq (default c) Allow
     → default_at allowed bit ≡ default c
-default_is allowed bit c is = go (has_bit allowed bit) refl (default c) refl
-  where
-    go : (t : Bool) → has_bit allowed bit ≡ t → (k : Kind) → default c ≡ k → default_at allowed bit ≡ default c
-    go true e Allow f = rw (e, f) refl
-    go true e Deny f = absurd (cc (rw (e, f) at is))
-    go false e Allow f = absurd (cc (rw (e, f) at is))
-    go false e Deny f = rw (e, f) refl
+default_is allowed bit c is = grind arith
 
 -- an ACE with its bits that are needed before a column
 one_needed : (y r : Ace) (d : Kind) (c : Column) (bit : ℕ) → ace_key r ≡ ace_key y
     → is_inherit_only r ≡ is_inherit_only y
     → has_bit r.mask bit ≡ (has_bit y.mask bit && is_needed d (principal_of y) y.kind c)
     → column (r ∷ []) bit ++ needed_keys d c ≡ needed_keys d (column (y ∷ []) bit ++ c)
-one_needed y r d c bit entry part bits =
-    go (has_bit y.mask bit) refl (is_inherit_only y) refl (is_needed d (principal_of y) y.kind c) refl
-  where
-    go : (h : Bool) → has_bit y.mask bit ≡ h → (q : Bool) → is_inherit_only y ≡ q → (n : Bool)
-        → is_needed d (principal_of y) y.kind c ≡ n
-        → column (r ∷ []) bit ++ needed_keys d c ≡ needed_keys d (column (y ∷ []) bit ++ c)
-    go false e q f n g =
-        let none : has_bit r.mask bit ≡ false = rw e at bits in
-        rw (e, none) refl
-    go true e true f n g =
-        rw (e, f) (ap (λ v. v ++ needed_keys d c)
-        (column_lacks bit r [] (rw (part ∙ f) (and_false_right (has_bit r.mask bit)))))
-    go true e false f true g =
-        let has : has_bit r.mask bit ≡ true = rw (e, g) at bits in
-        let active : is_inherit_only r ≡ false = part ∙ f in
-        rw (e, f, has, active) (rw g (ap (λ v. v ∷ needed_keys d c) entry))
-    go true e false f false g =
-        let none : has_bit r.mask bit ≡ false = rw (e, g) at bits in
-        rw (e, f, none) (rw g refl)
+one_needed y r d c bit entry part bits = grind arith
 
 -- the list of the ACEs from a place on
 pub list_of-from : (xs : List AceRef) (x : AceRef) (i : ℕ) → i < length xs → x ≡ slice_index_or xs i x

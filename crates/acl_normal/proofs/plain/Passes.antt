@@ -1,24 +1,8 @@
 -- Loops over ACEs in memory, and what they gather bit by bit.
-use Rattle.std.proofs.Common.{◌≡◌, ℕ, ◌+◌, ◌<◌, Bool, true, false, List, [], ◌∷◌, ◌++◌, length, take, refl, sym, ap, ◌∙◌}
-use Rattle.std.specs.Prelude.{◌||◌, ◌&&◌, not, is_some, slice_index_or}
-use Rattle.std.proofs.lemmas.List.{take_more}
+use Rattle.std.proofs.Common.{◌≡◌, ℕ, ◌+◌, ◌<◌, Bool, true, false, List, [], ◌∷◌, ◌++◌, length, take, refl}
+use Rattle.acl_normal.proofs.Common.{Ace, ace, AceRef, aces_in, Allow, and_false_right, ap, arith, Column, column, conflicts, conflicts_before, counts, default, Deny, everyone, first_kind, has_bit, has_opposite, is_either, is_free, is_shadowed, is_some, IsUnion, Key, Kind, kind_eq, may_overlap, not, Principal, principal_eq, principal_of, slice_index_or, sym, take_more, verdict, ◌&&◌, ◌||◌, ◌∙◌}
 use Rattle.std.proofs.Math.Bool.{or_assoc}
-use Rattle.acl_perm.specs.Bits.{has_bit, IsUnion}
-use Rattle.acl_perm.specs.Principal.{Principal, everyone}
-use Rattle.acl_perm.specs.Overlap.{may_overlap}
-use Rattle.acl_perm.specs.declared.kind.Kind.{Kind}
-use Rattle.acl_nfs4.specs.Ace.{Ace, ace}
-use Rattle.acl_nfs4.specs.Who.{principal_of}
-use Rattle.acl_nfs4.specs.declared.ace.AceRef.{AceRef}
-use Rattle.acl_perm.specs.declared.kind.Kind.TheVariants.{Deny, Allow}
-use Rattle.acl_perm.proofs.Bools.{and_true_right, and_false_right}
-use Rattle.acl_eval.specs.Column.{Column, column, first_kind, verdict}
-use Rattle.acl_normal.specs.internal.Shown.{aces_in}
-use Rattle.acl_normal.specs.internal.Alike.{is_either}
-use Rattle.acl_normal.specs.Keys.{Key, principal_eq, kind_eq, conflicts}
-use Rattle.acl_normal.specs.Normal.{is_free, counts}
-use Rattle.acl_normal.specs.internal.Passes.{is_shadowed, conflicts_before}
-use Rattle.acl_normal.specs.internal.Plain.{default, has_opposite}
+use Rattle.acl_perm.proofs.Bools.{and_true_right}
 use Rattle.acl_normal.proofs.unique.ListColumns.{column-append}
 
 -- the list of ACEs and one more
@@ -54,14 +38,7 @@ union_more test gathered xs x i m n u lt is before here both bit =
 is_some-append : (m : Principal → Bool) (l r : Column)
     → is_some (first_kind m (l ++ r)) ≡ (is_some (first_kind m l) || is_some (first_kind m r))
 is_some-append m [] r = refl
-is_some-append m ((p, k) ∷ l) r = go (m p) refl (is_some-append m l r)
-  where
-    go : (b : Bool) → m p ≡ b
-        → is_some (first_kind m (l ++ r)) ≡ (is_some (first_kind m l) || is_some (first_kind m r))
-        → is_some (first_kind m ((p, k) ∷ (l ++ r)))
-        ≡ (is_some (first_kind m ((p, k) ∷ l)) || is_some (first_kind m r))
-    go true e ih = rw e refl
-    go false e ih = rw e ih
+is_some-append m ((p, k) ∷ l) r = grind (arith, is_some-append m l r)
 
 -- shadows are gathered
 pub shadows_gathered : (p : Principal) → IsGathered (is_shadowed p)
@@ -72,9 +49,7 @@ shadows_gathered p xs ys bit =
 opposite-append : (d : Kind) (p : Principal) (l r : Column)
     → has_opposite d p (l ++ r) ≡ (has_opposite d p l || has_opposite d p r)
 opposite-append d p [] r = refl
-opposite-append d p ((q, j) ∷ l) r =
-    ap (λ b. (may_overlap p q && not (kind_eq j d)) || b) (opposite-append d p l r)
-    ∙ sym (or_assoc (may_overlap p q && not (kind_eq j d)) (has_opposite d p l) (has_opposite d p r))
+opposite-append d p ((q, j) ∷ l) r = grind (arith, opposite-append d p l r)
 
 -- and so are opposites
 pub opposites_gathered : (d : Kind) (p : Principal) → IsGathered (λ list bit. has_opposite d p (column list bit))
@@ -83,9 +58,7 @@ opposites_gathered d p xs ys bit =
 
 blocked-append : (e : Key) (l r : Column) → conflicts_before (l ++ r) e ≡ (conflicts_before l e || conflicts_before r e)
 blocked-append e [] r = refl
-blocked-append e (f ∷ l) r =
-    ap (λ b. conflicts f e || b) (blocked-append e l r)
-    ∙ sym (or_assoc (conflicts f e) (conflicts_before l e) (conflicts_before r e))
+blocked-append e (f ∷ l) r = grind (arith, blocked-append e l r)
 
 -- and the bits at which a key is kept from coming first
 pub blocks_gathered : (e : Key) → IsGathered (λ list bit. conflicts_before (column list bit) e)
@@ -96,17 +69,8 @@ blocks_gathered e xs ys bit =
 
 decided-append : (m : Principal → Bool) (l r : Column) → kind_eq (verdict m (l ++ r)) Allow
     ≡ (kind_eq (verdict m l) Allow || (kind_eq (verdict m r) Allow && not (is_some (first_kind m l))))
-decided-append m [] r = sym (and_true_right (kind_eq (verdict m r) Allow))
-decided-append m ((p, k) ∷ l) r = go (m p) refl k (decided-append m l r)
-  where
-    go : (b : Bool) → m p ≡ b → (k : Kind) → kind_eq (verdict m (l ++ r)) Allow
-        ≡ (kind_eq (verdict m l) Allow || (kind_eq (verdict m r) Allow && not (is_some (first_kind m l))))
-        → kind_eq (verdict m ((p, k) ∷ (l ++ r))) Allow
-        ≡ (kind_eq (verdict m ((p, k) ∷ l)) Allow
-        || (kind_eq (verdict m r) Allow && not (is_some (first_kind m ((p, k) ∷ l)))))
-    go true e Allow ih = rw e refl
-    go true e Deny ih = rw e (sym (and_false_right (kind_eq (verdict m r) Allow)))
-    go false e k ih = rw e ih
+decided-append m [] r = grind arith
+decided-append m ((p, k) ∷ l) r = grind (arith, decided-append m l r)
 
 -- one more ACE adds what it allows everyone, where none before it decides
 pub allowed_more : (xs : List AceRef) (x : AceRef) (i m n s u : ℕ) → i < length xs → x ≡ slice_index_or xs i x
@@ -125,9 +89,7 @@ allowed_more xs x i m n s u lt is before seen here both bit =
 
 free_parts : (s k f b g : Bool) → (s || (not k && (f || (g && not b))))
     ≡ ((s || (not k && f)) || (g && not (k || b)))
-free_parts true k f b g = refl
-free_parts false true f b g = sym (and_false_right g)
-free_parts false false f b g = refl
+free_parts s k f b g = grind arith
 
 free-append : (e : Key) (l r : Column)
     → is_free (l ++ r) e ≡ (is_free l e || (is_free r e && not (conflicts_before l e)))
@@ -153,10 +115,4 @@ free_more e xs x i m n s u lt is before blocked here both bit =
 -- in the column of one ACE, just its own key is free
 pub free_alone : (y : Ace) (e : Key) (bit : ℕ) → is_free (column (y ∷ []) bit) e
     ≡ (counts bit y && (principal_eq (principal_of y) e.0 && kind_eq y.kind e.1))
-free_alone y e bit = go (counts bit y) refl (principal_eq (principal_of y) e.0 && kind_eq y.kind e.1) refl
-  where
-    go : (t : Bool) → counts bit y ≡ t → (s : Bool) → (principal_eq (principal_of y) e.0 && kind_eq y.kind e.1) ≡ s
-        → is_free (column (y ∷ []) bit) e ≡ (counts bit y && (principal_eq (principal_of y) e.0 && kind_eq y.kind e.1))
-    go false f s g = rw f refl
-    go true f true g = rw f (rw g refl)
-    go true f false g = rw f (rw g (and_false_right (not (conflicts (principal_of y, y.kind) e))))
+free_alone y e bit = grind arith

@@ -1,28 +1,14 @@
 -- What is emitted of the plain reduction of a list is its normal form.
-use Rattle.std.proofs.Common.{◌≡◌, ℕ, ◌≤◌, List, [], length, sym, ap, subst, ◌∙◌, arith}
-use Rattle.std.specs.Prelude.{Result, Ok, Err, IfOk}
-use Rattle.std.specs.List.{AllByRecursion}
-use Rattle.acl_perm.specs.Bits.{all_rights}
-use Rattle.acl_perm.specs.Profile.{full}
-use Rattle.acl_nfs4.specs.Ace.{Ace}
+use Rattle.std.proofs.Common.{◌≡◌, ℕ, ◌≤◌, List, [], length}
+use Rattle.acl_normal.proofs.Common.{Ace, all_rights, AllByRecursion, ap, arith, column, count_left, default, equivalence, Err, fits_of, full, HasOnceColumns, IfOk, IsAccepted, IsAce, IsEmission, IsEquivalence, IsNormal, IsNormalFormOf, IsOnce, KeepsProfiles, needed_keys, Ok, Result, SameGrants, subst, sym, unshadowed, weight, ◌∙◌}
 use Rattle.acl_nfs4.specs.Limits.{most_weight}
-use Rattle.acl_nfs4.specs.Spelling.{IsAce, IsAccepted, weight}
-use Rattle.acl_nfs4.proofs.Within.{each_of, fits_of}
-use Rattle.acl_eval.specs.Column.{column}
-use Rattle.acl_eval.specs.Grant.{SameGrants}
-use Rattle.acl_eval.specs.Laws.{IsEquivalence}
-use Rattle.acl_eval.proofs.Same.{equivalence}
-use Rattle.acl_normal.specs.internal.Counts.{count_left}
-use Rattle.acl_normal.specs.internal.Emissions.{HasOnceColumns, IsEmission, IsOnce}
-use Rattle.acl_normal.specs.Normal.{IsNormal}
-use Rattle.acl_normal.specs.NormalForm.{IsNormalFormOf}
-use Rattle.acl_normal.specs.internal.Passes.{IsPlainReduction, KeepsProfiles}
-use Rattle.acl_normal.specs.internal.Plain.{unshadowed, default, needed_keys}
+use Rattle.acl_nfs4.proofs.Within.{each_of}
+use Rattle.acl_normal.specs.internal.Passes.{IsPlainReduction}
 use Rattle.acl_normal.proofs.unique.Accepted.{each_mask, each_name}
 use Rattle.acl_normal.proofs.unique.Normal.{emitted_is_normal, quiet_flags}
 use Rattle.acl_normal.proofs.plain.Reduced.{reduced_once}
 use Rattle.acl_normal.proofs.plain.Shorter.{reduced_shorter}
-use Rattle.acl_normal.proofs.unique.Unique.{unique}
+use Rattle.acl_normal.proofs.unique.Forming.{form_of}
 use Rattle.acl_normal.proofs.unique.Weights.{count_falls, count_within, length_under, weight_falls}
 
 -- a normal list with the grants of an accepted one, with no more keys at any bit and within what that is within, is
@@ -32,28 +18,9 @@ pub form_from : (source result : List Ace) → IsAccepted full source → IsNorm
     → ((bit : ℕ) → length (column result bit) ≤ length (column source bit)) → KeepsProfiles source result
     → IsNormalFormOf source result
 form_from source result accepted normal grants shorter kept =
-    let each = kept full accepted.each in
-    let light : weight result ≤ weight source =
-    weight_falls source result (quiet_flags result normal.flags) (each_mask result each) shorter in record {
-      normal = normal;
-      grants = grants;
-      lighter = light;
-      accepted = record {
-        count = omega (arith, length_under result normal.irreducible.no_empty_mask, light, accepted.weight);
-        weight = omega (arith, light, accepted.weight);
-        each = each;
-      };
-      fits = λ p fits. fits_of p result (kept p (each_of p source accepted.each fits));
-      only = λ other is same. only other is same;
-      itself = λ is. only source is (laws.reflexive source);
-    }
-  where
-    laws : IsEquivalence (SameGrants all_rights)
-    laws = equivalence all_rights
-
-    only : (other : List Ace) → IsNormal other → SameGrants all_rights source other → result ≡ other
-    only other is same =
-        unique result other normal is (laws.transitive result source other (laws.symmetric source result grants) same)
+    form_of source result accepted normal grants
+    (weight_falls source result (quiet_flags result normal.flags) (each_mask result (kept full accepted.each)) shorter)
+    kept
 
 -- each principal once
 pub reduced_columns : (source needed : List Ace) → IsPlainReduction source needed → HasOnceColumns needed

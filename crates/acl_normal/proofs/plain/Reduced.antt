@@ -1,16 +1,5 @@
 -- The plain reduction of a column decides alike, and is settled.
-use Rattle.std.specs.Prelude.{◌≡◌, Bool, true, false, not, ◌||◌, ◌&&◌, ◌⊎◌, [], ◌∷◌, ◌++◌, Option, Some, None, unwrap_or, refl}
-use Rattle.std.proofs.Common.{sym, ◌∙◌, ap, subst, arith, ⊎_elim, inl, inr}
-use Rattle.std.proofs.lemmas.Bool.{or_left, or_from, or_cases, or_parts, and_parts, false_from_ne_true}
-use Rattle.acl_perm.specs.Principal.{Principal, everyone}
-use Rattle.acl_perm.specs.Overlap.{may_overlap}
-use Rattle.acl_perm.specs.declared.kind.Kind.{Kind}
-use Rattle.acl_perm.specs.declared.kind.Kind.TheVariants.{Deny, Allow}
-use Rattle.acl_eval.specs.Column.{Column, first_kind, verdict}
-use Rattle.acl_normal.specs.Keys.{principal_eq, kind_eq}
-use Rattle.acl_normal.specs.internal.Alike.{is_either}
-use Rattle.acl_normal.specs.internal.Emissions.{IsOnce}
-use Rattle.acl_normal.specs.internal.Plain.{reduced, unshadowed, default, has_opposite, is_needed, needed_keys}
+use Rattle.acl_normal.proofs.Common.{[], Allow, and_parts, ap, arith, Bool, Column, default, Deny, everyone, false, false_from_ne_true, first_kind, has_opposite, inl, inr, is_either, is_needed, IsOnce, Kind, kind_eq, may_overlap, needed_keys, None, not, Option, or_cases, or_from, or_left, or_parts, Principal, principal_eq, reduced, refl, Some, subst, sym, true, unshadowed, unwrap_or, verdict, ⊎_elim, ◌&&◌, ◌++◌, ◌||◌, ◌∙◌, ◌∷◌, ◌≡◌, ◌⊎◌}
 use Rattle.acl_normal.proofs.unique.Names.{principal_eq_same, either_first, either_second, either_within}
 use Rattle.acl_normal.proofs.unique.FirstKind.{IsClique, none_within, append_none, append_some}
 use Rattle.acl_normal.proofs.unique.Irreducible.{IsClean, either_same}
@@ -22,55 +11,41 @@ pub same_unshadowed : (m : Principal → Bool) (before c : Column) → m everyon
     → first_kind m (unshadowed before c) ≡ first_kind m c
 same_unshadowed m before [] e none = refl
 same_unshadowed m before ((p, k) ∷ c) e none =
-    go (m p) refl (first_kind (is_either p everyone) before) refl (same_unshadowed m (before ++ (p, k) ∷ []) c e)
-  where
-    go : (b : Bool) → m p ≡ b → (o : Option Kind) → first_kind (is_either p everyone) before ≡ o
-        → (first_kind m (before ++ (p, k) ∷ []) ≡ None → first_kind m (unshadowed (before ++ (p, k) ∷ []) c)
-        ≡ first_kind m c) → first_kind m (unshadowed before ((p, k) ∷ c)) ≡ first_kind m ((p, k) ∷ c)
-    go true h None i ih = rw (i, h) refl
-    go true h (Some j) i ih =
-        let never = none_within m (is_either p everyone) before none (either_within m p everyone h e) in
-        absurd (cc)
-    go false h None i ih = rw (i, h) (ih (append_none m before ((p, k) ∷ []) none ∙ rw h refl))
-    go false h (Some j) i ih = rw (i, h) (ih (append_none m before ((p, k) ∷ []) none ∙ rw h refl))
+    grind (
+      arith,
+      same_unshadowed m (before ++ (p, k) ∷ []) c e,
+      none_within m (is_either p everyone) before none,
+      either_within m p everyone,
+      append_none m before ((p, k) ∷ []) none,
+    )
 
 -- what a key before has, or everyone, is kept no more
 shadowed_lacks : (x : Principal) (j : Kind) (before c : Column) → first_kind (is_either x everyone) before ≡ Some j
     → first_kind (is_either x x) (unshadowed before c) ≡ None
 shadowed_lacks x j before [] h = refl
 shadowed_lacks x j before ((p, k) ∷ c) h =
-    go (first_kind (is_either p everyone) before) refl
-    (shadowed_lacks x j (before ++ (p, k) ∷ []) c (append_some (is_either x everyone) before ((p, k) ∷ []) j h))
+    grind (
+      arith,
+      shadowed_lacks x j (before ++ (p, k) ∷ []) c,
+      append_some (is_either x everyone) before ((p, k) ∷ []) j h,
+      same,
+    )
   where
-    go : (o : Option Kind) → first_kind (is_either p everyone) before ≡ o
-        → first_kind (is_either x x) (unshadowed (before ++ (p, k) ∷ []) c) ≡ None
-        → first_kind (is_either x x) (unshadowed before ((p, k) ∷ c)) ≡ None
-    go (Some i) e ih = rw e ih
-    go None e ih =
-        let other : is_either x x p ≡ false = false_from_ne_true _ (λ t. clash (either_same x p t)) in
-        rw e (rw other ih)
-      where
-        clash : p ≡ x → ⊥
-        clash same =
-            let again = subst (λ v. first_kind (is_either v everyone) before ≡ None) same e in
-            cc
+    same : principal_eq p x ≡ true → first_kind (is_either p everyone) before ≡ Some j
+    same e = subst (λ v. first_kind (is_either v everyone) before ≡ Some j) (sym (principal_eq_same p x e)) h
 
 shadowed_nothing : (j : Kind) (before c : Column) → first_kind (is_either everyone everyone) before ≡ Some j
     → unshadowed before c ≡ []
 shadowed_nothing j before [] h = refl
 shadowed_nothing j before ((p, k) ∷ c) h =
-    go (first_kind (is_either p everyone) before) refl
-    (shadowed_nothing j (before ++ (p, k) ∷ []) c (append_some (is_either everyone everyone) before ((p, k) ∷ []) j h))
-  where
-    go : (o : Option Kind) → first_kind (is_either p everyone) before ≡ o → unshadowed (before ++ (p, k) ∷ []) c ≡ []
-        → unshadowed before ((p, k) ∷ c) ≡ []
-    go (Some i) e ih = rw e ih
-    go None e ih =
-        let never =
-        none_within (is_either p everyone) (is_either everyone everyone) before e
-        (either_within (is_either p everyone) everyone everyone (either_second p everyone)
-        (either_second p everyone)) in
-        absurd (cc)
+    grind (
+      arith,
+      shadowed_nothing j (before ++ (p, k) ∷ []) c
+          (append_some (is_either everyone everyone) before ((p, k) ∷ []) j h),
+      λ (none : first_kind (is_either p everyone) before ≡ None).
+          none_within (is_either p everyone) (is_either everyone everyone) before none
+          (either_within (is_either p everyone) everyone everyone (either_second p everyone) (either_second p everyone)),
+    )
 
 unshadowed_clean : (before c : Column) → IsClean (unshadowed before c)
 unshadowed_clean before [] = tt
@@ -95,29 +70,16 @@ unshadowed_clean before ((p, k) ∷ c) =
 none_needed : (m : Principal → Bool) (d : Kind) (c : Column) → first_kind m c ≡ None
     → first_kind m (needed_keys d c) ≡ None
 none_needed m d [] h = refl
-none_needed m d ((p, k) ∷ c) h = go (is_needed d p k c) refl (m p) refl (none_needed m d c)
-  where
-    go : (b : Bool) → is_needed d p k c ≡ b → (t : Bool) → m p ≡ t
-        → (first_kind m c ≡ None → first_kind m (needed_keys d c) ≡ None)
-        → first_kind m (needed_keys d ((p, k) ∷ c)) ≡ None
-    go b e true f ih = absurd (grind arith)
-    go true e false f ih = rw e (rw f (ih (grind arith)))
-    go false e false f ih = rw e (ih (grind arith))
+none_needed m d ((p, k) ∷ c) h = grind (arith, none_needed m d c)
 
 needed_clean : (d : Kind) (c : Column) → IsClean c → IsClean (needed_keys d c)
 needed_clean d [] h = tt
-needed_clean d ((p, k) ∷ c) h = go (is_needed d p k c) refl (needed_clean d c h.2)
-  where
-    go : (b : Bool) → is_needed d p k c ≡ b → IsClean (needed_keys d c) → IsClean (needed_keys d ((p, k) ∷ c))
-    go true e ih = rw e (none_needed (is_either p p) d c h.0, (λ same. ap (needed_keys d) (h.1 same)), ih)
-    go false e ih = rw e ih
+needed_clean d ((p, k) ∷ c) h = grind (arith, needed_clean d c h.2, h.1, none_needed (is_either p p) d c h.0)
 
 -- the default stays in the rest of a clean column
 default_rest : (p : Principal) (k : Kind) (c : Column) → principal_eq p everyone ≡ false
     → default ((p, k) ∷ c) ≡ default c
-default_rest p k c e =
-    let skip : is_either everyone everyone p ≡ false = or_from _ _ e e in
-    rw skip refl
+default_rest p k c e = grind arith
 
 -- where nothing of another kind may_overlap, the first that matches beside p has the default
 no_opposite : (m : Principal → Bool) (d : Kind) (p : Principal) (c : Column) → IsClique m → m everyone ≡ true
@@ -126,21 +88,7 @@ no_opposite m d p c q e at h none = go (first_kind m c) refl
   where
     has : (c : Column) (k : Kind) → first_kind m c ≡ Some k → has_opposite d p c ≡ false → k ≡ d
     has [] k i none = cc
-    has ((x, j) ∷ c) k i none = split (m x) refl (has c k)
-      where
-        parts : ((may_overlap p x && not (kind_eq j d)) ≡ false) × (has_opposite d p c ≡ false)
-        parts = or_parts (may_overlap p x && not (kind_eq j d)) (has_opposite d p c) none
-
-        not_other : (b : Bool) → kind_eq j d ≡ b → (may_overlap p x && not (kind_eq j d)) ≡ false
-            → may_overlap p x ≡ true → j ≡ d
-        not_other true f g o = kind_eq_same j d f
-        not_other false f g o = absurd (grind arith)
-
-        split : (b : Bool) → m x ≡ b → (first_kind m c ≡ Some k → has_opposite d p c ≡ false → k ≡ d) → k ≡ d
-        split true f ih =
-            let same : j ≡ k = grind arith in
-            sym same ∙ not_other (kind_eq j d) refl parts.0 (q p x at f)
-        split false f ih = ih (grind arith) parts.1
+    has ((x, j) ∷ c) k i none = grind (arith, has c k, kind_eq_same, q p x at)
 
     go : (o : Option Kind) → first_kind m c ≡ o → verdict m c ≡ d
     go (Some k) i = ap (λ o. unwrap_or o Deny) i ∙ has c k i none
@@ -148,100 +96,30 @@ no_opposite m d p c q e at h none = go (first_kind m c) refl
         let nobody = none_within m (is_either everyone everyone) c i (either_within m everyone everyone e e) in
         ap (λ o. unwrap_or o Deny) i ∙ sym (ap (λ o. unwrap_or o Deny) nobody) ∙ h
 
-needed_everyone : (m : Principal → Bool) (d : Kind) (p : Principal) (k : Kind) → m p ≡ true
-    → principal_eq p everyone ≡ true → verdict m (needed_keys d ((p, k) ∷ [])) ≡ verdict m ((p, k) ∷ [])
-needed_everyone m d p Allow at e = rw e refl
-needed_everyone m d p Deny at e = rw (e, at) refl
-
-not_needed : (d : Kind) (p : Principal) (k : Kind) (c : Column) → principal_eq p everyone ≡ false
-    → is_needed d p k c ≡ false → (k ≡ d) × (has_opposite d p c ≡ false)
-not_needed d p k c e h = go (kind_eq k d) refl
-  where
-    rest : (not (kind_eq k d) ≡ false) × (has_opposite d p c ≡ false)
-    rest = or_parts (not (kind_eq k d)) (has_opposite d p c) (rw e at h)
-
-    go : (b : Bool) → kind_eq k d ≡ b → (k ≡ d) × (has_opposite d p c ≡ false)
-    go true f = (kind_eq_same k d f, rest.1)
-    go false f = absurd (grind arith)
+needed_step : (m : Principal → Bool) (d : Kind) (p : Principal) (k : Kind) (c : Column) → m everyone ≡ true
+    → (principal_eq p everyone ≡ true → c ≡ []) → default ((p, k) ∷ c) ≡ d
+    → (default c ≡ d → verdict m (needed_keys d c) ≡ verdict m c)
+    → (m p ≡ true → default c ≡ d → has_opposite d p c ≡ false → verdict m c ≡ d)
+    → verdict m (needed_keys d ((p, k) ∷ c)) ≡ verdict m ((p, k) ∷ c)
+needed_step m d p k c e last h rest none = grind (arith, principal_eq_same p everyone, kind_eq_same k d)
 
 -- the keys that aren't needed decide nothing
 same_needed : (m : Principal → Bool) (d : Kind) (c : Column) → IsClique m → m everyone ≡ true → IsClean c
     → default c ≡ d → verdict m (needed_keys d c) ≡ verdict m c
 same_needed m d [] q e clean h = refl
-same_needed m d ((p, k) ∷ c) q e clean h = go (principal_eq p everyone) refl (same_needed m d c q e clean.2)
-  where
-    rest : principal_eq p everyone ≡ false → default c ≡ d → (b : Bool) → is_needed d p k c ≡ b → (t : Bool) → m p ≡ t
-        → verdict m (needed_keys d c) ≡ verdict m c
-        → verdict m (needed_keys d ((p, k) ∷ c)) ≡ verdict m ((p, k) ∷ c)
-    rest other dc true f true g ih = rw f (rw g refl)
-    rest other dc true f false g ih = rw f (rw g ih)
-    rest other dc false f true g ih =
-        rw (f, g) (ih ∙ no_opposite m d p c q e g dc (not_needed d p k c other f).1
-        ∙ sym (not_needed d p k c other f).0)
-    rest other dc false f false g ih = rw (f, g) ih
-
-    go : (b : Bool) → principal_eq p everyone ≡ b → (default c ≡ d → verdict m (needed_keys d c) ≡ verdict m c)
-        → verdict m (needed_keys d ((p, k) ∷ c)) ≡ verdict m ((p, k) ∷ c)
-    go true f ih =
-        let at : m p ≡ true = subst (λ v. m v ≡ true) (sym (principal_eq_same p everyone f)) e in
-        subst (λ v. verdict m (needed_keys d ((p, k) ∷ v)) ≡ verdict m ((p, k) ∷ v)) (sym (clean.1 f))
-        (needed_everyone m d p k at f)
-    go false f ih =
-        let dc : default c ≡ d = sym (default_rest p k c f) ∙ h in
-        rest f dc (is_needed d p k c) refl (m p) refl (ih dc)
-
-everyone_alone : (d : Kind) (p : Principal) (k : Kind) → principal_eq p everyone ≡ true → default ((p, k) ∷ []) ≡ d
-    → first_kind (is_either everyone everyone) (needed_keys d ((p, k) ∷ [])) ≡ everyone_for d
-everyone_alone d p k e h = go k d refl (sym found ∙ h)
-  where
-    at : is_either everyone everyone p ≡ true
-    at = or_left (principal_eq p everyone) (principal_eq p everyone) e
-
-    found : default ((p, k) ∷ []) ≡ k
-    found = rw at refl
-
-    go : (j i : Kind) → k ≡ j → k ≡ i
-        → first_kind (is_either everyone everyone) (needed_keys i ((p, j) ∷ [])) ≡ everyone_for i
-    go Allow Allow f g = rw e (rw at refl)
-    go Deny Deny f g = rw e refl
-    go Allow Deny f g = absurd (cc)
-    go Deny Allow f g = absurd (cc)
+same_needed m d ((p, k) ∷ c) q e clean h =
+    needed_step m d p k c e clean.1 h (same_needed m d c q e clean.2) (no_opposite m d p c q e)
 
 needed_everyone_is : (d : Kind) (c : Column) → IsClean c → default c ≡ d
     → first_kind (is_either everyone everyone) (needed_keys d c) ≡ everyone_for d
 needed_everyone_is d [] clean h = ap everyone_for h
-needed_everyone_is d ((p, k) ∷ c) clean h = go (principal_eq p everyone) refl (needed_everyone_is d c clean.2)
-  where
-    rest : is_either everyone everyone p ≡ false → (b : Bool) → is_needed d p k c ≡ b
-        → first_kind (is_either everyone everyone) (needed_keys d c) ≡ everyone_for d
-        → first_kind (is_either everyone everyone) (needed_keys d ((p, k) ∷ c)) ≡ everyone_for d
-    rest skip true f ih = rw f (rw skip ih)
-    rest skip false f ih = rw f ih
-
-    go : (b : Bool) → principal_eq p everyone ≡ b
-        → (default c ≡ d → first_kind (is_either everyone everyone) (needed_keys d c) ≡ everyone_for d)
-        → first_kind (is_either everyone everyone) (needed_keys d ((p, k) ∷ c)) ≡ everyone_for d
-    go true f ih =
-        let nothing = clean.1 f in
-        subst (λ v. first_kind (is_either everyone everyone) (needed_keys d ((p, k) ∷ v)) ≡ everyone_for d)
-        (sym nothing) (everyone_alone d p k f (ap (λ v. default ((p, k) ∷ v)) (sym nothing) ∙ h))
-    go false f ih = rest (or_from _ _ f f) (is_needed d p k c) refl (ih (sym (default_rest p k c f) ∙ h))
+needed_everyone_is d ((p, k) ∷ c) clean h = grind (arith, needed_everyone_is d c clean.2, clean.1)
 
 -- in a clean column everyone stands last
 everyone_last : (c : Column) (p : Principal) (k : Kind) → IsClean c → principal_eq p everyone ≡ false
     → first_kind (is_either p p) c ≡ Some k → first_kind (is_either p everyone) c ≡ Some k
 everyone_last [] p k clean e h = cc
-everyone_last ((x, j) ∷ c) p k clean e h =
-    go (principal_eq x p) refl (principal_eq x everyone) refl (everyone_last c p k clean.2 e)
-  where
-    go : (b : Bool) → principal_eq x p ≡ b → (t : Bool) → principal_eq x everyone ≡ t
-        → (first_kind (is_either p p) c ≡ Some k → first_kind (is_either p everyone) c ≡ Some k)
-        → first_kind (is_either p everyone) ((x, j) ∷ c) ≡ Some k
-    go true f t g ih = rw f (grind arith)
-    go false f true g ih =
-        let nothing = ap (first_kind (is_either p p)) (clean.1 g) in
-        absurd (grind arith)
-    go false f false g ih = rw (f, g) (ih (grind arith))
+everyone_last ((x, j) ∷ c) p k clean e h = grind (arith, everyone_last c p k clean.2 e, clean.1)
 
 -- a key of the other kind that may_overlap and stays
 pub record IsOther (d : Kind) (p : Principal) (c : Column) (q : Principal) : Type 0 where
@@ -249,6 +127,11 @@ pub record IsOther (d : Kind) (p : Principal) (c : Column) (q : Principal) : Typ
   pub overlap : may_overlap p q ≡ true
   pub source : first_kind (is_either q q) c ≡ Some (opposite d)
   pub kind : first_kind (is_either q q) (needed_keys d c) ≡ Some (opposite d)
+
+kept_behind : (d : Kind) (p q x : Principal) (j : Kind) (c : Column) (i : Kind) → principal_eq x p ≡ false
+    → principal_eq x q ≡ false → first_kind (is_either p q) (needed_keys d c) ≡ Some i
+    → first_kind (is_either p q) (needed_keys d ((x, j) ∷ c)) ≡ Some i
+kept_behind d p q x j c i e f h = grind arith
 
 -- a key in front of others leaves what comes after it
 other_behind : (d : Kind) (p : Principal) (c : Column) (q x : Principal) (j : Kind) → principal_eq x q ≡ false
@@ -258,25 +141,16 @@ other_behind d p c q x j f h = record {
   overlap = h.overlap;
   source = rw skip
       h.source;
-  kind = go (is_needed d x j c) refl;
+  kind = kept_behind d q q x j c (opposite d) f f h.kind;
 }
   where
     skip : is_either q q x ≡ false
     skip = or_from _ _ f f
 
-    go : (b : Bool) → is_needed d x j c ≡ b
-        → first_kind (is_either q q) (needed_keys d ((x, j) ∷ c)) ≡ Some (opposite d)
-    go true e = rw e (rw skip h.kind)
-    go false e = rw e h.kind
-
 -- a key of another principal, since the column has each once
 apart : (x q : Principal) (c : Column) (k : Kind) → first_kind (is_either x x) c ≡ None
     → first_kind (is_either q q) c ≡ Some k → principal_eq x q ≡ false
-apart x q c k none has =
-    false_from_ne_true _ (λ e. clash (subst (λ v. first_kind (is_either v v) c ≡ None) (principal_eq_same x q e) none))
-  where
-    clash : first_kind (is_either q q) c ≡ None → ⊥
-    clash n = absurd (cc)
+apart x q c k none has = grind (arith, principal_eq_same x q)
 
 find_other : (d : Kind) (p : Principal) (c : Column) → IsClean c → default c ≡ d → has_opposite d p c ≡ true
     → (q : Principal) × IsOther d p c q
@@ -286,16 +160,10 @@ find_other d p ((x, j) ∷ c) clean h has =
     (find_other d p c clean.2)
   where
     not_default : j ≡ d → not (kind_eq j d) ≡ true → ⊥
-    not_default same f =
-        let is : kind_eq j d ≡ true = subst (λ v. kind_eq j v ≡ true) same (kind_eq_itself j) in
-        absurd (clash (kind_eq j d) is f)
-      where
-        clash : (b : Bool) → b ≡ true → not b ≡ true → ⊥
-        clash true g i = cc
-        clash false g i = cc
+    not_default same f = grind (arith, kind_eq_itself j)
 
     other_kind : not (kind_eq j d) ≡ true → j ≡ opposite d
-    other_kind f = ⊎_elim (λ e. absurd (not_default e f)) (λ e. e) (two_kinds j d)
+    other_kind f = grind arith
 
     go : (b : Bool) → principal_eq x everyone ≡ b
         → ((may_overlap p x && not (kind_eq j d)) ≡ true) ⊎ (has_opposite d p c ≡ true)
@@ -327,6 +195,16 @@ find_other d p ((x, j) ∷ c) clean h has =
         behind : (q : Principal) × IsOther d p c q → (q : Principal) × IsOther d p ((x, j) ∷ c) q
         behind (q, o) = (q, other_behind d p c q x j (apart x q c (opposite d) clean.0 o.source) o)
 
+kept_before : (d : Kind) (p x : Principal) (j : Kind) (c : Column) → principal_eq x p ≡ false
+    → first_kind (is_either p p) (needed_keys d ((x, j) ∷ c)) ≡ Some d
+    → first_kind (is_either p p) (needed_keys d c) ≡ Some d
+kept_before d p x j c e h = grind arith
+
+needs_opposite : (d : Kind) (p x : Principal) (j : Kind) (c : Column) → principal_eq x p ≡ true
+    → principal_eq x everyone ≡ false → is_needed d x j c ≡ true
+    → first_kind (is_either p p) (needed_keys d ((x, j) ∷ c)) ≡ Some d → has_opposite d x c ≡ true
+needs_opposite d p x j c e f n h = grind (arith, kind_eq_itself d)
+
 find_witness : (d : Kind) (p : Principal) (c : Column) → IsClean c → default c ≡ d → principal_eq p everyone ≡ false
     → first_kind (is_either p p) (needed_keys d c) ≡ Some d
     → (q : Principal) × IsOther d p c q × (first_kind (is_either p q) (needed_keys d c) ≡ Some d)
@@ -337,26 +215,13 @@ find_witness d p ((x, j) ∷ c) clean h ne has =
     Found : Column → Type 0
     Found v = (q : Principal) × IsOther d p v q × (first_kind (is_either p q) (needed_keys d v) ≡ Some d)
 
-    later : (b : Bool) → is_needed d x j c ≡ b → principal_eq x p ≡ false
+    later : principal_eq x p ≡ false
         → (q : Principal) × IsOther d p c q × (first_kind (is_either p q) (needed_keys d c) ≡ Some d)
         → (q : Principal) × IsOther d p ((x, j) ∷ c) q
         × (first_kind (is_either p q) (needed_keys d ((x, j) ∷ c)) ≡ Some d)
-    later b f e (q, o, a) =
+    later e (q, o, a) =
         let other : principal_eq x q ≡ false = apart x q c (opposite d) clean.0 o.source in
-        (q, other_behind d p c q x j other o, kept b f other a)
-      where
-        kept : (b : Bool) → is_needed d x j c ≡ b → principal_eq x q ≡ false
-            → first_kind (is_either p q) (needed_keys d c) ≡ Some d
-            → first_kind (is_either p q) (needed_keys d ((x, j) ∷ c)) ≡ Some d
-        kept true f other a = rw f (rw (or_from (principal_eq x p) (principal_eq x q) e other) a)
-        kept false f other a = rw f a
-
-    rest_has : (b : Bool) → is_needed d x j c ≡ b → principal_eq x p ≡ false
-        → first_kind (is_either p p) (needed_keys d c) ≡ Some d
-    rest_has true f e =
-        let step : first_kind (is_either p p) ((x, j) ∷ needed_keys d c) ≡ Some d = rw f at has in
-        rw (or_from (principal_eq x p) (principal_eq x p) e e) at step
-    rest_has false f e = rw f at has
+        (q, other_behind d p c q x j other o, kept_behind d p q x j c d e other a)
 
     rest_default : first_kind (is_either p p) (needed_keys d c) ≡ Some d → (t : Bool) → principal_eq x everyone ≡ t
         → default c ≡ d
@@ -371,8 +236,8 @@ find_witness d p ((x, j) ∷ c) clean h ne has =
         → (q : Principal) × IsOther d p ((x, j) ∷ c) q
         × (first_kind (is_either p q) (needed_keys d ((x, j) ∷ c)) ≡ Some d)
     go false e t f ih =
-        let i = rest_has t f e in
-        later t f e (ih (rest_default i (principal_eq x everyone) refl) ne i)
+        let i = kept_before d p x j c e has in
+        later e (ih (rest_default i (principal_eq x everyone) refl) ne i)
     go true e false f ih =
         let gone =
         none_needed (is_either p p) d c
@@ -400,15 +265,7 @@ find_witness d p ((x, j) ∷ c) clean h ne has =
             some_same step'
 
         opp : has_opposite d p c ≡ true
-        opp = subst (λ v. has_opposite d v c ≡ true) same (from (not (kind_eq j d)) refl)
-          where
-            is : kind_eq j d ≡ true
-            is = subst (λ v. kind_eq j v ≡ true) kind (kind_eq_itself j)
-
-            from : (b : Bool) → not (kind_eq j d) ≡ b → has_opposite d x c ≡ true
-            from b i =
-                let whole : (not (kind_eq j d) || has_opposite d x c) ≡ true = rw not_all at f in
-                rw is at whole
+        opp = subst (λ v. has_opposite d v c ≡ true) same (needs_opposite d p x j c e not_all f has)
 
         here : (q : Principal) × IsOther d p c q
             → (q : Principal) × IsOther d p ((x, j) ∷ c) q

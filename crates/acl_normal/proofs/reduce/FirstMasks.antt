@@ -1,28 +1,7 @@
 -- The masks of the first ACEs of a list, place by place.
 use Rattle.std.proofs.Math.Bool.{and-true, or-false, and-false, or_self}
-use Rattle.std.specs.Prelude.{◌≡◌, ℕ, ◌+◌, ◌<◌, ◌≤◌, suc, Bool, true, false, cond, not, ◌||◌, ◌&&◌, List, [], ◌∷◌, ◌++◌, Option, Some, None, is_some, is_none, option_map, length, replicate, take, slice_set, slice_index_or, bit_or, refl}
-use Rattle.std.proofs.Common.{sym, ◌∙◌, ap, subst, arith, add-one}
-use Rattle.std.proofs.lemmas.List.{append-nil, get_or-replicate, get_or-set_same, get_or-set_other, length-append, length-replicate, length-set, length-take-le, take_all, take_more}
-use Rattle.acl_perm.specs.Bits.{IsDifference, has_bit}
-use Rattle.acl_perm.specs.Principal.{Principal, everyone}
-use Rattle.acl_perm.specs.Profile.{full}
-use Rattle.acl_perm.specs.declared.kind.Kind.{Kind}
-use Rattle.acl_perm.proofs.Sets.{has_bit-or}
-use Rattle.acl_nfs4.specs.Ace.{Ace, ace}
-use Rattle.acl_nfs4.specs.Spelling.{IsAccepted}
-use Rattle.acl_nfs4.specs.Who.{principal_of}
-use Rattle.acl_nfs4.specs.declared.ace.AceRef.{AceRef}
-use Rattle.acl_eval.specs.Column.{Column, first_kind, column}
-use Rattle.acl_normal.specs.internal.Alike.{is_either}
-use Rattle.acl_normal.specs.Keys.{Key, ace_key, principal_eq}
-use Rattle.acl_normal.specs.internal.Emissions.{IsOnce}
-use Rattle.acl_normal.specs.Left.{IsTidy, KeepsFirsts}
-use Rattle.acl_normal.specs.Normal.{IsQuiet, is_inherit_only, counts}
-use Rattle.acl_normal.specs.Places.{first_at, nothing_left}
-use Rattle.acl_normal.specs.internal.Plain.{unshadowed}
+use Rattle.acl_normal.proofs.Common.{[], Ace, ace, ace_key, AceRef, aces_in, add-one, ap, append-nil, AreRowNumbers, arith, bit_or, Bool, Column, column, cond, counts, everyone, false, first_at, first_kind, full, get_or-replicate, get_or-set_other, get_or-set_same, has_bit, has_bit-or, is_either, is_inherit_only, is_named, is_none, is_some, IsAccepted, IsDifference, IsOnce, IsQuiet, IsTidy, KeepsFirsts, Key, Kind, length, length-append, length-replicate, length-set, length-take-le, List, None, not, nothing_left, Option, option_map, Principal, principal_eq, principal_of, refl, replicate, row_of, slice_index_or, slice_set, Some, subst, suc, sym, take, take_all, take_more, true, unshadowed, with_masks, ℕ, ◌&&◌, ◌++◌, ◌+◌, ◌<◌, ◌||◌, ◌∙◌, ◌∷◌, ◌≡◌, ◌≤◌}
 use Rattle.acl_normal.specs.internal.Reduced.{IsThinned}
-use Rattle.acl_normal.specs.internal.Rows.{AreRowNumbers, is_named, row_of}
-use Rattle.acl_normal.specs.internal.Shown.{aces_in, with_masks}
 use Rattle.acl_normal.proofs.unique.Accepted.{accepted_masks}
 use Rattle.acl_normal.proofs.unique.Bits.{no_bits, no_bits_of_zero}
 use Rattle.acl_normal.proofs.unique.Columns.{column_first}

@@ -1,19 +1,5 @@
 -- What is unshadowed in a column, and ACEs by place.
-use Rattle.std.specs.Prelude.{◌≡◌, ℕ, ◌<◌, zero, suc, Bool, true, false, cond, not, ◌||◌, List, [], ◌∷◌, ◌++◌, Option, Some, None, is_some, is_none, length, take, slice_index_or, refl}
-use Rattle.std.proofs.Common.{sym, ◌∙◌, ap, subst, arith, add-one, append_assoc}
-use Rattle.std.proofs.lemmas.List.{take_more, append-nil}
-use Rattle.acl_perm.specs.Principal.{Principal, everyone}
-use Rattle.acl_perm.specs.declared.kind.Kind.{Kind}
-use Rattle.acl_nfs4.specs.Ace.{Ace, ace}
-use Rattle.acl_nfs4.specs.Who.{principal_of}
-use Rattle.acl_nfs4.specs.declared.ace.AceRef.{AceRef}
-use Rattle.acl_eval.specs.Column.{Column, first_kind, column}
-use Rattle.acl_normal.specs.Keys.{principal_eq, Key, ace_key}
-use Rattle.acl_normal.specs.internal.Alike.{is_either}
-use Rattle.acl_normal.specs.internal.Plain.{unshadowed}
-use Rattle.acl_normal.specs.Places.{first_at, key_here}
-use Rattle.acl_normal.specs.Normal.{counts}
-use Rattle.acl_normal.specs.internal.Shown.{aces_in}
+use Rattle.acl_normal.proofs.Common.{[], Ace, ace, ace_key, AceRef, aces_in, add-one, ap, append-nil, append_assoc, arith, Bool, Column, column, cond, counts, everyone, false, first_at, first_kind, is_either, is_none, is_some, Key, key_here, Kind, length, List, None, not, Option, Principal, principal_eq, principal_of, refl, slice_index_or, Some, subst, suc, sym, take, take_more, true, unshadowed, zero, ℕ, ◌++◌, ◌<◌, ◌||◌, ◌∙◌, ◌∷◌, ◌≡◌}
 use Rattle.acl_normal.proofs.unique.Names.{either_second}
 use Rattle.acl_normal.proofs.unique.ListColumns.{column-append}
 use Rattle.acl_normal.proofs.plain.Reduced.{same_unshadowed}

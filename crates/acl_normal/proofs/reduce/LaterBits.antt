@@ -1,27 +1,8 @@
 -- The masks of what later ACEs have, and of what everyone is allowed.
-use Rattle.std.specs.Prelude.{◌≡◌, ℕ, ◌+◌, ◌<◌, ◌≤◌, zero, suc, Bool, true, false, cond, ◌||◌, ◌&&◌, List, [], ◌∷◌, ◌++◌, take, Option, Some, None, option_map, bit_and, length, slice_index_or, refl}
-use Rattle.std.specs.Int.{bit_at}
-use Rattle.std.proofs.Common.{sym, ◌∙◌, ap, subst, arith}
-use Rattle.std.proofs.lemmas.Bool.{eq-eqb, ne_eqb, eqb-true}
-use Rattle.std.proofs.lemmas.List.{take_all, take_more}
-use Rattle.std.proofs.lemmas.Nat.Bits.{bit_at_and, bit_at-lt}
-use Rattle.acl_perm.specs.Principal.{Principal, everyone}
-use Rattle.acl_perm.specs.declared.kind.Kind.{Kind}
-use Rattle.acl_perm.specs.declared.kind.Kind.TheVariants.{Deny, Allow}
-use Rattle.acl_perm.specs.Bits.{IsUnion, all_rights, has_bit}
-use Rattle.acl_nfs4.specs.Ace.{Ace, ace}
-use Rattle.acl_nfs4.specs.Who.{principal_of}
-use Rattle.acl_nfs4.specs.declared.ace.AceRef.{AceRef}
-use Rattle.acl_eval.specs.Column.{first_kind, column}
-use Rattle.acl_normal.specs.Keys.{principal_eq, kind_eq}
-use Rattle.acl_normal.specs.Places.{first_at, mask_here}
-use Rattle.acl_normal.specs.internal.Alike.{is_either}
-use Rattle.acl_normal.specs.internal.Emissions.{HasOnceColumns, IsOnce}
-use Rattle.acl_normal.specs.Normal.{IsQuiet, is_inherit_only, counts}
-use Rattle.acl_normal.specs.internal.Plain.{default}
-use Rattle.acl_normal.specs.internal.Shown.{with_masks}
+use Rattle.acl_normal.proofs.Common.{[], Ace, ace, AceRef, all_rights, Allow, ap, arith, bit_and, bit_at, bit_at-lt, Bool, column, cond, counts, default, default_at, Deny, eq-eqb, eqb-true, everyone, false, first_at, first_kind, has_bit, HasOnceColumns, is_either, is_inherit_only, IsOnce, IsQuiet, IsUnion, Kind, kind_eq, length, List, mask_here, ne_eqb, None, Option, option_map, Principal, principal_eq, principal_of, refl, slice_index_or, Some, subst, suc, sym, take, take_all, take_more, true, with_masks, zero, ℕ, ◌&&◌, ◌++◌, ◌+◌, ◌<◌, ◌||◌, ◌∙◌, ◌∷◌, ◌≡◌, ◌≤◌}
+use Rattle.std.proofs.lemmas.Nat.Bits.{bit_at_and}
 use Rattle.acl_normal.specs.declared.reduce.needless.ByClass.{ByClass}
-use Rattle.acl_normal.specs.internal.Needed.{class_mask, default_at}
+use Rattle.acl_normal.specs.internal.Needed.{class_mask}
 use Rattle.acl_normal.proofs.unique.Bits.{no_bit, no_bits_of_zero}
 use Rattle.acl_normal.proofs.reduce.FirstMasks.{masked}
 use Rattle.acl_normal.proofs.unique.Names.{principal_eq_same}

@@ -1,22 +1,6 @@
 -- A list with reduced columns is irreducible and grants the same.
-use Rattle.std.specs.Prelude.{◌≡◌, ℕ, ◌<◌, ◌≤◌, Bool, true, false, ◌==◌, List, [], ◌∷◌, refl}
-use Rattle.std.specs.Int.{bit_at}
-use Rattle.std.proofs.Common.{sym, ◌∙◌, ap, subst, arith, ⊎_elim}
-use Rattle.std.proofs.lemmas.Bool.{cases_lt, eqb-true, eqb-false}
-use Rattle.std.proofs.lemmas.Nat.Bits.{bit_at_above}
+use Rattle.acl_normal.proofs.Common.{[], Ace, all_rights, ap, arith, bit_at, bit_at_above, Bool, cases_lt, column, default, eqb-false, eqb-true, false, full, has_bit, HasMasks, HasNames, HasNoEmptyMask, IsAccepted, IsIrreducible, IsIrreducibleList, IsNormal, IsQuiet, IsTidy, left, List, matches, needed_keys, nothing_left, reduced, refl, SameGrants, subst, sym, true, unshadowed, verdict, ℕ, ⊎_elim, ◌<◌, ◌==◌, ◌∙◌, ◌∷◌, ◌≡◌, ◌≤◌}
 use mathlib.Core.Logic.Iff.{symm, trans}
-use Rattle.acl_perm.specs.Situation.{matches}
-use Rattle.acl_perm.specs.Bits.{has_bit, all_rights}
-use Rattle.acl_perm.specs.Profile.{full}
-use Rattle.acl_nfs4.specs.Ace.{Ace}
-use Rattle.acl_nfs4.specs.Spelling.{IsAccepted}
-use Rattle.acl_eval.specs.Column.{verdict, column}
-use Rattle.acl_eval.specs.Grant.{SameGrants}
-use Rattle.acl_normal.specs.internal.Alike.{IsIrreducible}
-use Rattle.acl_normal.specs.Normal.{HasNoEmptyMask, IsIrreducibleList, IsNormal, IsQuiet, HasMasks, HasNames}
-use Rattle.acl_normal.specs.internal.Plain.{unshadowed, default, needed_keys, reduced}
-use Rattle.acl_normal.specs.Left.{IsTidy, left}
-use Rattle.acl_normal.specs.Places.{nothing_left}
 use Rattle.acl_normal.proofs.unique.Accepted.{accepted_masks, accepted_names}
 use Rattle.acl_normal.proofs.unique.ListColumns.{names_in_column, same_grants_from_columns}
 use Rattle.acl_normal.proofs.unique.Normal.{irreducible_list, clique_of}

@@ -1,31 +1,8 @@
 -- The needless bits dropped, from the last ACE to the first.
 use Rattle.std.proofs.Math.Bool.{and-true}
-use Rattle.std.specs.Prelude.{◌≡◌, ℕ, ◌+◌, ◌<◌, ◌≤◌, zero, suc, Bool, true, false, cond, not, ◌||◌, ◌&&◌, List, [], ◌∷◌, ◌++◌, Some, None, length, slice_index_or, slice_set, refl}
-use Rattle.std.proofs.Common.{sym, ◌∙◌, ap, subst, arith, append_assoc}
-use Rattle.std.proofs.lemmas.Bool.{and_parts}
-use Rattle.std.proofs.lemmas.List.{length-append, append-nil}
-use Rattle.acl_perm.specs.Principal.{Principal, owner, user, group, group_named, everyone, is_user}
-use Rattle.acl_perm.specs.Overlap.{may_overlap}
-use Rattle.acl_perm.specs.declared.kind.Kind.{Kind}
-use Rattle.acl_perm.specs.declared.kind.Kind.TheVariants.{Deny, Allow}
-use Rattle.acl_perm.specs.Bits.{has_bit}
-use Rattle.acl_nfs4.specs.Ace.{Ace, ace}
-use Rattle.acl_nfs4.specs.Who.{principal_of}
-use Rattle.acl_nfs4.specs.declared.ace.AceRef.{AceRef}
-use Rattle.acl_eval.specs.Column.{Column, first_kind, column}
-use Rattle.acl_eval.specs.Scan.{without}
-use Rattle.acl_eval.proofs.Scans.{has_bit-without}
-use Rattle.acl_normal.specs.Keys.{principal_eq, Key, ace_key, kind_eq}
-use Rattle.acl_normal.specs.Places.{same_class, first_at, without_bits, take_out, key_here, mask_here, nothing_left}
-use Rattle.acl_perm.specs.Kind.{other_kind}
-use Rattle.acl_normal.specs.internal.Alike.{is_either}
-use Rattle.acl_normal.specs.Normal.{is_inherit_only, IsQuiet, counts}
-use Rattle.acl_normal.specs.internal.Emissions.{IsOnce, HasOnceColumns}
-use Rattle.acl_normal.specs.internal.Plain.{default, has_opposite, is_needed, needed_keys}
-use Rattle.acl_normal.specs.Left.{IsTidy, KeepsFirsts}
-use Rattle.acl_normal.specs.internal.Shown.{with_masks}
+use Rattle.acl_normal.proofs.Common.{[], Ace, ace, ace_key, AceRef, Allow, and_parts, ap, append-nil, append_assoc, arith, Bool, Column, column, cond, counts, default, default_at, Deny, everyone, false, first_at, first_kind, group, group_named, has_bit, has_bit-without, has_opposite, HasOnceColumns, is_either, is_inherit_only, is_needed, is_user, IsOnce, IsQuiet, IsTidy, KeepsFirsts, Key, key_here, Kind, kind_eq, length, length-append, List, mask_here, may_overlap, needed_keys, None, not, nothing_left, other_kind, owner, Principal, principal_eq, principal_of, refl, same_class, slice_index_or, slice_set, Some, subst, suc, sym, take_out, true, user, with_masks, without, without_bits, zero, ℕ, ◌&&◌, ◌++◌, ◌+◌, ◌<◌, ◌||◌, ◌∙◌, ◌∷◌, ◌≡◌, ◌≤◌}
 use Rattle.acl_normal.specs.declared.reduce.needless.Later.{Later}
-use Rattle.acl_normal.specs.internal.Needed.{default_at, some_of, later_mask, opposes, is_kept}
+use Rattle.acl_normal.specs.internal.Needed.{some_of, later_mask, opposes, is_kept}
 use Rattle.acl_normal.proofs.unique.Bits.{masks_same, no_bits_of_zero}
 use Rattle.acl_normal.proofs.unique.Names.{principal_eq_itself, principal_eq_same, overlaps_back}
 use Rattle.acl_normal.proofs.unique.ListColumns.{column-append}

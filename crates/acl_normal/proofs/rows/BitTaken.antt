@@ -1,21 +1,9 @@
 -- One bit of a principal taken out of the rows.
-use Rattle.std.specs.Prelude.{◌≡◌, ◌≢◌, ℕ, ◌<◌, ◌^◌, zero, suc, Bool, true, false, cond, ◌&&◌, ◌==◌, List, [], ◌∷◌, Some, length, slice_index_or, slice_set, refl}
-use Rattle.std.specs.Ordering.{nat_cmp, is_eq}
-use Rattle.std.specs.declared.cmp.Ordering.TheVariants.{Equal}
-use Rattle.std.specs.Cmp.{nat_cmp_is, Equal-is}
+use Rattle.acl_normal.proofs.Common.{[], Allow, and_parts, ap, arith, Bool, cases_eq, cond, Deny, eq-eqb, Equal, false, false_from_ne_true, first_at, get_or-set_other, get_or-set_same, has_bit, is_at, is_eq, is_user, Kind, kind_eq, length, List, list_any, nat_cmp, nat_cmp_is, ne_eqb, Principal, refl, same_class, slice_index_or, slice_set, slot_of, Some, suc, sym, take_out, true, waits, zero, ℕ, ⊎_elim, ◌&&◌, ◌<◌, ◌==◌, ◌^◌, ◌∙◌, ◌∷◌, ◌≡◌, ◌≢◌}
+use Rattle.std.specs.Cmp.{Equal-is}
 use Rattle.std.specs.Vec.{with_item}
-use Rattle.std.specs.BTreeMap.{is_at}
 use Rattle.std.specs.declared.collections.BTreeSet.{BTreeSet}
-use Rattle.std.specs.List.{list_any}
-use Rattle.std.proofs.Common.{sym, ◌∙◌, ap, arith, ⊎_elim, Global}
-use Rattle.std.proofs.lemmas.List.{get_or-set_same, get_or-set_other}
-use Rattle.std.proofs.lemmas.Bool.{eq-eqb, ne_eqb, and_parts, cases_eq, false_from_ne_true}
-use Rattle.acl_perm.specs.Principal.{Principal, is_user}
-use Rattle.acl_perm.specs.declared.kind.Kind.{Kind}
-use Rattle.acl_perm.specs.declared.kind.Kind.TheVariants.{Deny, Allow}
-use Rattle.acl_perm.specs.Bits.{has_bit}
-use Rattle.acl_normal.specs.Keys.{kind_eq}
-use Rattle.acl_normal.specs.Places.{waits, first_at, slot_of, take_out, same_class}
+use Rattle.std.proofs.Common.{Global}
 use Rattle.acl_normal.specs.declared.rows.merged.MergedRows.TheInside.{Inside}
 use Rattle.acl_normal.specs.internal.Merged.{IsMerged}
 use Rattle.acl_normal.proofs.unique.Free.{kind_eq_same}

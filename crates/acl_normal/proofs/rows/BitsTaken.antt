@@ -1,20 +1,5 @@
 -- Several bits of a principal taken out, one after the other.
-use Rattle.std.specs.Prelude.{◌≡◌, ℕ, ◌+◌, ◌<◌, ◌≤◌, ◌^◌, zero, suc, Bool, true, false, not, ◌||◌, ◌&&◌, nat_lt, List, [], ◌∷◌, bit_or, refl, length, slice_index_or}
-use Rattle.std.proofs.Common.{sym, ◌∙◌, ap, arith, ⊎_elim, add-one, subst}
-use Rattle.std.proofs.lemmas.Bool.{cases_eq, eq-eqb, ne_eqb, cases_lt, le-ltb, lt-ltb}
-use Rattle.acl_perm.specs.Principal.{Principal}
-use Rattle.acl_perm.specs.Bits.{has_bit}
-use Rattle.acl_perm.proofs.Sets.{has_bit-or}
-use Rattle.acl_nfs4.specs.Ace.{Ace, ace}
-use Rattle.acl_nfs4.specs.Who.{principal_of}
-use Rattle.acl_nfs4.specs.declared.ace.AceRef.{AceRef}
-use Rattle.acl_eval.specs.Scan.{without}
-use Rattle.acl_eval.proofs.Scans.{has_bit-without}
-use Rattle.acl_normal.specs.Keys.{principal_eq}
-use Rattle.acl_normal.specs.Normal.{is_inherit_only}
-use Rattle.acl_normal.specs.internal.Shown.{with_masks}
-use Rattle.acl_normal.specs.Places.{without_bits, take_out, key_here}
-use Rattle.acl_normal.specs.internal.Ready.{low_bits}
+use Rattle.acl_normal.proofs.Common.{[], Ace, ace, AceRef, add-one, ap, arith, bit_or, Bool, cases_eq, cases_lt, eq-eqb, false, has_bit, has_bit-or, has_bit-without, is_inherit_only, key_here, le-ltb, length, List, low_bits, lt-ltb, nat_lt, ne_eqb, not, Principal, principal_eq, principal_of, refl, slice_index_or, subst, suc, sym, take_out, true, with_masks, without, without_bits, zero, ℕ, ⊎_elim, ◌&&◌, ◌+◌, ◌<◌, ◌^◌, ◌||◌, ◌∙◌, ◌∷◌, ◌≡◌, ◌≤◌}
 use Rattle.acl_normal.proofs.unique.Bits.{masks_same, no_bits_of_zero}
 use Rattle.acl_normal.proofs.rows.BitTaken.{power_is}
 

@@ -1,24 +1,5 @@
 -- Where each right of a principal stands: the place of its first ACE with the right.
-use Rattle.std.specs.Prelude.{◌≡◌, ℕ, ◌<◌, ◌≤◌, zero, suc, true, false, ◌&&◌, ◌⊎◌, List, [], ◌∷◌, Option, Some, None, option_map, length, slice_index_or, refl}
-use Rattle.std.specs.Ordering.{is_le, ordering_reverse}
-use Rattle.std.specs.declared.cmp.Ordering.{Ordering}
-use Rattle.std.specs.declared.cmp.Ordering.TheVariants.{Less, Equal, Greater}
-use Rattle.std.proofs.Common.{sym, ◌∙◌, ap, subst, arith, inl, inr, ⊎_elim}
-use Rattle.std.proofs.lemmas.Bool.{and_from, and_parts, cases_lt}
-use Rattle.std.proofs.lemmas.Option.{same_Some}
-use Rattle.acl_perm.specs.Bits.{has_bit}
-use Rattle.acl_perm.specs.Order.{principal_cmp}
-use Rattle.acl_perm.specs.Principal.{Principal, is_user}
-use Rattle.acl_perm.specs.declared.kind.Kind.{Kind}
-use Rattle.acl_perm.proofs.Orders.{principal_exact, principal_order}
-use Rattle.acl_nfs4.specs.Ace.{Ace}
-use Rattle.acl_nfs4.specs.Who.{principal_of}
-use Rattle.acl_eval.specs.Column.{column}
-use Rattle.acl_normal.specs.Keys.{Key, kind_eq}
-use Rattle.acl_normal.specs.Normal.{IsQuiet, counts}
-use Rattle.acl_normal.specs.Places.{first_at, key_here, mask_here, principal_here, same_class, waits}
-use Rattle.acl_normal.specs.internal.Emissions.{IsOnce}
-use Rattle.acl_normal.specs.internal.Rows.{AreRowNumbers, IsByPrincipal, IsRowOf, first_place_of, row_of}
+use Rattle.acl_normal.proofs.Common.{[], Ace, and_from, and_parts, ap, AreRowNumbers, arith, cases_lt, column, counts, Equal, false, first_at, first_place_of, Greater, has_bit, inl, inr, is_le, is_user, IsByPrincipal, IsOnce, IsQuiet, IsRowOf, Key, key_here, Kind, kind_eq, length, Less, List, mask_here, None, Option, option_map, Ordering, ordering_reverse, Principal, principal_cmp, principal_exact, principal_here, principal_of, principal_order, refl, row_of, same_class, same_Some, slice_index_or, Some, subst, suc, sym, true, waits, zero, ℕ, ⊎_elim, ◌&&◌, ◌<◌, ◌∙◌, ◌∷◌, ◌≡◌, ◌≤◌, ◌⊎◌}
 use Rattle.acl_normal.proofs.emit.Walk.{key_from_first, same_class_itself, stands_at}
 use Rattle.acl_normal.proofs.rows.Rows.{named_here, row_same}
 use Rattle.acl_normal.proofs.rows.TakeOut.{IsHere, IsThere, first_cases}
@@ -67,14 +48,14 @@ waits_here b (a ∷ xs) zero quiet has l =
 waits_here b (a ∷ xs) (suc i) quiet has l = waits_here b xs i quiet.1 has (omega (arith, l))
 
 -- and is the first of its principal, in a column with each principal once
-first_here : (b : ℕ) (xs : List Ace) (i : ℕ) → IsOnce (column xs b) → IsQuiet xs → has_bit (mask_here xs i) b ≡ true
+pub first_here : (b : ℕ) (xs : List Ace) (i : ℕ) → IsOnce (column xs b) → IsQuiet xs → has_bit (mask_here xs i) b ≡ true
     → i < length xs → first_place_of b (principal_here xs i) xs ≡ Some i
 first_here b xs i once quiet has l =
     ap (option_map (λ (e : Kind × ℕ). e.1)) (stands_at (key_here xs i).1 (is_user (key_here xs i).0) b xs i once
     (waits_here b xs i quiet has l)).first
 
 -- what stands first has the bit
-has_first : (b : ℕ) (p : Principal) (xs : List Ace) (j : Kind) (i : ℕ) → first_at b p xs ≡ Some (j, i)
+pub has_first : (b : ℕ) (p : Principal) (xs : List Ace) (j : Kind) (i : ℕ) → first_at b p xs ≡ Some (j, i)
     → has_bit (mask_here xs i) b ≡ true
 has_first b p [] j i h = cc
 has_first b p (a ∷ xs) j i h = go (first_cases b p a xs j i h) (has_first b p xs j)
@@ -86,7 +67,7 @@ has_first b p (a ∷ xs) j i h = go (first_cases b p a xs j i h) (has_first b p 
     go (inr there) ih = rw there.place (ih there.before there.first)
 
 -- the ACE at a place that is first of a principal names it
-named_there : (b : ℕ) (p : Principal) (xs : List Ace) (i : ℕ) → first_place_of b p xs ≡ Some i → principal_here xs i ≡ p
+pub named_there : (b : ℕ) (p : Principal) (xs : List Ace) (i : ℕ) → first_place_of b p xs ≡ Some i → principal_here xs i ≡ p
 named_there b p xs i h = ap (λ (k : Key). k.0) (key_from_first b p xs _ i (first_by_place b p xs i h))
 
 -- ---- the places of a row, in the order of the principals

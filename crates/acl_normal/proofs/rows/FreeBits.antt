@@ -1,15 +1,5 @@
 -- Whether a principal is free at a bit, by its place.
-use Rattle.std.specs.Prelude.{◌≡◌, ℕ, Bool, true, false, not, ◌||◌, List, Some, None, refl}
-use Rattle.std.proofs.Common.{ap, sym, ◌∙◌}
-use Rattle.acl_perm.specs.Principal.{Principal, is_user}
-use Rattle.acl_perm.specs.declared.kind.Kind.{Kind}
-use Rattle.acl_perm.specs.declared.kind.Kind.TheVariants.{Deny, Allow}
-use Rattle.acl_eval.specs.Column.{column}
-use Rattle.acl_nfs4.specs.Ace.{Ace}
-use Rattle.acl_normal.specs.internal.Emissions.{IsOnce}
-use Rattle.acl_normal.specs.Places.{first_at, is_blocked}
-use Rattle.acl_perm.specs.Kind.{other_kind}
-use Rattle.acl_normal.specs.Normal.{is_free}
+use Rattle.acl_normal.proofs.Common.{Ace, Allow, ap, Bool, column, Deny, false, first_at, is_blocked, is_free, is_user, IsOnce, Kind, List, None, not, other_kind, Principal, refl, Some, sym, true, ℕ, ◌||◌, ◌∙◌, ◌≡◌}
 use Rattle.acl_normal.proofs.rows.FreeByPlaces.{free_at_first, none_free}
 
 -- where none of its ACEs has the bit it is not

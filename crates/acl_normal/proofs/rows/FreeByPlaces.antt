@@ -1,18 +1,5 @@
 -- Whether a key is free, by the places that wait.
-use Rattle.std.specs.Prelude.{◌≡◌, ℕ, suc, Bool, true, false, not, ◌||◌, ◌&&◌, List, [], ◌∷◌, Option, Some, None, refl}
-use Rattle.std.proofs.Common.{sym, ◌∙◌, ap, subst}
-use Rattle.acl_perm.specs.Principal.{Principal, owner, user, group, group_named, everyone, is_user}
-use Rattle.acl_perm.specs.declared.kind.Kind.{Kind}
-use Rattle.acl_perm.specs.declared.kind.Kind.TheVariants.{Deny, Allow}
-use Rattle.acl_nfs4.specs.Ace.{Ace}
-use Rattle.acl_nfs4.specs.Who.{principal_of}
-use Rattle.acl_eval.specs.Column.{Column, first_kind, column}
-use Rattle.acl_normal.specs.Keys.{principal_eq, kind_eq, conflicts}
-use Rattle.acl_normal.specs.Places.{same_class, waits_before, is_blocked, first_at}
-use Rattle.acl_perm.specs.Kind.{other_kind}
-use Rattle.acl_normal.specs.internal.Alike.{is_either}
-use Rattle.acl_normal.specs.Normal.{is_free, counts}
-use Rattle.acl_normal.specs.internal.Emissions.{IsOnce}
+use Rattle.acl_normal.proofs.Common.{[], Ace, Allow, ap, Bool, Column, column, conflicts, counts, Deny, everyone, false, first_at, first_kind, group, group_named, is_blocked, is_either, is_free, is_user, IsOnce, Kind, kind_eq, List, None, not, Option, other_kind, owner, Principal, principal_eq, principal_of, refl, same_class, Some, subst, suc, sym, true, user, waits_before, ℕ, ◌&&◌, ◌||◌, ◌∙◌, ◌∷◌, ◌≡◌}
 use Rattle.acl_normal.proofs.unique.Names.{principal_eq_same}
 use Rattle.acl_normal.proofs.unique.Free.{kind_eq_itself}
 use Rattle.acl_normal.proofs.rows.PairParts.{some_pair}

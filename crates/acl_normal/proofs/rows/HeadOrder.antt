@@ -1,19 +1,12 @@
 -- A head that is less is of a principal that comes first.
-use Rattle.std.specs.Prelude.{◌≡◌, ℕ, ◌+◌, ◌*◌, ◌<◌, ◌≤◌, zero, suc, List, [], ◌∷◌, drop, get_or, ◌⊎◌, refl}
-use Rattle.std.specs.Cmp.{nat_cmp_is}
-use Rattle.std.specs.Cmp.Lexicographic.{slice_cmp}
-use Rattle.std.specs.Ordering.{nat_cmp, ordering_then}
-use Rattle.std.specs.declared.cmp.Ordering.{Ordering}
-use Rattle.std.specs.declared.cmp.Ordering.TheVariants.{Less, Equal, Greater}
-use Rattle.std.proofs.Common.{sym, ◌∙◌, arith, inl, inr}
-use Rattle.std.proofs.lemmas.Bool.{cases_lt}
+use Rattle.std.specs.Prelude.{get_or}
+use Rattle.acl_normal.proofs.Common.{[], ap, arith, BeginsWith, cases_lt, drop, Equal, everyone, Greater, group, group_named, inl, inr, length, Less, List, nat_cmp, nat_cmp_is, Ordering, owner, Principal, principal, principal_cmp, principal_name, refl, slice_cmp, subst, suc, sym, take, user, zero, ℕ, ◌*◌, ◌+◌, ◌<◌, ◌∙◌, ◌∷◌, ◌≡◌, ◌≤◌, ◌⊎◌}
+use Rattle.std.specs.Ordering.{ordering_then}
 use Rattle.std.proofs.lemmas.Map.Lookups.{exact_unsigned}
-use Rattle.acl_perm.specs.Order.{principal_cmp, principal_name, principal_rank}
-use Rattle.acl_perm.specs.Principal.{Principal, principal}
+use Rattle.acl_perm.specs.Order.{principal_rank}
 use Rattle.acl_perm.specs.declared.principal.Principal.{Principal as PrincipalRef}
-use Rattle.acl_perm.specs.declared.principal.Principal.TheVariants.{Owner}
 use Rattle.acl_nfs4.specs.internal.Progress.{IsBytes}
-use Rattle.acl_normal.specs.internal.Heads.{HasHead, head_from, principal_head}
+use Rattle.acl_normal.specs.internal.Heads.{HasHead, IsHeadOf, head_from, principal_head}
 
 less : (x y : ℕ) → x < y → nat_cmp x y ≡ Less
 less x y l = sym (nat_cmp_is x y Less l)
@@ -100,15 +93,53 @@ names_agree (suc n) m k (b ∷ xs) (c ∷ ys) f g e =
     (λ l. before_decides n (k * 256 + c) (m * 256 + b) ys xs (tail_bytes c ys g) (omega (arith, e, l)))
     (λ h. names_agree n (m * 256 + b) (k * 256 + c) xs ys (tail_bytes b xs f) (tail_bytes c ys g) (omega (arith, e, h)))
 
--- the heads never say other than the principals
-heads_agree : (p q : Principal) → IsBytes (principal_name p) → IsBytes (principal_name q)
-    → Agrees (principal_head p) (principal_head q) (principal_cmp p q)
-heads_agree p q f g =
-    decided (principal_rank p) (principal_rank q) (principal_head p) (principal_head q)
+-- bytes that are the same decide nothing
+compared_behind : (c : ℕ) (xs ys : List ℕ) → take c xs ≡ take c ys
+    → slice_cmp nat_cmp (drop c xs) (drop c ys) ≡ slice_cmp nat_cmp xs ys
+compared_behind zero xs ys e = refl
+compared_behind (suc c) [] [] e = refl
+compared_behind (suc c) [] (y ∷ ys) e = absurd (cc)
+compared_behind (suc c) (x ∷ xs) [] e = absurd (cc)
+compared_behind (suc c) (x ∷ xs) (y ∷ ys) e =
+    compared_behind c xs ys (ap (drop 1) e)
+    ∙ sym (ap (λ o. ordering_then o (slice_cmp nat_cmp xs ys)) (equal x y (ap (λ v. get_or v 0 0) e)))
+
+-- what is behind some bytes are bytes
+bytes_behind : (c : ℕ) (xs : List ℕ) → IsBytes xs → IsBytes (drop c xs)
+bytes_behind zero xs h = h
+bytes_behind (suc c) [] h = h
+bytes_behind (suc c) (x ∷ xs) h = bytes_behind c xs (tail_bytes x xs h)
+
+-- the heads never say other than the principals, where names of one rank begin alike
+heads_agree : (c m k : ℕ) (p q : Principal) → IsHeadOf c m p → IsHeadOf c k q
+    → (principal_rank p ≡ principal_rank q → take c (principal_name p) ≡ take c (principal_name q))
+    → Agrees m k (principal_cmp p q)
+heads_agree c m k p q f g alike =
+    rw (f.is, g.is)
+    (decided (principal_rank p) (principal_rank q) (principal_head c p) (principal_head c q)
     (slice_cmp nat_cmp (principal_name p) (principal_name q))
-    (before_decides 7 (principal_rank p) (principal_rank q) (principal_name p) (principal_name q) f)
-    (before_decides 7 (principal_rank q) (principal_rank p) (principal_name q) (principal_name p) g)
-    (names_agree 7 (principal_rank p) (principal_rank q) (principal_name p) (principal_name q) f g)
+    (before_decides 7 (principal_rank p) (principal_rank q) name_p name_q (bytes_behind c (principal_name p) f.bytes))
+    (before_decides 7 (principal_rank q) (principal_rank p) name_q name_p (bytes_behind c (principal_name q) g.bytes))
+    (λ e. subst (Agrees (principal_head c p) (principal_head c q))
+    (compared_behind c (principal_name p) (principal_name q) (alike e))
+    (names_agree 7 (principal_rank p) (principal_rank q) name_p name_q
+    (bytes_behind c (principal_name p) f.bytes) (bytes_behind c (principal_name q) g.bytes) e)))
+  where
+    name_p : List ℕ
+    name_p = drop c (principal_name p)
+
+    name_q : List ℕ
+    name_q = drop c (principal_name q)
+
+-- a head that is made of a rank and of what is behind the first bytes of a name
+pub head_made : (common rank head : ℕ) (name rest : List ℕ) (p : Principal) → head ≡ head_from rank 7 rest
+    → rest ≡ drop common name → IsBytes name → rank ≡ principal_rank p → name ≡ principal_name p
+    → IsHeadOf common head p
+head_made common rank head name rest p e behind bytes ranked named = record {
+  is = e ∙ ap (head_from rank 7) behind ∙ ap (λ v. head_from v 7 (drop common name)) ranked
+      ∙ ap (λ v. head_from (principal_rank p) 7 (drop common v)) named;
+  bytes = subst IsBytes named bytes;
+}
 
 -- unlike heads decide
 pub compared_as : (p q : PrincipalRef) (m k : ℕ) (answer : Ordering) → HasHead m p → HasHead k q
@@ -119,13 +150,50 @@ compared_as p q m k answer f g e unlike = e ∙ go (nat_cmp m k) refl ∙ whole
     principals = principal_cmp (principal p) (principal q)
 
     whole : Agrees m k principals
-    whole = rw (f.is, g.is) (heads_agree (principal p) (principal q) f.bytes g.bytes)
+    whole = heads_agree 0 m k (principal p) (principal q) f g (λ _. refl)
 
     go : (o : Ordering) → nat_cmp m k ≡ o → o ≡ ordering_then o principals
     go Less is = refl
     go Equal is = absurd (unlike (exact_unsigned m k is))
     go Greater is = refl
 
--- the head of the owner
-pub owner_head : HasHead 0 Owner
-owner_head = record { is = refl; bytes = no_bytes }
+-- names that begin with the same bytes have the same beginning
+begin_alike : (start : List ℕ) (p q : Principal) → BeginsWith start p → BeginsWith start q
+    → principal_rank p ≡ principal_rank q
+    → take (length start) (principal_name p) ≡ take (length start) (principal_name q)
+begin_alike start (user a) (user b) h l e = sym (h a refl) ∙ l b refl
+begin_alike start (group_named a) (group_named b) h l e = sym (h a refl) ∙ l b refl
+begin_alike start owner owner h l e = refl
+begin_alike start group group h l e = refl
+begin_alike start everyone everyone h l e = refl
+begin_alike start _ _ h l e = absurd (omega (arith, e))
+
+-- a lesser head is of a lesser principal
+pub lesser_head : (start : List ℕ) (m k : ℕ) (p q : Principal) → IsHeadOf (length start) m p
+    → IsHeadOf (length start) k q → BeginsWith start p → BeginsWith start q → m < k → principal_cmp p q ≡ Less
+lesser_head start m k p q f g h l below =
+    sym (heads_agree (length start) m k p q f g (begin_alike start p q h l))
+    ∙ ap (λ o. ordering_then o (principal_cmp p q)) (less m k below)
+
+-- the same heads are of one rank
+pub ranks_alike : (c m k : ℕ) (p q : Principal) → IsHeadOf c m p → IsHeadOf c k q → m ≡ k
+    → principal_rank p ≡ principal_rank q
+ranks_alike c m k p q f g e =
+    compare (principal_rank p) (principal_rank q)
+    (λ l. absurd (omega (
+      arith,
+      e,
+      f.is,
+      g.is,
+      before_decides 7 (principal_rank p) (principal_rank q) (drop c (principal_name p)) (drop c (principal_name q))
+          (bytes_behind c (principal_name p) f.bytes) l,
+    )))
+    (λ l. absurd (omega (
+      arith,
+      e,
+      f.is,
+      g.is,
+      before_decides 7 (principal_rank q) (principal_rank p) (drop c (principal_name q)) (drop c (principal_name p))
+          (bytes_behind c (principal_name q) g.bytes) l,
+    )))
+    (λ e. e)

@@ -1,12 +1,9 @@
 -- The order of the principals of the code.
-use Rattle.std.specs.Prelude.{◌≡◌, refl}
-use Rattle.std.specs.Ordering.{is_eq}
+use Rattle.acl_normal.proofs.Common.{is_eq, principal, principal_eq, refl, ◌≡◌}
 use Rattle.std.proofs.lemmas.Map.Text.{is_eq-slice_cmp}
 use Rattle.acl_perm.specs.declared.principal.Principal.{Principal as PrincipalRef}
 use Rattle.acl_perm.specs.declared.principal.Principal.TheVariants.{Owner, User, Group, GroupNamed, Everyone}
 use Rattle.acl_perm.specs.contracts.principal.PrincipalOrd.TheImpl.{cmp-value}
-use Rattle.acl_perm.specs.Principal.{principal}
-use Rattle.acl_normal.specs.Keys.{principal_eq}
 
 -- principals are equal in it exactly if they are the same
 pub order_is : (p q : PrincipalRef) → is_eq (cmp-value.it p q) ≡ principal_eq (principal p) (principal q)

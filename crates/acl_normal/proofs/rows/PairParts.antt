@@ -1,7 +1,5 @@
 -- Pairs of a kind and a place.
-use Rattle.std.specs.Prelude.{◌≡◌, ℕ, Option, Some, unwrap_or}
-use Rattle.std.proofs.Common.{ap}
-use Rattle.acl_perm.specs.declared.kind.Kind.{Kind}
+use Rattle.acl_normal.proofs.Common.{ap, Kind, Option, Some, unwrap_or, ℕ, ◌≡◌}
 
 -- the parts of equal pairs
 pub some_pair : (l j : Kind) (x y : ℕ) → ◌≡◌ {A = Option (Kind × ℕ)} (Some (l, x)) (Some (j, y)) → (l ≡ j) × (x ≡ y)

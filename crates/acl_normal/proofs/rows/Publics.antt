@@ -1,17 +1,8 @@
 -- What the public calls on merged rows say, from what those on one bit say.
-use Rattle.std.proofs.Common.{◌≡◌, ℕ, ◌+◌, ◌<◌, ◌≤◌, Bool, true, false, List, refl, sym, ◌∙◌, ap, subst, arith, ⊎_elim, inl, inr}
-use Rattle.std.specs.Prelude.{◌↔◌, ◌||◌, IsTrue, Option, Some, None, IfSome, IfNone, option_map}
-use Rattle.std.proofs.lemmas.Bool.{cases_eq, cases_lt, false_from_ne_true}
-use Rattle.acl_perm.specs.Bits.{has_bit, IsMask}
-use Rattle.acl_perm.specs.Principal.{Principal}
-use Rattle.acl_perm.specs.declared.kind.Kind.{Kind}
+use Rattle.std.proofs.Common.{◌≡◌, ℕ, ◌+◌, ◌<◌, ◌≤◌, Bool, true, false, List, refl}
+use Rattle.acl_normal.proofs.Common.{Ace, Allow, ap, arith, bits_from_mask, cases_eq, cases_lt, column, Deny, false_from_ne_true, has_bit, IfNone, IfSome, inl, inr, is_free, IsMask, IsTrue, Kind, None, Option, option_map, Principal, Some, subst, sym, ⊎_elim, ◌||◌, ◌↔◌, ◌∙◌}
 use Rattle.acl_perm.specs.declared.bit.Bit.{Bit}
-use Rattle.acl_perm.specs.declared.kind.Kind.TheVariants.{Deny, Allow}
-use Rattle.acl_perm.proofs.Sets.{bits_from_mask}
-use Rattle.acl_nfs4.specs.Ace.{Ace}
-use Rattle.acl_eval.specs.Column.{column}
 use Rattle.acl_normal.specs.Left.{HasFree, IsLowest}
-use Rattle.acl_normal.specs.Normal.{is_free}
 use Rattle.acl_normal.specs.internal.NextRight.{IsNextRight, LacksFrom}
 use Rattle.acl_normal.proofs.reduce.Reducing.{below}
 use Rattle.acl_normal.proofs.unique.Bits.{no_bits_of_zero}

@@ -1,13 +1,5 @@
 -- What takes no part has no bit, whatever is taken out or put in.
-use Rattle.std.specs.Prelude.{◌≡◌, ℕ, Bool, true, false, not, ◌&&◌, List, [], ◌∷◌, refl}
-use Rattle.std.proofs.lemmas.Bool.{and_parts}
-use Rattle.acl_perm.specs.Principal.{Principal}
-use Rattle.acl_nfs4.specs.Ace.{Ace}
-use Rattle.acl_nfs4.specs.Who.{principal_of}
-use Rattle.acl_normal.specs.Keys.{principal_eq}
-use Rattle.acl_normal.specs.Left.{IsTidy}
-use Rattle.acl_normal.specs.Normal.{is_inherit_only, IsQuiet}
-use Rattle.acl_normal.specs.Places.{without_bits, take_out}
+use Rattle.acl_normal.proofs.Common.{[], Ace, and_parts, Bool, false, is_inherit_only, IsQuiet, IsTidy, List, not, Principal, principal_eq, principal_of, refl, take_out, true, without_bits, ℕ, ◌&&◌, ◌∷◌, ◌≡◌}
 use Rattle.acl_normal.proofs.rows.TakeOut.{low_taken, once_taken}
 
 -- after bits were taken out

@@ -1,29 +1,17 @@
 -- Rows of principals by number: among the names in order, each row begins where its principal first stands.
-use Rattle.std.specs.Prelude.{◌≡◌, ℕ, ◌+◌, ◌<◌, ◌≤◌, zero, suc, Bool, true, false, cond, List, [], ◌∷◌, ◌++◌, length, map, slice_index_or, slice_set, take, ◌⊎◌, refl}
+use Rattle.acl_normal.proofs.Common.{[], Ace, ace, AceRef, aces_in, ap, AreRowNumbers, arith, Bool, bytes_eq, cases_eq, cases_lt, cond, Equal, everyone, false, false_from_ne_true, get_or-map, get_or-set_other, get_or-set_same, get_or_default, Greater, inl, inr, is_eq, is_le, is_lt, is_named, IsByPrincipal, IsRowOf, IsTrue, key_here, length, length-map, length-set, length-take-le, Less, List, map, map-append, named_from, nat_cmp, nat_cmp_is, Ordering, ordering_reverse, Principal, principal_cmp, principal_exact, principal_here, principal_of, principal_order, principal_total, refl, row_of, slice_cmp, slice_index_or, slice_set, subst, suc, sym, take, take_more, true, who_here, zero, ℕ, ⊎_elim, ◌&&◌, ◌++◌, ◌+◌, ◌<◌, ◌==◌, ◌↔◌, ◌∙◌, ◌∷◌, ◌≡◌, ◌≢◌, ◌≤◌, ◌⊎◌}
 use Rattle.std.specs.List.{Contains, HoldsAt}
 use Rattle.std.specs.List.Sorted.{IsNonDecreasingBy, IsPartitionPoint, IsPartitionedBy, IsPermutation, IsSortedByKey}
-use Rattle.std.specs.Ordering.{eq_by_cmp, is_le, is_lt, ordering_index, ordering_reverse}
-use Rattle.std.specs.declared.cmp.Ordering.{Ordering}
-use Rattle.std.specs.declared.cmp.Ordering.TheVariants.{Less, Equal, Greater}
-use Rattle.std.proofs.Common.{sym, ◌∙◌, ap, subst, arith, inl, inr}
-use Rattle.std.proofs.lemmas.Bool.{cases_eq, cases_lt, false_from_ne_true}
-use Rattle.std.proofs.lemmas.List.{get_or-map, get_or_default, get_or-set_other, get_or-set_same, length-map, length-set, length-take-le, map-append, take_more}
+use Rattle.std.specs.Cmp.{IsTotalOrder}
+use Rattle.std.specs.Ordering.{eq_by_cmp, on, ordering_index, ordering_then, then_cmp}
+use Rattle.std.proofs.lemmas.Bool.Decides.{eqb_tells}
+use Rattle.std.proofs.lemmas.Cmp.{nat_cmp_total, nat_list_cmp_total, on_total, then_total}
+use Rattle.std.proofs.lemmas.Map.Text.{is_eq-slice_cmp}
 use Rattle.std.proofs.lemmas.List.Recursion.{is_count_by}
-use Rattle.std.proofs.lemmas.List.Sorted.{All-permutation, Contains-permutation, IsPermutation-map, length_permutation, ranks_by, searchable_from_sorted, sorted_far, sum_by-IsPermutation}
-use Rattle.acl_perm.specs.Order.{principal_cmp}
-use Rattle.acl_perm.specs.internal.Totality.{principal_total}
-use Rattle.acl_perm.specs.Principal.{Principal, everyone, principal}
-use Rattle.acl_perm.specs.declared.principal.Principal.TheVariants.{Owner}
-use Rattle.acl_perm.proofs.Orders.{principal_exact, principal_order, principals_same}
-use Rattle.acl_nfs4.specs.Ace.{Ace, ace}
-use Rattle.acl_nfs4.specs.Who.{principal_of}
-use Rattle.acl_nfs4.specs.declared.ace.AceRef.{AceRef}
-use Rattle.acl_normal.specs.Places.{key_here}
-use Rattle.acl_normal.specs.internal.RowNumbers.{AreSortedNames, named_from, named_of}
-use Rattle.acl_normal.specs.internal.Rows.{AreRowNumbers, IsByPrincipal, IsRowOf, is_named, row_of}
-use Rattle.acl_normal.specs.internal.Shown.{aces_in}
-use Rattle.acl_normal.specs.declared.rows.numbers.NamedPlace.{NamedPlace}
-use Rattle.acl_normal.proofs.rows.HeadOrder.{owner_head}
+use Rattle.std.proofs.lemmas.List.Sorted.{All-permutation, Contains-permutation, IsPermutation-map, IsPermutation-sym, length_permutation, ranks_by, searchable_from_sorted, sorted_far, sum_by-IsPermutation}
+use Rattle.acl_perm.proofs.Orders.{principals_same}
+use Rattle.acl_normal.specs.internal.RowNumbers.{AreHeaded, AreSorted, AreSortedNames, DoHeadsTell, named_at as name_of}
+use Rattle.acl_normal.specs.declared.rows.numbers.HeadedPlace.{HeadedPlace}
 use Rattle.acl_normal.proofs.rows.Rows.{named_at, named_here, not_below, row_below}
 
 -- ---- a count of what stands first
@@ -84,6 +72,14 @@ module _ {X : Type 0} (t : X → Bool) where
 
 -- ---- names in order
 
+-- by the heads, and then by the whos
+abbrev pub head_cmp : ℕ × List ℕ → ℕ × List ℕ → Ordering
+head_cmp = then_cmp (on (λ n. n.0) nat_cmp) (on (λ n. n.1) (slice_cmp nat_cmp))
+
+-- that is an order
+pub head_total : IsTotalOrder head_cmp
+head_total = then_total (on_total (λ n. n.0) nat_cmp_total) (on_total (λ n. n.1) nat_list_cmp_total)
+
 -- nobody's name, where there is none
 abbrev pub no_name : Principal × ℕ
 no_name = (everyone, 0)
@@ -92,12 +88,13 @@ no_name = (everyone, 0)
 abbrev is_below : Principal → Principal × ℕ → Bool
 is_below p n = is_lt (principal_cmp n.0 p)
 
-named_length : (i : ℕ) (xs : List Ace) → length (named_from i xs) ≡ length xs
+-- there are as many names as ACEs
+pub named_length : (i : ℕ) (xs : List Ace) → length (named_from i xs) ≡ length xs
 named_length i [] = refl
 named_length i (a ∷ xs) = ap suc (named_length (suc i) xs)
 
 -- what stands at a place
-named_place : (i k : ℕ) (xs : List Ace) (d : Principal × ℕ) → k < length xs
+pub named_place : (i k : ℕ) (xs : List Ace) (d : Principal × ℕ) → k < length xs
     → slice_index_or (named_from i xs) k d ≡ ((key_here xs k).0, i + k)
 named_place i k [] d l = absurd (omega (arith, l))
 named_place i zero (a ∷ xs) d l = ap (λ n. (principal_of a, n)) (omega arith)
@@ -111,7 +108,7 @@ row_counted p i (a ∷ xs) =
     ap (λ n. cond (is_lt (principal_cmp (principal_of a) p)) (suc n) n) (row_counted p (suc i) xs)
 
 -- who is no higher than who is below it is below it
-le_then_less : (a b p : Principal) → is_lt (principal_cmp b a) ≡ false → is_lt (principal_cmp b p) ≡ true
+pub le_then_less : (a b p : Principal) → is_lt (principal_cmp b a) ≡ false → is_lt (principal_cmp b p) ≡ true
     → is_lt (principal_cmp a p) ≡ true
 le_then_less a b p h l = go (principal_cmp a b) refl
   where
@@ -157,14 +154,20 @@ named_push i (b ∷ xs) a =
     ap (λ v. (principal_of b, i) ∷ v)
     (named_push (suc i) xs a ∙ ap (λ n. named_from (suc i) xs ++ (principal_of a, n) ∷ []) (omega arith))
 
--- one name more of the code
-pub named_more : (aces : List AceRef) (named new : List NamedPlace) (i : ℕ) (a : AceRef) (n : NamedPlace)
-    → i < length aces → a ≡ slice_index_or aces i a → principal n.named.principal ≡ principal_of (ace a)
-    → n.place ≡ i → new ≡ named ++ n ∷ []
-    → map named_of named ≡ named_from 0 (aces_in (take i aces))
-    → map named_of new ≡ named_from 0 (aces_in (take (i + 1) aces))
-named_more aces named new i a n l here is at e before_it =
-    ap (map named_of) e ∙ map-append named_of named (n ∷ [])
+-- whom the ACE at a place names
+pub named_in : (aces : List AceRef) (i : ℕ) (a : AceRef) → i < length aces → a ≡ slice_index_or aces i a
+    → principal_of (ace a) ≡ (key_here (aces_in aces) i).0
+named_in [] i a l e = absurd (omega (arith, l))
+named_in (b ∷ aces) zero a l e = ap (λ v. principal_of (ace v)) e
+named_in (b ∷ aces) (suc i) a l e = named_in aces i a (omega (arith, l)) e
+
+-- one place more
+pub named_more : (aces : List AceRef) (places new : List HeadedPlace) (i : ℕ) (a : AceRef) (n : HeadedPlace)
+    → i < length aces → a ≡ slice_index_or aces i a → n.place ≡ i → new ≡ places ++ n ∷ []
+    → map (name_of (aces_in aces)) places ≡ named_from 0 (aces_in (take i aces))
+    → map (name_of (aces_in aces)) new ≡ named_from 0 (aces_in (take (i + 1) aces))
+named_more aces places new i a n l here at e before_it =
+    ap (map (name_of (aces_in aces))) e ∙ map-append (name_of (aces_in aces)) places (n ∷ [])
     ∙ ap (λ v. v ++ made ∷ []) before_it ∙ ap (λ v. done ++ v ∷ []) last ∙ sym (named_push 0 before (ace b))
     ∙ ap (named_from 0) (sym (map-append ace (take i aces) (b ∷ [])))
     ∙ ap (λ v. named_from 0 (aces_in v)) (sym (take_more aces i a l))
@@ -182,30 +185,16 @@ named_more aces named new i a n l here is at e before_it =
     long = omega (arith, length-map (take i aces) ace, length-take-le i aces (omega (arith, l)))
 
     made : Principal × ℕ
-    made = named_of n
+    made = name_of (aces_in aces) n
 
     given : Principal × ℕ
     given = (principal_of (ace b), 0 + length before)
 
     last : made ≡ given
     last =
-        ap (λ v. (v, n.place)) (is ∙ ap (λ v. principal_of (ace v)) here)
+        ap (λ v. (v, n.place))
+        (ap (principal_here (aces_in aces)) at ∙ sym (named_in aces i a l here) ∙ ap (λ v. principal_of (ace v)) here)
         ∙ ap (λ m. (principal_of (ace b), m)) (at ∙ sym long)
-
--- the names of the code, sorted
-pub sorted_names : (xs : List Ace) (named new : List NamedPlace) → map named_of named ≡ named_from 0 xs
-    → IsPermutation named new
-    → IsSortedByKey (λ n. principal n.named.principal) principal_cmp new
-    → AreSortedNames xs (map named_of new)
-sorted_names xs named new e p s = record {
-  permutation = subst (λ v. IsPermutation v (map named_of new)) e (IsPermutation-map named_of named new p);
-  sorted = λ k d le l. let lower : k + 1 < length new = omega (arith, l, length-map new named_of) in
-      rw (get_or-map named_of new (k + 1) none d lower, get_or-map named_of new k none d (omega (arith, lower)))
-      (s k none le lower);
-}
-  where
-    none : NamedPlace
-    none = record { named = record { principal = Owner; head = 0; headed = owner_head }; place = 0 }
 
 module _ (xs : List Ace) (names : List (Principal × ℕ)) (s : AreSortedNames xs names) where
   abbrev at : ℕ → Principal × ℕ
@@ -379,82 +368,117 @@ module _ (xs : List Ace) (names : List (Principal × ℕ)) (s : AreSortedNames x
           ap (λ v. slice_index_or rows v 0) (sym w.3) ∙ n.stand w.0 (omega (arith, w.1, le))
           ∙ ap (λ v. row_of v xs) w.2
 
-module _ (xs : List Ace) (named : List NamedPlace) (s : AreSortedNames xs (map named_of named)) where
-  -- a name of the code
-  name_at : (k : ℕ) (d : NamedPlace) → k < length named
-      → slice_index_or (map named_of named) k no_name ≡ named_of (slice_index_or named k d)
-  name_at k d l = get_or-map named_of named k d no_name l
+module _ (xs : List Ace) (places : List HeadedPlace) (s : AreSorted xs places) where
+  abbrev names : List (Principal × ℕ)
+  names = map (name_of xs) places
 
-  named_within : (k : ℕ) → k < length named → k < length (map named_of named)
-  named_within k l = omega (arith, l, length-map named named_of)
+  -- a name of the code
+  name_at : (k : ℕ) (d : HeadedPlace) → k < length places
+      → slice_index_or names k no_name ≡ name_of xs (slice_index_or places k d)
+  name_at k d l = get_or-map (name_of xs) places k d no_name l
+
+  named_within : (k : ℕ) → k < length places → k < length names
+  named_within k l = omega (arith, l, length-map places (name_of xs))
 
   -- the place of a name has a row
-  pub place_within : (rows : List ℕ) (start i k end : ℕ) (n : NamedPlace) → k < length named
-      → n ≡ slice_index_or named k n → end ≡ length rows → AreNumberedTo xs (map named_of named) rows start i
-      → n.place < end
+  pub place_within : (rows : List ℕ) (start i k end : ℕ) (n : HeadedPlace) → k < length places
+      → n ≡ slice_index_or places k n → end ≡ length rows → AreNumberedTo xs names rows start i → n.place < end
   place_within rows start i k end n l is e so_far =
       let place = ap (λ m. m.1) (name_at k n l) in
       omega (
         arith,
         place,
         e,
-        ap (λ (m : NamedPlace). m.place) is,
-        (names_true xs (map named_of named) s k (named_within k l)).0,
+        ap (λ (m : HeadedPlace). m.place) is,
+        (names_true xs names s.names k (named_within k l)).0,
         so_far.count,
       )
 
-  module _ (rows : List ℕ) (start i : ℕ) (n d : NamedPlace) (l : i < length named)
-      (here : n ≡ slice_index_or named i n) (alike : Bool)
-      (told : alike ≡ eq_by_cmp principal_cmp (principal n.named.principal)
-      (principal (slice_index_or named start d).named.principal))
-      (so_far : AreNumberedTo xs (map named_of named) rows start i) where
-    abbrev first : NamedPlace
-    first = slice_index_or named start d
+  -- what heads and whos tell of two places is what the principals tell
+  told_by_principals : (m n : HeadedPlace) → Contains places m → Contains places n
+      → ((m.head == n.head) && bytes_eq (who_here xs m.place) (who_here xs n.place))
+      ≡ eq_by_cmp principal_cmp (principal_here xs m.place) (principal_here xs n.place)
+  told_by_principals m n c d = go (eqb_tells m.head n.head) (cases_lt m.head n.head)
+    where
+      p : Principal
+      p = principal_here xs m.place
 
+      q : Principal
+      q = principal_here xs n.place
+
+      Told : Type 0
+      Told =
+          ((m.head == n.head) && bytes_eq (who_here xs m.place) (who_here xs n.place)) ≡ eq_by_cmp principal_cmp p q
+
+      above : (m.head ≢ n.head) → n.head ≤ m.head → n.head < m.head
+      above d l = ⊎_elim (λ u. u) (λ u. absurd (d (omega (arith, l, u)))) (cases_lt n.head m.head)
+
+      go : ((m.head == n.head) ≡ true) × (m.head ≡ n.head) ⊎ ((m.head == n.head) ≡ false) × (m.head ≢ n.head)
+          → (m.head < n.head) ⊎ (n.head ≤ m.head) → Told
+      go (inl e) _ =
+          rw e.0
+          (sym (is_eq-slice_cmp (who_here xs m.place) (who_here xs n.place))
+          ∙ ap is_eq (sym (s.heads.same m n c d e.1)))
+      go (inr e) (inl l) = rw e.0 (sym (ap is_eq (s.heads.lesser m n c d l)))
+      go (inr e) (inr l) =
+          rw e.0
+          (sym (ap is_eq (principal_order.reversed q p ∙ ap ordering_reverse (s.heads.lesser n m d c (above e.1 l)))))
+
+  module _ (rows : List ℕ) (start i : ℕ) (n first : HeadedPlace) (l : i < length places)
+      (here : n ≡ slice_index_or places i n) (there : first ≡ slice_index_or places start first) (alike : Bool)
+      (told : alike ≡ ((n.head == first.head) && bytes_eq (who_here xs n.place) (who_here xs first.place)))
+      (so_far : AreNumberedTo xs names rows start i) where
     abbrev name : ℕ → Principal × ℕ
-    name k = slice_index_or (map named_of named) k no_name
+    name k = slice_index_or names k no_name
 
-    this : name i ≡ named_of n
-    this = name_at i n l ∙ ap named_of (sym here)
+    this : name i ≡ name_of xs n
+    this = name_at i n l ∙ ap (name_of xs) (sym here)
 
-    that : name start ≡ named_of first
-    that = name_at start d (omega (arith, l, so_far.before))
+    that : name start ≡ name_of xs first
+    that = name_at start first (omega (arith, l, so_far.before)) ∙ ap (name_of xs) (sym there)
+
+    by_principals : alike ≡ eq_by_cmp principal_cmp (principal_here xs n.place) (principal_here xs first.place)
+    by_principals =
+        let low : start < length places = omega (arith, l, so_far.before) in
+        told ∙ told_by_principals n first (i, l, sym here) (start, low, sym there)
+
+    both : IsTrue (eq_by_cmp principal_cmp (principal_here xs n.place) (principal_here xs first.place))
+        ↔ (principal_here xs n.place ≡ principal_here xs first.place)
+    both = principals_same (principal_here xs n.place) (principal_here xs first.place)
 
     -- one name more, of another principal than the one at `start`
     pub numbered_unlike : (now : ℕ) → alike ≡ false → now ≡ i
-        → AreNumberedTo xs (map named_of named) (slice_set rows n.place now) now (i + 1)
+        → AreNumberedTo xs names (slice_set rows n.place now) now (i + 1)
     numbered_unlike now h e =
         rw e
-        (subst (λ v. AreNumberedTo xs (map named_of named) (slice_set rows v i) i (i + 1)) (ap (λ m. m.1) this)
-        (numbered_other xs (map named_of named) s rows start i (named_within i l) other so_far))
+        (subst (λ v. AreNumberedTo xs names (slice_set rows v i) i (i + 1)) (ap (λ m. m.1) this)
+        (numbered_other xs names s.names rows start i (named_within i l) other so_far))
       where
         other : (name i).0 ≡ (name start).0 → ⊥
         other same =
-            let both = principals_same (principal n.named.principal) (principal first.named.principal) in
-            let passes : alike ≡ true = told ∙ both.1 (ap (λ m. m.0) (sym this) ∙ same ∙ ap (λ m. m.0) that) in
+            let passes : alike ≡ true =
+            by_principals ∙ both.1 (ap (λ m. m.0) (sym this) ∙ same ∙ ap (λ m. m.0) that) in
             let clash : false ≡ true = sym h ∙ passes in
             cc
 
     -- one name more, of the same
     pub numbered_like : (now : ℕ) → alike ≡ true → now ≡ start
-        → AreNumberedTo xs (map named_of named) (slice_set rows n.place now) now (i + 1)
+        → AreNumberedTo xs names (slice_set rows n.place now) now (i + 1)
     numbered_like now h e =
         rw e
-        (subst (λ v. AreNumberedTo xs (map named_of named) (slice_set rows v start) start (i + 1))
-        (ap (λ m. m.1) this) (numbered_same xs (map named_of named) s rows start i (named_within i l) same so_far))
+        (subst (λ v. AreNumberedTo xs names (slice_set rows v start) start (i + 1))
+        (ap (λ m. m.1) this) (numbered_same xs names s.names rows start i (named_within i l) same so_far))
       where
         same : (name i).0 ≡ (name start).0
-        same =
-            let both = principals_same (principal n.named.principal) (principal first.named.principal) in
-            ap (λ m. m.0) this ∙ both.0 (sym told ∙ h) ∙ ap (λ m. m.0) (sym that)
+        same = ap (λ m. m.0) this ∙ both.0 (sym by_principals ∙ h) ∙ ap (λ m. m.0) (sym that)
 
 -- ---- the places in order
 
 -- the places of the names in order are in the order of the principals
-pub places_by_principal : (xs : List Ace) (named : List NamedPlace) → AreSortedNames xs (map named_of named)
-    → IsByPrincipal xs (map (λ n. n.place) named)
-places_by_principal xs named s = record {
-  count = length-map named (λ n. n.place) ∙ sym (length-map named named_of) ∙ names_length xs names s;
+pub places_by_principal : (xs : List Ace) (names : List (Principal × ℕ)) → AreSortedNames xs names
+    → IsByPrincipal xs (map (λ n. n.1) names)
+places_by_principal xs names s = record {
+  count = length-map names (λ n. n.1) ∙ names_length xs names s;
   within = λ i l. subst (λ v. v < length xs) (sym (place i l)) (names_true xs names s i (in_names i l)).0;
   rising = λ i j le l. rising i j le (omega (arith, le, l)) l;
   first = first;
@@ -468,32 +492,23 @@ places_by_principal xs named s = record {
       );
 }
   where
-    names : List (Principal × ℕ)
-    names = map named_of named
-
     at : ℕ → Principal × ℕ
     at k = slice_index_or names k no_name
 
     in_names : (k : ℕ) → k < length xs → k < length names
     in_names k l = omega (arith, l, names_length xs names s)
 
-    place : (k : ℕ) → k < length xs → slice_index_or (map (λ n. n.place) named) k 0 ≡ (at k).1
-    place k l = go named k (omega (arith, in_names k l, length-map named named_of))
-      where
-        go : (ns : List NamedPlace) (k : ℕ) → k < length ns
-            → slice_index_or (map (λ n. n.place) ns) k 0 ≡ (slice_index_or (map named_of ns) k no_name).1
-        go [] k l = absurd (omega (arith, l))
-        go (n ∷ ns) zero l = refl
-        go (n ∷ ns) (suc k) l = go ns k (omega (arith, l))
+    place : (k : ℕ) → k < length xs → slice_index_or (map (λ n. n.1) names) k 0 ≡ (at k).1
+    place k l = get_or-map (λ n. n.1) names k no_name 0 (in_names k l)
 
     here : (k : ℕ) → k < length xs
-        → (key_here xs (slice_index_or (map (λ n. n.place) named) k 0)).0 ≡ (at k).0
+        → (key_here xs (slice_index_or (map (λ n. n.1) names) k 0)).0 ≡ (at k).0
     here k l =
         ap (λ v. (key_here xs v).0) (place k l) ∙ sym (names_true xs names s k (in_names k l)).1
 
     rising : (i j : ℕ) → i ≤ j → i < length xs → j < length xs
-        → is_le (principal_cmp (key_here xs (slice_index_or (map (λ n. n.place) named) i 0)).0
-        (key_here xs (slice_index_or (map (λ n. n.place) named) j 0)).0) ≡ true
+        → is_le (principal_cmp (key_here xs (slice_index_or (map (λ n. n.1) names) i 0)).0
+        (key_here xs (slice_index_or (map (λ n. n.1) names) j 0)).0) ≡ true
     rising i j le li lj =
         rw (here i li, here j lj)
         (not_above (at i).0 (at j).0 (names_far xs names s i j le (in_names j lj)))
@@ -507,7 +522,7 @@ places_by_principal xs named s = record {
         absurd (cc)
 
     first : (p : Principal) → is_named p xs ≡ true
-        → (key_here xs (slice_index_or (map (λ n. n.place) named) (row_of p xs) 0)).0 ≡ p
+        → (key_here xs (slice_index_or (map (λ n. n.1) names) (row_of p xs) 0)).0 ≡ p
     first p h =
         let n = named_at p xs h in
         let w = names_whole xs names s n.place n.within in
@@ -520,14 +535,71 @@ places_by_principal xs named s = record {
         (subst (λ v. is_lt (principal_cmp v (at (row_of p xs)).0) ≡ false) is
         (names_far xs names s (row_of p xs) w.0 le w.1))
 
--- ---- the search for a name
+-- and so are the places of the code
+pub sorted_by_principal : (xs : List Ace) (places : List HeadedPlace) → AreSorted xs places
+    → IsByPrincipal xs (map (λ n. n.place) places)
+sorted_by_principal xs places s =
+    subst (IsByPrincipal xs) (seconds places) (places_by_principal xs (map (name_of xs) places) s.names)
+  where
+    seconds : (ns : List HeadedPlace) → map (λ n. n.1) (map (name_of xs) ns) ≡ map (λ n. n.place) ns
+    seconds [] = refl
+    seconds (n ∷ ns) = ap (λ v. n.place ∷ v) (seconds ns)
 
--- whom the ACE at a place names
-pub named_in : (aces : List AceRef) (i : ℕ) (a : AceRef) → i < length aces → a ≡ slice_index_or aces i a
-    → principal_of (ace a) ≡ (key_here (aces_in aces) i).0
-named_in [] i a l e = absurd (omega (arith, l))
-named_in (b ∷ aces) zero a l e = ap (λ v. principal_of (ace v)) e
-named_in (b ∷ aces) (suc i) a l e = named_in aces i a (omega (arith, l)) e
+-- places that were sorted by their heads and whos
+pub sorted_names : (xs : List Ace) (places new : List HeadedPlace) → AreHeaded xs places → IsPermutation places new
+    → IsSortedByKey (λ n. (n.head, who_here xs n.place)) head_cmp new → AreSorted xs new
+sorted_names xs places new h p s = record {
+  names = record {
+    permutation = subst (λ v. IsPermutation v (map (name_of xs) new)) h.names (IsPermutation-map (name_of xs) places new p);
+    sorted = λ k d le l. let lower : k + 1 < length new = omega (arith, l, length-map new (name_of xs)) in
+        rw (get_or-map (name_of xs) new (k + 1) none d lower, get_or-map (name_of xs) new k none d (omega (arith, lower)))
+        (in_order (slice_index_or new (k + 1) none) (slice_index_or new k none)
+        (here (k + 1) lower) (here k (omega (arith, lower))) (s k none le lower));
+  };
+  heads = tell;
+}
+  where
+    none : HeadedPlace
+    none = record { head = 0; place = 0 }
+
+    here : (k : ℕ) → k < length new → Contains new (slice_index_or new k none)
+    here k l = (k, l, get_or_default new k (slice_index_or new k none) none l)
+
+    tell : DoHeadsTell xs new
+    tell = record {
+      lesser = λ m n c d. h.heads.lesser m n (before m c) (before n d);
+      same = λ m n c d. h.heads.same m n (before m c) (before n d);
+    }
+      where
+        before : (n : HeadedPlace) → Contains new n → Contains places n
+        before n c = Contains-permutation new places n (IsPermutation-sym places new p) c
+
+    in_order : (m n : HeadedPlace) → Contains new m → Contains new n
+        → is_lt (head_cmp (m.head, who_here xs m.place) (n.head, who_here xs n.place)) ≡ false
+        → is_lt (principal_cmp (principal_here xs m.place) (principal_here xs n.place)) ≡ false
+    in_order m n c d e = go (cases_lt m.head n.head) (cases_lt n.head m.head)
+      where
+        p' : Principal
+        p' = principal_here xs m.place
+
+        q : Principal
+        q = principal_here xs n.place
+
+        whos : Ordering
+        whos = slice_cmp nat_cmp (who_here xs m.place) (who_here xs n.place)
+
+        heads : (o : Ordering) → o ≡ nat_cmp m.head n.head → is_lt (ordering_then o whos) ≡ false
+        heads o is = subst (λ o. is_lt (ordering_then o whos) ≡ false) (sym is) e
+
+        go : (m.head < n.head) ⊎ (n.head ≤ m.head) → (n.head < m.head) ⊎ (m.head ≤ n.head)
+            → is_lt (principal_cmp p' q) ≡ false
+        go (inl l) _ = let clash : true ≡ false = heads Less (nat_cmp_is m.head n.head Less l) in absurd (cc)
+        go (inr _) (inl l) = ap is_lt (principal_order.reversed q p' ∙ ap ordering_reverse (tell.lesser n m d c l))
+        go (inr l) (inr u) =
+            let same : m.head ≡ n.head = omega (arith, l, u) in
+            ap is_lt (tell.same m n c d same) ∙ heads Equal (nat_cmp_is m.head n.head Equal same)
+
+-- ---- the search for a name
 
 -- after the last it is everyone
 pub named_after : (aces : List AceRef) (i : ℕ) → length aces ≤ i → (key_here (aces_in aces) i).0 ≡ everyone

@@ -1,19 +1,5 @@
 -- Rows of principals: they stand in the order of the principals, and masks do not move them.
-use Rattle.std.specs.Prelude.{◌≡◌, ℕ, ◌<◌, ◌≤◌, zero, suc, Bool, true, false, cond, ◌&&◌, ◌||◌, List, [], ◌∷◌, Option, None, Some, IfNone, IfSome, length, slice_index_or, refl}
-use Rattle.std.specs.Ordering.{is_le, is_lt}
-use Rattle.std.specs.declared.cmp.Ordering.{Ordering}
-use Rattle.std.specs.declared.cmp.Ordering.TheVariants.{Less, Equal, Greater}
-use Rattle.std.proofs.Common.{sym, ◌∙◌, ap, subst, arith, ⊎_elim}
-use Rattle.std.proofs.lemmas.Bool.{or_cases, or_left, or_right}
-use Rattle.acl_perm.specs.Order.{principal_cmp}
-use Rattle.acl_perm.specs.Principal.{Principal}
-use Rattle.acl_perm.proofs.Orders.{principal_exact, principal_order}
-use Rattle.acl_nfs4.specs.Ace.{Ace}
-use Rattle.acl_nfs4.specs.Who.{principal_of}
-use Rattle.acl_normal.specs.Keys.{Key, principal_eq}
-use Rattle.acl_normal.specs.Normal.{is_inherit_only, counts}
-use Rattle.acl_normal.specs.Places.{key_here, first_at, nothing_left, take_out, without_bits}
-use Rattle.acl_normal.specs.internal.Rows.{AreRowNumbers, IsByPrincipal, IsRowOf, is_named, row_of}
+use Rattle.acl_normal.proofs.Common.{[], Ace, ap, AreRowNumbers, arith, Bool, cond, counts, Equal, false, first_at, Greater, IfNone, IfSome, is_inherit_only, is_le, is_lt, is_named, IsByPrincipal, IsRowOf, Key, key_here, length, Less, List, None, nothing_left, Option, or_cases, or_left, or_right, Ordering, Principal, principal_cmp, principal_eq, principal_exact, principal_of, principal_order, refl, row_of, slice_index_or, Some, subst, suc, sym, take_out, true, without_bits, zero, ℕ, ⊎_elim, ◌&&◌, ◌<◌, ◌||◌, ◌∙◌, ◌∷◌, ◌≡◌, ◌≤◌}
 use Rattle.acl_normal.proofs.unique.Names.{principal_eq_same, principal_eq_itself}
 use Rattle.acl_normal.proofs.unique.Outline.{key_alike, length_alike}
 

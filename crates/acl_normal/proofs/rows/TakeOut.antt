@@ -1,23 +1,5 @@
 -- Bits of a principal taken out of a list.
-use Rattle.std.specs.Prelude.{◌≡◌, ◌≢◌, ℕ, ◌≤◌, ◌^◌, ◌⊎◌, zero, suc, Bool, true, false, cond, not, ◌&&◌, List, [], ◌∷◌, Option, Some, None, slice_set, slice_index_or, refl}
-use Rattle.std.proofs.Common.{sym, ◌∙◌, ap, subst, inl, inr}
-use Rattle.std.proofs.lemmas.Bool.{and_parts}
-use Rattle.acl_perm.specs.Principal.{Principal, is_user}
-use Rattle.acl_perm.specs.declared.kind.Kind.{Kind}
-use Rattle.acl_perm.specs.Bits.{has_bit}
-use Rattle.acl_nfs4.specs.Ace.{Ace}
-use Rattle.acl_nfs4.specs.Who.{principal_of}
-use Rattle.acl_nfs4.specs.declared.ace.AceRef.{AceRef}
-use Rattle.acl_eval.specs.Column.{Column, first_kind, column}
-use Rattle.acl_eval.specs.Scan.{without}
-use Rattle.acl_eval.proofs.Scans.{has_bit-without}
-use Rattle.acl_normal.specs.Keys.{principal_eq, kind_eq}
-use Rattle.acl_normal.specs.Places.{same_class, is_waiting, waits, first_at, without_bits, take_out}
-use Rattle.acl_normal.specs.internal.Alike.{is_either}
-use Rattle.acl_normal.specs.Normal.{is_inherit_only, counts}
-use Rattle.acl_normal.specs.internal.Emissions.{IsOnce, HasOnceColumns}
-use Rattle.acl_normal.specs.internal.Plain.{without_principal}
-use Rattle.acl_normal.specs.internal.Shown.{with_masks}
+use Rattle.acl_normal.proofs.Common.{[], Ace, AceRef, and_parts, ap, Bool, Column, column, cond, counts, false, first_at, first_kind, has_bit, has_bit-without, HasOnceColumns, inl, inr, is_either, is_inherit_only, is_user, is_waiting, IsOnce, Kind, kind_eq, List, None, not, Option, Principal, principal_eq, principal_of, refl, same_class, slice_index_or, slice_set, Some, subst, suc, sym, take_out, true, waits, with_masks, without, without_bits, without_principal, zero, ℕ, ◌&&◌, ◌^◌, ◌∙◌, ◌∷◌, ◌≡◌, ◌≢◌, ◌≤◌, ◌⊎◌}
 use Rattle.acl_normal.proofs.unique.Names.{principal_eq_same, principal_eq_itself}
 use Rattle.acl_normal.proofs.unique.Bits.{power_has, masks_same}
 use Rattle.acl_normal.proofs.unique.FirstAndRest.{once_without}

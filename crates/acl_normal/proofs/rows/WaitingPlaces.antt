@@ -1,28 +1,12 @@
 -- Lists of the places that wait, and sets of them.
-use Rattle.std.specs.Prelude.{◌≡◌, ◌⊎◌, ℕ, ◌+◌, ◌<◌, ◌≤◌, zero, suc, Bool, true, false, cond, ◌&&◌, ◌||◌, nat_lt, List, [], ◌∷◌, ◌++◌, length, map, take, slice_index_or, slice_set, refl}
-use Rattle.std.specs.Ordering.{nat_cmp}
-use Rattle.std.specs.BTreeMap.{is_at}
-use Rattle.std.specs.List.{list_any, AllByRecursion}
+use Rattle.acl_normal.proofs.Common.{[], Ace, AceRef, AllByRecursion, and_parts, ap, append-nil, arith, Bool, cases_eq, cases_lt, cond, counts, false, false_from_ne_true, get_or-set_other, get_or-set_same, has_bit, HoldWaiting, inl, inr, is_at, is_inherit_only, is_user, is_waiting, IsQuiet, Kind, kind_eq, le-ltb, length, length-map, Less, List, list_any, lt-ltb, map, nat_cmp, nat_cmp_is, nat_lt, or_right, principal_of, refl, same_class, slice_index_or, slice_set, slot_of, subst, suc, sym, take, take_more, true, waits, with_masks, zero, ℕ, ⊎_elim, ◌&&◌, ◌++◌, ◌+◌, ◌<◌, ◌||◌, ◌∙◌, ◌∷◌, ◌≡◌, ◌≤◌, ◌⊎◌}
 use Rattle.std.specs.List.Sorted.{IsStrictlySortedBy}
-use Rattle.std.specs.Cmp.{nat_cmp_is}
-use Rattle.std.specs.declared.cmp.Ordering.TheVariants.{Less}
 use Rattle.std.specs.declared.vec.Vec.{Vec}
 use Rattle.std.specs.declared.collections.VecDeque.{VecDeque}
 use Rattle.std.specs.declared.collections.BTreeSet.{BTreeSet}
-use Rattle.std.proofs.Common.{sym, ◌∙◌, ap, subst, arith, Global, inl, inr, ⊎_elim}
-use Rattle.std.proofs.lemmas.Bool.{cases_eq, cases_lt, lt-ltb, le-ltb, and_parts, or_right, false_from_ne_true}
-use Rattle.std.proofs.lemmas.List.{append-nil, get_or-set_same, get_or-set_other, map-set, take_more, length-map, length-take}
-use Rattle.acl_perm.specs.Bits.{has_bit}
-use Rattle.acl_perm.specs.declared.kind.Kind.{Kind}
-use Rattle.acl_nfs4.specs.Ace.{Ace}
-use Rattle.acl_nfs4.specs.Who.{principal_of}
-use Rattle.acl_nfs4.specs.declared.ace.AceRef.{AceRef}
-use Rattle.acl_normal.specs.Keys.{kind_eq}
-use Rattle.acl_normal.specs.Normal.{IsQuiet, is_inherit_only, counts}
-use Rattle.acl_normal.specs.Places.{is_waiting, same_class, slot_of, waits}
-use Rattle.acl_perm.specs.Principal.{is_user}
-use Rattle.acl_normal.specs.internal.Shown.{with_masks}
-use Rattle.acl_normal.specs.internal.Waiting.{HoldWaiting, Notes, places_of}
+use Rattle.std.proofs.Common.{Global}
+use Rattle.std.proofs.lemmas.List.{map-set, length-take}
+use Rattle.acl_normal.specs.internal.Waiting.{Notes, places_of}
 use Rattle.acl_normal.proofs.emit.Walk.{head_in, waits_within}
 use Rattle.acl_normal.proofs.rows.BitTaken.{NoKeys, class_same, is_eq_itself, is_eq_same, slot_below, slot_same}
 use Rattle.acl_normal.proofs.unique.Bits.{no_bits_of_zero}

@@ -1,22 +1,13 @@
 -- What is known of an accepted list: each who is a name, and each bit is a right.
-use Rattle.std.proofs.Common.{◌≡◌, ℕ, ◌<◌, ◌+◌, ◌/◌, ◌%◌, Bool, true, false, List, [], ◌∷◌, ◌++◌, length, refl, subst, arith, inl, inr}
-use Rattle.std.specs.Prelude.{nat_lt, not, Option, None, Some, if◌then◌else◌}
-use Rattle.std.specs.List.{AllByRecursion}
-use Rattle.std.specs.Str.{is_utf8, bytes_eq}
+use Rattle.std.proofs.Common.{◌≡◌, ℕ, ◌<◌, ◌+◌, ◌/◌, ◌%◌, Bool, true, false, List, [], ◌∷◌, ◌++◌, length, refl}
+use Rattle.acl_normal.proofs.Common.{Ace, AllByRecursion, and_parts, arith, bits_from_mask, bytes_eq, everyone_name, full, group_name, has_bit, HasMasks, HasName, HasNames, identifier_group, if◌then◌else◌, inl, inr, IsAccepted, IsAce, IsName, nat_lt, None, not, Option, owner_name, principal_of, Profile, Some, subst}
+use Rattle.std.specs.Str.{is_utf8}
 use Rattle.std.proofs.Math.Utf8.{encode, encodes, scalar, scalars, scalar_cases}
-use Rattle.std.proofs.lemmas.Bool.{ltb-true, and_parts}
+use Rattle.std.proofs.lemmas.Bool.{ltb-true}
 use Rattle.std.proofs.lemmas.List.Elements.{All-from_recursion}
 use Rattle.std.proofs.lemmas.Str.{IsUtf8-from_is_utf8}
-use Rattle.acl_perm.specs.Bits.{has_bit, identifier_group}
-use Rattle.acl_perm.specs.Situation.{IsName}
-use Rattle.acl_perm.specs.Profile.{Profile, full}
-use Rattle.acl_perm.proofs.Sets.{bits_from_mask}
-use Rattle.acl_nfs4.specs.Ace.{Ace}
-use Rattle.acl_nfs4.specs.Who.{IsWho, is_no_who_len, principal_of, owner_name, group_name, everyone_name}
-use Rattle.acl_nfs4.specs.Spelling.{IsAce, IsAccepted}
+use Rattle.acl_nfs4.specs.Who.{IsWho, is_no_who_len}
 use Rattle.acl_nfs4.proofs.Fields.{who_bounds}
-use Rattle.acl_normal.specs.SmallSituations.{HasName}
-use Rattle.acl_normal.specs.Normal.{HasNames, HasMasks}
 
 -- ---- a who is a name
 
@@ -61,9 +52,7 @@ utf8_bytes bs h =
 
 passes : {A : Type 0} (a u : Bool) (x y : A) (r : Option A)
     → (if a then Some x else (if not u then Some y else r)) ≡ None → u ≡ true
-passes true u x y r h = absurd cc
-passes false true x y r h = refl
-passes false false x y r h = absurd cc
+passes a u x y r h = grind arith
 
 -- a who is a name that a situation may have
 pub who_name : (who : List ℕ) → IsWho who → IsName who
@@ -75,17 +64,10 @@ who_name who is = (
 
 -- and so is the name of the principal of an ACE
 pub ace_name : (a : Ace) → IsWho a.who → HasName (principal_of a)
-ace_name a is = go (bytes_eq a.who owner_name) refl (bytes_eq a.who group_name) refl
-    (bytes_eq a.who everyone_name) refl (has_bit a.flags identifier_group) refl
+ace_name a is = named (who_name a.who is)
   where
-    go : (o : Bool) → bytes_eq a.who owner_name ≡ o → (g : Bool) → bytes_eq a.who group_name ≡ g
-        → (e : Bool) → bytes_eq a.who everyone_name ≡ e → (f : Bool) → has_bit a.flags identifier_group ≡ f
-        → HasName (principal_of a)
-    go true h g i e j f k = rw h tt
-    go false h true i e j f k = rw (h, i) tt
-    go false h false i true j f k = rw (h, i, j) tt
-    go false h false i false j true k = rw (h, i, j, k) (who_name a.who is)
-    go false h false i false j false k = rw (h, i, j, k) (who_name a.who is)
+    named : IsName a.who → HasName (principal_of a)
+    named name = grind arith
 
 -- ---- each of a list
 

@@ -1,26 +1,15 @@
 -- Single bits of a mask.
-use Rattle.std.specs.Prelude.{◌≡◌, ◌≢◌, ◌⊎◌, ℕ, ◌+◌, ◌-◌, ◌/◌, ◌%◌, ◌^◌, ◌<◌, ◌≤◌, true, false, ◌==◌, List, [], ◌∷◌, ◌++◌, Option, Some, None, IfNone, IsSome, bit_and, length, replicate, slice_index_or, slice_set, zero, suc, refl}
+use Rattle.std.specs.Prelude.{IsSome}
 use Rattle.std.specs.Int.Count.{trailing_of_zero}
-use Rattle.std.specs.Int.{bit_at, trailing_zeros, w32}
-use Rattle.std.proofs.Common.{sym, ◌∙◌, ap, subst, arith, inl, inr, ⊎_elim}
-use Rattle.std.proofs.lemmas.Bool.{eqb-true, eqb-false, ne_eqb, cases_eq, cases_lt}
-use Rattle.std.proofs.lemmas.Nat.Bits.{bit_at_xor, bit_at_and, bit_at-pow_same, bit_at-pow_other, bit_at-lt, same_from_bits, bit_at-zero, bit_at-trailing_zeros}
+use Rattle.acl_normal.proofs.Common.{[], ap, arith, bit_and, bit_at, bit_at-lt, bit_at-zero, bits_in, cases_eq, cases_lt, eqb-false, eqb-true, false, get_or-map, has_bit, has_bit-without, IfNone, inl, inr, IsDifference, IsMask, length, length-map, List, map-append, Mask, ne_eqb, None, Option, refl, replicate, slice_index_or, slice_set, Some, subst, suc, sym, trailing_zeros, true, w32, without, zero, ℕ, ⊎_elim, ◌%◌, ◌++◌, ◌+◌, ◌-◌, ◌/◌, ◌<◌, ◌==◌, ◌^◌, ◌∙◌, ◌∷◌, ◌≡◌, ◌≢◌, ◌≤◌, ◌⊎◌}
+use Rattle.std.proofs.lemmas.Nat.Bits.{bit_at_xor, bit_at_and, bit_at-pow_same, bit_at-pow_other, same_from_bits, bit_at-trailing_zeros}
 use Rattle.std.proofs.Math.Nat.{div-le_self}
 use Rattle.std.proofs.lemmas.Nat.{shr-shr}
-use Rattle.std.proofs.lemmas.List.{get_or-map, length-map, map-append, map-set}
-use Rattle.acl_perm.specs.Bits.{IsDifference, IsMask, has_bit}
-use Rattle.acl_perm.specs.declared.mask.Mask.{Mask}
--- sets with the same bits are equal
-pub use Rattle.acl_perm.proofs.Sets.{same_set as masks_same}
+use Rattle.std.proofs.lemmas.List.{map-set}
+-- sets with the same bits are equal, and 0 has none
+pub use Rattle.acl_perm.proofs.Sets.{same_set as masks_same, no_bit as no_bits_of_zero}
 use Rattle.acl_perm.specs.declared.bit.Bit.{Bit}
-use Rattle.acl_eval.specs.Scan.{without}
-use Rattle.acl_eval.proofs.Scans.{has_bit-without}
 use Rattle.acl_normal.specs.internal.NextRight.{IsNextRight, LacksFrom}
-use Rattle.acl_normal.specs.internal.Shown.{bits_in}
-
--- no mask, no bit
-pub no_bits_of_zero : (b : ℕ) → has_bit 0 b ≡ false
-no_bits_of_zero b = ap (λ v. v == 1) (bit_at-zero b)
 
 -- a power of two has its bit
 pub has_power : (b : ℕ) → has_bit (2 ^ b) b ≡ true

@@ -1,9 +1,6 @@
 -- One bit of a list that begins with an ACE, or that is two lists.
 use Rattle.std.proofs.Common.{◌≡◌, ℕ, Bool, true, false, List, ◌∷◌, refl}
-use Rattle.std.specs.Prelude.{cond}
-use Rattle.acl_nfs4.specs.Ace.{Ace}
-use Rattle.acl_eval.specs.Column.{column}
-use Rattle.acl_normal.specs.Keys.{ace_key}
+use Rattle.acl_normal.proofs.Common.{Ace, ace_key, arith, column, cond}
 pub use Rattle.acl_normal.specs.Normal.{counts}
 
 -- an ACE that counts is the first key
@@ -17,8 +14,4 @@ column_lacks b a xs h = rw h refl
 -- the column of a list that begins with an ACE
 pub column_first : (b : ℕ) (a : Ace) (xs : List Ace)
     → column (a ∷ xs) b ≡ cond (counts b a) (ace_key a ∷ column xs b) (column xs b)
-column_first b a xs = go (counts b a) refl
-  where
-    go : (t : Bool) → counts b a ≡ t → column (a ∷ xs) b ≡ cond (counts b a) (ace_key a ∷ column xs b) (column xs b)
-    go true e = rw e refl
-    go false e = rw e refl
+column_first b a xs = grind arith

@@ -1,19 +1,5 @@
 -- What comes first of a list, and what is emitted of the rest.
-use Rattle.std.specs.Prelude.{◌≡◌, ℕ, Bool, true, false, ◌||◌, List, [], ◌∷◌, Some, None, refl}
-use Rattle.std.proofs.Common.{sym, ◌∙◌, ap, subst, ⊎_elim}
-use Rattle.std.proofs.lemmas.Bool.{or_from, false_from_ne_true}
-use Rattle.acl_perm.specs.Principal.{Principal}
-use Rattle.acl_perm.specs.Overlap.{may_overlap}
-use Rattle.acl_perm.specs.declared.kind.Kind.{Kind}
-use Rattle.acl_perm.specs.Bits.{has_bit}
-use Rattle.acl_nfs4.specs.Ace.{Ace}
-use Rattle.acl_nfs4.specs.Who.{principal_of}
-use Rattle.acl_eval.specs.Column.{Column, first_kind, column}
-use Rattle.acl_normal.specs.Keys.{principal_eq, Key, ace_key}
-use Rattle.acl_normal.specs.internal.Alike.{is_either, IsAlike}
-use Rattle.acl_normal.specs.Normal.{is_free}
-use Rattle.acl_normal.specs.internal.Plain.{without_principal}
-use Rattle.acl_normal.specs.internal.Emissions.{IsOnce, IsStep, IsEmission, HasOnceColumns}
+use Rattle.acl_normal.proofs.Common.{[], Ace, ace_key, ap, arith, Bool, Column, column, false, false_from_ne_true, first_kind, has_bit, HasOnceColumns, is_either, is_free, IsAlike, IsEmission, IsOnce, IsStep, Key, Kind, List, may_overlap, None, or_from, Principal, principal_eq, principal_of, refl, Some, subst, sym, true, without_principal, ℕ, ⊎_elim, ◌||◌, ◌∙◌, ◌∷◌, ◌≡◌}
 use Rattle.acl_normal.proofs.unique.Names.{principal_eq_same, overlaps_back, overlaps_itself, principal_eq_itself}
 use Rattle.acl_normal.proofs.unique.Irreducible.{either_is, either_same}
 use Rattle.acl_normal.proofs.unique.Free.{ahead_from_free, same_free, skip_head}
@@ -23,17 +9,11 @@ use Rattle.acl_normal.proofs.unique.Unique.{column_with, column_lacking}
 pub first_kind_same : (m n : Principal → Bool) (c : Column) → ((z : Principal) → m z ≡ n z)
     → first_kind m c ≡ first_kind n c
 first_kind_same m n [] h = refl
-first_kind_same m n ((p, k) ∷ c) h =
-    let here : m p ≡ n p = h p in
-    let there = first_kind_same m n c h in
-    rw (here, there)
+first_kind_same m n ((p, k) ∷ c) h = grind (arith, first_kind_same m n c h, h p)
 
 -- either of two, whichever comes first
 pub or_swap : (a b : Bool) → (a || b) ≡ (b || a)
-or_swap true true = refl
-or_swap true false = refl
-or_swap false true = refl
-or_swap false false = refl
+or_swap a b = grind arith
 
 -- the order of two principals plays no part in what comes first
 pub either_swap : (p q : Principal) (c : Column) → first_kind (is_either p q) c ≡ first_kind (is_either q p) c
@@ -44,14 +24,7 @@ either_swap p q c =
 pub first_kind_other : (m : Principal → Bool) (p : Principal) (c : Column) → m p ≡ false
     → first_kind m (without_principal p c) ≡ first_kind m c
 first_kind_other m p [] h = refl
-first_kind_other m p ((q, j) ∷ c) h = go (principal_eq q p) refl (first_kind_other m p c h)
-  where
-    go : (b : Bool) → principal_eq q p ≡ b → first_kind m (without_principal p c) ≡ first_kind m c
-        → first_kind m (without_principal p ((q, j) ∷ c)) ≡ first_kind m ((q, j) ∷ c)
-    go true e ih =
-        let skip : m q ≡ false = subst (λ v. m v ≡ false) (sym (principal_eq_same q p e)) h in
-        rw (e, skip) ih
-    go false e ih = rw (e, ih) refl
+first_kind_other m p ((q, j) ∷ c) h = grind (arith, first_kind_other m p c h, principal_eq_same q p)
 
 -- a free key may stand first
 move_front : (c d : Column) (p : Principal) (k : Kind) → is_free c (p, k) ≡ true → IsAlike (without_principal p c) d
@@ -75,12 +48,7 @@ move_front c d p k free a x y o = go (is_either x y p) refl
 -- without a principal, a column lacks it
 pub lacks_principal : (p : Principal) (c : Column) → first_kind (is_either p p) (without_principal p c) ≡ None
 lacks_principal p [] = refl
-lacks_principal p ((q, j) ∷ c) = go (principal_eq q p) refl (lacks_principal p c)
-  where
-    go : (b : Bool) → principal_eq q p ≡ b → first_kind (is_either p p) (without_principal p c) ≡ None
-        → first_kind (is_either p p) (without_principal p ((q, j) ∷ c)) ≡ None
-    go true e ih = rw e ih
-    go false e ih = rw e (rw (or_from (principal_eq q p) (principal_eq q p) e e) ih)
+lacks_principal p ((q, j) ∷ c) = grind (arith, lacks_principal p c)
 
 -- what comes first of a list, before what is emitted of the rest, is emitted of the list
 pub emission_step : (xs rest ns : List Ace) (a : Ace) → ((b : ℕ) → IsOnce (column xs b)) → IsStep xs a rest
@@ -125,21 +93,16 @@ emission_step xs rest ns a once step h = record {
     same : (k : Key) (b : ℕ) → is_free (column xs b) k ≡ is_free (column (a ∷ ns) b) k
     same k b = same_free (column xs b) (column (a ∷ ns) b) k (once b) (once' b) (alike b)
 
+-- what finds nothing finds nothing without a principal
+none_without : (m : Principal → Bool) (p : Principal) (c : Column) → first_kind m c ≡ None
+    → first_kind m (without_principal p c) ≡ None
+none_without m p [] h = refl
+none_without m p ((q, j) ∷ c) h = grind (arith, none_without m p c)
+
 -- without a principal, each other still stands once
 pub once_without : (p : Principal) (c : Column) → IsOnce c → IsOnce (without_principal p c)
 once_without p [] h = tt
-once_without p ((q, j) ∷ c) h = go (principal_eq q p) refl (once_without p c h.1)
-  where
-    go : (b : Bool) → principal_eq q p ≡ b → IsOnce (without_principal p c) → IsOnce (without_principal p ((q, j) ∷ c))
-    go true e ih = rw e ih
-    go false e ih =
-        let other : is_either q q p ≡ false = false_from_ne_true _ (λ t. absurd (clash (either_same q p t))) in
-        rw e (first_kind_other (is_either q q) p c other ∙ h.0, ih)
-      where
-        clash : p ≡ q → ⊥
-        clash same =
-            let is = subst (λ v. principal_eq q v ≡ true) (sym same) (principal_eq_itself q) in
-            cc
+once_without p ((q, j) ∷ c) h = grind (arith, once_without p c h.1, none_without (is_either q q) p c h.0)
 
 -- each principal stands once in what is left too
 pub once_left : (xs rest : List Ace) (a : Ace) → HasOnceColumns xs → IsStep xs a rest → HasOnceColumns rest

@@ -1,11 +1,5 @@
 -- The first key of a column that passes a test.
-use Rattle.std.specs.Prelude.{◌≡◌, Bool, true, false, [], ◌∷◌, ◌++◌, Option, Some, None, refl}
-use Rattle.std.proofs.Common.{sym, ◌∙◌, ap, arith}
-use Rattle.acl_perm.specs.Principal.{Principal}
-use Rattle.acl_perm.specs.Overlap.{may_overlap}
-use Rattle.acl_perm.specs.declared.kind.Kind.{Kind}
-use Rattle.acl_eval.specs.Column.{Column, first_kind}
-use Rattle.acl_normal.specs.internal.Alike.{is_either, IsAlike}
+use Rattle.acl_normal.proofs.Common.{[], ap, arith, Bool, Column, false, first_kind, is_either, IsAlike, Kind, may_overlap, None, Option, Principal, refl, Some, sym, true, ◌++◌, ◌∙◌, ◌∷◌, ◌≡◌}
 use Rattle.acl_normal.proofs.unique.Names.{either_first, either_second, either_within, overlaps_itself}
 
 -- the first test passes only where the second does

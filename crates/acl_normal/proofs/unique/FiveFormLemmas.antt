@@ -1,21 +1,12 @@
 -- The five normal forms of a list, and what they tell of it.
-use Rattle.std.proofs.Common.{◌≡◌, ℕ, List, [], ◌++◌, refl, ap, subst, ◌∙◌}
-use Rattle.std.specs.Prelude.{◌↔◌}
+use Rattle.std.proofs.Common.{◌≡◌, ℕ, List, [], ◌++◌, refl}
+use Rattle.acl_normal.proofs.Common.{Ace, all_rights, ap, equivalence, Fits, IsAccepted, IsEquivalence, IsNormalFormOf, IsProfile, Profile, SameGrants, spelling, subst, ◌↔◌, ◌∙◌}
 use Rattle.std.proofs.lemmas.List.{append_cancel_left}
-use Rattle.acl_perm.specs.Bits.{all_rights}
-use Rattle.acl_perm.specs.Profile.{Profile}
-use Rattle.acl_nfs4.specs.Ace.{Ace}
-use Rattle.acl_nfs4.specs.Spelling.{Fits, IsAccepted, spelling}
-use Rattle.acl_nfs4.specs.Within.{IsProfile}
 use Rattle.acl_nfs4.proofs.Body.{one}
 use Rattle.acl_nfs4.proofs.Within.{accepted_where_it_fits}
 use Rattle.acl_eval.specs.Inheritance.{children}
 use Rattle.acl_eval.specs.declared.inherit.ChildKind.TheVariants.{Directory, File}
-use Rattle.acl_eval.specs.Laws.{IsEquivalence}
-use Rattle.acl_eval.specs.Grant.{SameGrants}
-use Rattle.acl_eval.proofs.Same.{equivalence}
 use Rattle.acl_normal.specs.FiveForms.{AreAccepted, AreFormsOf, AreSpelledAlike, five_spellings}
-use Rattle.acl_normal.specs.NormalForm.{IsNormalFormOf}
 use Rattle.acl_normal.specs.Paths.{Path, SameAt, SameAtEveryPath, at, below, here}
 use Rattle.acl_normal.specs.declared.five_forms.FiveForms.{FiveForms}
 use Rattle.acl_normal.proofs.five_forms.Paths.{fits_at, five_suffice, form_fits, wider_is, with_inherit_only}
@@ -85,25 +76,16 @@ equal_at p source other form other_form path is taken taken_other h k = (
     within = same_within (with_inherit_only p) (at source path) (at other path) (wider_is p is)
         (fits_at p source path (fits_of p source is taken)) (fits_at p other path (fits_of p other is taken_other))
 
-made : List Ace → List Ace → List Ace → List Ace → List Ace → FiveForms
-made object file directory inner_file inner_directory = record {
-  object = object;
-  file = file;
-  directory = directory;
-  file_in_directory = inner_file;
-  directory_in_directory = inner_directory;
-}
-
 five_equal : (forms other : FiveForms) → forms.object ≡ other.object → forms.file ≡ other.file
     → forms.directory ≡ other.directory → forms.file_in_directory ≡ other.file_in_directory
     → forms.directory_in_directory ≡ other.directory_in_directory → forms ≡ other
-unfolding made
-five_equal forms other a b c d e =
-    ap (λ x. made x forms.file forms.directory forms.file_in_directory forms.directory_in_directory) a
-    ∙ ap (λ x. made other.object x forms.directory forms.file_in_directory forms.directory_in_directory) b
-    ∙ ap (λ x. made other.object other.file x forms.file_in_directory forms.directory_in_directory) c
-    ∙ ap (λ x. made other.object other.file other.directory x forms.directory_in_directory) d
-    ∙ ap (λ x. made other.object other.file other.directory other.file_in_directory x) e
+five_equal forms other a b c d e = λ i. record {
+  object = a i;
+  file = b i;
+  directory = c i;
+  file_in_directory = d i;
+  directory_in_directory = e i;
+}
 
 -- the five are equal exactly if the lists grant the same at every path
 pub five_tell : (p : Profile) (source other : List Ace) (forms other_forms : FiveForms) → IsProfile p

@@ -1,32 +1,13 @@
 -- What an irreducible column looks like.
-use Rattle.std.specs.Prelude.{◌≡◌, Bool, true, false, ◌⊎◌, [], ◌∷◌, ◌++◌, Option, Some, None, refl}
-use Rattle.std.proofs.Common.{sym, ◌∙◌, ap, subst, arith, ⊎_elim, inl, inr, append_assoc}
-use Rattle.std.proofs.lemmas.Bool.{or_cases}
-use Rattle.acl_perm.specs.Principal.{Principal, everyone}
-use Rattle.acl_perm.specs.declared.kind.Kind.{Kind}
-use Rattle.acl_perm.specs.declared.kind.Kind.TheVariants.{Deny, Allow}
-use Rattle.acl_perm.specs.Situation.{Situation, IsSituation, matches}
-use Rattle.acl_eval.specs.Column.{Column, first_kind, verdict}
-use Rattle.acl_normal.specs.Keys.{principal_eq}
-use Rattle.acl_normal.specs.internal.Alike.{IsIrreducible, is_either, is_either_or_everyone}
+use Rattle.acl_normal.proofs.Common.{[], Allow, ap, append_assoc, arith, Bool, Column, Deny, everyone, false, first_kind, inl, inr, is_either, is_either_or_everyone, IsIrreducible, IsSituation, Kind, matches, None, Option, or_cases, Principal, principal_eq, refl, Situation, Some, subst, sym, true, verdict, ⊎_elim, ◌++◌, ◌∙◌, ◌∷◌, ◌≡◌, ◌⊎◌}
 use Rattle.acl_normal.proofs.unique.Names.{principal_eq_same}
 use Rattle.acl_normal.proofs.unique.FirstKind.{splits_at}
 
 -- to take out a key changes nothing where what comes after it decides alike
 without_key : (m : Principal → Bool) (l r : Column) (p : Principal) (k : Kind)
     → (first_kind m l ≡ None → m p ≡ true → verdict m r ≡ k) → verdict m (l ++ (p, k) ∷ r) ≡ verdict m (l ++ r)
-without_key m [] r p k h = go (m p) refl
-  where
-    go : (b : Bool) → m p ≡ b → verdict m ((p, k) ∷ r) ≡ verdict m r
-    go true e = grind (arith, h refl e)
-    go false e = grind arith
-without_key m ((q, j) ∷ l) r p k h = go (m q) refl (without_key m l r p k)
-  where
-    go : (b : Bool) → m q ≡ b
-        → ((first_kind m l ≡ None → m p ≡ true → verdict m r ≡ k) → verdict m (l ++ (p, k) ∷ r) ≡ verdict m (l ++ r))
-        → verdict m ((q, j) ∷ (l ++ (p, k) ∷ r)) ≡ verdict m ((q, j) ∷ (l ++ r))
-    go true e ih = rw e refl
-    go false e ih = rw e (ih (λ i. h (rw e i)))
+without_key m [] r p k h = grind arith
+without_key m ((q, j) ∷ l) r p k h = grind (arith, without_key m l r p k)
 
 -- wherever the key would decide, what comes after it decides alike
 abbrev pub IsNeedless : Column → Principal → Kind → Column → Type 0
@@ -60,15 +41,11 @@ IsClean ((p, k) ∷ r) = (first_kind (is_either p p) r ≡ None) × (principal_e
 
 -- one of two principals is the first or the second
 pub either_is : (p q x : Principal) → is_either p q x ≡ true → (x ≡ p) ⊎ (x ≡ q)
-either_is p q x h =
-    ⊎_elim
-    (λ e. inl (principal_eq_same x p e))
-    (λ e. inr (principal_eq_same x q e))
-    (or_cases (principal_eq x p) (principal_eq x q) h)
+either_is p q x h = grind (arith, principal_eq_same)
 
 -- one of a principal and itself is that principal
 pub either_same : (p x : Principal) → is_either p p x ≡ true → x ≡ p
-either_same p x h = ⊎_elim (λ e. e) (λ e. e) (either_is p p x h)
+either_same p x h = grind (arith, principal_eq_same)
 
 -- each end of an irreducible column is clean
 pub clean_after : (c l d : Column) → IsIrreducible c → c ≡ l ++ d → IsClean d
@@ -102,32 +79,30 @@ clean c irr = clean_after c [] c irr refl
 pub first_decides : (p q : Principal) (c : Column) (k : Kind) → IsClean c → first_kind (is_either p q) c ≡ Some k
     → verdict (is_either_or_everyone p q) c ≡ k
 first_decides p q [] k clean h = cc
-first_decides p q ((x, j) ∷ r) k clean h =
-    go (is_either p q x) refl (principal_eq x everyone) refl (first_decides p q r k clean.2)
-  where
-    go : (b : Bool) → is_either p q x ≡ b → (e : Bool) → principal_eq x everyone ≡ e
-        → (first_kind (is_either p q) r ≡ Some k → verdict (is_either_or_everyone p q) r ≡ k)
-        → verdict (is_either_or_everyone p q) ((x, j) ∷ r) ≡ k
-    go true i e f ih = rw i (grind arith)
-    go false i true f ih =
-        let none = ap (first_kind (is_either p q)) (clean.1 f) in
-        absurd (grind arith)
-    go false i false f ih = rw (i, f) (ih (grind arith))
+first_decides p q ((x, j) ∷ r) k clean h = grind (arith, first_decides p q r k clean.2, clean.1)
 
 -- tests that differ at one principal alone, which the column lacks, find the same
 pub first_kind_without : (m n : Principal → Bool) (x : Principal) (c : Column) → first_kind (is_either x x) c ≡ None
     → ((z : Principal) → principal_eq z x ≡ false → m z ≡ n z) → first_kind m c ≡ first_kind n c
 first_kind_without m n x [] none same = refl
-first_kind_without m n x ((z, j) ∷ c) none same = go (principal_eq z x) refl (first_kind_without m n x c)
-  where
-    go : (b : Bool) → principal_eq z x ≡ b
-        → (first_kind (is_either x x) c ≡ None → ((z : Principal) → principal_eq z x ≡ false → m z ≡ n z)
-        → first_kind m c ≡ first_kind n c) → first_kind m ((z, j) ∷ c) ≡ first_kind n ((z, j) ∷ c)
-    go true e ih = absurd (grind arith)
-    go false e ih =
-        let here : m z ≡ n z = same z e in
-        let there = ih (grind arith) same in
-        rw (here, there)
+first_kind_without m n x ((z, j) ∷ c) none same = grind (arith, first_kind_without m n x c, same z)
+
+-- of two principals, where the column lacks the first, the second alone decides
+pub alone : (p q : Principal) (c : Column) → first_kind (is_either p p) c ≡ None
+    → first_kind (is_either p q) c ≡ first_kind (is_either q q) c
+alone p q [] none = refl
+alone p q ((x, j) ∷ c) none = grind (arith, alone p q c)
+
+-- and where it lacks the second, the first
+pub alone_first : (p q : Principal) (c : Column) → first_kind (is_either q q) c ≡ None
+    → first_kind (is_either p q) c ≡ first_kind (is_either p p) c
+alone_first p q [] none = refl
+alone_first p q ((x, j) ∷ c) none = grind (arith, alone_first p q c)
+
+-- what lacks a principal lacks what is told to be the same
+pub lacks_same : (p x : Principal) (c : Column) → first_kind (is_either p p) c ≡ None → principal_eq p x ≡ true
+    → first_kind (is_either x x) c ≡ None
+lacks_same p x c none e = subst (λ v. first_kind (is_either v v) c ≡ None) (principal_eq_same p x e) none
 
 -- everyone is never denied by name
 pub allows_everyone : (c : Column) (k : Kind) → IsIrreducible c → first_kind (is_either everyone everyone) c ≡ Some k

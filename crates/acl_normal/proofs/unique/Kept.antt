@@ -1,30 +1,16 @@
 -- ACEs with fewer bits stay within what the list is within.
-use Rattle.std.proofs.Common.{◌≡◌, ℕ, ◌<◌, Bool, true, false, List, [], ◌∷◌, ◌++◌, length, zero, suc, refl, sym, ap, subst, ◌∙◌, arith}
-use Rattle.std.specs.Prelude.{◌&&◌, not, slice_index_or}
-use Rattle.std.specs.List.{AllByRecursion}
-use Rattle.acl_perm.specs.Bits.{has_bit, IsDifference}
-use Rattle.acl_perm.specs.Profile.{Profile}
-use Rattle.acl_perm.proofs.Sets.{has_bit-and, same_set}
-use Rattle.acl_nfs4.specs.Ace.{Ace, ace}
-use Rattle.acl_nfs4.specs.Spelling.{IsAce}
-use Rattle.acl_nfs4.specs.Within.{IsWithin}
-use Rattle.acl_nfs4.specs.declared.ace.AceRef.{AceRef}
+use Rattle.std.proofs.Common.{◌≡◌, ℕ, ◌<◌, Bool, true, false, List, [], ◌∷◌, ◌++◌, length, zero, suc, refl}
+use Rattle.acl_normal.proofs.Common.{Ace, ace, AceRef, aces_in, AllByRecursion, ap, arith, has_bit, has_bit-and, IsAce, IsDifference, IsWithin, KeepsProfiles, not, Profile, same_set, slice_index_or, subst, sym, ◌&&◌, ◌∙◌}
 use Rattle.acl_nfs4.proofs.Push.{each_push}
-use Rattle.acl_normal.specs.internal.Shown.{aces_in}
-use Rattle.acl_normal.specs.internal.Passes.{KeepsProfiles, IsWithinAs}
+use Rattle.acl_normal.specs.internal.Passes.{IsWithinAs}
 use Rattle.acl_normal.proofs.plain.Passes.{list_of-append}
 
 -- a set whose bits are bits of another is within that other
 pub within_from : (set m : ℕ) → ((k : ℕ) → has_bit m k ≡ true → has_bit set k ≡ true) → IsWithin set m
-within_from set m inside = same_set _ _ (λ k. has_bit-and m set k ∙ go k (has_bit m k) refl)
-  where
-    go : (k : ℕ) (t : Bool) → has_bit m k ≡ t → (has_bit m k && has_bit set k) ≡ has_bit m k
-    go k false e = rw e refl
-    go k true e = rw (e, inside k e) refl
+within_from set m inside = same_set _ _ (λ k. grind (arith, has_bit-and m set k, inside k))
 
 second_true : (a b : Bool) → a ≡ true → (a && b) ≡ a → b ≡ true
-second_true true b e h = h
-second_true false b e h = absurd cc
+second_true a b e h = grind arith
 
 -- so is a set with fewer bits than one that is within the other
 pub within_fewer : (set m n : ℕ) → IsWithin set n → ((k : ℕ) → has_bit m k ≡ true → has_bit n k ≡ true) → IsWithin set m

@@ -1,11 +1,7 @@
 -- The order of keys tells them apart.
-use Rattle.std.proofs.Common.{◌≡◌, true, refl, ap}
-use Rattle.std.specs.Ordering.{is_le}
-use Rattle.std.specs.declared.cmp.Ordering.{Ordering}
-use Rattle.std.specs.declared.cmp.Ordering.TheVariants.{Less, Equal, Greater}
+use Rattle.std.proofs.Common.{◌≡◌, true, refl}
+use Rattle.acl_normal.proofs.Common.{ap, compare_keys, Equal, Greater, is_le, Key, key_order, key_record, Less, Ordering}
 use Rattle.acl_perm.specs.internal.Totality.{key_total}
-use Rattle.acl_perm.proofs.Orders.{key_order}
-use Rattle.acl_normal.specs.Keys.{Key, key_record, compare_keys}
 
 key_equal : (k l : Key) → compare_keys k l ≡ Equal → k ≡ l
 key_equal k l h = ap (λ v. (v.principal, v.kind)) ((key_order.equal (key_record k) (key_record l)).0 h)

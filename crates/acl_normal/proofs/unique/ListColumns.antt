@@ -1,16 +1,5 @@
 -- The columns of lists, and of irreducible lists.
-use Rattle.std.specs.Prelude.{◌≡◌, ◌≢◌, ℕ, Bool, true, false, cond, not, ◌&&◌, ◌⊎◌, List, [], ◌∷◌, ◌++◌, refl}
-use Rattle.std.proofs.Common.{sym, ◌∙◌, ap, subst, inl, inr}
-use Rattle.std.proofs.lemmas.Bool.{cases_eq, and_parts}
-use Rattle.acl_perm.specs.Situation.{Situation, IsSituation, matches}
-use Rattle.acl_perm.specs.Bits.{has_bit, all_rights}
-use Rattle.acl_nfs4.specs.Ace.{Ace}
-use Rattle.acl_eval.specs.Column.{Column, verdict, SameVerdicts, column}
-use Rattle.acl_eval.specs.Grant.{SameGrants}
-use Rattle.acl_normal.specs.internal.Alike.{IsIrreducible, IsAlike}
-use Rattle.acl_normal.specs.SmallSituations.{HaveNames}
-use Rattle.acl_normal.specs.Normal.{is_inherit_only, without_bit, IsIrreducibleList, HasNames}
-use Rattle.acl_normal.specs.Keys.{Key, ace_key}
+use Rattle.acl_normal.proofs.Common.{[], Ace, ace_key, all_rights, and_parts, ap, arith, Bool, cases_eq, Column, column, cond, false, has_bit, HasNames, HaveNames, inl, inr, is_inherit_only, IsAlike, IsIrreducible, IsIrreducibleList, IsSituation, Key, List, matches, not, refl, SameGrants, SameVerdicts, Situation, subst, sym, true, verdict, without_bit, ℕ, ◌&&◌, ◌++◌, ◌∙◌, ◌∷◌, ◌≡◌, ◌≢◌, ◌⊎◌}
 use Rattle.acl_eval.proofs.Same.{by_columns}
 use Rattle.acl_normal.proofs.unique.Columns.{column_first}
 use Rattle.acl_normal.proofs.unique.Bits.{bit_cleared, bit_kept}
@@ -20,13 +9,7 @@ use Rattle.acl_normal.proofs.unique.SameKeys.{alike}
 -- the column of two lists is that of the first, and then that of the second
 pub column-append : (b : ℕ) (xs ys : List Ace) → column (xs ++ ys) b ≡ column xs b ++ column ys b
 column-append b [] ys = refl
-column-append b (a ∷ xs) ys = go (has_bit a.mask b && not (is_inherit_only a)) refl (column-append b xs ys)
-  where
-    go : (t : Bool) → (has_bit a.mask b && not (is_inherit_only a)) ≡ t
-        → column (xs ++ ys) b ≡ column xs b ++ column ys b
-        → column (a ∷ (xs ++ ys)) b ≡ column (a ∷ xs) b ++ column ys b
-    go true e ih = rw e (ap (λ c. ace_key a ∷ c) ih)
-    go false e ih = rw e ih
+column-append b (a ∷ xs) ys = grind (arith, column-append b xs ys)
 
 -- the place in the list of a key of a column
 pub record ComesFrom (b : ℕ) (xs : List Ace) (front : Column) (e : Key) (back : Column) : Type 0 where
@@ -37,6 +20,7 @@ pub record ComesFrom (b : ℕ) (xs : List Ace) (front : Column) (e : Key) (back 
   pub front_is : column before b ≡ front
   pub back_is : column after b ≡ back
   pub has : has_bit ace.mask b ≡ true
+  pub entry : ace_key ace ≡ e
 
 longer_by : (b : ℕ) (a : Ace) (xs : List Ace) (front whole : Column) (e : Key) (back : Column)
     → (s : ComesFrom b xs front e back) → column (a ∷ s.before) b ≡ whole → ComesFrom b (a ∷ xs) whole e back
@@ -48,9 +32,11 @@ longer_by b a xs front whole e back s is = record {
   front_is = is;
   back_is = s.back_is;
   has = s.has;
+  entry = s.entry;
 }
 
-comes_from : (b : ℕ) (xs : List Ace) (front : Column) (e : Key) (back : Column) → column xs b ≡ front ++ e ∷ back
+-- each key of a column has its place in the list
+pub comes_from : (b : ℕ) (xs : List Ace) (front : Column) (e : Key) (back : Column) → column xs b ≡ front ++ e ∷ back
     → ComesFrom b xs front e back
 comes_from b [] [] e back h = cc
 comes_from b [] (f ∷ front) e back h = cc
@@ -70,6 +56,7 @@ comes_from b (a ∷ xs) front e back h = go (has_bit a.mask b && not (is_inherit
           front_is = refl;
           back_is = cc;
           has = (and_parts (has_bit a.mask b) (not (is_inherit_only a)) i).0;
+          entry = cc;
         }
     go true i (f ∷ front) h ih =
         let here : ace_key a ∷ column xs b ≡ f ∷ (front ++ e ∷ back) = rw i at h in
@@ -158,12 +145,7 @@ no_other_bits xs b irr outside = go (column xs b) refl
 -- the principals of a column have the names of the list
 pub names_in_column : (b : ℕ) (xs : List Ace) → HasNames xs → HaveNames (column xs b)
 names_in_column b [] h = tt
-names_in_column b (a ∷ xs) h = go (has_bit a.mask b && not (is_inherit_only a)) refl (names_in_column b xs h.1)
-  where
-    go : (t : Bool) → (has_bit a.mask b && not (is_inherit_only a)) ≡ t → HaveNames (column xs b)
-        → HaveNames (column (a ∷ xs) b)
-    go true e ih = rw e (h.0, ih)
-    go false e ih = rw e ih
+names_in_column b (a ∷ xs) h = grind (arith, names_in_column b xs h.1, h.0)
 
 -- irreducible lists with the same grants have alike columns
 pub alike_columns : (xs ys : List Ace) → IsIrreducibleList xs → IsIrreducibleList ys → SameGrants all_rights xs ys

@@ -1,18 +1,9 @@
 -- The principals of an irreducible column have names.
-use Rattle.std.specs.Prelude.{◌≡◌, ℕ, ◌<◌, Bool, true, false, nat_lt, ◌&&◌, List, [], ◌∷◌, ◌++◌, length, refl}
+use Rattle.acl_normal.proofs.Common.{[], AllByRecursion, append_assoc, Bool, bytes_eq, Column, everyone, false, group, group_named, HasName, HaveNames, IsIrreducible, IsName, Kind, length, List, nat_lt, or_cases, owner, Principal, refl, subst, sym, true, user, ℕ, ⊎_elim, ◌&&◌, ◌++◌, ◌<◌, ◌∙◌, ◌∷◌, ◌≡◌}
 use Rattle.std.specs.Bool.{Decides}
-use Rattle.std.specs.Str.{bytes_eq}
-use Rattle.std.specs.List.{AllByRecursion}
 use Rattle.std.proofs.lemmas.List.Elements.{recursion_from_All}
-use Rattle.std.proofs.Common.{sym, ◌∙◌, subst, ⊎_elim, append_assoc}
-use Rattle.std.proofs.lemmas.Bool.{or_cases}
 use Rattle.std.proofs.lemmas.Bool.Decides.{Decides-by_and, Decides-ltb, Decides-and, not_from_Decides}
-use Rattle.acl_perm.specs.Principal.{Principal, owner, user, group, group_named, everyone}
-use Rattle.acl_perm.specs.declared.kind.Kind.{Kind}
-use Rattle.acl_perm.specs.Situation.{IsName, is_one_of}
-use Rattle.acl_eval.specs.Column.{Column}
-use Rattle.acl_normal.specs.internal.Alike.{IsIrreducible}
-use Rattle.acl_normal.specs.SmallSituations.{HasName, HaveNames}
+use Rattle.acl_perm.specs.Situation.{is_one_of}
 use Rattle.acl_normal.proofs.unique.Names.{bytes_eq_same}
 use Rattle.acl_normal.proofs.unique.Irreducible.{not_needless}
 

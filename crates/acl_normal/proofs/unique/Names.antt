@@ -1,32 +1,14 @@
 -- When two principals are the same, and when they overlap.
-use Rattle.std.specs.Prelude.{◌≡◌, ℕ, Bool, true, List, refl}
-use Rattle.std.specs.Str.{bytes_eq}
-use Rattle.std.proofs.Common.{sym, ap, subst, ⊎_elim}
+use Rattle.acl_normal.proofs.Common.{Allow, ap, arith, Bool, bytes_eq, Deny, everyone, group, group_named, is_either, is_either_or_everyone, Kind, kind_eq, List, matches, may_overlap, or_cases, or_left, or_right, owner, Principal, principal_eq, refl, Situation, subst, sym, true, user, ℕ, ⊎_elim, ◌≡◌}
 use Rattle.std.proofs.lemmas.Slice.Eq.{bytes_eq-Decides}
-use Rattle.std.proofs.lemmas.Bool.{or_cases, or_left, or_right}
 use Rattle.acl_perm.proofs.Meetings.{overlap_is}
 use Rattle.acl_perm.proofs.Bools.{same_answers}
 use Rattle.acl_perm.specs.Kind.{is_allow}
-use Rattle.acl_perm.specs.declared.kind.Kind.{Kind}
-use Rattle.acl_perm.specs.declared.kind.Kind.TheVariants.{Deny, Allow}
-use Rattle.acl_perm.specs.Principal.{Principal, owner, user, group, group_named, everyone, is_everyone}
-use Rattle.acl_perm.specs.Overlap.{may_overlap}
-use Rattle.acl_perm.specs.Situation.{Situation, matches}
-use Rattle.acl_normal.specs.Keys.{kind_eq, principal_eq}
-use Rattle.acl_normal.specs.internal.Alike.{is_either, is_either_or_everyone}
+use Rattle.acl_perm.specs.Principal.{is_everyone}
 
 -- the test for everyone is that for the same principal
 pub everyone_test : (p : Principal) → is_everyone p ≡ principal_eq p everyone
-everyone_test owner = refl
-everyone_test (user name) = refl
-everyone_test group = refl
-everyone_test (group_named name) = refl
-everyone_test everyone = refl
-
--- the test for ALLOW is that for the same kind
-pub allow_test : (k : Kind) → is_allow k ≡ kind_eq k Allow
-allow_test Deny = refl
-allow_test Allow = refl
+everyone_test p = grind arith
 
 -- a name is the same as itself
 pub bytes_eq_itself : (a : List ℕ) → bytes_eq a a ≡ true
@@ -44,11 +26,7 @@ bytes_eq_turned a b = same_answers (bytes_eq a b) (bytes_eq b a)
 
 -- a principal is the same as itself
 pub principal_eq_itself : (p : Principal) → principal_eq p p ≡ true
-principal_eq_itself owner = refl
-principal_eq_itself (user a) = bytes_eq_itself a
-principal_eq_itself group = refl
-principal_eq_itself (group_named a) = bytes_eq_itself a
-principal_eq_itself everyone = refl
+principal_eq_itself p = grind (arith, bytes_eq_itself)
 
 -- principals that are told to be the same are
 pub principal_eq_same : (p q : Principal) → principal_eq p q ≡ true → p ≡ q
@@ -61,19 +39,15 @@ principal_eq_same _ _ h = cc
 
 -- a principal overlaps itself
 pub overlaps_itself : (p : Principal) → may_overlap p p ≡ true
-overlaps_itself (user a) = bytes_eq_itself a
-overlaps_itself _ = refl
+overlaps_itself p = grind (arith, bytes_eq_itself)
 
 -- everyone overlaps all
 pub overlaps_everyone : (p : Principal) → may_overlap p everyone ≡ true
-overlaps_everyone (user a) = refl
-overlaps_everyone _ = refl
+overlaps_everyone p = grind arith
 
 -- who overlaps is overlapped
 pub overlaps_back : (p q : Principal) → may_overlap p q ≡ true → may_overlap q p ≡ true
-overlaps_back (user a) (user b) h = (bytes_eq-Decides b a).1 (sym (bytes_eq_same a b h))
-overlaps_back _ (user b) h = refl
-overlaps_back _ _ h = refl
+overlaps_back p q h = grind (arith, bytes_eq_turned)
 
 -- two principals that match in one situation overlap
 pub matches_overlap : (s : Situation) (p q : Principal) → matches s p ≡ true → matches s q ≡ true
@@ -91,19 +65,12 @@ either_second p q = or_right _ _ (principal_eq_itself q)
 -- a test that passes two principals passes whatever is either of them
 pub either_within : (m : Principal → Bool) (p q : Principal) → m p ≡ true → m q ≡ true → (x : Principal)
     → is_either p q x ≡ true → m x ≡ true
-either_within m p q hp hq x h = ⊎_elim
-    (λ e. subst (λ y. m y ≡ true) (sym (principal_eq_same x p e)) hp)
-    (λ e. subst (λ y. m y ≡ true) (sym (principal_eq_same x q e)) hq)
-    (or_cases (principal_eq x p) (principal_eq x q) h)
+either_within m p q hp hq x h = grind (arith, principal_eq_same)
 
 -- a test that passes two principals and everyone passes whatever is one of these
 pub either_or_everyone_within : (m : Principal → Bool) (p q : Principal) → m p ≡ true → m q ≡ true → m everyone ≡ true
     → (x : Principal) → is_either_or_everyone p q x ≡ true → m x ≡ true
-either_or_everyone_within m p q hp hq he x h =
-    ⊎_elim
-    (λ e. either_within m p q hp hq x e)
-    (λ e. subst (λ y. m y ≡ true) (sym (principal_eq_same x everyone e)) he)
-    (or_cases (is_either p q x) (principal_eq x everyone) h)
+either_or_everyone_within m p q hp hq he x h = grind (arith, principal_eq_same)
 
 -- the first of two is one of these and everyone
 pub or_everyone_first : (p q : Principal) → is_either_or_everyone p q p ≡ true

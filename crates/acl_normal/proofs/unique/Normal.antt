@@ -1,23 +1,6 @@
 -- Lists whose columns are irreducible, and normal forms.
-use Rattle.std.specs.Prelude.{◌≡◌, ℕ, Bool, true, false, List, [], ◌∷◌, ◌++◌, Some, unwrap_or, refl, ◌==◌, not, ◌&&◌}
-use Rattle.std.proofs.Common.{sym, ◌∙◌, ap, subst}
-use Rattle.std.proofs.lemmas.Nat.Bits.{bit_at-zero}
+use Rattle.acl_normal.proofs.Common.{[], Ace, ace_key, all_rights, ap, arith, bit_at-zero, Bool, Column, column, default, Deny, false, first_kind, has_bit, HasMasks, HasName, HasNames, HasNoEmptyMask, HasNormalFlags, HaveNames, is_either, is_inherit_only, IsAlike, IsEmission, IsIrreducible, IsIrreducibleList, IsNormal, IsQuiet, IsSubset, Kind, List, matches, not, Principal, principal_of, reduced, refl, SameGrants, Situation, Some, subst, sym, true, unshadowed, unwrap_or, verdict, without_bit, ℕ, ◌&&◌, ◌++◌, ◌==◌, ◌∙◌, ◌∷◌, ◌≡◌}
 use mathlib.Core.Logic.Iff.{trans}
-use Rattle.acl_perm.specs.Principal.{Principal}
-use Rattle.acl_perm.specs.declared.kind.Kind.{Kind}
-use Rattle.acl_perm.specs.declared.kind.Kind.TheVariants.{Deny}
-use Rattle.acl_perm.specs.Situation.{Situation, matches}
-use Rattle.acl_perm.specs.Bits.{has_bit, all_rights, IsSubset}
-use Rattle.acl_nfs4.specs.Ace.{Ace}
-use Rattle.acl_nfs4.specs.Who.{principal_of}
-use Rattle.acl_eval.specs.Column.{Column, first_kind, verdict, column}
-use Rattle.acl_eval.specs.Grant.{SameGrants}
-use Rattle.acl_normal.specs.internal.Alike.{is_either, IsAlike, IsIrreducible}
-use Rattle.acl_normal.specs.SmallSituations.{HasName, HaveNames}
-use Rattle.acl_normal.specs.Keys.{ace_key}
-use Rattle.acl_normal.specs.Normal.{without_bit, HasNoEmptyMask, IsIrreducibleList, IsNormal, HasNormalFlags, HasNames, HasMasks, IsQuiet, is_inherit_only}
-use Rattle.acl_normal.specs.internal.Plain.{unshadowed, default, reduced}
-use Rattle.acl_normal.specs.internal.Emissions.{IsEmission}
 use Rattle.acl_normal.proofs.unique.Names.{overlaps_itself, matches_overlap, either_first}
 use Rattle.acl_normal.proofs.unique.FirstKind.{IsClique, alike_agree}
 use Rattle.acl_normal.proofs.unique.ListColumns.{column-append, column_without, irreducible_column, same_grants_from_columns, same_verdicts, names_in_column}
@@ -80,17 +63,7 @@ quiet_flags (a ∷ xs) h =
 -- in such a list a key with a bit takes part with it
 pub counts_mask : (b : ℕ) (a : Ace) → (is_inherit_only a ≡ true → a.mask ≡ 0)
     → (has_bit a.mask b && not (is_inherit_only a)) ≡ has_bit a.mask b
-counts_mask b a h = go (is_inherit_only a) refl
-  where
-    and_true : (t : Bool) → (t && true) ≡ t
-    and_true true = refl
-    and_true false = refl
-
-    go : (t : Bool) → is_inherit_only a ≡ t → (has_bit a.mask b && not (is_inherit_only a)) ≡ has_bit a.mask b
-    go false e = rw e (and_true (has_bit a.mask b))
-    go true e =
-        let none : has_bit a.mask b ≡ false = ap (λ v. has_bit v b) (h e) ∙ ap (λ v. v == 1) (bit_at-zero b) in
-        rw none refl
+counts_mask b a h = grind (arith, bit_at-zero b)
 
 -- an ACE of a quiet list is a key of the column of each of its bits
 pub column_quiet : (b : ℕ) (a : Ace) (xs : List Ace) → (is_inherit_only a ≡ true → a.mask ≡ 0)

@@ -1,10 +1,5 @@
 -- What lists of one outline have in common: all but the masks.
-use Rattle.std.specs.Prelude.{◌≡◌, ℕ, zero, suc, List, [], ◌∷◌, ◌++◌, length, refl}
-use Rattle.std.proofs.Common.{sym, ◌∙◌, ap, arith}
-use Rattle.acl_nfs4.specs.Ace.{Ace}
-use Rattle.acl_nfs4.specs.declared.ace.AceRef.{AceRef}
-use Rattle.acl_normal.specs.Places.{key_here, nothing_left}
-use Rattle.acl_normal.specs.internal.Shown.{aces_in, with_masks}
+use Rattle.acl_normal.proofs.Common.{[], Ace, AceRef, aces_in, ap, arith, key_here, length, List, nothing_left, refl, suc, sym, with_masks, zero, ℕ, ◌++◌, ◌∙◌, ◌∷◌, ◌≡◌}
 
 -- the length
 pub outline_length : (xs : List Ace) → length (nothing_left xs) ≡ length xs

@@ -1,25 +1,12 @@
 -- Lists that fit a profile grant nothing outside it.
-use Rattle.std.proofs.Common.{◌≡◌, ℕ, Bool, true, false, List, [], ◌∷◌, refl, sym, ap, ◌∙◌}
-use Rattle.std.specs.Prelude.{◌↔◌, ◌&&◌, IsTrue}
-use Rattle.acl_perm.specs.Bits.{has_bit, all_rights}
-use Rattle.acl_perm.specs.Profile.{Profile}
-use Rattle.acl_perm.specs.Situation.{Situation, matches}
-use Rattle.acl_perm.proofs.Sets.{has_bit-and, bits_from_mask}
-use Rattle.acl_nfs4.specs.Ace.{Ace}
-use Rattle.acl_nfs4.specs.Spelling.{Fits}
-use Rattle.acl_nfs4.specs.Within.{IsProfile, IsWithin}
-use Rattle.acl_eval.specs.Column.{column, verdict, SameVerdicts}
-use Rattle.acl_eval.specs.Grant.{SameGrants, grants_bit, is_allow}
+use Rattle.std.proofs.Common.{◌≡◌, ℕ, Bool, true, false, List, [], ◌∷◌, refl}
+use Rattle.acl_normal.proofs.Common.{Ace, all_rights, ap, arith, bits_from_mask, column, Fits, has_bit, has_bit-and, is_allow, IsProfile, IsTrue, IsWithin, matches, Profile, SameGrants, SameVerdicts, Situation, sym, verdict, ◌&&◌, ◌↔◌, ◌∙◌}
+use Rattle.acl_eval.specs.Grant.{grants_bit}
 use Rattle.acl_eval.proofs.Same.{by_columns}
 use Rattle.acl_normal.proofs.unique.Columns.{column_lacks}
 
 lacks_bit : (set n k : ℕ) → IsWithin set n → has_bit set k ≡ false → has_bit n k ≡ false
-lacks_bit set n k is h =
-    sym (ap (λ (m : ℕ). has_bit m k) is) ∙ has_bit-and n set k ∙ none (has_bit n k) (has_bit set k) h
-  where
-    none : (a b : Bool) → b ≡ false → (a && b) ≡ false
-    none true b e = e
-    none false b e = refl
+lacks_bit set n k is h = grind (arith, ap (λ (m : ℕ). has_bit m k) is, has_bit-and n set k)
 
 -- no ACE of a list that fits a profile has a bit outside it
 pub column_outside : (p : Profile) (list : List Ace) (bit : ℕ) → Fits p list → has_bit p.masks bit ≡ false

@@ -1,22 +1,10 @@
 -- The small situations: which principals match in them.
-use Rattle.std.specs.Prelude.{◌≡◌, ℕ, ◌<◌, Bool, true, false, cond, ◌||◌, List, [], ◌∷◌, Option, Some, None, unwrap_or, refl, length, replicate, max, suc, zero, ◌⊎◌}
-use Rattle.std.specs.Str.{bytes_eq}
-use Rattle.std.proofs.Common.{sym, ◌∙◌, ap, subst, arith, ⊎_elim, inl, inr, lit<}
-use Rattle.std.specs.List.{AllByRecursion}
+use Rattle.acl_normal.proofs.Common.{[], AllByRecursion, ap, arith, Bool, bytes_eq, Column, cond, Deny, everyone, false, false_from_ne_true, false≢true, first_kind, group, group_named, HasName, inl, inr, is_among, is_either_or_everyone, IsName, IsSituation, length, length-replicate, List, lit<, longest_name, matches, max, may_overlap, None, Option, or_cases, or_from, or_left, owner, Principal, principal_eq, principal_name, refl, replicate, SameVerdicts, small_situation, Some, subst, suc, sym, true, unwrap_or, user, verdict, zero, ℕ, ⊎_elim, ◌<◌, ◌||◌, ◌∙◌, ◌∷◌, ◌≡◌, ◌⊎◌}
 use Rattle.std.proofs.lemmas.List.Elements.{All-replicate, All-from_recursion}
-use Rattle.std.proofs.lemmas.List.{length-replicate}
 use Rattle.std.proofs.lemmas.Slice.Eq.{bytes_eq-Decides}
-use Rattle.std.proofs.lemmas.Bool.{or_cases, or_left, or_from, false_from_ne_true, false≢true}
 pub use Rattle.acl_perm.proofs.Bools.{same_answers}
-use Rattle.acl_perm.specs.Principal.{Principal, owner, user, group, group_named, everyone}
-use Rattle.acl_perm.specs.Overlap.{may_overlap}
-use Rattle.acl_perm.specs.declared.kind.Kind.TheVariants.{Deny}
-use Rattle.acl_perm.specs.Situation.{IsSituation, IsName, matches, is_one_of}
-use Rattle.acl_perm.specs.Order.{principal_name}
-use Rattle.acl_eval.specs.Column.{Column, first_kind, verdict, SameVerdicts}
-use Rattle.acl_normal.specs.Keys.{principal_eq}
-use Rattle.acl_normal.specs.internal.Alike.{is_either_or_everyone}
-use Rattle.acl_normal.specs.SmallSituations.{small_situation, first_user, group_names, is_among, first_or, names_or, longest_name, HasName}
+use Rattle.acl_perm.specs.Situation.{is_one_of}
+use Rattle.acl_normal.specs.SmallSituations.{first_user, group_names, first_or, names_or}
 use Rattle.acl_normal.proofs.unique.Names.{bytes_eq_itself, bytes_eq_turned, bytes_eq_same, principal_eq_same}
 
 -- names of different lengths are different
@@ -172,13 +160,9 @@ names_or_named : (names : List (List ℕ)) (x : List ℕ) → AreNames names →
 names_or_named [] x s h = (h, tt)
 names_or_named (y ∷ names) x s h = s
 
-cond_named : (b : Bool) (x y : List ℕ) → IsName x → IsName y → IsName (cond b x y)
-cond_named true x y h i = h
-cond_named false x y h i = i
-
-cond_names : (b : Bool) (x y : List (List ℕ)) → AreNames x → AreNames y → AreNames (cond b x y)
-cond_names true x y h i = h
-cond_names false x y h i = i
+cond_holds : {A : Type 0} (P : A → Type 0) (b : Bool) (x y : A) → P x → P y → P (cond b x y)
+cond_holds P true x y h i = h
+cond_holds P false x y h i = i
 
 unwrap_named : (o : Option (List ℕ)) (x : List ℕ) → ((b : List ℕ) → o ≡ Some b → IsName b) → IsName x
     → IsName (unwrap_or o x)
@@ -194,27 +178,19 @@ small_is_situation n ps h s =
     (stranger_is_name n 117 h (lit< tt)) in
     let groups = group_names_named ps s in
     record {
-      owner_name = cond_named (is_among owner ps) _ _ asking (stranger_is_name n 111 h (lit< tt));
-      owning_group = cond_named (is_among group ps) _ _ (first_or_named (group_names ps) _ groups stranger) stranger;
+      owner_name = cond_holds IsName (is_among owner ps) _ _ asking (stranger_is_name n 111 h (lit< tt));
+      owning_group = cond_holds IsName (is_among group ps) _ _ (first_or_named (group_names ps) _ groups stranger) stranger;
       user_name = asking;
       groups = All-from_recursion IsName _
-          (cond_names (is_among group ps) _ _ (names_or_named (group_names ps) _ groups stranger) groups);
+          (cond_holds AreNames (is_among group ps) _ _ (names_or_named (group_names ps) _ groups stranger) groups);
     }
 
 -- everyone first or last
 pub reorder : (a b e : Bool) → (e || (a || (b || false))) ≡ ((a || b) || e)
-reorder true true e = grind arith
-reorder true false e = grind arith
-reorder false true e = grind arith
-reorder false false e = grind arith
+reorder a b e = grind arith
 
 among_two : (p q r : Principal) → is_among r (p ∷ q ∷ []) ≡ true → (r ≡ p) ⊎ (r ≡ q)
-among_two p q r h =
-    ⊎_elim
-    (λ e. inl (principal_eq_same r p e))
-    (λ e. ⊎_elim (λ f. inr (principal_eq_same r q f)) (λ f. absurd (false≢true f))
-    (or_cases (principal_eq r q) false e))
-    (or_cases (principal_eq r p) (principal_eq r q || false) h)
+among_two p q r h = grind (arith, principal_eq_same)
 
 same_user : (p q : Principal) (a b : List ℕ) → may_overlap p q ≡ true → user a ≡ p → user b ≡ q → a ≡ b
 same_user p q a b o e f =

@@ -1,15 +1,5 @@
 -- Irreducible columns that decide alike are alike.
-use Rattle.std.specs.Prelude.{◌≡◌, Bool, true, false, ◌||◌, ◌⊎◌, [], ◌∷◌, ◌++◌, Option, Some, None, unwrap_or, refl}
-use Rattle.std.proofs.Common.{sym, ◌∙◌, ap, subst, arith, inl, inr, append_assoc}
-use Rattle.acl_perm.specs.Principal.{Principal, everyone}
-use Rattle.acl_perm.specs.Overlap.{may_overlap}
-use Rattle.acl_perm.specs.declared.kind.Kind.{Kind}
-use Rattle.acl_perm.specs.declared.kind.Kind.TheVariants.{Deny, Allow}
-use Rattle.acl_perm.specs.Situation.{Situation, matches}
-use Rattle.acl_eval.specs.Column.{Column, first_kind, verdict, SameVerdicts}
-use Rattle.acl_normal.specs.Keys.{principal_eq}
-use Rattle.acl_normal.specs.internal.Alike.{IsIrreducible, is_either, is_either_or_everyone, IsAlike}
-use Rattle.acl_normal.specs.SmallSituations.{HasName, HaveNames}
+use Rattle.acl_normal.proofs.Common.{[], Allow, ap, append_assoc, arith, Bool, Column, Deny, everyone, false, first_kind, HasName, HaveNames, inl, inr, is_either, is_either_or_everyone, IsAlike, IsIrreducible, Kind, matches, may_overlap, None, Option, Principal, principal_eq, refl, SameVerdicts, Situation, Some, subst, sym, true, unwrap_or, verdict, ◌++◌, ◌||◌, ◌∙◌, ◌∷◌, ◌≡◌, ◌⊎◌}
 use Rattle.acl_normal.proofs.unique.Names.{principal_eq_same, either_first, either_second, either_within, overlaps_itself, overlaps_back, matches_overlap, or_everyone_first, either_or_everyone_within}
 use Rattle.acl_normal.proofs.unique.FirstKind.{IsWithin, none_within, append_none, SplitsAt, splits_at, first_within}
 use Rattle.acl_normal.proofs.unique.Realised.{pairs_from_situations}
@@ -36,34 +26,23 @@ pub stop_at : (n : Principal → Bool) (l r : Column) (x : Principal) (k : Kind)
     → first_kind n (l ++ (x, k) ∷ r) ≡ Some k
 stop_at n l r x k none at = append_none n l ((x, k) ∷ r) none ∙ rw at refl
 
-skip_first : (a b e : Bool) → a ≡ false → ((a || b) || e) ≡ ((b || b) || e)
-skip_first true b e h = cc
-skip_first false true e h = refl
-skip_first false false e h = refl
-
-skip_both : (a e : Bool) → a ≡ false → ((a || a) || e) ≡ ((e || e) || e)
-skip_both true e h = cc
-skip_both false true h = refl
-skip_both false false h = refl
-
 -- three times the same
 pub thrice : (e : Bool) → ((e || e) || e) ≡ (e || e)
-thrice true = refl
-thrice false = refl
+thrice e = grind arith
 
 -- without x, which the column lacks, the same decides
 lacks : (x y : Principal) (c : Column) → first_kind (is_either x x) c ≡ None
     → verdict (is_either_or_everyone x y) c ≡ verdict (is_either_or_everyone y y) c
 lacks x y c none =
     ap (λ o. unwrap_or o Deny) (first_kind_without (is_either_or_everyone x y) (is_either_or_everyone y y) x c none
-    (λ z e. skip_first (principal_eq z x) (principal_eq z y) (principal_eq z everyone) e))
+    (λ z e. grind arith))
 
 lacks_alone : (x : Principal) (c : Column) → first_kind (is_either x x) c ≡ None
     → verdict (is_either_or_everyone x x) c ≡ verdict (is_either_or_everyone everyone everyone) c
 lacks_alone x c none =
     ap (λ o. unwrap_or o Deny) (first_kind_without (is_either_or_everyone x x)
     (is_either_or_everyone everyone everyone) x c none
-    (λ z e. skip_both (principal_eq z x) (principal_eq z everyone) e))
+    (λ z e. grind arith))
 
 same_default : (c d : Column) → AgreeAtNames c d
     → verdict (is_either_or_everyone everyone everyone) c ≡ verdict (is_either_or_everyone everyone everyone) d
@@ -189,18 +168,14 @@ present c d p q k irr names agree h missing =
     go {l} {r} {x} true e lost is = lost_everyone c d l r x k lost (principal_eq_same x everyone e)
     go {l} {r} {x} false e lost is = not_needless c l r x k irr is (lost_needless c d l r x k lost e)
 
+overlap_of : (p q : Principal) → may_overlap p q ≡ true → may_overlap q p ≡ true → (x y : Principal)
+    → (x ≡ p) ⊎ (x ≡ q) → (y ≡ p) ⊎ (y ≡ q) → may_overlap x y ≡ true
+overlap_of p q o back x y h i = grind (arith, overlaps_itself p, overlaps_itself q)
+
 either_overlap : (p q : Principal) → may_overlap p q ≡ true → (x y : Principal) → is_either p q x ≡ true
     → is_either p q y ≡ true → may_overlap x y ≡ true
-either_overlap p q o x y h i = go (either_is p q x h) (either_is p q y i)
-  where
-    pair : (a b : Principal) → x ≡ a → y ≡ b → may_overlap a b ≡ true → may_overlap x y ≡ true
-    pair a b e f o = subst (λ v. may_overlap v y ≡ true) (sym e) (subst (λ v. may_overlap a v ≡ true) (sym f) o)
-
-    go : (x ≡ p) ⊎ (x ≡ q) → (y ≡ p) ⊎ (y ≡ q) → may_overlap x y ≡ true
-    go (inl e) (inl f) = pair p p e f (overlaps_itself p)
-    go (inl e) (inr f) = pair p q e f o
-    go (inr e) (inl f) = pair q p e f (overlaps_back p q o)
-    go (inr e) (inr f) = pair q q e f (overlaps_itself q)
+either_overlap p q o x y h i =
+    overlap_of p q o (overlaps_back p q o) x y (either_is p q x h) (either_is p q y i)
 
 -- two irreducible columns that decide alike have the same keys, and those that conflict in the same order
 pub alike : (c d : Column) → IsIrreducible c → IsIrreducible d → HaveNames c → HaveNames d → SameVerdicts c d

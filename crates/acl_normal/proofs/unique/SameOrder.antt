@@ -1,19 +1,6 @@
 -- Irreducible lists that grant the same: the same bits, in the same order.
-use Rattle.std.specs.Prelude.{◌≡◌, ℕ, Bool, true, false, not, List, [], ◌∷◌, ◌++◌, Option, Some, None, refl}
-use Rattle.std.proofs.Common.{sym, ◌∙◌, ap, subst, arith, ⊎_elim, append_assoc}
-use Rattle.std.proofs.lemmas.Bool.{or_right, or_from, and_parts, false_from_ne_true}
-use Rattle.acl_perm.specs.Principal.{Principal}
-use Rattle.acl_perm.specs.Overlap.{may_overlap}
-use Rattle.acl_perm.specs.declared.kind.Kind.{Kind}
-use Rattle.acl_perm.specs.Bits.{all_rights}
-use Rattle.acl_nfs4.specs.Ace.{Ace}
-use Rattle.acl_eval.specs.Column.{Column, first_kind, column}
-use Rattle.acl_eval.specs.Grant.{SameGrants}
-use Rattle.acl_normal.specs.Keys.{principal_eq, Key, conflicts, kind_eq}
-use Rattle.acl_normal.specs.internal.Alike.{is_either, IsAlike}
-use Rattle.acl_normal.specs.Normal.{IsIrreducibleList}
-use Rattle.acl_normal.specs.Laws.{Has, Precedes}
-use Rattle.acl_normal.specs.internal.Emissions.{IsOnce}
+use Rattle.acl_normal.proofs.Common.{[], Ace, all_rights, and_parts, ap, append_assoc, arith, Bool, Column, column, conflicts, false, false_from_ne_true, first_kind, Has, is_either, IsAlike, IsIrreducibleList, IsOnce, Key, Kind, kind_eq, List, may_overlap, None, not, Option, or_from, or_right, Principal, principal_eq, refl, SameGrants, Some, subst, sym, true, ℕ, ⊎_elim, ◌++◌, ◌∙◌, ◌∷◌, ◌≡◌}
+use Rattle.acl_normal.specs.Laws.{Precedes}
 use Rattle.acl_normal.proofs.unique.Names.{principal_eq_same, principal_eq_itself, either_first, overlaps_itself}
 use Rattle.acl_normal.proofs.unique.FirstKind.{SplitsAt, splits_at, none_within}
 use Rattle.acl_normal.proofs.unique.Irreducible.{clean, either_is, either_same}
@@ -23,11 +10,7 @@ use Rattle.acl_normal.proofs.unique.ListColumns.{irreducible_column, alike_colum
 
 first_kind_after : (m : Principal → Bool) (l : Column) (p : Principal) (k : Kind) (r : Column)
     → first_kind m (l ++ (p, k) ∷ r) ≡ None → m p ≡ false
-first_kind_after m [] p k r h = go (m p) refl
-  where
-    go : (b : Bool) → m p ≡ b → m p ≡ false
-    go true e = absurd (grind arith)
-    go false e = e
+first_kind_after m [] p k r h = grind arith
 first_kind_after m ((q, j) ∷ l) p k r h = grind (arith, first_kind_after m l p k r)
 
 -- before its own key, and after it, a column without repetition lacks the principal
@@ -35,21 +18,13 @@ pub once_before : (l : Column) (p : Principal) (k : Kind) (r : Column) → IsOnc
     → first_kind (is_either p p) l ≡ None
 once_before [] p k r h = refl
 once_before ((q, j) ∷ l) p k r h =
-    let other = first_kind_after (is_either q q) l p k r h.0 in
-    let no : is_either p p q ≡ false = different (principal_eq p q) (principal_eq q p) refl refl other in
-    rw no (once_before l p k r h.1)
-  where
-    different : (a b : Bool) → principal_eq p q ≡ a → principal_eq q p ≡ b → is_either q q p ≡ false
-        → is_either p p q ≡ false
-    different a false e f h = or_from (principal_eq q p) (principal_eq q p) f f
-    different a true e f h =
-        let same : q ≡ p = principal_eq_same q p f in
-        absurd (clash (subst (λ v. is_either v v p ≡ false) same h))
-      where
-        clash : is_either p p p ≡ false → ⊥
-        clash h =
-            let yes' = either_first p p in
-            cc
+    grind (
+      arith,
+      once_before l p k r h.1,
+      first_kind_after (is_either q q) l p k r h.0,
+      principal_eq_same q p,
+      principal_eq_itself,
+    )
 
 -- a key of a column without repetition is the first of its principal
 pub once_has : (c : Column) (p : Principal) (k : Kind) → IsOnce c → Has c (p, k) → first_kind (is_either p p) c ≡ Some k
@@ -78,35 +53,11 @@ none_left m ((p, k) ∷ l) r h = grind (arith, none_left m l r)
 
 neither : (p q : Principal) (c : Column) → first_kind (is_either p p) c ≡ None → first_kind (is_either q q) c ≡ None
     → first_kind (is_either p q) c ≡ None
-neither p q c np nq = go (first_kind (is_either p q) c) refl
-  where
-    go : (o : Option Kind) → first_kind (is_either p q) c ≡ o → first_kind (is_either p q) c ≡ None
-    go None h = h
-    go (Some k) h =
-        let s = splits_at (is_either p q) c k h in
-        ⊎_elim
-        (λ e. absurd (clash p s e np))
-        (λ e. absurd (clash q s e nq))
-        (either_is p q s.principal s.passes)
-      where
-        clash : (x : Principal) (s : SplitsAt (is_either p q) c k) → s.principal ≡ x
-            → first_kind (is_either x x) c ≡ None → ⊥
-        clash x s e n =
-            let here =
-            first_kind_after (is_either x x) s.before s.principal k s.after
-            (ap (first_kind (is_either x x)) (sym s.is) ∙ n) in
-            let there = subst (λ v. is_either x x v ≡ true) (sym e) (either_first x x) in
-            cc
+neither p q [] np nq = refl
+neither p q ((x, j) ∷ c) np nq = grind (arith, neither p q c)
 
 conflict_kinds : (p q : Principal) (k j : Kind) → conflicts (p, k) (q, j) ≡ true → k ≡ j → ⊥
-conflict_kinds p q k j h e =
-    let parts = and_parts (may_overlap p q) (not (kind_eq k j)) h in
-    let same : kind_eq k j ≡ true = subst (λ v. kind_eq k v ≡ true) e (kind_eq_itself k) in
-    clash (kind_eq k j) same parts.1
-  where
-    clash : (b : Bool) → b ≡ true → not b ≡ true → ⊥
-    clash true e f = cc
-    clash false e f = cc
+conflict_kinds p q k j h e = grind (arith, kind_eq_itself)
 
 precedes_alike : (c d : Column) (p q : Principal) (k j : Kind) → IsOnce c → IsOnce d → IsAlike c d
     → conflicts (p, k) (q, j) ≡ true → Precedes c (p, k) (q, j) → Precedes d (p, k) (q, j)

@@ -1,19 +1,9 @@
 -- Settled columns, and that they are irreducible.
-use Rattle.std.specs.Prelude.{◌≡◌, Bool, true, false, ◌||◌, ◌⊎◌, [], ◌∷◌, ◌++◌, Option, Some, None, unwrap_or, refl}
-use Rattle.std.proofs.Common.{sym, ◌∙◌, ap, subst, inl, inr}
-use Rattle.std.proofs.lemmas.Bool.{or_from, false_from_ne_true}
-use Rattle.acl_perm.specs.Principal.{Principal, everyone}
-use Rattle.acl_perm.specs.Overlap.{may_overlap}
-use Rattle.acl_perm.specs.declared.kind.Kind.{Kind}
-use Rattle.acl_perm.specs.declared.kind.Kind.TheVariants.{Deny, Allow}
-use Rattle.acl_eval.specs.Column.{Column, first_kind, verdict}
-use Rattle.acl_normal.specs.Keys.{principal_eq}
-use Rattle.acl_normal.specs.internal.Alike.{IsIrreducible, is_either, is_either_or_everyone, IsAlike}
-use Rattle.acl_normal.specs.SmallSituations.{HasName, HaveNames}
-use Rattle.acl_normal.specs.internal.Emissions.{IsOnce}
+use Rattle.acl_normal.proofs.Common.{[], Allow, ap, arith, Bool, Column, Deny, everyone, false, false_from_ne_true, first_kind, HasName, HaveNames, inl, inr, is_either, is_either_or_everyone, IsAlike, IsIrreducible, IsOnce, Kind, may_overlap, None, Option, or_from, Principal, principal_eq, refl, Some, subst, sym, true, unwrap_or, verdict, ◌++◌, ◌||◌, ◌∙◌, ◌∷◌, ◌≡◌, ◌⊎◌}
 use Rattle.acl_normal.proofs.unique.Names.{principal_eq_same, overlaps_itself, overlaps_everyone, either_first, or_everyone_first}
 use Rattle.acl_normal.proofs.unique.FirstKind.{append_none, append_some}
 use Rattle.acl_normal.proofs.unique.Irreducible.{first_kind_without}
+pub use Rattle.acl_normal.proofs.unique.Irreducible.{alone}
 use Rattle.acl_normal.proofs.unique.Free.{some_same}
 use Rattle.acl_normal.proofs.unique.SameKeys.{named_at, skip_to, stop_at, thrice}
 use Rattle.acl_normal.proofs.unique.FirstAndRest.{first_kind_same}
@@ -71,34 +61,17 @@ pub once_after : (l : Column) (p : Principal) (k : Kind) (r : Column) → IsOnce
 once_after [] p k r h = h.0
 once_after ((q, j) ∷ l) p k r h = once_after l p k r h.1
 
--- a principal alone
-pub alone : (p q : Principal) (c : Column) → first_kind (is_either p p) c ≡ None
-    → first_kind (is_either p q) c ≡ first_kind (is_either q q) c
-alone p q c none =
-    first_kind_without (is_either p q) (is_either q q) p c none (λ z e. rest (principal_eq z p) (principal_eq z q) e)
-  where
-    rest : (a b : Bool) → a ≡ false → (a || b) ≡ (b || b)
-    rest true b h = cc
-    rest false true h = refl
-    rest false false h = refl
-
 among_both : (x y : Principal) (c : Column) → first_kind (is_either x x) c ≡ None
     → first_kind (is_either_or_everyone x y) c ≡ first_kind (is_either y everyone) c
 among_both x y c none =
-    first_kind_without (is_either_or_everyone x y) (is_either y everyone) x c none
-    (λ z e. rest (principal_eq z x) (principal_eq z y) (principal_eq z everyone) e)
-  where
-    rest : (a b e : Bool) → a ≡ false → ((a || b) || e) ≡ (b || e)
-    rest true b e h = cc
-    rest false b e h = refl
+    first_kind_without (is_either_or_everyone x y) (is_either y everyone) x c none (λ z e. grind arith)
 
 of_everyone : (c : Column)
     → first_kind (is_either_or_everyone everyone everyone) c ≡ first_kind (is_either everyone everyone) c
 of_everyone c = first_kind_same _ _ c (λ z. thrice (principal_eq z everyone))
 
 settled_default : (c : Column) (d : Kind) → IsSettled c d → verdict (is_either everyone everyone) c ≡ d
-settled_default c Deny h = ap (λ o. unwrap_or o Deny) h.everyone_is
-settled_default c Allow h = ap (λ o. unwrap_or o Deny) h.everyone_is
+settled_default c d h = grind (arith, h.everyone_is)
 
 -- a key of a settled column, what is before and after it
 pub record Place (c : Column) (d : Kind) (l : Column) (p : Principal) (k : Kind) (r : Column) : Type 0 where
@@ -172,27 +145,18 @@ place_no_everyone c d l p k r h = go (first_kind (is_either everyone everyone) l
             cc
 
 kinds_clash : (k : Kind) → opposite k ≡ k → ⊥
-kinds_clash Deny h = cc
-kinds_clash Allow h = cc
+kinds_clash k h = grind arith
 
 -- one kind or the other
 pub two_kinds : (j k : Kind) → (j ≡ k) ⊎ (j ≡ opposite k)
-two_kinds Deny Deny = inl refl
-two_kinds Deny Allow = inr refl
-two_kinds Allow Deny = inr refl
-two_kinds Allow Allow = inl refl
+two_kinds j k = grind arith
 
 -- of a needed key of the default kind: the witness and everyone
 witness_first : (c : Column) (d : Kind) (p q : Principal) → IsSettled c d → IsWitness c d p q
     → first_kind (is_either q everyone) c ≡ Some (opposite d)
 witness_first c Allow p q s w = s.deny_first q w.kind
 witness_first c Deny p q s w =
-    first_kind_without (is_either q everyone) (is_either q q) everyone c s.everyone_is
-    (λ z e. rest (principal_eq z q) (principal_eq z everyone) e) ∙ w.kind
-  where
-    rest : (a b : Bool) → b ≡ false → (a || b) ≡ (a || a)
-    rest true b h = refl
-    rest false b h = h
+    first_kind_without (is_either q everyone) (is_either q q) everyone c s.everyone_is (λ z e. grind arith) ∙ w.kind
 
 place_after : (c : Column) (d : Kind) (l : Column) (p : Principal) (k : Kind) (r : Column) → Place c d l p k r
     → first_kind (is_either p p) r ≡ None

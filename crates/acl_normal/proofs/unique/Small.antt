@@ -1,22 +1,5 @@
 -- Small situations suffice to compare columns.
-use Rattle.std.specs.Prelude.{◌≡◌, ℕ, ◌<◌, Bool, true, false, ◌||◌, List, [], ◌∷◌, ◌++◌, Option, Some, None, unwrap_or, refl, length}
-use Rattle.std.specs.Ordering.{ordering_reverse}
-use Rattle.std.specs.declared.cmp.Ordering.{Ordering}
-use Rattle.std.specs.declared.cmp.Ordering.TheVariants.{Less, Equal, Greater}
-use Rattle.std.proofs.lemmas.Bool.{or_left, or_cases, false≢true}
-use Rattle.std.proofs.Common.{sym, ◌∙◌, ap, subst, arith, ⊎_elim}
-use Rattle.acl_perm.specs.Principal.{Principal, user, everyone}
-use Rattle.acl_perm.specs.Overlap.{may_overlap}
-use Rattle.acl_perm.specs.declared.kind.Kind.{Kind}
-use Rattle.acl_perm.specs.declared.kind.Kind.TheVariants.{Deny}
-use Rattle.acl_perm.specs.Situation.{matches}
-use Rattle.acl_perm.specs.Order.{principal_name, principal_cmp}
-use Rattle.acl_perm.specs.internal.Totality.{principal_total}
-use Rattle.acl_eval.specs.Column.{Column, first_kind, verdict, SameVerdicts}
-use Rattle.acl_perm.proofs.Orders.{principal_exact}
-use Rattle.acl_normal.specs.Keys.{principal_eq}
-use Rattle.acl_normal.specs.internal.Alike.{is_either_or_everyone}
-use Rattle.acl_normal.specs.SmallSituations.{small_situation, is_among, longest_name}
+use Rattle.acl_normal.proofs.Common.{[], ap, arith, Bool, Column, Deny, Equal, everyone, false, false≢true, first_kind, Greater, inl, inr, is_among, is_either_or_everyone, Kind, length, Less, List, longest_name, matches, may_overlap, None, Option, or_cases, or_left, Ordering, ordering_reverse, Principal, principal_cmp, principal_eq, principal_exact, principal_name, principal_total, refl, SameVerdicts, small_situation, Some, subst, sym, true, unwrap_or, user, verdict, ℕ, ⊎_elim, ◌++◌, ◌<◌, ◌||◌, ◌∙◌, ◌∷◌, ◌≡◌, ◌⊎◌}
 use Rattle.acl_normal.proofs.unique.Names.{principal_eq_same, overlaps_itself, overlaps_back, matches_overlap, or_everyone_first, or_everyone_second, either_or_everyone_within}
 use Rattle.acl_normal.proofs.unique.FirstAndRest.{or_swap}
 use Rattle.acl_normal.proofs.unique.FirstKind.{IsWithin, IsClique, none_within, SplitsAt, splits_at, first_within}
@@ -84,29 +67,20 @@ pub data IsSmallSet (P : Principal → Type 0) : List Principal → Type 0 where
 pub principal_greater : (p q : Principal) → principal_cmp p q ≡ Greater → principal_cmp q p ≡ Less
 principal_greater p q h = principal_total.antisymm q p ∙ ap ordering_reverse h
 
-h1 : (e : Bool) → (e || false) ≡ ((e || e) || e)
-h1 true = refl
-h1 false = refl
+-- which small set is two principals and everyone: none, the second, the first, or both the other way round
+nobody_else : (p q r : Principal) → p ≡ everyone → q ≡ everyone
+    → is_among r (everyone ∷ []) ≡ is_either_or_everyone p q r
+nobody_else p q r e f = grind arith
 
-h2 : (e a : Bool) → (e || (a || false)) ≡ ((e || a) || e)
-h2 true a = refl
-h2 false true = refl
-h2 false false = refl
+second_else : (p q r : Principal) → p ≡ everyone → is_among r (everyone ∷ q ∷ []) ≡ is_either_or_everyone p q r
+second_else p q r e = grind arith
 
-h3 : (e a : Bool) → (e || (a || false)) ≡ ((a || e) || e)
-h3 true true = refl
-h3 true false = refl
-h3 false true = refl
-h3 false false = refl
+first_else : (p q r : Principal) → (q ≡ everyone) ⊎ (q ≡ p)
+    → is_among r (everyone ∷ p ∷ []) ≡ is_either_or_everyone p q r
+first_else p q r e = grind arith
 
-h4 : (e a : Bool) → (e || (a || false)) ≡ ((a || a) || e)
-h4 true true = refl
-h4 true false = refl
-h4 false true = refl
-h4 false false = refl
-
-h5 : (e a b : Bool) → (e || (b || (a || false))) ≡ ((a || b) || e)
-h5 e a b = reorder b a e ∙ ap (λ v. v || e) (or_swap b a)
+both_turned : (p q r : Principal) → is_among r (everyone ∷ q ∷ p ∷ []) ≡ is_either_or_everyone p q r
+both_turned p q r = grind arith
 
 -- a small set that with everyone has just these two
 pub record Covers (P : Principal → Type 0) (p q : Principal) (n : ℕ) : Type 0 where
@@ -146,17 +120,12 @@ covers P p q n hp hq sp sq o = go (principal_eq p everyone) refl (principal_eq q
       small = none;
       short = tt;
       one_user = nobody;
-      same = λ r. subst
-          (λ v. is_among r (everyone ∷ []) ≡ is_either_or_everyone v q r) (sym (principal_eq_same p everyone e))
-          (subst (λ v. is_among r (everyone ∷ []) ≡ is_either_or_everyone everyone v r)
-          (sym (principal_eq_same q everyone f)) (h1 (principal_eq r everyone)));
+      same = λ r. nobody_else p q r (principal_eq_same p everyone e) (principal_eq_same q everyone f);
     }
     go true e false f w g =
-        covers_alone q hq sq f (λ r. subst (λ v. is_among r (everyone ∷ q ∷ []) ≡ is_either_or_everyone v q r)
-        (sym (principal_eq_same p everyone e)) (h2 (principal_eq r everyone) (principal_eq r q)))
+        covers_alone q hq sq f (λ r. second_else p q r (principal_eq_same p everyone e))
     go false e true f w g =
-        covers_alone p hp sp e (λ r. subst (λ v. is_among r (everyone ∷ p ∷ []) ≡ is_either_or_everyone p v r)
-        (sym (principal_eq_same q everyone f)) (h3 (principal_eq r everyone) (principal_eq r p)))
+        covers_alone p hp sp e (λ r. first_else p q r (inl (principal_eq_same q everyone f)))
     go false e false f Less g = record {
       set = p ∷ q ∷ [];
       small = two p q hp hq e f o g;
@@ -165,14 +134,13 @@ covers P p q n hp hq sp sq o = go (principal_eq p everyone) refl (principal_eq q
       same = λ r. reorder (principal_eq r p) (principal_eq r q) (principal_eq r everyone);
     }
     go false e false f Equal g =
-        covers_alone p hp sp e (λ r. subst (λ v. is_among r (everyone ∷ p ∷ []) ≡ is_either_or_everyone p v r)
-        (principal_exact p q g) (h4 (principal_eq r everyone) (principal_eq r p)))
+        covers_alone p hp sp e (λ r. first_else p q r (inr (sym (principal_exact p q g))))
     go false e false f Greater g = record {
       set = q ∷ p ∷ [];
       small = two q p hq hp f e (overlaps_back p q o) (principal_greater p q g);
       short = (sq, (sp, tt));
       one_user = one_user q p (overlaps_back p q o);
-      same = λ r. h5 (principal_eq r everyone) (principal_eq r p) (principal_eq r q);
+      same = λ r. both_turned p q r;
     }
 
 -- columns that agree in each small situation of their principals agree in every situation

@@ -1,18 +1,8 @@
 -- Normal forms have equal spellings exactly if their sources grant the same.
-use Rattle.std.proofs.Common.{◌≡◌, List, [], refl, sym, ap, subst, ◌∙◌}
-use Rattle.std.specs.Prelude.{◌↔◌}
-use Rattle.std.proofs.lemmas.List.{append-nil}
-use Rattle.acl_perm.specs.Profile.{Profile}
-use Rattle.acl_nfs4.specs.Ace.{Ace}
-use Rattle.acl_nfs4.specs.Spelling.{spelling, Fits, IsAccepted}
-use Rattle.acl_nfs4.specs.Within.{IsProfile}
+use Rattle.std.proofs.Common.{◌≡◌, List, [], refl}
+use Rattle.acl_normal.proofs.Common.{Ace, ap, append-nil, equivalence, Fits, IsAccepted, IsEquivalence, IsNormal, IsNormalFormOf, IsProfile, Profile, SameGrants, spelling, subst, sym, ◌↔◌, ◌∙◌}
 use Rattle.acl_nfs4.proofs.Body.{one}
 use Rattle.acl_nfs4.proofs.Within.{accepted_where_it_fits}
-use Rattle.acl_eval.specs.Grant.{SameGrants}
-use Rattle.acl_eval.specs.Laws.{IsEquivalence}
-use Rattle.acl_eval.proofs.Same.{equivalence}
-use Rattle.acl_normal.specs.Normal.{IsNormal}
-use Rattle.acl_normal.specs.NormalForm.{IsNormalFormOf}
 use Rattle.acl_normal.proofs.unique.Unique.{unique}
 use Rattle.acl_normal.proofs.unique.Profiles.{same_within}
 

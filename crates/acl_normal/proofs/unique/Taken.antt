@@ -1,20 +1,6 @@
 -- That the keys of the normal form are keys of the source.
-use Rattle.std.proofs.Common.{◌≡◌, ℕ, ◌≤◌, ◌<◌, Bool, true, false, List, [], ◌∷◌, ◌++◌, length, refl, ◌∙◌, ap, subst, arith, ⊎_elim}
-use Rattle.std.specs.Prelude.{is_none}
-use Rattle.std.proofs.lemmas.Bool.{cases_lt, false_from_ne_true}
-use Rattle.acl_perm.specs.Bits.{all_rights}
-use Rattle.acl_perm.specs.Principal.{everyone}
-use Rattle.acl_perm.specs.declared.kind.Kind.{Kind}
-use Rattle.acl_nfs4.specs.Ace.{Ace}
-use Rattle.acl_eval.specs.Column.{Column, column, first_kind}
-use Rattle.acl_eval.specs.Grant.{SameGrants}
-use Rattle.acl_normal.specs.internal.Alike.{IsAlike, is_either}
-use Rattle.acl_normal.specs.internal.Emissions.{IsOnce}
-use Rattle.acl_normal.specs.Keys.{Key}
-use Rattle.acl_normal.specs.Laws.{Has}
-use Rattle.acl_normal.specs.Left.{left}
-use Rattle.acl_normal.specs.Normal.{IsIrreducibleList, IsNormal, HasMasks}
-use Rattle.acl_normal.specs.internal.Plain.{unshadowed, default, is_needed, needed_keys, reduced}
+use Rattle.std.proofs.Common.{◌≡◌, ℕ, ◌≤◌, ◌<◌, Bool, true, false, List, [], ◌∷◌, ◌++◌, length, refl}
+use Rattle.acl_normal.proofs.Common.{Ace, all_rights, ap, arith, cases_lt, Column, column, default, everyone, false_from_ne_true, first_kind, Has, HasMasks, is_either, is_needed, is_none, IsAlike, IsIrreducibleList, IsNormal, IsOnce, Key, Kind, left, needed_keys, reduced, SameGrants, subst, unshadowed, ⊎_elim, ◌∙◌}
 use Rattle.acl_normal.proofs.unique.Forming.{IsTaken, first_same}
 use Rattle.acl_normal.proofs.unique.Free.{once_from_clean}
 use Rattle.acl_normal.proofs.unique.Irreducible.{clean}

@@ -1,23 +1,9 @@
 -- Normal lists that grant the same are equal.
-use Rattle.std.specs.Prelude.{◌≡◌, ℕ, Bool, true, false, cond, not, ◌&&◌, List, [], ◌∷◌, Some, None, refl}
-use Rattle.std.specs.Ordering.{is_le}
-use Rattle.std.specs.Str.{bytes_eq}
-use Rattle.std.proofs.Common.{sym, ◌∙◌, ap, subst, arith}
-use Rattle.std.proofs.lemmas.Bool.{or_left, and_from, false_from_ne_true, true_from_ne_false, false≢true}
-use Rattle.acl_perm.specs.Principal.{Principal, owner, group_named}
-use Rattle.acl_perm.specs.Bits.{has_bit, all_rights, identifier_group}
-use Rattle.acl_nfs4.specs.Ace.{Ace}
-use Rattle.acl_nfs4.specs.Who.{principal_of, owner_name, group_name, everyone_name}
-use Rattle.acl_eval.specs.Column.{Column, first_kind, column}
-use Rattle.acl_eval.specs.Grant.{SameGrants}
-use Rattle.acl_normal.specs.Keys.{principal_eq, Key, ace_key, compare_keys}
-use Rattle.acl_normal.specs.internal.Alike.{is_either, IsAlike}
-use Rattle.acl_normal.specs.Normal.{HasNoEmptyMask, is_free, IsOrdered, HasNormalFlags, flags_for, IsNormal}
-use Rattle.acl_normal.specs.internal.Emissions.{IsOnce}
-use Rattle.acl_normal.specs.internal.Ready.{who_for}
+use Rattle.acl_normal.proofs.Common.{[], Ace, ace_key, all_rights, and_from, ap, arith, Bool, bytes_eq, Column, column, compare_keys, cond, everyone_name, false, false_from_ne_true, false≢true, first_kind, flags_for, group_name, group_named, has_bit, HasNoEmptyMask, HasNormalFlags, identifier_group, is_either, is_free, is_le, IsAlike, IsNormal, IsOnce, Key, List, None, not, or_left, owner, owner_name, Principal, principal_eq, principal_of, refl, same_set, SameGrants, Some, subst, sym, true, who_for, ℕ, ◌&&◌, ◌∙◌, ◌∷◌, ◌≡◌}
+use Rattle.std.proofs.lemmas.Bool.{true_from_ne_false}
+use Rattle.acl_normal.specs.Normal.{IsOrdered}
 use Rattle.acl_normal.proofs.unique.Names.{bytes_eq_same, either_first, principal_eq_itself, overlaps_itself}
 use Rattle.acl_normal.proofs.unique.Columns.{column_first}
-use Rattle.acl_perm.proofs.Sets.{same_set}
 use Rattle.acl_normal.proofs.unique.Bits.{no_bits}
 use Rattle.acl_normal.proofs.unique.Irreducible.{clean}
 use Rattle.acl_normal.proofs.unique.Free.{once_from_clean, kind_eq_itself, same_free, alike_rest}
@@ -26,23 +12,11 @@ use Rattle.acl_normal.proofs.unique.ListColumns.{irreducible_column, alike_colum
 
 -- the who of an ACE is that of its principal
 pub who_is : (a : Ace) → who_for (principal_of a) ≡ a.who
-who_is a = go (bytes_eq a.who owner_name) refl (bytes_eq a.who group_name) refl (bytes_eq a.who everyone_name) refl
-    (has_bit a.flags identifier_group) refl
-  where
-    go : (o : Bool) → bytes_eq a.who owner_name ≡ o → (g : Bool) → bytes_eq a.who group_name ≡ g
-        → (e : Bool) → bytes_eq a.who everyone_name ≡ e → (f : Bool) → has_bit a.flags identifier_group ≡ f
-        → who_for (principal_of a) ≡ a.who
-    go true h g i e j f k = rw h (sym (bytes_eq_same _ _ h))
-    go false h true i e j f k = rw (h, i) (sym (bytes_eq_same _ _ i))
-    go false h false i true j f k = rw (h, i, j) (sym (bytes_eq_same _ _ j))
-    go false h false i false j true k = rw (h, i, j, k) refl
-    go false h false i false j false k = rw (h, i, j, k) refl
+who_is a = grind (arith, bytes_eq_same a.who)
 
 -- the flags that a principal needs have no INHERIT_ONLY
 pub no_inherit_only : (p : Principal) → has_bit (flags_for p) 3 ≡ false
-no_inherit_only owner = refl
-no_inherit_only (group_named a) = refl
-no_inherit_only _ = refl
+no_inherit_only p = grind arith
 
 -- keys with normal flags, one key and one mask are one
 aces_same : (a b : Ace) → a.flags ≡ flags_for (principal_of a) → b.flags ≡ flags_for (principal_of b)
@@ -57,15 +31,7 @@ aces_same a b fa fb keys masks =
 -- the column of a list that begins with a key with normal flags
 column-cons : (b : ℕ) (a : Ace) (xs : List Ace) → a.flags ≡ flags_for (principal_of a)
     → column (a ∷ xs) b ≡ cond (has_bit a.mask b) (ace_key a ∷ column xs b) (column xs b)
-column-cons b a xs flags =
-    column_first b a xs
-    ∙ go (has_bit a.mask b) (has_bit a.flags 3) (ap (λ v. has_bit v 3) flags ∙ no_inherit_only (principal_of a))
-  where
-    go : (t f : Bool) → f ≡ false
-        → cond (t && not f) (ace_key a ∷ column xs b) (column xs b) ≡ cond t (ace_key a ∷ column xs b) (column xs b)
-    go t true e = cc
-    go true false e = refl
-    go false false e = refl
+column-cons b a xs flags = grind (arith, ap (λ v. has_bit v 3) flags, no_inherit_only (principal_of a))
 
 -- an ACE with normal flags is the first key of the column of each of its bits
 pub column_with : (b : ℕ) (a : Ace) (xs : List Ace) → a.flags ≡ flags_for (principal_of a) → has_bit a.mask b ≡ true

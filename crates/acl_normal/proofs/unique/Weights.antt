@@ -1,18 +1,10 @@
 -- The weight of a list, bit by bit.
-use Rattle.std.specs.Prelude.{◌≡◌, ◌≢◌, ◌<◌, ℕ, ◌+◌, ◌/◌, ◌%◌, ◌≤◌, zero, suc, Bool, true, false, cond, ◌==◌, List, [], ◌∷◌, length, count_ones, not, ◌&&◌, refl}
-use Rattle.std.specs.Int.{bit_at}
+use Rattle.std.specs.Prelude.{count_ones}
+use Rattle.acl_normal.proofs.Common.{[], Ace, all_rights, ap, arith, bit_at, bit_at-lt, bit_at_above, Bool, cases_eq, column, cond, count_left, eqb-true, false, false_from_ne_true, false≢true, has_bit, HasMasks, HasNoEmptyMask, inl, inr, is_inherit_only, IsQuiet, length, List, lit<, not, refl, subst, suc, sym, true, weight, zero, ℕ, ◌%◌, ◌&&◌, ◌+◌, ◌/◌, ◌<◌, ◌==◌, ◌∙◌, ◌∷◌, ◌≡◌, ◌≢◌, ◌≤◌}
 use Rattle.std.specs.Int.Count.{ones_step}
-use Rattle.std.proofs.Common.{sym, ◌∙◌, ap, subst, arith, inl, inr, lit<}
-use Rattle.std.proofs.lemmas.Bool.{eqb-true, false_from_ne_true, false≢true, cases_eq}
 use Rattle.std.proofs.lemmas.Nat.{ones_le_self, zero_from_ones}
-use Rattle.std.proofs.lemmas.Nat.Bits.{bit_at-suc, bit_at_lowest, bit_at_above}
-use Rattle.acl_perm.specs.Bits.{has_bit, all_rights}
-use Rattle.acl_nfs4.specs.Ace.{Ace}
-use Rattle.acl_eval.specs.Column.{column}
-use Rattle.acl_normal.specs.Normal.{is_inherit_only, IsQuiet, HasMasks, HasNoEmptyMask}
-use Rattle.acl_normal.specs.internal.Counts.{count_left}
+use Rattle.std.proofs.lemmas.Nat.Bits.{bit_at-suc, bit_at_lowest}
 use Rattle.acl_normal.proofs.unique.Columns.{counts, column_lacks}
-use Rattle.acl_nfs4.specs.Spelling.{weight}
 use Rattle.acl_nfs4.proofs.Lists.{weight-cons}
 use Rattle.acl_normal.proofs.unique.Bits.{no_bit, no_bits}
 use Rattle.acl_normal.proofs.unique.Normal.{counts_mask}
@@ -30,11 +22,7 @@ bit_behind : (m b : ℕ) → has_bit m (suc b) ≡ has_bit (m / 2) b
 bit_behind m b = ap (λ v. v == 1) (bit_at-suc m b)
 
 lowest : (m : ℕ) → one_if (has_bit m 0) ≡ m % 2
-lowest m = go (has_bit m 0) refl
-  where
-    go : (t : Bool) → has_bit m 0 ≡ t → one_if (has_bit m 0) ≡ m % 2
-    go true e = rw e (sym (eqb-true (bit_at m 0) 1 e) ∙ bit_at_lowest m)
-    go false e = rw e (sym (no_bit m 0 e) ∙ bit_at_lowest m)
+lowest m = grind (arith, bit_at_lowest m, bit_at-lt m 0)
 
 from_lowest : (k m : ℕ) → bits_below (suc k) m ≡ one_if (has_bit m 0) + bits_below k (m / 2)
 from_lowest zero m = omega arith
@@ -71,11 +59,7 @@ count_nothing (suc n) = omega (arith, count_nothing n)
 
 length_more : (b : ℕ) (a : Ace) (xs : List Ace)
     → length (column (a ∷ xs) b) ≡ one_if (counts b a) + length (column xs b)
-length_more b a xs = go (counts b a) refl
-  where
-    go : (t : Bool) → counts b a ≡ t → length (column (a ∷ xs) b) ≡ one_if (counts b a) + length (column xs b)
-    go true e = rw e (omega arith)
-    go false e = rw e (omega arith)
+length_more b a xs = grind arith
 
 count_more : (n : ℕ) (a : Ace) (xs : List Ace) → count_left n (a ∷ xs) ≡ counted n a + count_left n xs
 count_more zero a xs = refl
@@ -86,9 +70,7 @@ counted_within zero a = omega arith
 counted_within (suc n) a = omega (arith, counted_within n a, fewer (has_bit a.mask n) (not (is_inherit_only a)))
   where
     fewer : (t s : Bool) → one_if (t && s) ≤ one_if t
-    fewer true true = omega arith
-    fewer true false = omega arith
-    fewer false s = omega arith
+    fewer t s = grind arith
 
 counted_quiet : (n : ℕ) (a : Ace) → (is_inherit_only a ≡ true → a.mask ≡ 0) → counted n a ≡ bits_below n a.mask
 counted_quiet zero a q = refl
@@ -99,6 +81,13 @@ pub count_within : (n : ℕ) (xs : List Ace) → count_left n xs ≤ weight xs
 count_within n [] = omega (arith, count_nothing n)
 count_within n (a ∷ xs) =
     omega (arith, weight-cons a xs, count_more n a xs, counted_within n a, bits_within n a.mask, count_within n xs)
+
+behind_empty : (b : ℕ) (a : Ace) (xs : List Ace) → column (a ∷ xs) b ≡ [] → column xs b ≡ []
+behind_empty b a xs h = grind arith
+
+head_empty : (b : ℕ) (a : Ace) (xs : List Ace) → counts b a ≡ has_bit a.mask b → column (a ∷ xs) b ≡ []
+    → has_bit a.mask b ≡ false
+head_empty b a xs quiet h = grind arith
 
 -- of a quiet list without keys from a bit on they are no fewer
 pub count_all : (n : ℕ) (xs : List Ace) → IsQuiet xs → ((b : ℕ) → n ≤ b → column xs b ≡ [])
@@ -112,19 +101,11 @@ count_all n (a ∷ xs) q h =
       counted_quiet n a q.0,
       bits_all n a.mask none,
       count_all n xs
-          q.1 (λ b l. rest b (counts b a) refl (h b l)),
+          q.1 (λ b l. behind_empty b a xs (h b l)),
     )
   where
     none : (b : ℕ) → n ≤ b → has_bit a.mask b ≡ false
-    none b l = go (counts b a) refl (h b l)
-      where
-        go : (t : Bool) → counts b a ≡ t → column (a ∷ xs) b ≡ [] → has_bit a.mask b ≡ false
-        go true e i = cc (rw e at i)
-        go false e i = sym (counts_mask b a q.0) ∙ e
-
-    rest : (b : ℕ) (t : Bool) → counts b a ≡ t → column (a ∷ xs) b ≡ [] → column xs b ≡ []
-    rest b true e i = cc (rw e at i)
-    rest b false e i = rw e at i
+    none b l = head_empty b a xs (counts_mask b a q.0) (h b l)
 
 -- ---- lists with as few keys at each bit
 

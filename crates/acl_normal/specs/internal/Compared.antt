@@ -2,7 +2,8 @@
 use Rattle.std.specs.Prelude.{◌≡◌}
 use Rattle.acl_normal.specs.internal.Shown.{aces_in}
 use Rattle.acl_normal.specs.internal.FirstPlaces.{AreWhoms}
-use Rattle.acl_normal.specs.internal.SetSearch.{AreRightsOf, principals}
+use Rattle.acl_normal.specs.internal.RightsApart.{AreApart}
+use Rattle.acl_normal.specs.internal.SetSearch.{principals}
 use Rattle.acl_normal.specs.internal.TwoLists.{TwoLists, all_mentioned, two_lists}
 use Rattle.acl_normal.specs.declared.comparison.compared.Compared.TheInside.{Inside}
 
@@ -10,11 +11,10 @@ use Rattle.acl_normal.specs.declared.comparison.compared.Compared.TheInside.{Ins
 abbrev pub lists_in : Inside → TwoLists
 lists_in c = two_lists (aces_in c.first.now) (aces_in c.second.now)
 
--- the principals are those that the lists mention, whom each ACE names of these is known, and no ACE has a right past
--- those of both
+-- the principals are those that the lists mention, whom each ACE names of these is known, and past some rights the lists
+-- have the same ACEs
 pub record IsCompared (c : Inside) : Type 0 where
   pub mentioned : principals c.mentioned.now ≡ all_mentioned (lists_in c)
   pub first_whoms : AreWhoms (principals c.mentioned.now) (aces_in c.first.now) c.first_whoms.now
   pub second_whoms : AreWhoms (principals c.mentioned.now) (aces_in c.second.now) c.second_whoms.now
-  pub first_rights : AreRightsOf (aces_in c.first.now) c.rights.bits
-  pub second_rights : AreRightsOf (aces_in c.second.now) c.rights.bits
+  pub apart : AreApart (aces_in c.first.now) (aces_in c.second.now) c.apart.bits

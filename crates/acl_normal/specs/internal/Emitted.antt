@@ -1,4 +1,4 @@
--- What stands in a normal form as it is made (this library's own).
+-- The ACEs of a normal form while it is made (this library's own).
 use Rattle.std.specs.Prelude.{All, List, map}
 use Rattle.acl_nfs4.specs.Ace.{Ace}
 use Rattle.acl_nfs4.specs.Who.{principal_of}

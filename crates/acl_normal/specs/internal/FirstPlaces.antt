@@ -7,6 +7,7 @@ use Rattle.acl_nfs4.specs.Ace.{Ace}
 use Rattle.acl_nfs4.specs.Who.{principal_of}
 use Rattle.acl_normal.specs.internal.Classes.{is_users}
 use Rattle.acl_normal.specs.internal.SetSearch.{GrantAlikeTo, differ, is_granted_to}
+use Rattle.acl_normal.specs.Keys.{principal_eq}
 use Rattle.acl_normal.specs.SmallSituations.{is_among}
 use Rattle.acl_normal.specs.declared.class.Class.TheVariants.{Users}
 use Rattle.acl_normal.specs.declared.comparison.standing.First.{First}
@@ -72,9 +73,31 @@ IsWithin Nobody n = Unit {0}
 IsWithin (One i) n = i < n
 IsWithin Everyone n = Unit {0}
 
--- of the principals, by their numbers, just those are named that the ACE is of
+-- someone is named
+abbrev pub names_any : Whom → Bool
+names_any Nobody = false
+names_any (One i) = true
+names_any Everyone = true
+
+-- everyone is named
+abbrev pub names_all : Whom → Bool
+names_all Nobody = false
+names_all (One i) = false
+names_all Everyone = true
+
+-- the same are named
+abbrev pub same_whom : Whom → Whom → Bool
+same_whom Nobody Nobody = true
+same_whom (One i) (One k) = i == k
+same_whom Everyone Everyone = true
+same_whom _ _ = false
+
+-- of the principals, by their numbers, just those are named that the ACE is of; nobody is named if it takes no part, and
+-- everyone if it is of everyone
 pub record IsWhom (whole : List Principal) (a : Ace) (w : Whom) : Type 0 where
   pub within : IsWithin w (length whole)
+  pub part : takes_part a ≡ names_any w
+  pub all : (takes_part a && principal_eq (principal_of a) everyone) ≡ names_all w
   pub hit : (k : ℕ) → k < length whole → is_of a (slice_index_or whole k everyone) ≡ hits w k
 
 -- whom each ACE names

@@ -79,6 +79,11 @@ pub record AreMentionedRows (xs : List Ace) (rows : List ℕ) (whole : List Prin
   pub number : (i : ℕ) → i < length xs → is_mentioning (slice_index_or xs i no_ace) ≡ true
       → HasNumber whole (principal_of (slice_index_or xs i no_ace)) (slice_index_or numbers (slice_index_or rows i 0) 0)
 
+-- the principals that a list mentions, in order, and whom of these each ACE names
+pub record AreMentionsOf (xs : List Ace) (found : Mentions) : Type 0 where
+  pub in_order : principals found.principals.items ≡ mentioned_with [] xs
+  pub whoms : AreWhoms (principals found.principals.items) xs found.whoms.items
+
 -- the principals that two lists mention, in order, and whom of these each ACE names: of the first list, and then of the
 -- second
 pub record AreMentioned (both : TwoLists) (found : Mentions) : Type 0 where

@@ -1,4 +1,4 @@
--- Which bits are needed, told from masks (this library's own).
+-- Which bits are needed, computed from masks (this library's own).
 use Rattle.std.specs.Prelude.{ℕ, Bool, true, false, cond, not, ◌||◌, ◌&&◌, [], ◌∷◌}
 use Rattle.acl_perm.specs.Principal.{everyone, is_user}
 use Rattle.acl_perm.specs.declared.kind.Kind.{Kind}
@@ -11,7 +11,7 @@ use Rattle.acl_perm.specs.Kind.{other_kind}
 use Rattle.acl_normal.specs.declared.reduce.needless.ByClass.{ByClass}
 use Rattle.acl_normal.specs.declared.reduce.needless.Later.{Later}
 
--- the kind that a bit has by default, where a mask holds the bits that everyone is allowed
+-- the kind of a bit by default, if a mask holds the bits that everyone is allowed
 abbrev pub default_at : ℕ → ℕ → Kind
 default_at allowed b = cond (has_bit allowed b) Allow Deny
 
@@ -19,7 +19,7 @@ default_at allowed b = cond (has_bit allowed b) Allow Deny
 abbrev pub is_of_kind_and_class : Kind → Bool → Key → Bool
 is_of_kind_and_class k users key = kind_eq key.1 k && same_class (is_user key.0) users
 
--- a key of a kind and a class is in the column
+-- a key of this kind and class is in the column
 abbrev pub some_of : Kind → Bool → Column → Bool
 some_of k users [] = false
 some_of k users (key ∷ c) = is_of_kind_and_class k users key || some_of k users c
@@ -40,6 +40,6 @@ opposes l k b =
     has_bit (later_mask l (other_kind k.1) false) b
     || (not (is_user k.0) && has_bit (later_mask l (other_kind k.1) true) b)
 
--- a key is needed, where d is the default; o says whether a later key opposes it
+-- a key is needed, if d is the default; o says whether a later key opposes it
 abbrev pub is_kept : Kind → Key → Bool → Bool
 is_kept d k o = cond (principal_eq k.0 everyone) (kind_eq k.1 Allow) (not (kind_eq k.1 d) || o)

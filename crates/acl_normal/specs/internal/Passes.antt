@@ -45,7 +45,7 @@ pub record IsCandidate (list : List Ace) (a : Ace) : Type 0 where
   pub mask : a.mask ≢ 0
   pub all : (bit : ℕ) → has_bit a.mask bit ≡ is_free (column list bit) (ace_key a)
 
--- the key of the first ACE is no greater than that of the second, where the second is free anywhere
+-- the key of the first ACE is not greater than that of the second, if the second is free anywhere
 abbrev pub IsBelow : List Ace → Ace → Ace → Type 0
 IsBelow list a b = (bit : ℕ) → is_free (column list bit) (ace_key b) ≡ true
     → is_le (compare_keys (ace_key a) (ace_key b)) ≡ true
@@ -64,12 +64,12 @@ pub record IsLeastCandidate (list aces : List Ace) (a : Ace) : Type 0 where
   pub below : AllByRecursion (IsBelow list a) aces
   pub within : IsWithinAs list a
 
--- of two candidates the one with the lesser key, the first where both have one
+-- of two candidates the one with the lesser key, or the first if both have the same key
 abbrev pub lesser : Option Ace → Ace → Ace
 lesser None b = b
 lesser (Some a) b = if is_le (compare_keys (ace_key a) (ace_key b)) then a else b
 
--- of some ACEs, the least that is free in the list, or none where none is
+-- of some ACEs, the least that is free in the list, or none if none is free
 abbrev pub Best : List Ace → List Ace → Option Ace → Type 0
 Best list aces None = AreNowhereFree list aces
 Best list aces (Some a) = IsLeastCandidate list aces a

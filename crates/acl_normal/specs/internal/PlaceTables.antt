@@ -66,6 +66,10 @@ abbrev pub is_of_camp : Camp → Standing → Bool
 is_of_camp camp r = not (differ (is_allow camp.kind) (is_allow r.here.kind))
     && not (differ (is_users camp.class) (is_users r.class))
 
+-- no principal is of the camp
+pub record HasNone (camp : Camp) (standings : List Standing) : Type 0 where
+  pub each : (k : ℕ) → k < length standings → is_of_camp camp (slice_index_or standings k no_standing) ≡ false
+
 -- a principal is of a camp, and by the tables of it inverts another
 abbrev pub is_told : Camp → Standing → List ℕ → List ℕ → Bool
 is_told camp r forward back = is_of_camp camp r

@@ -1,6 +1,5 @@
--- What is left of a list while it is emitted (this library's own): by row a mask, and by kind, class and right a queue
--- of places.
-use Rattle.std.specs.Prelude.{◌≡◌, ℕ, ◌<◌, ◌^◌, Bool, true, false, List, [], ◌∷◌, map, bit_and, vec_len, length, slice_index_or}
+-- What is left of a list while it is emitted (this library's own): by row a mask, and of it the queues of places.
+use Rattle.std.specs.Prelude.{◌≡◌, ℕ, ◌<◌, ◌^◌, Bool, true, false, List, [], ◌∷◌, bit_and, vec_len, length, slice_index_or}
 use Rattle.std.specs.Ordering.{nat_cmp}
 use Rattle.std.specs.List.{list_any}
 use Rattle.std.specs.List.Sorted.{IsStrictlySortedBy}
@@ -11,9 +10,8 @@ use Rattle.acl_nfs4.specs.Ace.{Ace}
 use Rattle.acl_eval.specs.Column.{column}
 use Rattle.acl_normal.specs.Left.{IsTidy}
 use Rattle.acl_normal.specs.internal.Shown.{bits_in, with_masks}
-use Rattle.acl_normal.specs.Places.{mask_here, slot_of, waits}
+use Rattle.acl_normal.specs.Places.{mask_here, waits}
 use Rattle.acl_normal.specs.internal.Rows.{AreRowNumbers, IsByPrincipal}
-use Rattle.acl_normal.specs.declared.rows.remaining.Queue.{Queue}
 use Rattle.acl_normal.specs.declared.rows.remaining.Remaining.TheInside.{Inside}
 
 -- the masks by place, each without what has left its row
@@ -35,25 +33,6 @@ pub record IsQueue (k : Kind) (users : Bool) (b : ℕ) (xs : List Ace) (places :
   pub listed : (i : ℕ) → list_any (is_at (nat_cmp i)) places ≡ true → waits k users b xs i ≡ has_bit (mask_here xs i) b
   pub all : (i : ℕ) → waits k users b xs i ≡ true → list_any (is_at (nat_cmp i)) places ≡ true
 
--- the places of the queue of a slot
-abbrev pub places_in : List Queue → ℕ → List ℕ
-places_in queues slot = slice_index_or (map (λ q. q.places.items) queues) slot []
-
--- the number of its first that may wait
-abbrev pub first_in : List Queue → ℕ → ℕ
-first_in queues slot = slice_index_or (map (λ q. q.first) queues) slot 0
-
--- a queue, and none waits before its first
-pub record IsQueueFrom (k : Kind) (users : Bool) (b : ℕ) (xs : List Ace) (places : List ℕ) (first : ℕ) : Type 0 where
-  pub queue : IsQueue k users b xs places
-  pub passed : (j : ℕ) → j < first → j < length places → has_bit (mask_here xs (slice_index_or places j 0)) b ≡ false
-
--- the queues of all kinds, classes and rights
-pub record AreQueues (xs : List Ace) (queues : List Queue) : Type 0 where
-  pub slots : length queues ≡ 84
-  pub each : (k : Kind) (users : Bool) (b : ℕ) → b < 21
-      → IsQueueFrom k users b xs (places_in queues (slot_of k users b)) (first_in queues (slot_of k users b))
-
 -- a list without bits that play no part, the rows of its principals by place, and its places in their order
 pub record IsNumbered (xs : List Ace) (numbers places : List ℕ) : Type 0 where
   pub tidy : IsTidy xs
@@ -61,10 +40,9 @@ pub record IsNumbered (xs : List Ace) (numbers places : List ℕ) : Type 0 where
   pub rows : AreRowNumbers xs numbers
   pub order : IsByPrincipal xs places
 
--- masks by row and queues tell what is left
+-- masks by row tell what is left
 pub record IsRemaining (a : Inside) : Type 0 where
   pub few : length a.aces.items < 2 ^ 32
   pub masks : vec_len a.masks ≡ length a.aces.items
   pub left : vec_len a.left ≡ length a.aces.items
   pub list : IsNumbered (remaining_of a) a.rows.items a.order.items
-  pub queues : AreQueues (remaining_of a) a.queues.items

@@ -12,7 +12,7 @@ use Rattle.acl_normal.specs.internal.Rows.{key_number}
 abbrev pub IsRising : List Ace → Type 0
 IsRising list = IsStrictlySortedBy (λ (a b : Ace). compare_keys (ace_key a) (ace_key b)) list
 
--- the ACE with the flags that its principal needs
+-- the ACE with the flags that its principal has in a normal form
 abbrev pub cleared : Ace → Ace
 cleared a = record a { flags = flags_for (principal_of a) }
 
@@ -20,7 +20,7 @@ cleared a = record a { flags = flags_for (principal_of a) }
 abbrev pub all_cleared : List Ace → List Ace
 all_cleared = map cleared
 
--- of the first places of a list those with a mask have rising keys, whose numbers are below a bound
+-- of the first places of a list, those with a mask have rising keys, whose numbers are below a bound
 pub record HasRisen (xs : List Ace) (place bound : ℕ) : Type 0 where
   pub rising : (i j : ℕ) → i < j → j < place → mask_here xs i ≢ 0 → mask_here xs j ≢ 0
       → key_number (key_here xs i) xs < key_number (key_here xs j) xs

@@ -1,15 +1,25 @@
 -- Rows of principals by number (this library's own): what is sorted for them.
-use Rattle.std.specs.Prelude.{ℕ, suc, List, [], ◌∷◌}
+use Rattle.std.specs.Prelude.{◌≡◌, ℕ, ◌+◌, ◌<◌, zero, suc, false, List, [], ◌∷◌, length, map}
+use Rattle.std.specs.List.{Contains}
 use Rattle.std.specs.List.Sorted.{IsPermutation, IsSortedByKey}
+use Rattle.std.specs.Cmp.Lexicographic.{slice_cmp}
+use Rattle.std.specs.Ordering.{is_lt, nat_cmp}
+use Rattle.std.specs.declared.cmp.Ordering.TheVariants.{Less}
 use Rattle.acl_perm.specs.Order.{principal_cmp}
-use Rattle.acl_perm.specs.Principal.{Principal, principal}
+use Rattle.acl_perm.specs.Principal.{Principal}
 use Rattle.acl_nfs4.specs.Ace.{Ace}
 use Rattle.acl_nfs4.specs.Who.{principal_of}
-use Rattle.acl_normal.specs.declared.rows.numbers.NamedPlace.{NamedPlace}
+use Rattle.acl_normal.specs.Places.{principal_here}
+use Rattle.acl_normal.specs.declared.rows.numbers.HeadedPlace.{HeadedPlace}
 
--- the principal and the place
-abbrev pub named_of : NamedPlace → Principal × ℕ
-named_of n = (principal n.named.principal, n.place)
+-- no ACE names a principal below that of the one before it
+abbrev pub DoNotFall : List Ace → Type 0
+DoNotFall xs = (k : ℕ) → k + 1 < length xs
+    → is_lt (principal_cmp (principal_here xs (k + 1)) (principal_here xs k)) ≡ false
+
+-- whom the ACE at the place names, and the place
+abbrev pub named_at : List Ace → HeadedPlace → Principal × ℕ
+named_at xs n = (principal_here xs n.place, n.place)
 
 -- whom each ACE names, with its place, from a place on
 abbrev pub named_from : ℕ → List Ace → List (Principal × ℕ)
@@ -20,3 +30,28 @@ named_from i (a ∷ xs) = (principal_of a, i) ∷ named_from (suc i) xs
 pub record AreSortedNames (xs : List Ace) (names : List (Principal × ℕ)) : Type 0 where
   pub permutation : IsPermutation (named_from 0 xs) names
   pub sorted : IsSortedByKey (λ n. n.0) principal_cmp names
+
+-- the who of the ACE at a place, and no bytes behind the last
+abbrev pub who_here : List Ace → ℕ → List ℕ
+who_here [] i = []
+who_here (a ∷ xs) zero = a.who
+who_here (a ∷ xs) (suc i) = who_here xs i
+
+-- of two places, that with the lesser head is of an ACE that names the lesser principal, and where the heads are the
+-- same, the whos say how the principals stand to each other
+pub record DoHeadsTell (xs : List Ace) (places : List HeadedPlace) : Type 0 where
+  pub lesser : (m n : HeadedPlace) → Contains places m → Contains places n → m.head < n.head
+      → principal_cmp (principal_here xs m.place) (principal_here xs n.place) ≡ Less
+  pub same : (m n : HeadedPlace) → Contains places m → Contains places n → m.head ≡ n.head
+      → principal_cmp (principal_here xs m.place) (principal_here xs n.place)
+      ≡ slice_cmp nat_cmp (who_here xs m.place) (who_here xs n.place)
+
+-- each place in turn, with a head
+pub record AreHeaded (xs : List Ace) (places : List HeadedPlace) : Type 0 where
+  pub names : map (named_at xs) places ≡ named_from 0 xs
+  pub heads : DoHeadsTell xs places
+
+-- the places in the order of the principals, each with its head
+pub record AreSorted (xs : List Ace) (places : List HeadedPlace) : Type 0 where
+  pub names : AreSortedNames xs (map (named_at xs) places)
+  pub heads : DoHeadsTell xs places

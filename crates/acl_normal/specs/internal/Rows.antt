@@ -1,5 +1,5 @@
 -- Rows of principals (this library's own): how they are numbered in a list, and where each of their rights stands.
-use Rattle.std.specs.Prelude.{◌≡◌, ℕ, ◌+◌, ◌*◌, ◌<◌, ◌≤◌, suc, Bool, true, false, cond, ◌||◌, List, [], ◌∷◌, Option, None, option_map, length, slice_index_or}
+use Rattle.std.specs.Prelude.{◌≡◌, ℕ, ◌+◌, ◌*◌, ◌<◌, ◌≤◌, suc, Bool, true, false, cond, ◌||◌, List, [], ◌∷◌, Option, option_map, length, slice_index_or}
 use Rattle.std.specs.Ordering.{is_le, is_lt}
 use Rattle.acl_perm.specs.Order.{principal_cmp, kind_rank}
 use Rattle.acl_perm.specs.Principal.{Principal}
@@ -52,8 +52,3 @@ pub record IsByPrincipal (xs : List Ace) (order : List ℕ) : Type 0 where
 -- the place of the first ACE of a principal with the bit
 abbrev pub first_place_of : ℕ → Principal → List Ace → Option ℕ
 first_place_of b p xs = option_map (λ e. e.1) (first_at b p xs)
-
--- by row, the place of the first ACE of the row's principal with the bit
-abbrev pub ArePlaces : ℕ → List Ace → List (Option ℕ) → Type 0
-ArePlaces b xs places =
-    (row : ℕ) (p : Principal) → IsRowOf row p xs → slice_index_or places row None ≡ first_place_of b p xs

@@ -1,10 +1,10 @@
--- What lists of the code's ACEs show (RFC 8881, section 6.2.1).
+-- The lists of the code's ACEs, as plain data (RFC 8881, section 6.2.1).
 use Rattle.std.specs.Prelude.{ℕ, List, [], ◌∷◌, map}
 use Rattle.acl_perm.specs.declared.mask.Mask.{Mask}
 use Rattle.acl_nfs4.specs.Ace.{Ace, ace}
 use Rattle.acl_nfs4.specs.declared.ace.AceRef.{AceRef}
 
--- the ACEs that are shown
+-- the ACEs as plain data
 abbrev pub aces_in : List AceRef → List Ace
 aces_in = map ace
 

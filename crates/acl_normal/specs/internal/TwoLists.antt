@@ -1,5 +1,5 @@
 -- Two lists that are compared, and what is asked of them, right by right (this library's own).
-use Rattle.std.specs.Prelude.{◌≡◌, ℕ, ◌<◌, ◌≤◌, ◌+◌, List, [], Option, drop, length, slice_index_or}
+use Rattle.std.specs.Prelude.{◌≡◌, ℕ, ◌<◌, ◌≤◌, ◌+◌, List, Option, drop, length, slice_index_or}
 use Rattle.acl_eval.specs.Column.{column}
 use Rattle.acl_nfs4.specs.Ace.{Ace}
 use Rattle.acl_perm.specs.Principal.{Principal, everyone}
@@ -34,10 +34,9 @@ principal_at both k = slice_index_or (all_mentioned both) k everyone
 abbrev pub later_than : TwoLists → ℕ → List Principal
 later_than both k = drop (k + 1) (all_mentioned both)
 
--- no ACE that takes part in either list has the right
-pub record IsUnused (both : TwoLists) (bit : ℕ) : Type 0 where
-  pub first : column both.first bit ≡ []
-  pub second : column both.second bit ≡ []
+-- of the ACEs that take part, both lists have the same ones with the right, in the same order
+abbrev pub HaveSameColumn : TwoLists → ℕ → Type 0
+HaveSameColumn both bit = column both.first bit ≡ column both.second bit
 
 -- each who of both lists that is a name is one that a situation may have
 pub record AreNamed (both : TwoLists) : Type 0 where

@@ -1,15 +1,19 @@
 //! Two lists that are compared, seen as these two lists alone. What the search asks again and again is found once: whom
-//! they mention, whom of these each ACE names, and which rights any ACE has.
-ghost use Rattle.std.specs.Prelude.{◌≡◌, ◌<◌, ◌^◌, IfOk, false, length, true};
+//! they mention, whom of these each ACE names, and on which rights they may differ.
+ghost use Rattle.std.specs.Prelude.{◌≡◌, ◌<◌, ◌^◌, [], IfOk, false, length, true};
 ghost use Rattle.std.specs.Bool.{OnFalse, OnTrue};
 ghost use Rattle.acl_perm.specs.Bits.{all_rights, has_bit};
 ghost use Rattle.acl_perm.specs.Principal.{principal};
 ghost use Rattle.acl_normal.specs.internal.Shown.{aces_in};
 ghost use Rattle.acl_normal.specs.internal.CodeSets.{set_of};
+ghost use Rattle.acl_normal.specs.internal.Members.{AreNumbered, members_of};
 ghost use Rattle.acl_normal.specs.internal.MentionedRows.{AreMentioned};
-ghost use Rattle.acl_normal.specs.internal.TwoLists.{AreAlikeTo, AreWithin, IsUnused, StandAs, all_mentioned, principal_at, two_lists};
+ghost use Rattle.acl_normal.specs.internal.SetSearch.{AreGranted};
+ghost use Rattle.acl_normal.specs.internal.TwoLists.{AreAlikeTo, AreWithin, HaveSameColumn, StandAs, all_mentioned, principal_at, two_lists};
 
-use super::evaluation::{grant_alike, rights_of};
+use super::apart::rights_apart;
+use super::evaluation::{granted_to, unlike};
+use super::members::Members;
 use super::mentioned::Mentions;
 use super::small_set::SmallSet;
 use super::standing::{Standing, Whom, firsts};
@@ -31,8 +35,8 @@ pub(crate) struct Compared<'a, 'b> {
     first_whoms: &'b [Whom],
     /// Whom of these each ACE of the second list names.
     second_whoms: &'b [Whom],
-    /// The rights of all ACEs.
-    rights: Mask,
+    /// Past these rights the lists have the same ACEs in the same order.
+    apart: Mask,
 }
 
 impl<'a, 'b> Model for Compared<'a, 'b> {
@@ -64,7 +68,7 @@ impl<'a, 'b> Compared<'a, 'b> {
             mentioned: mentions.principals.as_slice(),
             first_whoms,
             second_whoms,
-            rights: rights_of(first).union(rights_of(second)),
+            apart: rights_apart(first, first_whoms, second, second_whoms),
         }
     }
 
@@ -92,20 +96,56 @@ impl<'a, 'b> Compared<'a, 'b> {
         self.first.len().max(self.second.len())
     }
 
-    /// Whether an ACE of either list has the right.
-    pub(crate) fn has_right(&self, right: Bit) -> bool
-        ensures right { result ≡ true → has_bit all_rights right.bit ≡ true }
-        ensures unused { result ≡ false → IsUnused self.now right.bit }
+    /// The small set of the principals of some numbers.
+    pub(crate) fn set(&self, members: Members) -> SmallSet<'a>
+        requires { AreNumbered (all_mentioned self.now) members }
+        ensures { set_of result ≡ members_of (all_mentioned self.now) members }
     {
-        right.is_in(self.rights)
+        match members {
+            Members::Nobody => SmallSet::Empty,
+            Members::One(i) => SmallSet::One(self.principal(i)),
+            Members::Two(i, j) => SmallSet::Two(self.principal(i), self.principal(j)),
+        }
     }
 
-    /// Whether the lists grant alike where just the principals of a set match, and everyone.
-    pub(crate) fn grant_alike(&self, set: SmallSet<'_>) -> bool
-        ensures alike { OnTrue result (AreAlikeTo self.now (set_of set.entry)) }
-        ensures differ { OnFalse result (AreAlikeTo self.now (set_of set.entry) → ⊥) }
+    /// Whether the lists may differ on a right. Where they can't, they have the same ACEs with it.
+    pub(crate) fn may_differ(&self, right: Bit) -> bool
+        ensures right { result ≡ true → has_bit all_rights right.bit ≡ true }
+        ensures same { result ≡ false → HaveSameColumn self.now right.bit }
     {
-        grant_alike(self.first, self.second, set)
+        right.is_in(self.apart)
+    }
+
+    /// The rights that the first list grants where just the principals of some numbers match, and everyone.
+    pub(crate) fn granted_by_first(&self, members: Members) -> Mask
+        requires { AreNumbered (all_mentioned self.now) members }
+        ensures { AreGranted self.now.first
+            (members_of (all_mentioned self.now) members) result.bits }
+    {
+        granted_to(self.first, self.first_whoms, members)
+    }
+
+    /// The same of the second list.
+    pub(crate) fn granted_by_second(&self, members: Members) -> Mask
+        requires { AreNumbered (all_mentioned self.now) members }
+        ensures { AreGranted self.now.second
+            (members_of (all_mentioned self.now) members) result.bits }
+    {
+        granted_to(self.second, self.second_whoms, members)
+    }
+
+    /// Whether the lists grant alike where everyone matches, and no principal that they mention.
+    pub(crate) fn grant_strangers_alike(&self) -> bool
+        ensures alike { OnTrue result (AreAlikeTo self.now []) }
+        ensures differ { OnFalse result (AreAlikeTo self.now [] → ⊥) }
+    {
+        let nobody = Members::Nobody;
+        unlike(
+            self.granted_by_first(nobody),
+            self.granted_by_second(nobody),
+        )
+        .bits()
+            == 0
     }
 
     /// Where each principal stands in both lists, on a right.

@@ -67,7 +67,7 @@ pub fn compare_views(
     first_difference(alloc, first, second)
 }
 
-// The first difference of two lists. They are borrowed for one time, since they are held as one.
+// The first difference of two lists. They are borrowed for the same lifetime, because one value holds both.
 fn first_difference<'a>(
     alloc: Global,
     first: &AclView<'a>,
@@ -80,5 +80,5 @@ fn first_difference<'a>(
     let mentions = mentioned(alloc, &list, &other)?;
     let compared = Compared::of(&list, &other, &mentions);
     let found = compared.first_set(alloc)?;
-    compared.difference(alloc, found)
+    compared.difference_of(alloc, found)
 }

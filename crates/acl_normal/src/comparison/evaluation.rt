@@ -1,14 +1,19 @@
 //! What a list grants where just the principals of a set match, and everyone: all rights at once.
-ghost use Rattle.std.specs.Prelude.{◌≡◌, ◌≢◌, ◌^◌, ℕ};
+ghost use Rattle.std.specs.Prelude.{◌≡◌, ◌≢◌, ◌&&◌, ◌^◌, ℕ, List, length};
 ghost use Rattle.std.specs.Bool.{OnFalse, OnTrue};
 ghost use Rattle.std.specs.Int.{trailing_zeros, w32};
 ghost use Rattle.acl_nfs4.specs.Ace.{ace};
 ghost use Rattle.acl_perm.specs.Bits.{has_bit};
+ghost use Rattle.acl_perm.specs.Principal.{Principal};
 ghost use Rattle.acl_normal.specs.internal.Shown.{aces_in};
 ghost use Rattle.acl_normal.specs.internal.CodeSets.{set_of};
+ghost use Rattle.acl_normal.specs.internal.FirstPlaces.{AreWhoms};
+ghost use Rattle.acl_normal.specs.internal.Members.{AreNumbered, is_matched, members_of};
 ghost use Rattle.acl_normal.specs.internal.SetSearch.{AreGranted, AreRightsOf, GrantAlikeTo, HasBitsOf, IsLowestBit, differ};
 
+use super::members::Members;
 use super::small_set::SmallSet;
+use super::standing::Whom;
 use acl_nfs4::AceRef;
 use acl_perm::{Kind, Mask};
 
@@ -45,6 +50,38 @@ pub(crate) fn granted(list: &[AceRef<'_>], set: SmallSet<'_>) -> Mask
         decided = decided.union(rights);
     }
     granted
+}
+
+/// The same, where the set is given by numbers, and it is known whom of the numbered principals each ACE names.
+pub(crate) fn granted_to(list: &[AceRef<'_>], whoms: &[Whom], set: Members) -> Mask
+    requires { length whoms.now ≡ length list.now }
+    ensures { (whole : List Principal) → AreWhoms whole (aces_in list.now) whoms.now
+        → AreNumbered whole set → AreGranted (aces_in list.now) (members_of whole set) result.bits }
+{
+    let mut decided = Mask::NONE;
+    let mut granted = Mask::NONE;
+    for place in 0..list.len() {
+        let item = list[place];
+        let rights = rights_matched(&item, whoms[place], set);
+        match item.kind {
+            Kind::Allow => granted = granted.union(rights.difference(decided)),
+            Kind::Deny => {}
+        }
+        decided = decided.union(rights);
+    }
+    granted
+}
+
+// The rights of an ACE that names one of the set or everyone, and else none.
+fn rights_matched(item: &AceRef<'_>, whom: Whom, set: Members) -> Mask
+    ensures { (bit : ℕ) → has_bit result.bits bit
+        ≡ (has_bit item.now.mask.bits bit && is_matched set whom) }
+{
+    if set.matches(whom) {
+        item.mask
+    } else {
+        Mask::NONE
+    }
 }
 
 // The rights of an ACE that takes part and whose principal is of the set or everyone, and else none.

@@ -1,9 +1,9 @@
 //! Which principals two lists name in opposite orders, told by tables in place of going over all pairs.
-ghost use Rattle.std.specs.Prelude.{◌≡◌, ◌&&◌, ◌+◌, ◌<◌, ◌≤◌, ◌^◌, IfOk, length, not, vec_len};
+ghost use Rattle.std.specs.Prelude.{◌≡◌, ◌&&◌, ◌+◌, ◌<◌, ◌≤◌, ◌^◌, IfOk, length, not, true, vec_len};
 ghost use Rattle.std.specs.List.{AllByRecursion};
 ghost use Rattle.acl_normal.specs.internal.Classes.{is_users};
 ghost use Rattle.acl_normal.specs.internal.FirstPlaces.{IsFirstInverted, IsFirstInverting, IsFirstUnlike, inverts};
-ghost use Rattle.acl_normal.specs.internal.PlaceTables.{HasPlaces, IsFirstOf, IsScattered, IsPlaceTable, Raises, is_counted, is_told, other_place, place_of};
+ghost use Rattle.acl_normal.specs.internal.PlaceTables.{HasNone, HasPlaces, IsFirstOf, IsScattered, IsPlaceTable, Raises, is_counted, is_of_camp, is_told, other_place, place_of};
 
 use super::standing::Standing;
 use crate::class::Class;
@@ -55,6 +55,9 @@ fn first_of(
     requires size { size < 2 ^ 63 }
     ensures { IfOk result (λ v. IsFirstOf camp standings.now limit v) }
 {
+    if is_empty_camp(standings, camp) {
+        return Ok(limit);
+    }
     let forward = table(alloc, standings, size, camp, Side::Here)?;
     let back = table(alloc, standings, size, camp, Side::There)?;
     for k in 0..limit {
@@ -63,6 +66,26 @@ fn first_of(
         }
     }
     Ok(limit)
+}
+
+// Whether no principal is of a camp.
+fn is_empty_camp(standings: &[Standing], camp: Camp) -> bool
+    ensures { result ≡ true → HasNone camp standings.now }
+{
+    for k in 0..standings.len() {
+        if is_of_camp(standings[k], camp) {
+            return false;
+        }
+    }
+    true
+}
+
+// Whether a principal is of a camp.
+fn is_of_camp(standing: Standing, camp: Camp) -> bool
+    ensures { result ≡ is_of_camp camp standing }
+{
+    standing.here.allows() == camp.kind.is_allow()
+        && standing.class.is_users() == camp.class.is_users()
 }
 
 /// A camp of principals: those of a class whose first ACE is of a kind.
@@ -190,8 +213,7 @@ fn is_told(standing: Standing, camp: Camp, forward: &[usize], back: &[usize]) ->
     requires there { standing.there.place < length back.now }
     ensures { result ≡ is_told camp standing forward.now back.now }
 {
-    standing.here.allows() == camp.kind.is_allow()
-        && standing.class.is_users() == camp.class.is_users()
+    is_of_camp(standing, camp)
         && (standing.there.place < forward[standing.here.place]
             || standing.here.place < back[standing.there.place])
 }

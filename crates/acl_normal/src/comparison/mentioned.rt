@@ -1,16 +1,18 @@
 //! The principals that lists mention, by number: in order, each once.
-ghost use Rattle.std.specs.Prelude.{◌≡◌, ◌++◌, ◌<◌, ◌^◌, IfOk, OnOk, length, option_map, vec_len};
+ghost use Rattle.std.specs.Prelude.{◌≡◌, ◌++◌, ◌<◌, ◌^◌, ℕ, IfOk, OnOk, length, option_map, slice_index_or, vec_len};
 ghost use Rattle.acl_perm.specs.Order.{principal_name};
 ghost use Rattle.acl_perm.specs.Principal.{principal};
 ghost use Rattle.acl_nfs4.specs.Ace.{ace};
 ghost use Rattle.acl_normal.specs.SmallSets.{longest};
 ghost use Rattle.acl_normal.specs.internal.Shown.{aces_in};
 ghost use Rattle.acl_normal.specs.internal.FirstPlaces.{AreWhoms};
-ghost use Rattle.acl_normal.specs.internal.MentionedRows.{AreByRow, AreMentioned, AreMentionedRows, AreNumbers, mentioned_by, noted, whom_of, with_found};
+ghost use Rattle.acl_normal.specs.internal.MentionedRows.{AreByRow, AreMentioned, AreMentionedRows, AreMentionsOf, AreNumbers, mentioned_by, noted, whom_of, with_found};
 ghost use Rattle.acl_normal.specs.internal.Rows.{AreRowNumbers};
+ghost use Rattle.acl_normal.specs.internal.SamePlaces.{with_copies};
 ghost use Rattle.acl_normal.specs.internal.SetSearch.{principals};
 ghost use Rattle.acl_normal.specs.internal.TwoLists.{two_lists};
 
+use super::same_places::same_places;
 use super::standing::Whom;
 use crate::rows::numbers::row_numbers;
 use acl_nfs4::AceRef;
@@ -24,7 +26,8 @@ struct Numbers<'a> {
     by_row: Vec<usize>,
 }
 
-/// Whom two lists mention. One sort puts all ACEs in the order of whom they name, so that no principal is looked up.
+/// Whom two lists mention. Where the second names the same as the first does near the same places, only the first is
+/// sorted.
 pub(crate) fn mentioned<'a>(
     alloc: Global,
     list: &[AceRef<'a>],
@@ -32,15 +35,39 @@ pub(crate) fn mentioned<'a>(
 ) -> Result<Mentions<'a>, AllocError>
     ensures { IfOk result (AreMentioned (two_lists (aces_in list.now) (aces_in other.now))) }
 {
+    if let Some(places) = same_places(alloc, list, other)? {
+        let mut mentions = mentions_of(alloc, list)?;
+        add_copies(&mut mentions.whoms, &places)?;
+        return Ok(mentions);
+    }
     let aces = joined(alloc, list, other)?;
-    let sorted = row_numbers(alloc, &aces)?;
-    let table = by_row(alloc, &aces, &sorted.rows)?;
+    mentions_of(alloc, &aces)
+}
+
+// Whom a list mentions. One sort puts its ACEs in the order of whom they name, so that no principal is looked up.
+fn mentions_of<'a>(alloc: Global, aces: &[AceRef<'a>]) -> Result<Mentions<'a>, AllocError>
+    ensures { IfOk result (AreMentionsOf (aces_in aces.now)) }
+{
+    let sorted = row_numbers(alloc, aces)?;
+    let table = by_row(alloc, aces, &sorted.rows)?;
     let numbers = numbers_of(alloc, &table)?;
-    let whoms = whoms(alloc, &aces, &sorted.rows, &numbers)?;
+    let whoms = whoms(alloc, aces, &sorted.rows, &numbers)?;
     Ok(Mentions {
         principals: numbers.whole,
         whoms,
     })
+}
+
+// Adds, by place, what is there already at the places of a list.
+fn add_copies(whoms: &mut Vec<Whom>, places: &[usize]) -> Result<(), AllocError>
+    requires { (i : ℕ) → i < length places.now → slice_index_or places.now i 0 < vec_len whoms.old }
+    ensures { OnOk result (whoms.new.items ≡ with_copies whoms.old.items places.now) }
+{
+    for i in 0..places.len() {
+        let whom = whoms[places[i]];
+        whoms.push(whom)?;
+    }
+    Ok(())
 }
 
 // The ACEs of both lists.

@@ -1,17 +1,21 @@
 //! The difference of two lists at a small set.
-ghost use Rattle.std.specs.Prelude.{◌≡◌, IfOk};
+ghost use Rattle.std.specs.Prelude.{◌≡◌, IfOk, IfSome};
 ghost use Rattle.acl_perm.specs.Situation.{IsSituation};
 ghost use Rattle.acl_normal.specs.Difference.{IsComparison};
 ghost use Rattle.acl_normal.specs.SmallSets.{strange_length};
 ghost use Rattle.acl_normal.specs.internal.CodeSets.{set_of, set_or_none};
-ghost use Rattle.acl_normal.specs.internal.TwoLists.{AreAlikeTo, AreNamed, DifferLowestOn, FindSet, ShowsSituation, situation_at};
+ghost use Rattle.acl_normal.specs.internal.Members.{AreNumbered, members_of, members_or_none};
+ghost use Rattle.acl_normal.specs.internal.SetSearch.{AreGranted};
+ghost use Rattle.acl_normal.specs.internal.TwoLists.{AreAlikeTo, AreNamed, DifferLowestOn, FindSet, ShowsSituation, all_mentioned, situation_at};
 
 use super::Difference;
 use super::compared::Compared;
 use super::evaluation::{granted, lowest, unlike};
+use super::members::Members;
 use super::mentioned::longest_of;
 use super::situation::{groups_in, owner_in, owning_group_in, user_in};
 use super::small_set::SmallSet;
+use acl_perm::Mask;
 use std::alloc::{AllocError, Global};
 
 impl Compared<'_, '_> {
@@ -22,16 +26,24 @@ impl Compared<'_, '_> {
         longest_of(self.mentioned) + 1
     }
 
-    // The small situation of a set at which the lists grant otherwise, and the lowest right on which they do.
-    fn difference_at(&self, alloc: Global, set: SmallSet<'_>) -> Result<Difference, AllocError>
+    // The small situation of a set at which the lists grant otherwise, and the lowest right on which they do, by what
+    // each of them grants there.
+    fn difference_at(
+        &self,
+        alloc: Global,
+        set: SmallSet<'_>,
+        here: Mask,
+        there: Mask,
+    ) -> Result<Difference, AllocError>
         requires differ { AreAlikeTo self.now (set_of set) → ⊥ }
         requires named { IsSituation (situation_at self.now (set_of set)) }
+        requires here { AreGranted self.now.first (set_of set) here.bits }
+        requires there { AreGranted self.now.second (set_of set) there.bits }
         ensures situation { IfOk result (ShowsSituation self.now (set_of set.entry)) }
         ensures bit { IfOk result (DifferLowestOn self.now (set_of set.entry)) }
     {
         let n = self.strange_length();
-        let here = granted(self.first, set);
-        let bit = lowest(unlike(here, granted(self.second, set)));
+        let bit = lowest(unlike(here, there));
         Ok(Difference {
             owner: owner_in(alloc, set, n)?,
             group: owning_group_in(alloc, set, n)?,
@@ -54,7 +66,32 @@ impl Compared<'_, '_> {
     {
         match found {
             None => Ok(None),
-            Some(set) => Ok(Some(self.difference_at(alloc, set)?)),
+            Some(set) => {
+                let here = granted(self.first, set);
+                let there = granted(self.second, set);
+                Ok(Some(self.difference_at(alloc, set, here, there)?))
+            }
+        }
+    }
+
+    /// The same, where the set is given by numbers.
+    pub(crate) fn difference_of(
+        &self,
+        alloc: Global,
+        found: Option<Members>,
+    ) -> Result<Option<Difference>, AllocError>
+        requires named { AreNamed self.now }
+        requires found { FindSet self.now (members_or_none (all_mentioned self.now) found) }
+        requires within { IfSome found (AreNumbered (all_mentioned self.now)) }
+        ensures { IfOk result (IsComparison self.now.first self.now.second) }
+    {
+        match found {
+            None => Ok(None),
+            Some(members) => {
+                let here = self.granted_by_first(members);
+                let there = self.granted_by_second(members);
+                Ok(Some(self.difference_at(alloc, self.set(members), here, there)?))
+            }
         }
     }
 }

@@ -1,16 +1,16 @@
 //! The search for the first small set at which two lists grant otherwise. To go over all pairs of principals would take
 //! time in the square of them, so one of the pair is found first, and then the other.
-ghost use Rattle.std.specs.Prelude.{◌<◌, IfOk, length};
-ghost use Rattle.acl_normal.specs.internal.CodeSets.{set_or_none};
+ghost use Rattle.std.specs.Prelude.{◌<◌, IfOk, IfSome, length};
+ghost use Rattle.acl_normal.specs.internal.Members.{AreNumbered, members_or_none};
 ghost use Rattle.acl_normal.specs.internal.TwoLists.{AreAlikeAlone, FindSet, IsFirstMember, IsFirstPartner, IsFirstSingle, all_mentioned};
 
 use super::compared::Compared;
 use super::inversions::{first_inverted, first_inverting, first_unlike};
-use super::small_set::SmallSet;
+use super::members::Members;
 use acl_perm::internal::Bit;
 use std::alloc::{AllocError, Global};
 
-impl<'a> Compared<'a, '_> {
+impl Compared<'_, '_> {
     // The first principal at which alone the lists differ, or the number of principals.
     #[tactic(auto, using(crate::proofs::comparison::RowFacts::least_start))]
     fn least_single(&self, alloc: Global) -> Result<usize, AllocError>
@@ -19,7 +19,7 @@ impl<'a> Compared<'a, '_> {
         let mut least = self.count();
         for bit in 0..Bit::COUNT {
             let right = Bit { bit };
-            if self.has_right(right) {
+            if self.may_differ(right) {
                 let standings = self.standings(alloc, right)?;
                 least = first_unlike(&standings, least);
             }
@@ -37,7 +37,7 @@ impl<'a> Compared<'a, '_> {
         let mut least = self.count();
         for bit in 0..Bit::COUNT {
             let right = Bit { bit };
-            if self.has_right(right) {
+            if self.may_differ(right) {
                 let standings = self.standings(alloc, right)?;
                 least = first_inverting(alloc, &standings, size, least)?;
             }
@@ -55,7 +55,7 @@ impl<'a> Compared<'a, '_> {
         let mut least = self.count() - at - 1;
         for bit in 0..Bit::COUNT {
             let right = Bit { bit };
-            if self.has_right(right) {
+            if self.may_differ(right) {
                 let standings = self.standings(alloc, right)?;
                 let (_, others) = standings.as_slice().split_at(at + 1);
                 least = first_inverted(standings[at], others, least);
@@ -67,21 +67,23 @@ impl<'a> Compared<'a, '_> {
     /// The first small set at which the lists differ. The first pair has as its lesser member the least principal of
     /// any pair at which they differ, whether the other comes before or behind it, and the least later one as the
     /// other.
-    pub(crate) fn first_set(&self, alloc: Global) -> Result<Option<SmallSet<'a>>, AllocError>
-        ensures { IfOk result (λ r. FindSet self.now (set_or_none r)) }
+    pub(crate) fn first_set(&self, alloc: Global) -> Result<Option<Members>, AllocError>
+        ensures found { IfOk result (λ r.
+            FindSet self.now (members_or_none (all_mentioned self.now) r)) }
+        ensures within { IfOk result (λ r. IfSome r (AreNumbered (all_mentioned self.now))) }
     {
-        if !self.grant_alike(SmallSet::Empty) {
-            return Ok(Some(SmallSet::Empty));
+        if !self.grant_strangers_alike() {
+            return Ok(Some(Members::Nobody));
         }
         let single = self.least_single(alloc)?;
         if single < self.count() {
-            return Ok(Some(SmallSet::One(self.principal(single))));
+            return Ok(Some(Members::One(single)));
         }
         let member = self.least_member(alloc)?;
         if member == self.count() {
             return Ok(None);
         }
         let partner = self.least_partner(alloc, member)?;
-        Ok(Some(SmallSet::Two(self.principal(member), self.principal(member + 1 + partner))))
+        Ok(Some(Members::Two(member, member + 1 + partner)))
     }
 }

@@ -3,7 +3,7 @@ ghost use Rattle.std.specs.Prelude.{◌≡◌, ◌<◌, ◌≤◌, ℕ, IfOk, fa
 ghost use Rattle.acl_perm.specs.Kind.{is_allow};
 ghost use Rattle.acl_nfs4.specs.Ace.{ace};
 ghost use Rattle.acl_normal.specs.internal.Shown.{aces_in};
-ghost use Rattle.acl_normal.specs.internal.FirstPlaces.{AreFirstFrom, AreWhoms, IsWithin, no_ace, put, stops, stops_at};
+ghost use Rattle.acl_normal.specs.internal.FirstPlaces.{AreFirstFrom, AreWhoms, IsWithin, no_ace, put, same_whom, stops, stops_at};
 ghost use Rattle.acl_normal.specs.internal.SetSearch.{principals};
 
 use crate::class::Class;
@@ -43,6 +43,20 @@ pub(crate) enum Whom {
     Nobody,
     One(usize),
     Everyone,
+}
+
+impl Whom {
+    /// Whether both name the same.
+    pub(crate) fn is_same(self, other: Whom) -> bool
+        ensures { result ≡ same_whom self other }
+    {
+        match (self, other) {
+            (Whom::Nobody, Whom::Nobody) => true,
+            (Whom::One(number), Whom::One(another)) => number == another,
+            (Whom::Everyone, Whom::Everyone) => true,
+            _ => false,
+        }
+    }
 }
 
 /// What a list says first, on a right, of each of so many principals. All begin with what everyone is told, and the

@@ -1,6 +1,7 @@
 //! The order of a normal form: at each place the least key that has a free bit, with all its free bits.
-ghost use Rattle.std.specs.Prelude.{◌≡◌, ◌*◌, ◌<◌, ℕ, List, length, replicate, slice_index_or, IfNone, IfOk, IfSome, OnOk};
-ghost use Rattle.acl_perm.specs.Bits.{all_rights};
+ghost use Rattle.std.specs.Prelude.{◌≡◌, ◌*◌, ◌<◌, ℕ, true, List, length, replicate, slice_index_or, IfNone, IfOk, IfSome, OnOk};
+ghost use Rattle.acl_perm.specs.Bits.{all_rights, has_bit};
+ghost use Rattle.acl_perm.specs.Principal.{is_user, principal};
 ghost use Rattle.acl_nfs4.specs.Ace.{Ace};
 ghost use Rattle.acl_eval.specs.Grant.{SameGrants};
 ghost use Rattle.acl_perm.specs.Order.{kind_rank};
@@ -11,11 +12,13 @@ ghost use Rattle.acl_normal.specs.Keys.{plain_key};
 ghost use Rattle.acl_normal.specs.Left.{left};
 ghost use Rattle.acl_normal.specs.Normal.{IsIrreducibleList, IsNormal};
 ghost use Rattle.acl_normal.specs.Places.{key_here, kind_here, nothing_left};
+ghost use Rattle.acl_normal.specs.internal.Queues.{AreQueues, BeginsWaiting};
 ghost use Rattle.acl_normal.specs.internal.Ready.{Adds, Enters, FitsKeys, Frees, HoldsFree, Takes, marks};
 ghost use Rattle.acl_normal.specs.internal.Counts.{count_left};
 
 use crate::bits::next_right;
 use crate::class::Class;
+use crate::emit::queues::Queues;
 use crate::emit::ready::Ready;
 use crate::rows::remaining::Remaining;
 use acl_perm::internal::Bit;
@@ -60,31 +63,34 @@ pub(crate) fn drain<'a>(
     ensures rows { IfOk result (λ v. StandInRows rows.old v.items) }
 {
     let _ = &rows.masks;
+    let mut queues = Queues::of(alloc, rows)?;
     let mut ready = Ready::new(alloc, rows.len())?;
-    fill(rows, &mut ready)?;
-    let mut out = Vec::new(alloc);
+    fill(rows, &queues, &mut ready)?;
+    let mut out = Vec::with_capacity(alloc, rows.len())?;
     // The label names the loop for its proof.
     'emitted: while let Some(next) = pop(rows, &mut ready) {
         out.push(next)?;
-        rows.emit(next.row, next.key, next.mask);
-        free_after(rows, next.key, next.mask, &mut ready)?;
+        rows.take_out(next.row, next.key.principal, next.mask);
+        move_on(rows, next.key, next.mask, &mut queues);
+        free_after(rows, &queues, next.key, next.mask, &mut ready)?;
     }
     Ok(out)
 }
 
 /// Marks all that is free.
-fn fill(rows: &Remaining<'_>, ready: &mut Ready) -> Result<(), AllocError>
-    requires { ready.old ≡ replicate (2 * length rows.now) 0 }
+fn fill(rows: &Remaining<'_>, queues: &Queues, ready: &mut Ready) -> Result<(), AllocError>
+    requires queues { AreQueues rows.now queues.now }
+    requires none { ready.old ≡ replicate (2 * length rows.now) 0 }
     ensures keys { OnOk result (FitsKeys (nothing_left rows.now) ready.new) }
     ensures marks { OnOk result (HoldsFree (marks (nothing_left rows.now) ready.new) rows.now) }
 {
     let _ = &rows.masks;
     for bit in 0..Bit::COUNT {
         let right = Bit { bit };
-        enter(rows, Kind::Deny, Class::Others, right, ready)?;
-        enter(rows, Kind::Deny, Class::Users, right, ready)?;
-        enter(rows, Kind::Allow, Class::Others, right, ready)?;
-        enter(rows, Kind::Allow, Class::Users, right, ready)?;
+        enter(rows, queues, Kind::Deny, Class::Others, right, ready)?;
+        enter(rows, queues, Kind::Deny, Class::Users, right, ready)?;
+        enter(rows, queues, Kind::Allow, Class::Others, right, ready)?;
+        enter(rows, queues, Kind::Allow, Class::Users, right, ready)?;
     }
     Ok(())
 }
@@ -106,14 +112,31 @@ fn pop<'a>(rows: &Remaining<'a>, ready: &mut Ready) -> Option<Emitted<'a>>
     Some(Emitted { key, mask, row })
 }
 
+/// Lets the queues of the rights of a key begin where a place still waits, or at their ends.
+fn move_on(rows: &Remaining<'_>, at: Key<'_>, mask: Mask, queues: &mut Queues)
+    requires { AreQueues rows.now queues.old }
+    ensures queues { AreQueues rows.now queues.new }
+    ensures first { (b : ℕ) → has_bit mask.bits b ≡ true
+        → BeginsWaiting at.entry.kind (is_user (principal at.entry.principal)) rows.now queues.new b }
+{
+    let class = Class::of(at.principal);
+    let mut from = 0;
+    while let Some(right) = next_right(mask, from) {
+        queues.move_on(rows, at.kind, class, right);
+        from = right.bit + 1;
+    }
+}
+
 /// Marks what became free when rights of a key were taken out.
 fn free_after<'a>(
     rows: &Remaining<'a>,
+    queues: &Queues,
     at: Key<'a>,
     mask: Mask,
     ready: &mut Ready,
 ) -> Result<(), AllocError>
-    requires { FitsKeys (nothing_left rows.now) ready.old }
+    requires queues { AreQueues rows.now queues.now }
+    requires keys { FitsKeys (nothing_left rows.now) ready.old }
     ensures keys { OnOk result (FitsKeys (nothing_left rows.now) ready.new) }
     ensures marks { OnOk result (Frees (plain_key at.entry) mask.bits rows.now
         (marks (nothing_left rows.now) ready.old)
@@ -122,44 +145,67 @@ fn free_after<'a>(
     let opposite = at.kind.other();
     let mut from = 0;
     while let Some(right) = next_right(mask, from) {
-        enter(rows, opposite, Class::Others, right, ready)?;
+        enter(rows, queues, opposite, Class::Others, right, ready)?;
         if !at.principal.is_user() {
-            enter(rows, opposite, Class::Users, right, ready)?;
+            enter(rows, queues, opposite, Class::Users, right, ready)?;
         }
         from = right.bit + 1;
     }
     Ok(())
 }
 
-/// Marks what is free of the ACEs that wait in a kind and a class with a right: the places before the first that
-/// something blocks.
+/// Marks what is free of the ACEs that wait in a kind and a class with a right.
 fn enter(
     rows: &Remaining<'_>,
+    queues: &Queues,
     kind: Kind,
     class: Class,
     right: Bit,
     ready: &mut Ready,
 ) -> Result<(), AllocError>
-    requires { FitsKeys (nothing_left rows.now) ready.old }
+    requires queues { AreQueues rows.now queues.now }
+    requires keys { FitsKeys (nothing_left rows.now) ready.old }
     ensures keys { OnOk result (FitsKeys (nothing_left rows.now) ready.new) }
     ensures marks { OnOk result (Enters kind (is_users class) right.bit rows.now
         (marks (nothing_left rows.now) ready.old)
         (marks (nothing_left rows.now) ready.new)) }
 {
     let _ = &rows.masks;
-    let queue = rows.queue(kind, class, right);
     // Mostly none waits, which is known without a look at what is before it.
-    if queue.is_empty() {
+    if queues.head(kind, class, right) == 0 {
         return Ok(());
     }
-    let last = rows.last_clear(kind, class, right);
-    for place in queue {
-        if *place > last {
+    walk(rows, queues, kind, class, right, ready)
+}
+
+/// Marks what is free of a queue: the places before the first that something blocks.
+fn walk(
+    rows: &Remaining<'_>,
+    queues: &Queues,
+    kind: Kind,
+    class: Class,
+    right: Bit,
+    ready: &mut Ready,
+) -> Result<(), AllocError>
+    requires queues { AreQueues rows.now queues.now }
+    requires keys { FitsKeys (nothing_left rows.now) ready.old }
+    ensures keys { OnOk result (FitsKeys (nothing_left rows.now) ready.new) }
+    ensures marks { OnOk result (Enters kind (is_users class) right.bit rows.now
+        (marks (nothing_left rows.now) ready.old)
+        (marks (nothing_left rows.now) ready.new)) }
+{
+    let _ = &rows.masks;
+    let last = queues.last_clear(rows, kind, class, right);
+    let mut at = queues.head(kind, class, right);
+    while at != 0 {
+        let link = queues.links[at];
+        if link.place > last {
             return Ok(());
         }
-        if rows.has(*place, right) {
-            add(rows, *place, kind, right, ready)?;
+        if rows.has(link.place, right) {
+            add(rows, link.place, kind, right, ready)?;
         }
+        at = link.next;
     }
     Ok(())
 }

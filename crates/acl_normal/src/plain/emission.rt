@@ -1,4 +1,4 @@
-//! Puts ACEs into the order of the normal form: each time the least that no other keeps from coming first.
+//! Puts ACEs into the order of the normal form: each time the least ACE that no other ACE has to precede.
 
 ghost use Rattle.std.specs.Prelude.{◌≡◌, ◌≤◌, ◌&&◌, not, ℕ, List, option_map, ◌∷◌, ◌++◌, [], true, false, IfOk, IfNone, IfSome, length};
 ghost use Rattle.std.specs.List.{AllByRecursion};
@@ -25,7 +25,7 @@ use acl_nfs4::{AceRef, Acl, Mask};
 use acl_perm::overlaps;
 use std::alloc::{AllocError, Global};
 
-/// The list of the ACEs in the order of the normal form.
+/// Returns the list of the ACEs in the order of the normal form.
 pub(super) fn emit(alloc: Global, aces: Vec<AceRef<'_>>) -> Result<Acl, AllocError>
     requires once { HasOnceColumns (aces_in aces.items) }
     requires each { AllByRecursion (IsAce full) (aces_in aces.items) }
@@ -104,7 +104,7 @@ fn free_bits(left: &[AceRef<'_>], item: &AceRef<'_>) -> Mask
     free
 }
 
-// The bits at which the other ACE has the key of the ACE, but for those that are blocked.
+// The bits at which the other ACE has the key of the ACE, except those that are blocked.
 #[tactic(auto, using(crate::proofs::plain::Passes::free_alone))]
 fn own_free(other: &AceRef<'_>, item: &AceRef<'_>, blocked: Mask) -> Mask
     ensures { (bit : ℕ) → has_bit result.bits bit
@@ -118,7 +118,7 @@ fn own_free(other: &AceRef<'_>, item: &AceRef<'_>, blocked: Mask) -> Mask
     }
 }
 
-// Whether the ACEs have one key.
+// Whether the ACEs have the same key.
 fn has_key(other: &AceRef<'_>, item: &AceRef<'_>) -> bool
     ensures { result ≡ (principal_eq (principal_of (ace other.now)) (principal_of (ace item.now))
         && kind_eq other.now.kind item.now.kind) }
@@ -138,7 +138,7 @@ fn own_conflict(other: &AceRef<'_>, item: &AceRef<'_>) -> Mask
     }
 }
 
-// The lesser of two candidates, the first where both have one key.
+// The lesser of two candidates, or the first if both have the same key.
 fn lesser<'a>(best: Option<AceRef<'a>>, next: AceRef<'a>) -> AceRef<'a>
     ensures { ace result ≡ lesser (option_map ace best.entry) (ace next.entry) }
 {
@@ -155,7 +155,7 @@ fn is_first(first: &AceRef<'_>, second: &AceRef<'_>) -> bool
     first.key() <= second.key()
 }
 
-// The ACEs without the bits of the one that has come first.
+// The ACEs without the bits of the ACE that came first.
 fn without<'a>(
     alloc: Global,
     left: &[AceRef<'a>],
@@ -176,7 +176,7 @@ fn without<'a>(
     Ok(rest)
 }
 
-// The bits of the first ACE, where the other has the same principal.
+// The bits of the first ACE, if the other has the same principal.
 fn own_taken(item: &AceRef<'_>, first: &AceRef<'_>) -> Mask
     ensures { (bit : ℕ) → has_bit result.bits bit ≡ (principal_eq (principal_of (ace item.now))
         (principal_of (ace first.now)) && has_bit first.now.mask.bits bit) }

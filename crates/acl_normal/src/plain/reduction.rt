@@ -18,7 +18,7 @@ use acl_nfs4::{AceRef, Kind, Mask, Principal};
 use acl_perm::overlaps;
 use std::alloc::{AllocError, Global};
 
-/// The ACEs without the bits that an earlier one of their principal, or of everyone, has.
+/// Returns the ACEs without the bits that an earlier ACE of their principal, or of everyone, has.
 pub(super) fn drop_shadowed<'a>(
     alloc: Global,
     aces: &[AceRef<'a>],
@@ -49,7 +49,7 @@ fn shadow(before: &[AceRef<'_>], of: Principal<'_>) -> Mask
     bits
 }
 
-/// The ACEs without the bits that change nothing: what decides alike where they are gone.
+/// Returns the ACEs without the bits that change nothing: without these bits the columns decide as before.
 pub(super) fn drop_needless<'a>(
     alloc: Global,
     aces: &[AceRef<'a>],
@@ -108,7 +108,7 @@ fn own_shadow(item: &AceRef<'_>, of: Principal<'_>) -> Mask
     }
 }
 
-// The bits of the ACE that are needed before the later ones, where everyone is allowed the given ones.
+// The bits of the ACE that are needed before the later ones, if everyone is allowed the given ones.
 fn needed(item: &AceRef<'_>, allowed: Mask, later: &[AceRef<'_>]) -> Mask
     ensures { (bit : ℕ) → has_bit result.bits bit ≡ (has_bit item.now.mask.bits bit
         && is_needed (default_at allowed.bits bit) (principal_of (ace item.now)) item.now.kind
@@ -123,7 +123,7 @@ fn needed(item: &AceRef<'_>, allowed: Mask, later: &[AceRef<'_>]) -> Mask
     }
 }
 
-// The bits that a later ACE of the other kind has whose principal overlaps.
+// The bits of later ACEs of the other kind whose principal overlaps.
 fn opposite(item: &AceRef<'_>, later: &[AceRef<'_>]) -> Mask
     ensures { (bit : ℕ) → has_bit result.bits bit
         ≡ has_opposite item.now.kind (principal_of (ace item.now))
@@ -136,7 +136,7 @@ fn opposite(item: &AceRef<'_>, later: &[AceRef<'_>]) -> Mask
     bits
 }
 
-// The bits with which the later ACE opposes the one that is given.
+// The bits with which the later ACE opposes the given one.
 fn own_opposite(item: &AceRef<'_>, later: &AceRef<'_>) -> Mask
     ensures { (bit : ℕ) → has_bit result.bits bit
         ≡ has_opposite item.now.kind (principal_of (ace item.now))
@@ -149,7 +149,7 @@ fn own_opposite(item: &AceRef<'_>, later: &AceRef<'_>) -> Mask
     }
 }
 
-/// Whether both are one principal.
+/// Returns whether both are the same principal.
 pub(super) fn is_same(first: Principal<'_>, second: Principal<'_>) -> bool
     ensures { result ≡ principal_eq (principal first.entry) (principal second.entry) }
 {

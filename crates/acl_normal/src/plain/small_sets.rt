@@ -1,4 +1,4 @@
-//! The comparison that goes over all small sets: slow, and for tests of the fast one.
+//! The comparison that tries all small sets: it is slow, and tests compare the fast one with it.
 ghost use Rattle.std.specs.Prelude.{◌≡◌, ◌∷◌, [], IfOk, true};
 ghost use Rattle.std.specs.Bool.{OnFalse, OnTrue};
 ghost use Rattle.acl_perm.specs.Overlap.{may_overlap};
@@ -19,15 +19,16 @@ use acl_nfs4::{AceRef, Acl, AclView};
 use acl_perm::{Principal, overlaps};
 use std::alloc::{AllocError, Global};
 
-/// The same as [`crate::compare`], by going over all small situations: its cost is cubic in the number of principals.
+/// Returns the same as [`crate::compare`], by trying all small situations. Its time grows with the third power of the
+/// number of principals.
 pub fn compare(alloc: Global, first: &Acl, second: &Acl) -> Result<Option<Difference>, AllocError>
-    // The same answer: None exactly if both lists grant the same, else the first difference.
+    // The same answer: None if and only if both lists grant the same, else the first difference.
     ensures { IfOk result (λ told. IsComparison first.now second.now told) }
 {
     first_difference(alloc, &first.view(), &second.view())
 }
 
-// The first difference of two lists. They are borrowed for one time, since they are held as one.
+// The first difference of two lists. They are borrowed for the same lifetime, because one value holds both.
 fn first_difference<'a>(
     alloc: Global,
     first: &AclView<'a>,
@@ -61,7 +62,7 @@ fn first_set<'a>(
     first_pair(list, other, whole)
 }
 
-// The first of the principals at which alone the lists differ.
+// The first principal at which alone the lists differ.
 #[tactic(auto, using(crate::proofs::comparison::SetSearchLemmas::single_ends))]
 fn first_single<'a>(
     list: &[AceRef<'_>],

@@ -18,6 +18,7 @@ ghost use Rattle.acl_normal.specs.internal.Shown.{bits_in, with_masks};
 
 use crate::bits::of_everyone;
 use crate::class::Class;
+use crate::whom::key;
 use acl_nfs4::AceRef;
 use acl_perm::{Key, Kind, Mask};
 
@@ -88,7 +89,7 @@ pub(crate) fn drop_needless(aces: &[AceRef<'_>], masks: &mut [Mask])
     for done in 0..aces.len() {
         let place = aces.len() - 1 - done;
         let ace = aces[place];
-        let at = ace.key();
+        let at = key(&ace);
         let mask = masks[place];
         let dropped = needless(at, mask, allowed, opposite(later, at));
         masks[place] = mask.difference(dropped);

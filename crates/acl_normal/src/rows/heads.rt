@@ -1,11 +1,13 @@
-//! Principals that are compared by a number first: most of them differ there, and no name is looked at.
-ghost use Rattle.std.specs.Prelude.{◌≡◌, get_or};
-ghost use Rattle.std.specs.Ordering.{eq_by_cmp};
-ghost use Rattle.acl_perm.specs.Order.{principal_cmp, principal_name, principal_rank};
+//! Heads of principals: a number each. Most principals differ there, and no name is looked at.
+ghost use Rattle.std.specs.Prelude.{◌≡◌, drop, get_or, length, option_map, take};
+ghost use Rattle.acl_perm.specs.Order.{principal_cmp};
 ghost use Rattle.acl_perm.specs.Principal.{principal};
 ghost use Rattle.acl_nfs4.specs.internal.Progress.{IsBytes};
-ghost use Rattle.acl_normal.specs.internal.Heads.{HasHead, head_from};
+ghost use Rattle.acl_normal.specs.internal.Heads.{AllBegin, BeginsWith, HasHead, IsHeadOf, given_name, head_from};
+ghost use Rattle.acl_normal.specs.internal.Shown.{aces_in};
 
+use crate::whom::whom;
+use acl_nfs4::AceRef;
 use acl_perm::Principal;
 use std::cmp::Ordering;
 
@@ -23,7 +25,7 @@ impl<'a> HeadedPrincipal<'a> {
     {
         HeadedPrincipal {
             principal,
-            head: head(rank(principal), name(principal)),
+            head: head(principal, 0),
         }
     }
 
@@ -37,54 +39,41 @@ impl<'a> HeadedPrincipal<'a> {
         }
         self.principal.cmp(&other.principal)
     }
+}
 
-    /// Whether both are of one principal.
-    pub(crate) fn is_same(&self, other: &HeadedPrincipal<'_>) -> bool
-        ensures { result ≡ eq_by_cmp principal_cmp
-            (principal self.now.principal) (principal other.now.principal) }
-    {
-        self.head == other.head && self.principal == other.principal
+/// The head of a principal: the rank in the highest byte, and below it seven bytes of the name, after the first
+/// `common` bytes.
+pub(crate) fn head(p: Principal<'_>, common: usize) -> u64
+    ensures { IsHeadOf common result (principal p.entry) }
+{
+    packed(p.rank(), behind(p.name(), common))
+}
+
+// The bytes of a name behind the first ones.
+fn behind(name: &[u8], count: usize) -> &[u8]
+    ensures rest { result.now ≡ drop count name.now }
+    ensures bytes { IsBytes name.now }
+{
+    match name.get(count..) {
+        Some(rest) => rest,
+        None => &[],
     }
 }
 
-// The head of a principal of that rank and name.
-fn head(rank: u8, name: &[u8]) -> u64
-    ensures is { result ≡ head_from rank 7 name.now }
-    ensures bytes { IsBytes name.now }
+// A rank in the highest byte, and below it seven bytes.
+fn packed(rank: u8, bytes: &[u8]) -> u64
+    ensures { result ≡ head_from rank 7 bytes.now }
 {
     u64::from_be_bytes([
         rank,
-        byte(name, 0),
-        byte(name, 1),
-        byte(name, 2),
-        byte(name, 3),
-        byte(name, 4),
-        byte(name, 5),
-        byte(name, 6),
+        byte(bytes, 0),
+        byte(bytes, 1),
+        byte(bytes, 2),
+        byte(bytes, 3),
+        byte(bytes, 4),
+        byte(bytes, 5),
+        byte(bytes, 6),
     ])
-}
-
-// The rank of a principal in the order.
-fn rank(p: Principal<'_>) -> u8
-    ensures { result ≡ principal_rank (principal p.entry) }
-{
-    match p {
-        Principal::Owner => 0,
-        Principal::User(_) => 1,
-        Principal::Group => 2,
-        Principal::GroupNamed(_) => 3,
-        Principal::Everyone => 4,
-    }
-}
-
-// The name of a user or of a group; the others have none.
-fn name(p: Principal<'_>) -> &[u8]
-    ensures { result.now ≡ principal_name (principal p.entry) }
-{
-    match p {
-        Principal::User(name) | Principal::GroupNamed(name) => name,
-        _ => &[],
-    }
 }
 
 // The byte of a name at a place, and zero past its end.
@@ -92,4 +81,57 @@ fn byte(name: &[u8], place: usize) -> u8
     ensures { result ≡ get_or name.now place 0 }
 {
     name.get(place).copied().unwrap_or(0)
+}
+
+/// The bytes with which the names of all users and groups begin, where these are enough to pass over.
+pub(crate) fn common_start<'a>(aces: &[AceRef<'a>]) -> &'a [u8]
+    ensures { AllBegin result.now (aces_in aces.now) }
+{
+    let names = aces.iter().find_map(|ace| given_name(whom(ace)));
+    let mut start = names.unwrap_or(&[]);
+    for ace in aces {
+        // The seven bytes of a head are then mostly enough.
+        if start.len() < 4 {
+            return &[];
+        }
+        start = start_with(start, whom(ace));
+    }
+    start
+}
+
+// The bytes of a start with which the name of the principal begins: all of them where it has none.
+fn start_with<'a>(start: &'a [u8], p: Principal<'_>) -> &'a [u8]
+    ensures start { result.now ≡ take (length result.now) start.now }
+    ensures name { BeginsWith result.now (principal p.entry) }
+{
+    match given_name(p) {
+        Some(name) => shared_start(start, name),
+        None => start,
+    }
+}
+
+// The name of a user or of a group.
+fn given_name(p: Principal<'_>) -> Option<&[u8]>
+    ensures { option_map (λ name. name.now) result ≡ given_name (principal p.entry) }
+{
+    match p {
+        Principal::User(name) | Principal::GroupNamed(name) => Some(name),
+        _ => None,
+    }
+}
+
+// The bytes with which both begin.
+fn shared_start<'a>(bytes: &'a [u8], others: &[u8]) -> &'a [u8]
+    ensures first { result.now ≡ take (length result.now) bytes.now }
+    ensures second { result.now ≡ take (length result.now) others.now }
+{
+    if others.starts_with(bytes) {
+        return bytes;
+    }
+    for (place, byte) in bytes.iter().enumerate() {
+        if others.get(place) != Some(byte) {
+            return &bytes[..place];
+        }
+    }
+    bytes
 }

@@ -1,14 +1,16 @@
 //! What is left of a list, with the places that wait in sets.
-ghost use Rattle.std.specs.Prelude.{◌≡◌, ℕ, ◌^◌, false, ◌↔◌, IfOk, IsTrue, None, Some, option_map};
+ghost use Rattle.std.specs.Prelude.{◌≡◌, ℕ, ◌<◌, ◌≤◌, ◌^◌, ◌||◌, false, true, ◌↔◌, IfOk, IsTrue, None, Some, option_map};
 ghost use Rattle.std.specs.Ordering.{nat_cmp};
 ghost use Rattle.std.specs.BTreeSet.{contains};
 ghost use Rattle.acl_perm.specs.Bits.{all_rights};
 ghost use Rattle.acl_perm.specs.Principal.{principal};
+ghost use Rattle.acl_perm.specs.declared.kind.Kind.TheVariants.{Deny, Allow};
+ghost use Rattle.acl_eval.specs.Column.{column};
 ghost use Rattle.acl_eval.specs.Grant.{SameGrants};
 ghost use Rattle.acl_normal.specs.internal.Classes.{is_users};
 ghost use Rattle.acl_normal.specs.Left.{HasFree, IsLowest, KeepsFirsts, left};
-ghost use Rattle.acl_normal.specs.Normal.{IsIrreducibleList};
-ghost use Rattle.acl_normal.specs.Places.{nothing_left, take_out, waits};
+ghost use Rattle.acl_normal.specs.Normal.{IsIrreducibleList, is_free};
+ghost use Rattle.acl_normal.specs.Places.{is_blocked, nothing_left, take_out, waits, waits_before};
 ghost use Rattle.acl_normal.specs.internal.Rows.{IsRowOf};
 
 use crate::bits::{alone, next_right};
@@ -18,7 +20,7 @@ use crate::rows::remaining::Remaining;
 use crate::rows::waiting::{slot, waiting_sets};
 use acl_nfs4::Acl;
 use acl_perm::internal::Bit;
-use acl_perm::{Key, Kind, Mask, Principal};
+use acl_perm::{Kind, Mask, Principal};
 use std::alloc::{AllocError, Global};
 use std::collections::BTreeSet;
 use std::marker::Model;
@@ -88,7 +90,14 @@ impl<'a> MergedRows<'a> {
     pub fn is_free(&self, p: Principal<'_>, bits: Mask) -> bool
         ensures { IsTrue result ↔ HasFree self.now (principal p.entry) bits.bits }
     {
-        self.rest.is_free(p, bits)
+        let mut from = 0;
+        while let Some(right) = next_right(bits, from) {
+            if self.is_free_at(p, right) {
+                return true;
+            }
+            from = right.bit + 1;
+        }
+        false
     }
 
     /// The places that wait with a right: those of the ACEs of what is left that have it, are of the kind, and name a
@@ -117,6 +126,48 @@ impl<'a> MergedRows<'a> {
         &self.waiting[slot(kind, class, right)]
     }
 
+    /// Whether the principal has the right and is free on it.
+    fn is_free_at(&self, p: Principal<'_>, right: Bit) -> bool
+        ensures { result ≡ (is_free (column self.now right.bit) (principal p.entry, Deny)
+            || is_free (column self.now right.bit) (principal p.entry, Allow)) }
+    {
+        let _ = &self.waiting;
+        match self.rest.source(p, right) {
+            None => false,
+            Some((kind, place)) => place <= self.last_clear(kind, Class::of(p), right),
+        }
+    }
+
+    /// The last place where an ACE of a kind and a class with a right has nothing before it that conflicts with it.
+    fn last_clear(&self, kind: Kind, class: Class, right: Bit) -> usize
+        ensures clear { (place : ℕ) → place ≤ result
+            → is_blocked kind (is_users class) right.bit self.now place ≡ false }
+        ensures blocked { (place : ℕ) → result < place → place < 2 ^ 64
+            → is_blocked kind (is_users class) right.bit self.now place ≡ true }
+    {
+        let others = self.first_waiting(kind.other(), Class::Others, right);
+        match class {
+            Class::Users => others,
+            Class::Others => {
+                let users = self.first_waiting(kind.other(), Class::Users, right);
+                if users < others { users } else { others }
+            }
+        }
+    }
+
+    /// The first place that waits in a kind and a class with a right, or the greatest number where none does.
+    fn first_waiting(&self, kind: Kind, class: Class, right: Bit) -> usize
+        ensures before { (place : ℕ) → place ≤ result
+            → waits_before kind (is_users class) right.bit self.now place ≡ false }
+        ensures behind { (place : ℕ) → result < place → place < 2 ^ 64
+            → waits_before kind (is_users class) right.bit self.now place ≡ true }
+    {
+        match self.waiting_at(kind, class, right).first() {
+            Some(place) => *place,
+            None => usize::MAX,
+        }
+    }
+
     /// Takes rights of the principal of a row out.
     fn emit_row(&mut self, row: usize, p: Principal<'_>, mask: Mask)
         requires { IsRowOf row (principal p) self.old }
@@ -139,8 +190,7 @@ impl<'a> MergedRows<'a> {
             let at = slot(kind, Class::of(p), right);
             let set = &mut self.waiting[at];
             set.remove(&place);
-            let key = Key { principal: p, kind };
-            self.rest.emit(row, key, alone(right));
+            self.rest.take_out(row, p, alone(right));
         }
     }
 }

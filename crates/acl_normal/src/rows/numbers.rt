@@ -1,13 +1,17 @@
 //! Rows of principals by number: in the order of the principals.
-ghost use Rattle.std.specs.Prelude.{◌≡◌, false, map, IfNone, IfOk, IfSome};
-ghost use Rattle.acl_perm.specs.Order.{principal_cmp};
+ghost use Rattle.std.specs.Prelude.{◌≡◌, ◌&&◌, ◌==◌, false, map, IfNone, IfOk, IfSome};
+ghost use Rattle.std.specs.List.{range_with_len};
+ghost use Rattle.std.specs.Cmp.Lexicographic.{slice_cmp};
+ghost use Rattle.std.specs.Ordering.{nat_cmp, ordering_then};
+ghost use Rattle.std.specs.Str.{bytes_eq};
 ghost use Rattle.acl_perm.specs.Principal.{principal};
 ghost use Rattle.acl_normal.specs.Places.{principal_here};
-ghost use Rattle.acl_normal.specs.internal.RowNumbers.{AreSortedNames, named_from, named_of};
+ghost use Rattle.acl_normal.specs.internal.RowNumbers.{AreHeaded, AreSorted, DoNotFall, who_here};
 ghost use Rattle.acl_normal.specs.internal.Rows.{AreRowNumbers, IsByPrincipal, IsRowOf, is_named};
 ghost use Rattle.acl_normal.specs.internal.Shown.{aces_in};
 
-use super::heads::HeadedPrincipal;
+use super::heads::{HeadedPrincipal, common_start, head};
+use crate::whom::whom;
 use acl_nfs4::AceRef;
 use acl_perm::Principal;
 use std::alloc::{AllocError, Global};
@@ -20,61 +24,143 @@ pub(crate) struct RowNumbers {
     pub(crate) order: Vec<usize>,
 }
 
-/// A place, and whom its ACE names.
+/// A place, and the head of whom its ACE names.
 #[derive(Clone, Copy)]
-struct NamedPlace<'a> {
-    named: HeadedPrincipal<'a>,
+struct HeadedPlace {
+    head: u64,
     place: usize,
 }
 
-/// Numbers the rows, by one sort.
+/// Numbers the rows: by one sort, unless the principals rise already.
 pub(crate) fn row_numbers(alloc: Global, aces: &[AceRef<'_>]) -> Result<RowNumbers, AllocError>
     ensures rows { IfOk result (λ n. AreRowNumbers (aces_in aces.now) n.rows.items) }
     ensures order { IfOk result (λ n. IsByPrincipal (aces_in aces.now) n.order.items) }
 {
-    let named = by_principal(alloc, aces)?;
-    let rows = rows_of(alloc, aces, &named)?;
-    let order = places_of(alloc, &named)?;
+    match rising_rows(alloc, aces)? {
+        Some(rows) => in_turn(alloc, aces, rows),
+        None => sorted_rows(alloc, aces),
+    }
+}
+
+// By place, the row of the principal, if no principal is below the one before it.
+fn rising_rows(alloc: Global, aces: &[AceRef<'_>]) -> Result<Option<Vec<usize>>, AllocError>
+    ensures order { IfOk result (λ found. IfSome found (λ _. DoNotFall (aces_in aces.now))) }
+    ensures rows { IfOk result (λ found.
+        IfSome found (λ rows. AreRowNumbers (aces_in aces.now) rows.items)) }
+{
+    let mut rows = Vec::with_capacity(alloc, aces.len())?;
+    let mut row = 0;
+    let mut last = HeadedPrincipal::new(Principal::Owner);
+    for (place, ace) in aces.iter().enumerate() {
+        let next = HeadedPrincipal::new(whom(ace));
+        match next.compared(&last) {
+            Ordering::Less => return Ok(None),
+            Ordering::Equal => {}
+            Ordering::Greater => row = place,
+        }
+        rows.push(row)?;
+        last = next;
+    }
+    Ok(Some(rows))
+}
+
+// The rows, with the places as they come.
+fn in_turn(alloc: Global, aces: &[AceRef<'_>], rows: Vec<usize>) -> Result<RowNumbers, AllocError>
+    requires rows { AreRowNumbers (aces_in aces.now) rows.items }
+    requires order { DoNotFall (aces_in aces.now) }
+    ensures rows { IfOk result (λ n. AreRowNumbers (aces_in aces.now) n.rows.items) }
+    ensures order { IfOk result (λ n. IsByPrincipal (aces_in aces.now) n.order.items) }
+{
+    let order = first_places(alloc, aces.len())?;
     Ok(RowNumbers { rows, order })
 }
 
-// Whom each ACE names, with its place, in the order of the principals.
-fn by_principal<'a>(alloc: Global, aces: &[AceRef<'a>]) -> Result<Vec<NamedPlace<'a>>, AllocError>
-    ensures { IfOk result (λ v. AreSortedNames (aces_in aces.now) (map named_of v.items)) }
+// The first places.
+fn first_places(alloc: Global, count: usize) -> Result<Vec<usize>, AllocError>
+    ensures { IfOk result (λ v. v.items ≡ range_with_len 0 count) }
 {
-    let mut named = named_places(alloc, aces)?;
-    named.sort_by(|at, other| at.named.compared(&other.named))?;
-    Ok(named)
+    (0..count).collect(alloc)
 }
 
-// Whom each ACE names, with its place.
-fn named_places<'a>(alloc: Global, aces: &[AceRef<'a>]) -> Result<Vec<NamedPlace<'a>>, AllocError>
-    ensures { IfOk result (λ v. map named_of v.items ≡ named_from 0 (aces_in aces.now)) }
+// The rows, by one sort.
+fn sorted_rows(alloc: Global, aces: &[AceRef<'_>]) -> Result<RowNumbers, AllocError>
+    ensures rows { IfOk result (λ n. AreRowNumbers (aces_in aces.now) n.rows.items) }
+    ensures order { IfOk result (λ n. IsByPrincipal (aces_in aces.now) n.order.items) }
 {
-    let mut named = Vec::with_capacity(alloc, aces.len())?;
+    let sorted = by_principal(alloc, aces)?;
+    let rows = rows_of(alloc, aces, &sorted)?;
+    let order = places_of(alloc, &sorted)?;
+    Ok(RowNumbers { rows, order })
+}
+
+// The places in the order of the principals.
+fn by_principal(alloc: Global, aces: &[AceRef<'_>]) -> Result<Vec<HeadedPlace>, AllocError>
+    ensures { IfOk result (λ v. AreSorted (aces_in aces.now) v.items) }
+{
+    let mut places = headed_places(alloc, aces)?;
+    places.sort_unstable_by(|at, other| headed_compared(aces, at, other));
+    Ok(places)
+}
+
+// Each place, with the head of whom its ACE names.
+fn headed_places(alloc: Global, aces: &[AceRef<'_>]) -> Result<Vec<HeadedPlace>, AllocError>
+    ensures { IfOk result (λ v. AreHeaded (aces_in aces.now) v.items) }
+{
+    let common = common_start(aces).len();
+    let mut places = Vec::with_capacity(alloc, aces.len())?;
     for (place, ace) in aces.iter().enumerate() {
-        named.push(NamedPlace {
-            named: HeadedPrincipal::new(ace.principal()),
+        places.push(HeadedPlace {
+            head: head(whom(ace), common),
             place,
         })?;
     }
-    Ok(named)
+    Ok(places)
+}
+
+// How whom the ACEs at two places name stand to each other: by the heads, and where these are the same, by the whos.
+fn headed_compared(aces: &[AceRef<'_>], at: &HeadedPlace, other: &HeadedPlace) -> Ordering
+    ensures { result ≡ ordering_then (nat_cmp at.now.head other.now.head)
+        (slice_cmp nat_cmp (who_here (aces_in aces.now) at.now.place)
+        (who_here (aces_in aces.now) other.now.place)) }
+{
+    if at.head != other.head {
+        return at.head.cmp(&other.head);
+    }
+    who_at(aces, at.place).cmp(who_at(aces, other.place))
+}
+
+// Whether the ACEs at two places name one principal.
+fn is_same(aces: &[AceRef<'_>], at: HeadedPlace, other: HeadedPlace) -> bool
+    ensures { result ≡ ((at.head == other.head)
+        && bytes_eq (who_here (aces_in aces.now) at.place)
+        (who_here (aces_in aces.now) other.place)) }
+{
+    at.head == other.head && who_at(aces, at.place) == who_at(aces, other.place)
+}
+
+// The who of the ACE at a place. A comparison may ask of any place: past the last it is empty.
+fn who_at<'a>(aces: &[AceRef<'a>], place: usize) -> &'a [u8]
+    ensures { result.now ≡ who_here (aces_in aces.now) place }
+{
+    match aces.get(place) {
+        Some(ace) => ace.who,
+        None => &[],
+    }
 }
 
 // By place, the row of the principal, which begins where the principal first stands in the order.
 fn rows_of(
     alloc: Global,
     aces: &[AceRef<'_>],
-    named: &[NamedPlace<'_>],
+    sorted: &[HeadedPlace],
 ) -> Result<Vec<usize>, AllocError>
-    requires { AreSortedNames (aces_in aces.now) (map named_of named.now) }
+    requires { AreSorted (aces_in aces.now) sorted.now }
     ensures { IfOk result (λ rows. AreRowNumbers (aces_in aces.now) rows.items) }
 {
     let mut rows = vec![in alloc; 0; aces.len()]?;
     let mut start = 0;
-    for (i, at) in named.iter().enumerate() {
-        let first = named[start].named;
-        if !at.named.is_same(&first) {
+    for (i, at) in sorted.iter().enumerate() {
+        if !is_same(aces, *at, sorted[start]) {
             start = i;
         }
         rows[at.place] = start;
@@ -83,10 +169,10 @@ fn rows_of(
 }
 
 // The places alone.
-fn places_of(alloc: Global, named: &[NamedPlace<'_>]) -> Result<Vec<usize>, AllocError>
-    ensures { IfOk result (λ v. v.items ≡ map (λ n. n.place) named.now) }
+fn places_of(alloc: Global, sorted: &[HeadedPlace]) -> Result<Vec<usize>, AllocError>
+    ensures { IfOk result (λ v. v.items ≡ map (λ n. n.place) sorted.now) }
 {
-    named.iter().map(|at| at.place).collect(alloc)
+    sorted.iter().map(|at| at.place).collect(alloc)
 }
 
 /// The row of a principal, if an ACE names it, by halving.
@@ -101,18 +187,18 @@ pub(crate) fn find_row(
     ensures found { IfSome result (λ row. IsRowOf row (principal p.entry) (aces_in aces.now)) }
     ensures missing { IfNone result (is_named (principal p.entry) (aces_in aces.now) ≡ false) }
 {
-    match order.binary_search_by(|place| compared(aces, *place, p)) {
+    match order.binary_search_by(|place| named_at(aces, *place).cmp(&p)) {
         Ok(found) => Some(rows[order[found]]),
         Err(_) => None,
     }
 }
 
-// How whom the ACE at a place names stands to a principal. A search may ask of any place: past the last it is everyone.
-fn compared(aces: &[AceRef<'_>], place: usize, p: Principal<'_>) -> Ordering
-    ensures { result ≡ principal_cmp (principal_here (aces_in aces.now) place) (principal p.entry) }
+// Whom the ACE at a place names. A search may ask of any place: past the last it is everyone.
+fn named_at<'a>(aces: &[AceRef<'a>], place: usize) -> Principal<'a>
+    ensures { principal result ≡ principal_here (aces_in aces.now) place }
 {
     match aces.get(place) {
-        Some(ace) => ace.principal().cmp(&p),
-        None => Principal::Everyone.cmp(&p),
+        Some(ace) => whom(ace),
+        None => Principal::Everyone,
     }
 }

@@ -1,40 +1,25 @@
-//! What is left of a list while it is emitted: of each row the rights that were not emitted yet, and the places that
-//! wait with each right, by kind and class.
-ghost use Rattle.std.specs.Prelude.{◌≡◌, ℕ, ◌*◌, ◌<◌, ◌≤◌, ◌^◌, ◌||◌, ◌↔◌, Bool, true, false, [], length, vec_len, slice_index_or, IfNone, IfOk, IfSome, IsTrue};
+//! What is left of a list while it is emitted: of each row the rights that were not emitted yet.
+ghost use Rattle.std.specs.Prelude.{◌≡◌, ◌*◌, ◌<◌, ◌^◌, false, length, vec_len, IfNone, IfOk, IfSome};
 ghost use Rattle.acl_perm.specs.Bits.{has_bit};
-ghost use Rattle.acl_perm.specs.Principal.{Principal as Who, principal};
-ghost use Rattle.acl_perm.specs.declared.kind.Kind.TheVariants.{Deny, Allow};
-ghost use Rattle.acl_eval.specs.Column.{column};
+ghost use Rattle.acl_perm.specs.Principal.{Principal as Who, is_user, principal};
 ghost use Rattle.acl_normal.specs.internal.Classes.{is_users};
 ghost use Rattle.acl_normal.specs.Keys.{plain_key};
-ghost use Rattle.acl_normal.specs.Left.{HasFree};
-ghost use Rattle.acl_normal.specs.Normal.{IsQuiet, is_free};
-ghost use Rattle.acl_normal.specs.Places.{first_at, is_blocked, kind_here, mask_here, principal_here, slot_of, take_out, waits, waits_before};
-ghost use Rattle.acl_normal.specs.internal.Remaining.{AreQueues, IsQueue, IsNumbered};
+ghost use Rattle.acl_normal.specs.Places.{first_at, kind_here, mask_here, principal_here, take_out};
+ghost use Rattle.acl_normal.specs.internal.Remaining.{IsNumbered};
 ghost use Rattle.acl_normal.specs.internal.Rows.{IsNumberOf, IsRowOf, first_place_of, is_named};
 ghost use Rattle.acl_normal.specs.internal.Shown.{bits_in, with_masks};
 
-use crate::bits::next_right;
 use crate::class::Class;
 use crate::reduce::Reduced;
 use crate::rows::numbers::{RowNumbers, find_row};
-use crate::rows::waiting::{slot, waiting_places};
 use acl_nfs4::AceRef;
 use acl_perm::internal::Bit;
 use acl_perm::{Key, Kind, Mask, Principal};
 use std::alloc::{AllocError, Global};
 use std::marker::Model;
 
-/// The places of the ACEs of a kind and a class that had a right when the emission began, in order. None of those
-/// before `first` waits any more; others may have left from amid the queue.
-#[derive(Drop)]
-pub(crate) struct Queue {
-    pub(crate) places: Vec<usize>,
-    pub(crate) first: usize,
-}
-
 /// What is left of a list while its normal form is emitted. No place is ever moved: a right that is emitted leaves the
-/// mask of its row, and the queue of the right then begins where a place still waits.
+/// mask of its row.
 // A body that says `let _ = &rows.masks;` looks at a field, so that the check has the invariant there. It does nothing.
 #[derive(Drop)]
 pub(crate) struct Remaining<'a> {
@@ -47,7 +32,6 @@ pub(crate) struct Remaining<'a> {
     pub(crate) order: Vec<usize>,
     /// By row, the rights that were not emitted yet.
     pub(crate) left: Vec<Mask>,
-    pub(crate) queues: Vec<Queue>,
 }
 
 impl<'a> Model for Remaining<'a> {
@@ -60,20 +44,6 @@ impl<'a> Model for Remaining<'a> {
     ghost view = { remaining_of };
 
     ghost invariant = { IsRemaining };
-}
-
-/// The queues of all rights, of ACEs with these masks.
-fn queues(alloc: Global, aces: &[AceRef<'_>], masks: &[Mask]) -> Result<Vec<Queue>, AllocError>
-    requires places { length masks.now ≡ length aces.now }
-    requires quiet { IsQuiet (with_masks aces.now (bits_in masks.now)) }
-    ensures { IfOk result (λ queues.
-        AreQueues (with_masks aces.now (bits_in masks.now)) queues.items) }
-{
-    let mut queues = Vec::new(alloc);
-    for places in waiting_places(alloc, aces, masks)? {
-        queues.push(Queue { places, first: 0 })?;
-    }
-    Ok(queues)
 }
 
 impl<'a> Remaining<'a> {
@@ -91,7 +61,6 @@ impl<'a> Remaining<'a> {
             masks,
             numbers,
         } = reduced;
-        let queues = queues(alloc, &aces, &masks)?;
         let left = vec![in alloc; Mask::ALL; aces.len()]?;
         let RowNumbers { rows, order } = numbers;
         Ok(Remaining {
@@ -100,7 +69,6 @@ impl<'a> Remaining<'a> {
             rows,
             order,
             left,
-            queues,
         })
     }
 
@@ -155,6 +123,15 @@ impl<'a> Remaining<'a> {
         aces[place].kind
     }
 
+    /// The class of the principal that the ACE at a place names.
+    pub(crate) fn class_at(&self, place: usize) -> Class
+        requires { place < length self.now }
+        ensures { is_users result ≡ is_user (principal_here self.now place) }
+    {
+        let aces = &self.aces;
+        Class::of(aces[place].principal())
+    }
+
     /// The place of the ACE of a row that still has a right. The places of a row stand together in the order of the
     /// principals.
     pub(crate) fn place_in(&self, row: usize, right: Bit) -> Option<usize>
@@ -183,12 +160,12 @@ impl<'a> Remaining<'a> {
         Some((self.kind_at(place), place))
     }
 
-    /// The queue of a kind, a class and a right.
-    pub(crate) fn queue(&self, kind: Kind, class: Class, right: Bit) -> &[usize]
-        ensures { IsQueue kind (is_users class) right.bit self.now result.now }
+    /// The rights that the ACE at a place still has.
+    pub(crate) fn mask_at(&self, place: usize) -> Mask
+        requires { place < length self.now }
+        ensures { result.bits ≡ mask_here self.now place }
     {
-        let queue = &self.queues[slot(kind, class, right)];
-        queue.places.get(queue.first..).unwrap_or(&[])
+        self.masks[place].intersection(self.left[self.rows[place]])
     }
 
     /// Whether the ACE at a place still has a right.
@@ -196,100 +173,11 @@ impl<'a> Remaining<'a> {
         requires { place < length self.now }
         ensures { result ≡ has_bit (mask_here self.now place) right.bit }
     {
-        let mask = self.masks[place].intersection(self.left[self.rows[place]]);
-        right.is_in(mask)
-    }
-
-    /// The first place that waits in a kind and a class with a right, or the greatest number where none does.
-    fn first_waiting(&self, kind: Kind, class: Class, right: Bit) -> usize
-        ensures before { (place : ℕ) → place ≤ result
-            → waits_before kind (is_users class) right.bit self.now place ≡ false }
-        ensures behind { (place : ℕ) → result < place → place < 2 ^ 64
-            → waits_before kind (is_users class) right.bit self.now place ≡ true }
-    {
-        for place in self.queue(kind, class, right) {
-            if self.has(*place, right) {
-                return *place;
-            }
-        }
-        usize::MAX
-    }
-
-    /// The last place where an ACE of a kind and a class with a right has nothing before it that conflicts with it.
-    pub(crate) fn last_clear(&self, kind: Kind, class: Class, right: Bit) -> usize
-        ensures clear { (place : ℕ) → place ≤ result
-            → is_blocked kind (is_users class) right.bit self.now place ≡ false }
-        ensures blocked { (place : ℕ) → result < place → place < 2 ^ 64
-            → is_blocked kind (is_users class) right.bit self.now place ≡ true }
-    {
-        let others = self.first_waiting(kind.other(), Class::Others, right);
-        match class {
-            Class::Users => others,
-            Class::Others => {
-                let users = self.first_waiting(kind.other(), Class::Users, right);
-                if users < others { users } else { others }
-            }
-        }
-    }
-
-    /// Whether the principal has the right and is free on it.
-    pub(crate) fn is_free_at(&self, p: Principal<'_>, right: Bit) -> bool
-        ensures { result ≡ (is_free (column self.now right.bit) (principal p.entry, Deny)
-            || is_free (column self.now right.bit) (principal p.entry, Allow)) }
-    {
-        let _ = &self.masks;
-        match self.source(p, right) {
-            None => false,
-            Some((kind, place)) => place <= self.last_clear(kind, Class::of(p), right),
-        }
-    }
-
-    /// Whether the principal has one of these rights and is free on it.
-    pub(crate) fn is_free(&self, p: Principal<'_>, bits: Mask) -> bool
-        ensures { IsTrue result ↔ HasFree self.now (principal p.entry) bits.bits }
-    {
-        let mut from = 0;
-        while let Some(right) = next_right(bits, from) {
-            if self.is_free_at(p, right) {
-                return true;
-            }
-            from = right.bit + 1;
-        }
-        false
-    }
-
-    /// Lets the queue of a kind, a class and a right begin where a place still waits, or at its end.
-    fn move_on(&mut self, kind: Kind, class: Class, right: Bit)
-        ensures { self.new ≡ self.old }
-    {
-        let at = slot(kind, class, right);
-        let mut first = self.queues[at].first;
-        while let Some(place) = self.queues[at].places.get(first) {
-            if self.has(*place, right) {
-                break;
-            }
-            first += 1;
-        }
-        let queue = &mut self.queues[at];
-        queue.first = first;
-    }
-
-    /// Takes rights of the principal of a row out, which stood in ACEs of that kind.
-    pub(crate) fn emit(&mut self, row: usize, key: Key<'_>, mask: Mask)
-        requires { IsRowOf row (principal key.principal) self.old }
-        ensures { self.new ≡ take_out (principal key.entry.principal) mask.bits self.old }
-    {
-        self.take_out(row, key.principal, mask);
-        let class = Class::of(key.principal);
-        let mut from = 0;
-        while let Some(right) = next_right(mask, from) {
-            self.move_on(key.kind, class, right);
-            from = right.bit + 1;
-        }
+        right.is_in(self.mask_at(place))
     }
 
     /// Takes rights of the principal of a row out of what is left of it.
-    fn take_out(&mut self, row: usize, p: Principal<'_>, mask: Mask)
+    pub(crate) fn take_out(&mut self, row: usize, p: Principal<'_>, mask: Mask)
         requires { IsRowOf row (principal p) self.old }
         ensures { self.new ≡ take_out (principal p.entry) mask.bits self.old }
     {

@@ -21,7 +21,7 @@ type Told = (
 );
 
 // Pairs of lists, and in which small situation they grant otherwise.
-static PAIRS: [(&[AceRow], &[AceRow], Option<Told>); 12] = [
+static PAIRS: [(&[AceRow], &[AceRow], Option<Told>); 15] = [
     (
         &[
             (DENY, 0, READ_DATA, b"bob"),
@@ -128,6 +128,46 @@ static PAIRS: [(&[AceRow], &[AceRow], Option<Told>); 12] = [
             (DENY, GROUP, READ_DATA, b"b"),
         ],
         Some((b"oo", b"gg", b"uu", &[b"a", b"b"], READ_DATA, false)),
+    ),
+    // An ACE more at the front, with a right of its own, that nobody is allowed.
+    (
+        &[
+            (ALLOW, 0, READ_DATA, b"bob"),
+            (ALLOW, 0, WRITE_DATA, b"amy"),
+        ],
+        &[
+            (DENY, 0, EXECUTE, b"carl"),
+            (ALLOW, 0, READ_DATA, b"bob"),
+            (ALLOW, 0, WRITE_DATA, b"amy"),
+        ],
+        None,
+    ),
+    // An ACE more that takes no part.
+    (
+        &[
+            (DENY, GROUP, READ_DATA, b"ops"),
+            (ALLOW, 0, READ_DATA, b"bob"),
+        ],
+        &[
+            (ALLOW, INHERIT_ONLY, READ_DATA | WRITE_DATA, b"ops"),
+            (DENY, GROUP, READ_DATA, b"ops"),
+            (ALLOW, 0, READ_DATA, b"bob"),
+        ],
+        None,
+    ),
+    // Two ACEs in each other's place, on one right of two.
+    (
+        &[
+            (ALLOW, 0, READ_DATA, b"amy"),
+            (DENY, GROUP, WRITE_DATA, b"ops"),
+            (ALLOW, 0, WRITE_DATA, b"bob"),
+        ],
+        &[
+            (ALLOW, 0, READ_DATA, b"amy"),
+            (ALLOW, 0, WRITE_DATA, b"bob"),
+            (DENY, GROUP, WRITE_DATA, b"ops"),
+        ],
+        Some((b"oooo", b"gggg", b"bob", &[b"ops"], WRITE_DATA, false)),
     ),
     (&[], &[], None),
 ];

@@ -65,6 +65,17 @@ mod ample {
     }
 
     #[test]
+    fn of_borrowed_rows(rt: HostRuntime) -> Result<(), Fail> {
+        let alloc = rt.alloc();
+        let list = parse_text(alloc, b"ALLOW - READ_DATA amy\nALLOW - READ_DATA amy\n")?;
+        let bytes = list.to_bytes(alloc)?;
+        let rows = borrowed_rows(alloc, &AclView::parse_whole(&bytes)?, Mask::READ_DATA)?;
+        assert!(rt; rows.len() == 1);
+        assert!(rt; rows.first().is_some_and(|row| row.who == b"amy".as_slice()));
+        Ok(())
+    }
+
+    #[test]
     fn of_normalize_inherit(rt: HostRuntime) -> Result<(), Fail> {
         let alloc = rt.alloc();
         let list = parse_text(alloc, b"ALLOW FILE READ_DATA amy")?;

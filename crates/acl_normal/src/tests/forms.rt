@@ -20,7 +20,7 @@ const NO_BOB: AceRow = (DENY, 0, READ_DATA, b"bob");
 const NO_OPS: AceRow = (DENY, GROUP, READ_DATA, b"ops");
 
 // Lists and their normal forms.
-static FORMS: [(&[AceRow], &[AceRow]); 19] = [
+static FORMS: [(&[AceRow], &[AceRow]); 20] = [
     (&[], &[]),
     (&[EVERYONE], &[EVERYONE]),
     (&[ALL, ALL, ALL], &[ALL]),
@@ -63,6 +63,19 @@ static FORMS: [(&[AceRow], &[AceRow]); 19] = [
             ALICE,
             (DENY, 0, READ_DATA, b"OWNER@"),
             (ALLOW, 0, READ_DATA, b"bob"),
+        ],
+    ),
+    // The second of two that wait goes first, and the first still holds up the third.
+    (
+        &[
+            (DENY, 0, READ_DATA, b"zoe"),
+            (DENY, 0, READ_DATA, b"amy"),
+            EVERYONE,
+        ],
+        &[
+            (DENY, 0, READ_DATA, b"amy"),
+            (DENY, 0, READ_DATA, b"zoe"),
+            EVERYONE,
         ],
     ),
     // Flags that play no part: those of inheritance, and then all but INHERIT_ONLY.

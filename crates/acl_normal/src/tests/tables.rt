@@ -1,10 +1,10 @@
 //! The tables of single rights.
 
 use super::harness::{
-    ALLOW, AceRow, DENY, EXECUTE, FOR_FILES, NO_WRITE, READ_DATA, STAFF, WRITE_DATA, built, kept,
-    passes,
+    ALLOW, AMY, AceRow, DENY, EXECUTE, FOR_FILES, GROUP, NO_WRITE, READ_DATA, STAFF, WRITE_DATA,
+    built, kept, passes,
 };
-use crate::{Row, table};
+use crate::{BorrowedRow, Row, borrowed_rows, table};
 use acl_nfs4::{Acl, PushFault};
 use acl_perm::{Kind, Mask};
 use std::alloc::{AllocError, Global};
@@ -13,7 +13,25 @@ use std::process::Abort;
 // Of a list and a right, the rows: the place, the kind, the who, and whether it is the name of a group.
 type Shown = (usize, Kind, &'static [u8], bool);
 
-static TABLES: [(&[AceRow], u32, &[Shown]); 6] = [
+// Amy and bob may not read, whatever a later ACE allows amy, and all others may.
+const IN_ORDER: [AceRow; 4] = [
+    (DENY, 0, READ_DATA, b"amy"),
+    AMY,
+    (DENY, 0, READ_DATA, b"bob"),
+    (ALLOW, GROUP, READ_DATA | EXECUTE, b"EVERYONE@"),
+];
+
+static TABLES: [(&[AceRow], u32, &[Shown]); 8] = [
+    (
+        &IN_ORDER,
+        READ_DATA,
+        &[
+            (0, DENY, b"amy", false),
+            (2, DENY, b"bob", false),
+            (3, ALLOW, b"EVERYONE@", false),
+        ],
+    ),
+    (&IN_ORDER, EXECUTE, &[(3, ALLOW, b"EVERYONE@", false)]),
     (
         &NO_WRITE,
         WRITE_DATA,
@@ -44,9 +62,34 @@ fn are_shown(rows: &[Row], wanted: &[Shown]) -> bool {
     rows.len() == wanted.len()
 }
 
+fn is_lent(row: &BorrowedRow<'_>, shown: &Shown) -> bool {
+    let (source, kind, who, group) = *shown;
+    row.source == source && row.kind == kind && row.who == who && row.group == group
+}
+
+fn are_lent(rows: &[BorrowedRow<'_>], wanted: &[Shown]) -> bool {
+    for (row, shown) in rows.iter().zip(wanted) {
+        if !is_lent(row, shown) {
+            return false;
+        }
+    }
+    rows.len() == wanted.len()
+}
+
 fn is_table(alloc: Global, list: &Acl, bit: Mask, wanted: &[Shown]) -> Result<bool, AllocError> {
     let rows = table(alloc, list, bit)?;
     Ok(are_shown(&rows, wanted))
+}
+
+fn is_lent_table(
+    alloc: Global,
+    list: &Acl,
+    bit: Mask,
+    wanted: &[Shown],
+) -> Result<bool, AllocError> {
+    let view = list.view();
+    let rows = borrowed_rows(alloc, &view, bit)?;
+    Ok(are_lent(&rows, wanted))
 }
 
 /// A row tells the first ACE of its who that has the right and takes part.
@@ -55,6 +98,7 @@ pub fn tables(rt: &impl Abort, alloc: Global) -> Result<(), PushFault> {
         let list = built(alloc, lines)?;
         if let Some(bit) = Mask::new(*bits) {
             assert!(rt; kept(is_table(alloc, &list, bit, wanted))?);
+            assert!(rt; kept(is_lent_table(alloc, &list, bit, wanted))?);
         }
     }
     Ok(())

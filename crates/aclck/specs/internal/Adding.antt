@@ -13,7 +13,7 @@ use Rattle.aclck.specs.declared.words.names.Half.TheVariants as held
 use Rattle.aclck.specs.declared.words.names.NamedId.{NamedId as HeldNamedId}
 use Rattle.aclck.specs.NameWords.{Cut, Half, NamedId, groups, users, with_name}
 
--- the cut that two slices are
+-- the cut of two slices
 abbrev pub cut_of : Bor Text × Bor Text → Cut
 cut_of sides = record { before = sides.0.now; behind = sides.1.now }
 
@@ -33,7 +33,7 @@ line_fault_of names.DigitsOnly = line.Usage
 line_fault_of names.Taken = line.Usage
 line_fault_of names.Memory = line.Memory
 
--- the answer of a call that adds a name to a table, and the table after it
+-- the result of a call that adds a name to a table, and the table after it
 abbrev pub Adds : Table → Option NamedId → Table → Result (Unit {0}) LineFault → Type 0
 Adds table named after (Ok done) = Some after ≡ option_and_then (with_name table) named
 Adds table named after (Err line.Usage) = None ≡ option_and_then (with_name table) named

@@ -1,4 +1,4 @@
--- The text and the outcome of what a comparison of lists answers (this library's own).
+-- The text and the outcome of a comparison of lists (this library's own).
 use Rattle.std.specs.Prelude.{List, ℕ, Option, Some, None}
 use Rattle.acl_normal.specs.Difference.{situation_of}
 use Rattle.acl_normal.specs.declared.comparison.Difference.{Difference}
@@ -11,7 +11,7 @@ abbrev pub compared_text : Option Difference → List ℕ
 compared_text None = same_text
 compared_text (Some d) = difference_text (situation_of d) d.bit.bits d.first_grants
 
--- No where there is a difference
+-- No if there is a difference
 abbrev pub compared_outcome : Option Difference → Outcome
 compared_outcome None = outcome.Yes
 compared_outcome (Some d) = outcome.No

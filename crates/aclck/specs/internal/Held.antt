@@ -1,4 +1,4 @@
--- What the program holds of a command, its word and its arguments (this library's own).
+-- What the program holds of a command: its word and its arguments (this library's own).
 use Rattle.std.specs.Prelude.{◌≡◌, ◌∷◌, [], List, Bool, false, if◌then◌else◌, map, not, true}
 use Rattle.std.specs.List.{list_any}
 use Rattle.aclck.specs.Definition.{Definition}

@@ -1,4 +1,4 @@
--- What a run of the command that some words name answers, before the status tells it (this library's own).
+-- The result of a run of the command that some words name, from which the status is made (this library's own).
 use Rattle.std.specs.Prelude.{◌≡◌, ◌⊎◌, List, ℕ, Option, None, Bool, false, true, if◌then◌else◌, IfErr, IsSomeAnd, OnOk, Result, Ok, Err}
 use Rattle.std.specs.Io.KnownBytes.{IsAtEnd}
 use Rattle.acl_perm.specs.Devices.{failures_after}
@@ -12,7 +12,7 @@ use Rattle.aclck.specs.declared.command.CommandFault.{CommandFault}
 use Rattle.aclck.specs.declared.command.CommandFault.TheVariants as command
 use Rattle.aclck.specs.Command.{IsDone, IsEnded, IsStopped, IsTaken}
 
--- the faults of words as the program tells them
+-- the faults of words as the program reports them
 abbrev pub command_fault_of : LineFault → CommandFault
 command_fault_of line.Usage = command.Usage
 command_fault_of line.Memory = command.Run fault.Memory
@@ -22,7 +22,7 @@ abbrev pub status_of : CommandFault → ℕ
 status_of command.Usage = 3
 status_of (command.Run f) = if is_refusal f then 2 else 4
 
--- the answer of a command whose words ask for this task
+-- the result of a command whose words ask for this task
 abbrev pub Performs : Option Task → Option (List ℕ) → Option (List ℕ) → Option (List ℕ)
     → Result Outcome CommandFault → Type 0
 Performs task known held holds (Ok o) = IsDone task known held holds o
@@ -40,32 +40,32 @@ abbrev pub is_write_fault : CommandFault → Bool
 is_write_fault command.Usage = false
 is_write_fault (command.Run f) = is_write f
 
--- the answer is a fault of this kind
+-- the result is a fault of this kind
 abbrev pub has_failed : (CommandFault → Bool) → Result Outcome CommandFault → Bool
 has_failed test (Ok o) = false
 has_failed test (Err e) = test e
 
--- a run of the command whose words ask for this task, from a source and to a sink as they were, and as they are after
--- it, as in `Runs`
+-- the effect of a run of the command whose words ask for this task, on a source and a sink, before and after, as in
+-- `Runs`
 pub record RunsTask {S K : Type 0} (task : Option Task)
     (left : S → Option (List ℕ)) (reads_failed : S → ℕ) (source source_after : S)
     (holds : K → Option (List ℕ)) (writes_failed : K → ℕ) (sink sink_after : K)
     (r : Result Outcome CommandFault) : Type 0 where
-  -- the answer is the task's, and its text was written, or a beginning of it where a write failed
+  -- the answer is that of the task, and its text was written, or a beginning of it if a write failed
   pub performs : Performs task (left source) (holds sink) (holds sink_after) r
-  -- where it ran to its end, the input was read whole
+  -- if the run ended well, the input was read to its end
   pub whole : OnOk r (IsAtEnd (left source_after))
   -- at a usage fault no input was read
   pub unread : r ≡ Err command.Usage → source_after ≡ source
-  -- little of the source was taken, if anything
+  -- little of the source was taken, or nothing
   pub bound : (source_after ≡ source) ⊎ IsTaken task (left source) (left source_after)
-  -- where a read failed, what was taken is not refused
+  -- if a read failed, what was taken is not refused
   pub stopped : IfErr r (λ e. is_read_fault e ≡ true → IsStopped task (left source) (left source_after))
-  -- a text that is refused was read whole
+  -- a text that is refused was read to its end
   pub ended : IfErr r (λ e. status_of e ≡ 2 → IsEnded task (left source_after))
   -- nothing was written, unless a write failed
   pub unwritten : IfErr r (λ e. (is_write_fault e ≡ true) ⊎ (sink_after ≡ sink))
-  -- one read failed where the answer says so, and else none
+  -- one read failed if the result says so, and otherwise none
   pub reads : reads_failed source_after ≡ failures_after (reads_failed source) (has_failed is_read_fault r)
-  -- one write failed where the answer says so, and else none
+  -- one write failed if the result says so, and otherwise none
   pub writes : writes_failed sink_after ≡ failures_after (writes_failed sink) (has_failed is_write_fault r)

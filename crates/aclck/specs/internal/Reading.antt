@@ -23,13 +23,13 @@ use Rattle.aclck.specs.declared.input.xdr.ListFault.TheVariants as unread
 
 -- ---- faults
 
--- why a list was not read, as an engine tells it
+-- why a list was not read, as an engine reports it
 abbrev pub told : ListFault → RunFault
 told (unread.Refused f) = fault.Nfs f
 told unread.Read = fault.Read
 told unread.Memory = fault.Memory
 
--- a fault of a list as its reader tells it: want of memory, or a refusal for another reason
+-- a fault of a list as its reader reports it: memory ran out, or a refusal for another reason
 abbrev pub IsTold : ListFault → Fault → Type 0
 IsTold e f = (e ≡ unread.Memory) ⊎ ((e ≡ unread.Refused f) × (f.reason ≢ Memory))
 
@@ -39,12 +39,12 @@ is_failed_pull (unread.Refused f) = false
 is_failed_pull unread.Read = true
 is_failed_pull unread.Memory = false
 
--- the answer is that a pull failed
+-- the result is that a pull failed
 abbrev pub has_pull_failed : {X : Type 0} → Result X ListFault → Bool
 has_pull_failed (Ok x) = false
 has_pull_failed (Err e) = is_failed_pull e
 
--- the fault of what stands behind so many bytes, counted from their start
+-- the fault of the bytes behind so many bytes, counted from the start of these
 abbrev pub later : ListFault → ℕ → ListFault
 later (unread.Refused f) n = unread.Refused (record { offset = f.offset + n; reason = f.reason })
 later unread.Read n = unread.Read
@@ -58,7 +58,7 @@ StandsBelow n unread.Memory = Unit {0}
 
 -- ---- inputs
 
--- an input, the source's where it tells its bytes, of which something holds
+-- an input with a property; it is the source's input, if the source says which bytes it gives
 pub record HasInput (Holds : List ℕ → Type 0) (known : Option (List ℕ)) : Type 0 where
   pub input : List ℕ
   pub is_input : IfSome known (λ bytes. input ≡ bytes)
@@ -71,7 +71,7 @@ Unread Refused cause.Source = Unit {0}
 Unread Refused (cause.Sink w) = ⊥
 Unread Refused cause.Memory = Unit {0}
 
--- what an input is to be: which faults it may have, where it ends, and which beginnings of it may go on
+-- what kind an input is: which faults it may have, where it ends, and which beginnings of it may continue
 pub record Kind : Type 1 where
   pub HasFault : List ℕ → RunFault → Type 0
   pub EndsAt : List ℕ → ℕ → Type 0
@@ -85,26 +85,26 @@ one_list p = record { HasFault = IsXdrFault p; EndsAt = ListEnds p; MayGoOn = Is
 abbrev pub two_lists : Profile → Kind
 two_lists p = record { HasFault = IsRefusedTwo p; EndsAt = TwoEnd p; MayGoOn = AreOpen p }
 
--- an input of a kind was read from a source, or not: by the bytes that the source has left before and after, and by how
--- many of its calls failed
+-- an input of a kind was read from a source, or not: the bytes that the source has left before and after, and how many
+-- of its calls failed
 pub record ReadsInput {X : Type 0} (k : Kind) (Is : X → List ℕ → Type 0) (known left : Option (List ℕ))
     (failed failed_after : ℕ) (r : Result X RunFault) : Type 0 where
   -- what was found is the input
   pub found : IfOk r (λ x. HasInput (Is x) known)
-  -- which was read whole
+  -- the input was read to its end
   pub whole : OnOk r (IsAtEnd left)
-  -- why it was not read
+  -- why the input was not read
   pub not_read : IfErr r (λ e. Unread (HasInput (λ input. k.HasFault input e) known) (cause_of e))
-  -- little was taken
+  -- little of the source was taken
   pub bound : TakesTo k.EndsAt known left
-  -- where a read failed, what was taken is not refused
+  -- if a read failed, what was taken is not refused
   pub stopped : IfErr r (λ e. is_read e ≡ true → TakesPart k.MayGoOn known left)
-  -- one read failed where the answer says so, and else none
+  -- one read failed if the result says so, and otherwise none
   pub reads : failed_after ≡ failures_after failed (has_read_failed r)
 
 -- ---- one value
 
--- a value was read from what was left of the last pull, and what the source gave: so many bytes, and what is left then
+-- a value was read from the rest of the last pull and from what the source gave: so many bytes, and the rest then
 pub record ReadsValue (p : Profile) (left now_left : List ℕ) (known now_known : Option (List ℕ)) (list : List Ace)
     (len : ℕ) : Type 0 where
   pub given : List ℕ
@@ -114,8 +114,8 @@ pub record ReadsValue (p : Profile) (left now_left : List ℕ) (known now_known 
   pub spelled : Xdr p list text
   pub is_len : len ≡ length text
 
--- what was left of the last pull, and what the source gave, has this fault, and was read to the end of its field or
--- little further; where it is cut short, to the end of the source
+-- the rest of the last pull and what the source gave have this fault, and were read to the end of its field or little
+-- further; if they are cut short, to the end of the source
 pub record ReadsFault (p : Profile) (left : List ℕ) (known now_known : Option (List ℕ)) (f : Fault) : Type 0 where
   pub given : List ℕ
   pub end : ℕ
@@ -129,7 +129,7 @@ pub record BytesEnd (p : Profile) (text : List ℕ) (end : ℕ) : Type 0 where
   pub bytes : IsBytes text
   pub value : ValueEnds p text end
 
--- what was left of the last pull, and what the source gave, ends with its value or the refused field, or little further
+-- the rest of the last pull and what the source gave end with their value or the refused field, or little further
 pub record ReadsLittle (p : Profile) (left : List ℕ) (known now_known : Option (List ℕ)) : Type 0 where
   pub given : List ℕ
   pub end : ℕ
@@ -137,7 +137,7 @@ pub record ReadsLittle (p : Profile) (left : List ℕ) (known now_known : Option
   pub is_end : BytesEnd p (left ++ given) end ⊎ RefusalEnds p (left ++ given) end
   pub near : length (left ++ given) ≤ end + piece_len
 
--- what was left of the last pull, and what the source gave, is cut short
+-- the rest of the last pull and what the source gave are cut short
 pub record ReadsPart (p : Profile) (left : List ℕ) (known now_known : Option (List ℕ)) : Type 0 where
   pub given : List ℕ
   pub taken : Consumes known now_known given
@@ -151,7 +151,7 @@ ReadsNone p left known now_known unread.Memory = ReadsLittle p left known now_kn
 
 -- ---- the end
 
--- a byte stands behind the last value, in what was left of the last pull or in what the source gave
+-- there is a byte behind the last value, in the rest of the last pull or in what the source gave
 pub record ReadsMore (left : List ℕ) (known now_known : Option (List ℕ)) : Type 0 where
   pub given : List ℕ
   pub taken : Consumes known now_known given

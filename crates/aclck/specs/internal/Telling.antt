@@ -1,4 +1,4 @@
--- How a text is written that ends a command (this library's own).
+-- How the text at the end of a command is written (this library's own).
 use Rattle.std.specs.Prelude.{◌≡◌, ◌⊎◌, ◌<◌, List, ℕ, Option, true, IfErr, IfOk, Result, length, take}
 use Rattle.std.specs.Io.KnownBytes.{Appends}
 use Rattle.acl_perm.specs.Devices.{failures_after}
@@ -8,7 +8,7 @@ use Rattle.aclck.specs.declared.answer.Cause.TheVariants as cause
 use Rattle.aclck.specs.declared.answer.Outcome.{Outcome}
 use Rattle.aclck.specs.declared.answer.RunFault.{RunFault}
 
--- what was written of a text, by whose the fault is: a proper beginning where a write failed, and nothing where memory
+-- what was written of a text, by the cause of the fault: a proper beginning if a write failed, and nothing if memory
 -- ran out before
 abbrev pub TellsPart : List ℕ → Option (List ℕ) → Option (List ℕ) → Cause → Type 0
 TellsPart text held holds cause.Input = ⊥
@@ -16,8 +16,8 @@ TellsPart text held holds cause.Source = ⊥
 TellsPart text held holds (cause.Sink w) = (w.written < length text) × Appends held holds (take w.written text)
 TellsPart text held holds cause.Memory = Unit {0}
 
--- a call that is to write a text, after which a command ends with an outcome: to a sink as it was and as it is after
--- it, by the bytes that it holds and by how many puts failed
+-- the effect on a sink of a call that writes a text, after which a command ends with an outcome: the bytes that the
+-- sink holds before and after, and how many puts failed
 pub record Tells {K : Type 0} (outcome : Outcome) (text : List ℕ) (holds : K → Option (List ℕ)) (failures : K → ℕ)
     (sink sink_after : K) (r : Result Outcome RunFault) : Type 0 where
   pub done : IfOk r (λ o. (o ≡ outcome) × Appends (holds sink) (holds sink_after) text)

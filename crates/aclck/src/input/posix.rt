@@ -47,8 +47,8 @@ fn file_of(alloc: Global, input: &[u8], names: &Names) -> Result<PosixFile, RunF
     }
 }
 
-/// Writes the text of a file in a form, after which a command ends with Yes; the short one gets a line feed after it.
-/// Nothing is written before the text is made whole.
+/// Writes the text of a file in a form, after which a command ends with Yes. The short text gets a line feed after it.
+/// Nothing is written before all of the text is made.
 pub(crate) fn write_file<K: Sink>(
     alloc: Global,
     sink: &mut K,
@@ -63,7 +63,7 @@ pub(crate) fn write_file<K: Sink>(
     tell(sink, Outcome::Yes, text.as_slice())
 }
 
-// The text of a file in a form; the short one gets a line feed after it.
+// The text of a file in a form. The short text gets a line feed after it.
 fn text_in(alloc: Global, file: &PosixFile, form: Form) -> Result<Vec<u8>, AllocError>
     ensures { IfOk result (λ text. text.items ≡ form_text form file.now) }
 {

@@ -1,4 +1,4 @@
-//! Lists that an input spells, read as it comes.
+//! Lists that an input spells, read as they arrive.
 ghost use Rattle.std.specs.Prelude.{◌≡◌, ◌⊎◌, ◌<◌, ◌≤◌, ◌^◌, [], IfErr, IfOk, Ok, OnErr, OnOk, drop, false, length, true};
 ghost use Rattle.std.specs.Io.KnownBytes.{Consumes, IsAtEnd, Keeps};
 ghost use Rattle.acl_perm.specs.Devices.{failures_after};
@@ -19,7 +19,7 @@ use std::marker::Model;
 /// Why a list was not read.
 #[derive(Clone, Copy, Debug, PartialEq, Eq)]
 pub(crate) enum ListFault {
-    /// The input is no accepted list of the profile.
+    /// The input is not an accepted list of the profile.
     Refused(Fault),
     Read,
     Memory,
@@ -54,8 +54,8 @@ impl From<Fault> for ListFault {
     }
 }
 
-/// Reads the list of the profile that an input is, and nothing more, by pulls of at most 4,096 bytes. Nothing is read
-/// after a refusal, or after a byte behind the list.
+/// Reads an input that should be one list of the profile and nothing more, by pulls of at most 4,096 bytes. It reads
+/// nothing after a refusal, or after a byte behind the list.
 pub(crate) fn read_list<S: Source>(
     alloc: Global,
     source: &mut S,
@@ -78,8 +78,8 @@ pub(crate) struct TwoLists {
     pub(crate) second: Acl,
 }
 
-/// Reads the two lists of the profile that an input is, one after the other, and nothing more, as `read_list` does. A
-/// fault counts from the start of the input.
+/// Reads an input that should be two lists of the profile, one after the other, and nothing more, as `read_list` does.
+/// A fault counts from the start of the input.
 pub(crate) fn read_two<S: Source>(
     alloc: Global,
     source: &mut S,
@@ -104,7 +104,7 @@ pub(crate) fn read_two<S: Source>(
     }
 }
 
-// The fault of what stands behind so many bytes, counted from their start.
+// The fault of the bytes behind so many bytes, counted from the start of these.
 fn behind(fault: ListFault, len: u64) -> ListFault
     requires fault { StandsBelow (2 ^ 32) fault }
     requires len { len < 2 ^ 32 }
@@ -127,8 +127,8 @@ pub(crate) struct Value {
     pub(crate) len: u64,
 }
 
-/// Reads one list of the profile, from what is left of the last pull on. What the input has behind it is left. A fault
-/// counts from the list's first byte. After a refusal nothing more is read.
+/// Reads one list of the profile, from the rest of the last pull on. It does not read what the input has behind the
+/// list. A fault counts from the list's first byte. After a refusal it reads nothing more.
 pub(crate) fn read_value<S: Source>(
     alloc: Global,
     source: &mut S,
@@ -161,7 +161,7 @@ pub(crate) fn read_value<S: Source>(
     }
 }
 
-// What a feed comes to that gets no more.
+// What a feed is if it gets no more bytes.
 fn finish(feed: Feed, len: u64) -> Result<Value, ListFault>
     ensures list { IfOk result (λ value. (value.len ≡ len) × Finishes feed (Ok value.list)) }
     ensures fault { IfErr result (λ e. (e ≡ ListFault.Memory)
@@ -173,7 +173,7 @@ fn finish(feed: Feed, len: u64) -> Result<Value, ListFault>
     })
 }
 
-/// Whether the input ends behind a value of so many bytes, of which the last pull may have given more.
+/// Whether the input ends behind a value of so many bytes. The last pull may have given more.
 pub(crate) fn read_end<S: Source>(
     source: &mut S,
     pulled: &mut Pulled,
@@ -204,7 +204,7 @@ pub(crate) fn read_end<S: Source>(
 // How many bytes a pull asks for at most.
 const PIECE: usize = 4096;
 
-/// What the last pull of an input gave and no value has taken.
+/// The bytes of the last pull of an input that belong to no value yet.
 #[derive(Drop)]
 pub(crate) struct Pulled {
     room: [u8; PIECE],
@@ -235,7 +235,7 @@ impl Pulled {
         }
     }
 
-    /// What is left.
+    /// Returns the rest.
     fn left(&self) -> &[u8]
         ensures is { result.now ≡ self.now }
         ensures short { length self.now ≤ piece_len }
@@ -244,7 +244,7 @@ impl Pulled {
         seen(&self.room[self.start..self.end])
     }
 
-    // Takes so many bytes away, which belong to a value.
+    // Removes so many bytes, which belong to a value.
     fn take(&mut self, count: usize)
         requires { count ≤ length self.old }
         ensures { self.new ≡ drop count self.old }
@@ -252,7 +252,7 @@ impl Pulled {
         self.start += count;
     }
 
-    // What is left is done with: what one more pull gives stands in its place. Whether that is any byte.
+    // Replaces the rest, which is not needed any more, by what one more pull gives. Returns whether that is any byte.
     fn pull<S: Source>(&mut self, source: &mut S) -> Result<bool, ListFault>
         ensures given { OnOk result
             (Consumes (S.remaining source.old) (S.remaining source.new) self.new) }
@@ -276,7 +276,7 @@ impl Pulled {
     }
 }
 
-// The bytes that it is given, with a clause that says that they are bytes, which their type alone does not.
+// Returns the given bytes, with a clause that says that they are bytes: their type alone does not say it.
 fn seen(bytes: &[u8]) -> &[u8]
     ensures is { result.now ≡ bytes.now }
     ensures bytes { IsBytes result.now }

@@ -1,4 +1,4 @@
-//! `bridge`: the NFSv4 list that stands for a POSIX ACL.
+//! `bridge`: the NFSv4 list of a POSIX ACL.
 ghost use Rattle.aclck.specs.Run.{Runs, of_text};
 ghost use Rattle.aclck.specs.Bridge.{BridgeAnswer};
 
@@ -12,9 +12,9 @@ use std::alloc::Global;
 /// The word that names the command.
 pub(crate) const WORD: &str = "bridge";
 
-/// Writes the XDR of the NFSv4 list that stands for the access ACL of the file whose text the input is (this library's
-/// own, over POSIX.1e draft 17, section 23, and RFC 8881, section 6.2.1). The default ACL takes no part, but where it
-/// is invalid the input is refused. Nothing is written before the list is ready.
+/// Writes the XDR of the NFSv4 list of the access ACL of a file, of which the input is the text (this library's own,
+/// over POSIX.1e draft 17, section 23, and RFC 8881, section 6.2.1). The default ACL does not change the list, but if
+/// it is invalid, the input is refused. Nothing is written before the list is ready.
 pub fn run_bridge<S: Source, K: Sink>(
     alloc: Global,
     source: &mut S,

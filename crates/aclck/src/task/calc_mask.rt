@@ -11,9 +11,9 @@ use std::alloc::Global;
 /// The word that names the command.
 pub(crate) const WORD: &str = "calc-mask";
 
-/// Writes the canonical text of the file whose text the input is, with the mask of its access ACL calculated, and added
-/// where there is none (POSIX.1e draft 17, section 23.4); the default ACL stays. Nothing is written before the input is
-/// accepted.
+/// Writes the canonical text of a file, of which the input is the text, with the mask of its access ACL calculated, and
+/// added if there is none (POSIX.1e draft 17, section 23.4). The default ACL stays. Nothing is written before the input
+/// is accepted.
 pub fn run_calc_mask<S: Source, K: Sink>(
     alloc: Global,
     source: &mut S,

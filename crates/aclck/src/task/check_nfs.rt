@@ -1,20 +1,18 @@
 //! `check-nfs`: whether a list grants a request.
 ghost use Rattle.std.specs.Prelude.{◌≡◌, ◌↔◌, IfOk, option_and_then, option_map};
-ghost use Rattle.std.specs.List.Sorted.{IsPermutation};
 ghost use Rattle.acl_perm.specs.Profile.{profile_of};
 ghost use Rattle.aclck.specs.Run.{Runs, of_list};
 ghost use Rattle.aclck.specs.Line.{Reads, rows_in, text_if_any, texts};
 ghost use Rattle.aclck.specs.Values.{mask_value, mask_within};
 ghost use Rattle.acl_eval.specs.Grant.{Grant};
-ghost use Rattle.acl_eval.specs.Situation.{groups_of, situation, user_of};
+ghost use Rattle.acl_eval.specs.Situation.{situation};
 ghost use Rattle.aclck.specs.CheckNfs.{CheckNfsAnswer, check_nfs_held, check_nfs_in, object_named, object_names, requester_named, requester_names, values_of};
 
 use crate::answer::{Outcome, RunFault, decision_line};
 use crate::input::xdr::read_list;
 use crate::line::{Argument, LineFault, text_of};
 use crate::words::profile::profile_in;
-use acl_eval::laws::groups_are_a_set;
-use acl_eval::{Object, Requester, grants};
+use acl_eval::{Object, Requester, grants_by_table};
 use acl_nfs4::{Acl, read_mask};
 use acl_perm::{Mask, Profile, Sink, Source, put_all};
 use clap::ArgMatches;
@@ -33,7 +31,7 @@ pub(crate) const ARGUMENTS: [Argument; 6] = [
     Argument::Words,
 ];
 
-/// Who asks of what, for which rights, and what a list may have.
+/// The object, the requester, the rights that are requested, and the profile.
 #[derive(Clone, Copy, Debug)]
 pub struct CheckNfs<'a> {
     pub object: Object<'a>,
@@ -42,7 +40,7 @@ pub struct CheckNfs<'a> {
     pub profile: Profile,
 }
 
-/// The values that the words spell.
+/// Returns the values that the words give.
 #[tactic(auto, unfolding(crate::specs::CheckNfs::check_nfs_in))]
 pub(crate) fn read<'a, 'w: 'a>(
     matches: &ArgMatches<'w>,
@@ -95,7 +93,7 @@ fn mask_in(word: Option<&str>, rights: Mask) -> Option<Mask>
     mask_within(word?, rights)
 }
 
-// The value of `--mask`, where all its rights are among these.
+// The value of `--mask`, if all its rights are among these.
 fn mask_within(word: &str, rights: Mask) -> Option<Mask>
     ensures { option_map (λ mask. mask.bits) result ≡ mask_within rights.bits word.now }
 {
@@ -107,7 +105,7 @@ fn mask_within(word: &str, rights: Mask) -> Option<Mask>
     }
 }
 
-// The value of `--mask`: `none`, or names of rights with `|` between them. None where the word is neither.
+// The value of `--mask`: `none`, or names of rights with `|` between them. None if the word is neither.
 #[tactic(auto, unfolding(crate::specs::Values::mask_value))]
 fn mask_value(word: &str) -> Option<Mask>
     ensures { option_map (λ mask. mask.bits) result ≡ mask_value word.now }
@@ -122,8 +120,8 @@ fn mask_value(word: &str) -> Option<Mask>
 }
 
 /// Writes whether the list that the whole input spells grants the requester the mask on the object (RFC 8881, section
-/// 6.2.1): `granted`, or `denied` and No. Nothing is written before the input is accepted, as one that keeps to the
-/// profile. Nothing is read after a refusal.
+/// 6.2.1): `granted`, or `denied` and No. Nothing is written before the input is accepted as a list of the profile.
+/// Nothing is read after a refusal.
 pub fn run_check_nfs<S: Source, K: Sink>(
     alloc: Global,
     source: &mut S,
@@ -144,13 +142,7 @@ pub fn run_check_nfs<S: Source, K: Sink>(
     Ok(outcome)
 }
 
-// To put groups in order takes longer than to look up no more of them than these, or for no more ACEs.
-const FEW_GROUPS: usize = 128;
-
-const FEW_ACES: usize = 128;
-
-// Whether the list grants the request. The groups are put in order first where that takes less than looking each group
-// of the list up among all of them.
+// Whether the list grants the request.
 fn decide(
     alloc: Global,
     list: &Acl,
@@ -161,42 +153,6 @@ fn decide(
     ensures { IfOk result (λ outcome. (outcome ≡ Outcome.Yes)
         ↔ Grant list.now (situation object.now requester.now) mask.bits) }
 {
-    let groups = requester.groups();
-    if groups.len() <= FEW_GROUPS || list.len() <= FEW_ACES || groups.is_sorted() {
-        return Ok(outcome_of(list, object, requester, mask));
-    }
-    let sorted = in_order(alloc, groups)?;
-    let same = of_groups(requester, &sorted);
-    // What the order of the groups does not change.
-    groups_are_a_set();
-    Ok(outcome_of(list, object, &same, mask))
-}
-
-// The names in order.
-fn in_order<'a>(alloc: Global, names: &[&'a [u8]]) -> Result<Vec<&'a [u8]>, AllocError>
-    ensures { IfOk result (λ sorted. IsPermutation names.now sorted.items) }
-{
-    let mut sorted = Vec::from_slice(alloc, names)?;
-    sorted.sort()?;
-    Ok(sorted)
-}
-
-// The requester, whose groups are given in another order.
-fn of_groups<'a>(requester: &Requester<'a>, groups: &'a [&'a [u8]]) -> Requester<'a>
-    requires { IsPermutation (groups_of requester.now) (texts groups.now) }
-    ensures user { user_of result ≡ user_of requester.now }
-    ensures groups { IsPermutation (groups_of requester.now) (groups_of result) }
-{
-    match Requester::new(requester.user(), groups) {
-        Some(same) => same,
-        None => *requester,
-    }
-}
-
-// Whether the list grants the request.
-fn outcome_of(list: &Acl, object: &Object<'_>, requester: &Requester<'_>, mask: Mask) -> Outcome
-    ensures { (result ≡ Outcome.Yes)
-        ↔ Grant list.now (situation object.now requester.now) mask.bits }
-{
-    Outcome::of(grants(list.aces(), object, requester, mask))
+    let granted = grants_by_table(alloc, &list.view(), object, requester, mask)?;
+    Ok(Outcome::of(granted))
 }

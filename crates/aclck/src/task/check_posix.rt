@@ -31,7 +31,7 @@ pub(crate) const ARGUMENTS: [Argument; 6] = [
     Argument::Words,
 ];
 
-/// Who asks of whose object, for which permissions, and which names a text may have.
+/// The requester, the object, the permissions that are requested, and which names a text may have.
 #[derive(Drop)]
 pub struct CheckPosix {
     pub owner: Id,
@@ -42,7 +42,7 @@ pub struct CheckPosix {
     pub names: Names,
 }
 
-/// The values that the words spell.
+/// Returns the values that the words give.
 #[tactic(auto, unfolding(crate::specs::CheckPosix::check_posix_in))]
 pub(crate) fn read(alloc: Global, matches: &ArgMatches<'_>) -> Result<CheckPosix, LineFault>
     ensures { Reads check_posix_held (check_posix_in (rows_in matches.now)) result }
@@ -83,7 +83,7 @@ fn ids_value(alloc: Global, word: &str) -> Result<Vec<Id>, LineFault>
     each_id(alloc, items.as_slice())
 }
 
-// What stands between the commas.
+// The parts between the commas.
 fn items_of<'a>(alloc: Global, word: &'a str) -> Result<Vec<&'a str>, AllocError>
     ensures { IfOk result (λ v. texts v.items ≡ slice_split (λ b. b == comma) word.entry.now) }
 {
@@ -138,9 +138,9 @@ fn count(bytes: &[u8], letter: u8) -> usize
     bytes.iter().filter(|b| **b == letter).count()
 }
 
-/// Writes whether the access ACL of the file whose text the input is grants the user, who is in these groups, the
-/// permissions on an object of this owner and group (acl(5), "ACCESS CHECK ALGORITHM"; POSIX.1e draft 17, section 23):
-/// `granted`, or `denied` and No. Nothing is written before the input is accepted, the default part too.
+/// Writes whether the access ACL of a file, of which the input is the text, grants the user, who is in these groups,
+/// the permissions on an object of this owner and group (acl(5), "ACCESS CHECK ALGORITHM"; POSIX.1e draft 17, section
+/// 23): `granted`, or `denied` and No. Nothing is written before the input is accepted, also its default part.
 pub fn run_check_posix<S: Source, K: Sink>(
     alloc: Global,
     source: &mut S,

@@ -1,4 +1,4 @@
-//! `child`: the list that a new object takes from its directory.
+//! `child`: the list that a new object gets from its directory.
 ghost use Rattle.std.specs.Prelude.{◌≡◌};
 ghost use Rattle.acl_perm.specs.Profile.{profile_of};
 ghost use Rattle.aclck.specs.Run.{Runs, of_list};
@@ -23,14 +23,14 @@ pub(crate) const ARGUMENTS: [Argument; 2] = [
     Argument::Default("profile", "full"),
 ];
 
-/// What is created, and what a list may have.
+/// What is created, and the profile.
 #[derive(Clone, Copy, Debug)]
 pub struct Child {
     pub kind: ChildKind,
     pub profile: Profile,
 }
 
-/// The values that the words spell.
+/// Returns the values that the words give.
 #[tactic(auto, unfolding(crate::specs::Child::child_in))]
 pub(crate) fn read(matches: &ArgMatches<'_>) -> Result<Child, LineFault>
     ensures { Reads child_held (child_in (rows_in matches.now)) result }
@@ -44,7 +44,7 @@ pub(crate) fn read(matches: &ArgMatches<'_>) -> Result<Child, LineFault>
     })
 }
 
-// The value of `--kind`: `file` or `dir`. None where the word is neither.
+// The value of `--kind`: `file` or `dir`. None if the word is neither.
 #[tactic(auto, unfolding(crate::specs::Child::kind_value))]
 fn kind_value(word: &str) -> Option<ChildKind>
     ensures { result ≡ kind_value word.now }
@@ -56,9 +56,9 @@ fn kind_value(word: &str) -> Option<ChildKind>
     }
 }
 
-/// Writes the bytes that spell the list that a new file or directory takes from that of its directory, which the whole
-/// input spells (this library's own, in the manner of RFC 8881, section 6.4). Nothing is written before the input is
-/// accepted, as a list that keeps to the profile. Nothing is read after a refusal.
+/// Writes the bytes that spell the list that a new file or directory gets from the list of its directory, which the
+/// whole input spells (this library's own, in the manner of RFC 8881, section 6.4). Nothing is written before the input
+/// is accepted as a list of the profile. Nothing is read after a refusal.
 pub fn run_child<S: Source, K: Sink>(
     alloc: Global,
     source: &mut S,

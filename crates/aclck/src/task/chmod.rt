@@ -26,7 +26,7 @@ pub struct Chmod {
     pub names: Names,
 }
 
-/// The values that the words spell.
+/// Returns the values that the words give.
 #[tactic(auto, unfolding(crate::specs::Chmod::chmod_in))]
 pub(crate) fn read(alloc: Global, matches: &ArgMatches<'_>) -> Result<Chmod, LineFault>
     ensures { Reads chmod_held (chmod_in (rows_in matches.now)) result }
@@ -38,8 +38,8 @@ pub(crate) fn read(alloc: Global, matches: &ArgMatches<'_>) -> Result<Chmod, Lin
     })
 }
 
-/// Writes the canonical text of the file whose text the input is, with the mode of its access ACL set (acl(5),
-/// "CORRESPONDENCE BETWEEN ACL ENTRIES AND FILE PERMISSION BITS"); the default ACL stays. Nothing is written before the
+/// Writes the canonical text of a file, of which the input is the text, with the mode of its access ACL set (acl(5),
+/// "CORRESPONDENCE BETWEEN ACL ENTRIES AND FILE PERMISSION BITS"). The default ACL stays. Nothing is written before the
 /// input is accepted.
 pub fn run_chmod<S: Source, K: Sink>(
     alloc: Global,

@@ -1,4 +1,4 @@
-//! `compare`: whether two lists grant the same, and where not.
+//! `compare`: whether two lists grant the same, and where they differ.
 ghost use Rattle.std.specs.Prelude.{◌≡◌, ◌++◌, [], codes, IfOk, OnOk, flat_map, map, unwrap_or};
 ghost use Rattle.acl_perm.specs.Profile.{profile_of};
 ghost use Rattle.acl_nfs4.specs.BitNames.{first_name};
@@ -19,9 +19,9 @@ use std::alloc::{AllocError, Global};
 pub(crate) const WORD: &str = "compare";
 
 /// Writes whether the two lists that the whole input spells, one after the other, grant the same (this library's own,
-/// over RFC 8881, section 6.2.1): `same`, or the first small situation in which they don't, the lowest right on which
+/// over RFC 8881, section 6.2.1): `same`; or the first small situation in which they differ, the lowest right on which
 /// they differ there, what both answer, and No. A fault counts from the start of the input. Nothing is written before
-/// the input is accepted, as lists that keep to the profile. Nothing is read after a refusal.
+/// the input is accepted as lists of the profile. Nothing is read after a refusal.
 pub fn run_compare<S: Source, K: Sink>(
     alloc: Global,
     source: &mut S,
@@ -38,7 +38,7 @@ pub fn run_compare<S: Source, K: Sink>(
     Ok(answer.outcome)
 }
 
-// What a comparison comes to, with its text.
+// The outcome of a comparison, with its text.
 #[derive(Drop)]
 struct Compared {
     outcome: Outcome,
@@ -91,7 +91,7 @@ fn add_members(text: &mut Vec<u8>, groups: &[Vec<u8>]) -> Result<(), AllocError>
     Ok(())
 }
 
-// A line of a word and what it is followed by.
+// A line of a word and what follows it.
 fn add_line(text: &mut Vec<u8>, word: &[u8], value: &[u8]) -> Result<(), AllocError>
     ensures { OnOk result (text.new.items ≡ text.old.items ++ line word.now value.now) }
 {
@@ -102,7 +102,7 @@ fn add_line(text: &mut Vec<u8>, word: &[u8], value: &[u8]) -> Result<(), AllocEr
     Ok(())
 }
 
-// The name of a right; each has one.
+// The name of a right. Each right has one.
 fn right_name(bit: Mask) -> &'static [u8]
     ensures { result.now ≡ unwrap_or (first_name rights bit.bits) [] }
 {
@@ -118,7 +118,7 @@ fn decision(is_granted: bool) -> &'static [u8]
     if is_granted { b"granted" } else { b"denied" }
 }
 
-// Yes where there is no difference.
+// Yes if there is no difference.
 fn outcome_of(difference: &Option<Difference>) -> Outcome
     ensures { result ≡ compared_outcome difference.now }
 {

@@ -33,7 +33,7 @@ pub struct Create {
     pub names: Names,
 }
 
-/// The values that the words spell.
+/// Returns the values that the words give.
 #[tactic(auto, unfolding(crate::specs::Create::create_in))]
 pub(crate) fn read(alloc: Global, matches: &ArgMatches<'_>) -> Result<Create, LineFault>
     ensures { Reads create_held (create_in (rows_in matches.now)) result }
@@ -46,8 +46,8 @@ pub(crate) fn read(alloc: Global, matches: &ArgMatches<'_>) -> Result<Create, Li
     })
 }
 
-/// Writes the canonical text of a new object in a directory, whose text the input is: of a file, or of a directory
-/// where `dir` is true (acl(5), "OBJECT CREATION AND DEFAULT ACLs"). The umask has no part where the directory has a
+/// Writes the canonical text of a new object in a directory, of which the input is the text. The object is a file, or a
+/// directory if `dir` is true (acl(5), "OBJECT CREATION AND DEFAULT ACLs"). The umask is ignored if the directory has a
 /// default ACL. Nothing is written before the input is accepted.
 pub fn run_create<S: Source, K: Sink>(
     alloc: Global,

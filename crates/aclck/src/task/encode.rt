@@ -14,8 +14,8 @@ use std::alloc::Global;
 /// The word that names the command.
 pub(crate) const WORD: &str = "encode";
 
-/// Writes the bytes that spell the list whose text the whole input is (RFC 4506 over RFC 8881, section 6.2.1; the text
-/// is this library's own). Nothing is written before the input is accepted, as the text of a list that keeps to the
+/// Writes the bytes that spell the list of which the whole input is the text (RFC 4506 over RFC 8881, section 6.2.1;
+/// the text is this library's own). Nothing is written before the input is accepted as the text of a list of the
 /// profile.
 pub fn run_encode<S: Source, K: Sink>(
     alloc: Global,
@@ -33,7 +33,7 @@ pub fn run_encode<S: Source, K: Sink>(
     Ok(Outcome::Yes)
 }
 
-// The list whose text an input is.
+// The list of which an input is the text.
 fn list_of_text(alloc: Global, input: Vec<u8>, profile: Profile) -> Result<Acl, RunFault>
     ensures read { IfOk result (λ list. IsAceText (profile_of profile) list input.items) }
     ensures refused { IfErr result (λ e. (e ≡ RunFault.Memory)

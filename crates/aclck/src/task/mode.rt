@@ -14,8 +14,7 @@ use std::alloc::Global;
 pub(crate) const WORD: &str = "mode";
 
 /// Writes the mode of the list that the whole input spells (RFC 8881, section 6.3.2), as three octal digits and a line
-/// feed. Nothing is written before the input is accepted, as a list that keeps to the profile. Nothing is read after a
-/// refusal.
+/// feed. Nothing is written before the input is accepted as a list of the profile. Nothing is read after a refusal.
 pub fn run_mode<S: Source, K: Sink>(
     alloc: Global,
     source: &mut S,

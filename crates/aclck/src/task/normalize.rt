@@ -1,4 +1,4 @@
-//! `normalize`: the normal form of a list, or its five.
+//! `normalize`: the normal form of a list, or its five normal forms.
 ghost use Rattle.std.specs.Prelude.{◌≡◌};
 ghost use Rattle.acl_perm.specs.Profile.{profile_of};
 ghost use Rattle.aclck.specs.Run.{Runs, of_list};
@@ -23,14 +23,14 @@ pub(crate) const ARGUMENTS: [Argument; 2] = [
     Argument::Default("profile", "full"),
 ];
 
-/// Whether inheritance counts, and what a list may have.
+/// Whether inheritance counts, and the profile.
 #[derive(Clone, Copy, Debug)]
 pub struct Normalize {
     pub inherit: bool,
     pub profile: Profile,
 }
 
-/// The values that the words spell.
+/// Returns the values that the words give.
 #[tactic(auto, unfolding(crate::specs::Normalize::normalize_in))]
 pub(crate) fn read(matches: &ArgMatches<'_>) -> Result<Normalize, LineFault>
     ensures { Reads normalize_held (normalize_in (rows_in matches.now)) result }
@@ -40,7 +40,7 @@ pub(crate) fn read(matches: &ArgMatches<'_>) -> Result<Normalize, LineFault>
     Ok(Normalize { inherit, profile })
 }
 
-/// Writes the normal form of the list that the whole input spells, or its five where inheritance counts.
+/// Writes the normal form of the list that the whole input spells, or its five normal forms if inheritance counts.
 pub(crate) fn run<S: Source, K: Sink>(
     alloc: Global,
     source: &mut S,
@@ -60,7 +60,7 @@ pub(crate) fn run<S: Source, K: Sink>(
 
 /// Writes the bytes that spell the normal form of the list that the whole input spells: the one list that grants the
 /// same in every situation and is normal (this library's own, over RFC 8881, section 6.2.1). Nothing is written before
-/// the input is accepted, as a list that keeps to the profile. Nothing is read after a refusal.
+/// the input is accepted as a list of the profile. Nothing is read after a refusal.
 pub fn run_normalize<S: Source, K: Sink>(
     alloc: Global,
     source: &mut S,
@@ -79,9 +79,9 @@ pub fn run_normalize<S: Source, K: Sink>(
 }
 
 /// Writes the bytes that spell the five normal forms of the list that the whole input spells, one behind the other: of
-/// the list itself, of a new file, of a new directory, and of a new file and a new directory in that (this library's
-/// own, over RFC 8881, section 6.2.1). Nothing is written before the input is accepted, as a list that keeps to the
-/// profile, and all five are made. Nothing is read after a refusal.
+/// the list itself, of a new file, of a new directory, and of a new file and a new directory in that new directory
+/// (this library's own, over RFC 8881, section 6.2.1). Nothing is written before the input is accepted as a list of the
+/// profile and all five are made. Nothing is read after a refusal.
 pub fn run_normalize_inherit<S: Source, K: Sink>(
     alloc: Global,
     source: &mut S,

@@ -15,7 +15,7 @@ use std::alloc::{AllocError, Global};
 pub(crate) const WORD: &str = "show-nfs";
 
 /// Writes the text of the list that the whole input spells (this library's own, over RFC 8881, section 6.2.1). Nothing
-/// is written before the input is accepted, as a list that keeps to the profile. Nothing is read after a refusal.
+/// is written before the input is accepted as a list of the profile. Nothing is read after a refusal.
 pub fn run_show_nfs<S: Source, K: Sink>(
     alloc: Global,
     source: &mut S,

@@ -29,7 +29,7 @@ pub struct ShowPosix {
     pub names: Names,
 }
 
-/// The values that the words spell.
+/// Returns the values that the words give.
 #[tactic(auto, unfolding(crate::specs::ShowPosix::show_posix_in))]
 pub(crate) fn read(alloc: Global, matches: &ArgMatches<'_>) -> Result<ShowPosix, LineFault>
     ensures { Reads show_posix_held (show_posix_in (rows_in matches.now)) result }
@@ -43,7 +43,7 @@ pub(crate) fn read(alloc: Global, matches: &ArgMatches<'_>) -> Result<ShowPosix,
     })
 }
 
-// The value of `--form`: `canonical`, `shown` or `short`. None where the word is none of these.
+// The value of `--form`: `canonical`, `shown` or `short`. None if the word is none of these.
 #[tactic(auto, unfolding(crate::specs::ShowPosix::form_value))]
 fn form_value(word: &str) -> Option<Form>
     ensures { result ≡ form_value word.now }
@@ -56,8 +56,8 @@ fn form_value(word: &str) -> Option<Form>
     }
 }
 
-/// Writes the text in a form of the file whose text the input is (acl(5), "LONG TEXT FORM", "SHORT TEXT FORM"); the
-/// short text has a line feed after it. Nothing is written before the input is accepted.
+/// Writes the text in a form of a file, of which the input is the text (acl(5), "LONG TEXT FORM", "SHORT TEXT FORM").
+/// The short text has a line feed after it. Nothing is written before the input is accepted.
 pub fn run_show_posix<S: Source, K: Sink>(
     alloc: Global,
     source: &mut S,

@@ -1,8 +1,8 @@
-//! `table`: what the normal form of a list says of one right.
-ghost use Rattle.std.specs.Prelude.{◌≡◌, ◌++◌, ◌∷◌, [], IfOk, List, OnOk, decimal, option_and_then, option_map};
+//! `table`: what the normal form of a list says about one right.
+ghost use Rattle.std.specs.Prelude.{◌≡◌, ◌++◌, ◌∷◌, [], IfOk, List, OnOk, map, option_and_then, option_map};
 ghost use Rattle.acl_perm.specs.Profile.{profile_of};
-ghost use Rattle.acl_perm.specs.Lines.{line_feed};
 ghost use Rattle.acl_nfs4.specs.AceText.{kind_name, space};
+ghost use Rattle.acl_normal.specs.Tables.{TableRow, of_borrowed};
 ghost use Rattle.aclck.specs.Run.{Runs, of_list};
 ghost use Rattle.aclck.specs.Line.{Reads, rows_in, text_if_any};
 ghost use Rattle.aclck.specs.BitTable.{AreTableOf, TableAnswer, bit_value, group_word, right_named, row_line, rows_text, table_held, table_in};
@@ -12,7 +12,7 @@ use crate::input::xdr::read_list;
 use crate::line::{Argument, LineFault, text_of};
 use crate::words::profile::profile_in;
 use acl_nfs4::{Acl, read_mask};
-use acl_normal::{Row, table};
+use acl_normal::{BorrowedRow, borrowed_rows};
 use acl_perm::{Kind, Mask, Profile, Sink, Source, put_all};
 use clap::ArgMatches;
 use itoa::Buffer;
@@ -27,14 +27,14 @@ pub(crate) const ARGUMENTS: [Argument; 2] = [
     Argument::Default("profile", "full"),
 ];
 
-/// The mask of the one right that is asked for, and what a list may have.
+/// The mask of the one right that is asked for, and the profile.
 #[derive(Clone, Copy, Debug)]
 pub struct BitTable {
     pub bit: Mask,
     pub profile: Profile,
 }
 
-/// The values that the words spell.
+/// Returns the values that the words give.
 #[tactic(auto, unfolding(crate::specs::BitTable::table_in))]
 pub(crate) fn read(matches: &ArgMatches<'_>) -> Result<BitTable, LineFault>
     ensures { Reads table_held (table_in (rows_in matches.now)) result }
@@ -51,7 +51,7 @@ fn bit_in(word: Option<&str>, rights: Mask) -> Option<Mask>
     bit_value(word?, rights)
 }
 
-// The right that a word names, where it is among these.
+// The right that a word names, if it is among these.
 fn bit_value(word: &str, rights: Mask) -> Option<Mask>
     ensures { option_map (λ mask. mask.bits) result ≡ bit_value rights.bits word.now }
 {
@@ -63,7 +63,7 @@ fn bit_value(word: &str, rights: Mask) -> Option<Mask>
     }
 }
 
-// The right that a field of one name stands for.
+// The right of a field with one name.
 #[tactic(auto, unfolding(crate::specs::BitTable::right_named))]
 fn right_named(word: &[u8]) -> Option<Mask>
     ensures { option_map (λ mask. mask.bits) result ≡ right_named word.now }
@@ -74,10 +74,10 @@ fn right_named(word: &[u8]) -> Option<Mask>
     read_mask(word)
 }
 
-/// Writes the rows of one right of the list that the whole input spells: a line for each ACE of its normal form that
+/// Writes the rows of one right of the list that the whole input spells: one line for each ACE of its normal form that
 /// has the right, in order, with the place in the given list from which it comes (this library's own, over RFC 8881,
-/// section 6.2.1). Nothing is written before the input is accepted, as a list that keeps to the profile. Nothing is
-/// read after a refusal.
+/// section 6.2.1). Nothing is written before the input is accepted as a list of the profile. Nothing is read after a
+/// refusal.
 pub fn run_table<S: Source, K: Sink>(
     alloc: Global,
     source: &mut S,
@@ -100,66 +100,44 @@ pub fn run_table<S: Source, K: Sink>(
 // The text of the rows of a list at a right.
 fn table_text(alloc: Global, list: &Acl, bit: Mask) -> Result<Vec<u8>, AllocError>
     ensures { IfOk result (λ text.
-        (rows : List Row) × AreTableOf bit.bits list.now rows × (text.items ≡ rows_text rows)) }
+        (rows : List TableRow) × AreTableOf bit.bits list.now rows × (text.items ≡ rows_text rows)) }
 {
-    let rows = table(alloc, list, bit)?;
+    let view = list.view();
+    let rows = borrowed_rows(alloc, &view, bit)?;
     text_of_rows(alloc, &rows)
 }
 
 // The lines of the rows.
-fn text_of_rows(alloc: Global, rows: &[Row]) -> Result<Vec<u8>, AllocError>
-    ensures { IfOk result (λ text. text.items ≡ rows_text rows.now) }
+fn text_of_rows(alloc: Global, rows: &[BorrowedRow<'_>]) -> Result<Vec<u8>, AllocError>
+    ensures { IfOk result (λ text. text.items ≡ rows_text (map of_borrowed rows.now)) }
 {
     let mut text = Vec::new(alloc);
     for row in rows {
-        add_line(&mut text, row)?;
+        add_line(&mut text, *row)?;
     }
     Ok(text)
 }
 
-fn add_line(text: &mut Vec<u8>, row: &Row) -> Result<(), AllocError>
-    ensures { OnOk result (text.new.items ≡ text.old.items ++ row_line row.now) }
-{
-    add_place(text, row.source)?;
-    add_word(text, kind_name(row.kind))?;
-    add_word(text, group_word(row.group))?;
-    add_who(text, &row.who)
-}
-
-fn add_place(text: &mut Vec<u8>, place: usize) -> Result<(), AllocError>
-    ensures { OnOk result (text.new.items ≡ text.old.items ++ (decimal place ++ space ∷ [])) }
+fn add_line(text: &mut Vec<u8>, row: BorrowedRow<'_>) -> Result<(), AllocError>
+    ensures { OnOk result (text.new.items ≡ text.old.items ++ row_line (of_borrowed row.entry)) }
 {
     let mut buffer = Buffer::new();
-    add_word(text, buffer.format(place).as_bytes())
-}
-
-fn add_word(text: &mut Vec<u8>, word: &[u8]) -> Result<(), AllocError>
-    ensures { OnOk result (text.new.items ≡ text.old.items ++ (word.now ++ space ∷ [])) }
-{
-    text.extend_from_slice(word)?;
-    text.push(b' ')?;
-    Ok(())
-}
-
-fn add_who(text: &mut Vec<u8>, who: &[u8]) -> Result<(), AllocError>
-    ensures { OnOk result (text.new.items ≡ text.old.items ++ (who.now ++ line_feed ∷ [])) }
-{
-    text.extend_from_slice(who)?;
+    text.extend_from_slice(buffer.format(row.source).as_bytes())?;
+    text.extend_from_slice(words_between(row.kind, row.group))?;
+    text.extend_from_slice(row.who)?;
     text.push(b'\n')?;
     Ok(())
 }
 
-fn kind_name(kind: Kind) -> &'static [u8]
-    ensures { result.now ≡ kind_name kind }
+// What is between the place and the who: the two words, with a space before, between and behind them.
+fn words_between(kind: Kind, group: bool) -> &'static [u8]
+    ensures { result.now
+        ≡ space ∷ (kind_name kind ++ space ∷ (group_word group ++ space ∷ [])) }
 {
-    match kind {
-        Kind::Allow => b"ALLOW",
-        Kind::Deny => b"DENY",
+    match (kind, group) {
+        (Kind::Allow, true) => b" ALLOW GROUP ",
+        (Kind::Allow, false) => b" ALLOW - ",
+        (Kind::Deny, true) => b" DENY GROUP ",
+        (Kind::Deny, false) => b" DENY - ",
     }
-}
-
-fn group_word(group: bool) -> &'static [u8]
-    ensures { result.now ≡ group_word group }
-{
-    if group { b"GROUP" } else { b"-" }
 }

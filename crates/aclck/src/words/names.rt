@@ -44,7 +44,7 @@ struct NamedId<'a> {
     id: Id,
 }
 
-/// The table of the words that are no option's.
+/// Returns the table of the words that are no option.
 #[tactic(auto, unfolding(crate::specs::NameWords::names_value))]
 pub(crate) fn names_in(alloc: Global, matches: &ArgMatches<'_>) -> Result<Names, LineFault>
     ensures { Reads (λ n. n) (names_in (rows_in matches.now)) result }
@@ -52,7 +52,7 @@ pub(crate) fn names_in(alloc: Global, matches: &ArgMatches<'_>) -> Result<Names,
     names_given(alloc, given(matches))
 }
 
-// The words that are no option's, if there are any.
+// The words that are no option, if there are any.
 fn given<'a, 'm>(matches: &'m ArgMatches<'a>) -> Option<&'m [&'a str]>
     ensures { unwrap_or (option_map (λ ws. texts ws.now) result) []
         ≡ words_of (rows_in matches.now) }
@@ -116,14 +116,14 @@ fn named_id<'a>(word: &'a str) -> Option<NamedId<'a>>
     Some(NamedId { half, name, id })
 }
 
-// What stands before and behind the last equals sign.
+// The parts before and behind the last equals sign.
 fn last_cut<'a>(word: &'a str) -> Option<(&'a str, &'a str)>
     ensures { option_map cut_of result ≡ last_cut equals_sign word.entry.now }
 {
     word.rsplit_once('=')
 }
 
-// What stands before and behind the first colon.
+// The parts before and behind the first colon.
 fn first_cut<'a>(word: &'a str) -> Option<(&'a str, &'a str)>
     ensures { option_map cut_of result ≡ first_cut colon word.entry.now }
 {

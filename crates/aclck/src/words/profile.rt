@@ -1,4 +1,4 @@
-//! `--profile`, and the words of the commands that take it and no other.
+//! `--profile`, and the words of the commands that take it and no other word.
 ghost use Rattle.std.specs.Prelude.{◌≡◌, option_map};
 ghost use Rattle.acl_perm.specs.Profile.{profile_of};
 ghost use Rattle.aclck.specs.Line.{Reads, rows_in};
@@ -8,10 +8,10 @@ use crate::line::{Argument, LineFault, text_of};
 use acl_perm::Profile;
 use clap::ArgMatches;
 
-/// The arguments of a command that takes `--profile` and no other.
+/// The arguments of a command that takes `--profile` and no other word.
 pub(crate) const ARGUMENTS: [Argument; 1] = [Argument::Default("profile", "full")];
 
-/// The profile that a list has to keep to.
+/// Returns the profile that the words give.
 #[tactic(auto, unfolding(crate::specs::ProfileArgument::profile_in))]
 pub(crate) fn profile_in(matches: &ArgMatches<'_>) -> Result<Profile, LineFault>
     ensures { Reads profile_of (profile_in (rows_in matches.now)) result }

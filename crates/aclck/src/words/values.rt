@@ -18,7 +18,7 @@ const OCTAL: u32 = 8;
 // How many digits a mode has at most.
 const MODE_DIGITS: usize = 4;
 
-/// The value of an ID: decimal digits within the limit, any number of zeros in front.
+/// Returns the value of an ID: decimal digits within the limit, with any number of zeros in front.
 #[tactic(auto, unfolding(crate::specs::Values::id_value))]
 pub(crate) fn id_value(word: &str) -> Option<Id>
     ensures { option_map (λ id. id.value) result ≡ id_value word.now }
@@ -29,7 +29,7 @@ pub(crate) fn id_value(word: &str) -> Option<Id>
     Id::new(digits(word, DECIMAL).ok()?)
 }
 
-/// The mode that an option's value spells.
+/// Returns the mode that an option's value spells.
 pub(crate) fn mode_in(word: Option<&str>) -> Result<Mode, LineFault>
     ensures { Reads (λ mode. mode.bits)
         (option_and_then mode_value (text_if_any word.entry)) result }

@@ -13,12 +13,12 @@ use Rattle.aclck_c.specs.internal.Files.{IsFileFault}
 abbrev pub no_memory : BridgeStop
 no_memory = stop.Refused file.Memory
 
--- the fault of the bridge as that of a call
+-- the fault of the bridge as the fault of a call
 abbrev pub stop_of : BridgeFault → BridgeStop
 stop_of bridge.Limits = stop.Limits
 stop_of bridge.Memory = no_memory
 
--- what each says of the names and the text
+-- what each fault says about the names and the text
 abbrev pub IsBridgeStop : List Name → List ℕ → BridgeStop → Type 0
 IsBridgeStop given bytes (stop.Refused f) = IsFileFault given bytes f
 IsBridgeStop given bytes stop.Limits = IsPastLimits given bytes

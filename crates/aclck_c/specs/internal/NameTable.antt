@@ -1,4 +1,4 @@
--- The table of rights as the code holds it, and names behind others (what only the code needs).
+-- The table of rights as the code holds it, and names behind others (this library's own; only the code needs it).
 use Rattle.std.specs.Prelude.{◌==◌, ℕ, Bool, List, [], ◌∷◌, ◌++◌, None, if◌then◌else◌, length, map, nat_le}
 use Rattle.std.specs.List.{join_with_byte}
 use Rattle.acl_nfs4.specs.BitNames.{BitName, bar, names_of, no_names}

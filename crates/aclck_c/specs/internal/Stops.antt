@@ -1,4 +1,4 @@
--- Why a call comes to nothing, and what it then answers (what only the code needs).
+-- Why a call fails, and what it then returns (this library's own; only the code needs it).
 use Rattle.std.specs.Prelude.{◌≡◌, ℕ, List, Option, option_map}
 use Rattle.acl_perm.specs.Profile.{Profile}
 use Rattle.acl_perm.specs.Situation.{Situation}
@@ -13,12 +13,12 @@ use Rattle.aclck_c.specs.declared.list_fault.ListFault.{ListFault}
 use Rattle.aclck_c.specs.declared.list_fault.ListFault.TheVariants as stop
 use Rattle.aclck_c.specs.declared.refusal.Refusal.{Refusal}
 
--- the bytes have the fault; memory is never the answer to bytes with a fault
+-- the bytes have the fault; `Memory` is never returned for bytes with a fault
 abbrev pub IsListFault : Profile → List ℕ → ListFault → Type 0
 IsListFault p bytes (stop.Refused f) = IsWholeFault p bytes f.offset f.reason
 IsListFault p bytes stop.Memory = AreList p bytes
 
--- the status of a fault, and what it leaves of the refusal that a caller sees
+-- the status of a fault, and its effect on the refusal that a caller sees
 abbrev pub Tells : ListFault → ℕ → ℕ → Refusal → Refusal → Type 0
 Tells (stop.Refused f) which status shown shown_after = (status ≡ 2) × (shown_after ≡ in_list f.offset f.reason which)
 Tells stop.Memory which status shown shown_after = (status ≡ 4) × (shown_after ≡ shown)

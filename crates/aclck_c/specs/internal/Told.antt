@@ -1,4 +1,5 @@
--- The first difference of two lists, as `compare` finds it and as a caller sees it (what only the code needs).
+-- The first difference of two lists, as `compare` finds it and as a caller sees it (this library's own; only
+-- the code needs it).
 use Rattle.std.specs.Prelude.{◌≡◌, ℕ, Bool, List, None, Option, Some}
 use Rattle.acl_perm.specs.Bits.{all_rights}
 use Rattle.acl_perm.specs.Profile.{Profile}
@@ -16,7 +17,7 @@ pub record TellsOf (s : Situation) (right : ℕ) (first_grants : Bool) (found : 
   pub at : found.at ≡ distinction right first_grants
   pub names : found.names.items ≡ names_text s
 
--- what is told is the first difference of two lists
+-- the report is the first difference of two lists
 pub record IsTold (list other : List Ace) (found : Named) : Type 0 where
   pub situation : Situation
   pub right : ℕ
@@ -24,7 +25,7 @@ pub record IsTold (list other : List Ace) (found : Named) : Type 0 where
   pub is_first : IsFirstDifference list other situation right first_grants
   pub tells : TellsOf situation right first_grants found
 
--- nothing where two lists grant the same, and else their first difference
+-- nothing if two lists grant the same, and otherwise their first difference
 abbrev pub Told : List Ace → List Ace → Option Named → Type 0
 Told list other None = SameGrants all_rights list other
 Told list other (Some found) = IsTold list other found

@@ -1,8 +1,7 @@
-use Rattle.std.proofs.Common.{◌≡◌, ◌^◌, ◌<◌, ◌*◌, ◌%◌, ◌∙◌, ap, arith, bit_and, refl}
-use Rattle.std.proofs.lemmas.Bool.{eqb-true}
+use Rattle.std.proofs.Common.{◌≡◌, ◌^◌, ◌<◌, ◌*◌, ◌%◌, bit_and, refl}
+use Rattle.acl_normal.proofs.Common.{all_rights, ap, arith, eqb-true, ◌∙◌}
 use Rattle.std.proofs.lemmas.Nat.{pow_below}
 use Rattle.std.proofs.lemmas.Nat.Bits.{and_pow}
-use Rattle.acl_perm.specs.Bits.{all_rights}
 use Rattle.acl_perm.proofs.Sets.{IsMask-and}
 use Rattle.acl_normal.proofs.bits.alone.Goals as goal
 

@@ -1,5 +1,4 @@
-use Rattle.std.proofs.Common.{sym, subst}
-use Rattle.acl_normal.specs.NormalForm.{IsNormalFormOf}
+use Rattle.acl_normal.proofs.Common.{IsNormalFormOf, subst, sym}
 use Rattle.acl_normal.proofs.five_forms.form_beside.Goals as goal
 
 pub returns-in_ok-form : goal.returns-in_ok-form

@@ -1,9 +1,6 @@
-use Rattle.std.proofs.Common.{◌≡◌, ℕ, List, [], refl, sym, ap, subst, ◌∙◌}
-use Rattle.std.specs.Prelude.{◌↔◌}
-use Rattle.acl_nfs4.specs.Ace.{Ace}
-use Rattle.acl_nfs4.specs.Spelling.{Xdr, spelling}
-use Rattle.acl_eval.specs.Grant.{SameGrants}
-use Rattle.acl_normal.specs.Normal.{IsNormal}
+use Rattle.std.proofs.Common.{◌≡◌, ℕ, List, [], refl}
+use Rattle.acl_normal.proofs.Common.{Ace, ap, IsNormal, SameGrants, spelling, subst, sym, ◌↔◌, ◌∙◌}
+use Rattle.acl_nfs4.specs.Spelling.{Xdr}
 use Rattle.acl_normal.proofs.laws.normal_bytes_tell_apart.Goals as goal
 
 pub returns-clause-apart : goal.returns-clause-apart

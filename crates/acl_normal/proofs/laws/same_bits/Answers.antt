@@ -1,5 +1,4 @@
-use Rattle.acl_perm.specs.Bits.{all_rights}
-use Rattle.acl_eval.proofs.Same.{equivalence}
+use Rattle.acl_normal.proofs.Common.{all_rights, equivalence}
 use Rattle.acl_normal.proofs.unique.SameOrder.{same_bits}
 use Rattle.acl_normal.proofs.laws.same_bits.Goals as goal
 

@@ -1,8 +1,4 @@
-use Rattle.std.proofs.Common.{subst}
-use Rattle.acl_perm.specs.Bits.{all_rights}
-use Rattle.acl_eval.specs.Grant.{SameGrants}
-use Rattle.acl_normal.specs.internal.Emitted.{emitted_aces}
-use Rattle.acl_normal.specs.internal.Shown.{bits_in, with_masks}
+use Rattle.acl_normal.proofs.Common.{all_rights, bits_in, emitted_aces, SameGrants, subst, with_masks}
 use Rattle.acl_normal.proofs.unique.Forming.{form_from}
 use Rattle.acl_normal.proofs.unique.Taken.{taken}
 use Rattle.acl_normal.proofs.normal_form.form_of.Goals as goal

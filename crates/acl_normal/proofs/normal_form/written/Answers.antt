@@ -1,5 +1,4 @@
-use Rattle.std.proofs.Common.{◌∙◌, ap}
-use Rattle.acl_normal.specs.internal.Emitted.{emitted_ace}
+use Rattle.acl_normal.proofs.Common.{ap, emitted_ace, ◌∙◌}
 use Rattle.acl_normal.proofs.five_forms.Writing.{all_written, next_accepted, next_written}
 use Rattle.acl_normal.proofs.normal_form.written.Goals as goal
 

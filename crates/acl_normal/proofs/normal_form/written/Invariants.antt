@@ -1,5 +1,4 @@
-use Rattle.std.specs.Prelude.{◌≡◌, take}
-use Rattle.acl_normal.specs.internal.Emitted.{emitted_aces}
+use Rattle.acl_normal.proofs.Common.{emitted_aces, take, ◌≡◌}
 use Rattle.acl_normal.proofs.normal_form.written.Given as goal
 
 -- the list of the ACEs so far

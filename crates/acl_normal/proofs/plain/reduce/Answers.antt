@@ -1,5 +1,4 @@
-use Rattle.acl_normal.specs.internal.Shown.{aces_in}
-use Rattle.std.proofs.Common.{ap, ◌∙◌}
+use Rattle.acl_normal.proofs.Common.{aces_in, ap, ◌∙◌}
 use Rattle.acl_normal.proofs.plain.PlainForm.{passes_reduce}
 use Rattle.acl_normal.proofs.plain.reduce.Goals as goal
 

@@ -1,11 +1,4 @@
-use Rattle.std.specs.Prelude.{◌≡◌, ℕ, List}
-use Rattle.std.proofs.Common.{◌∙◌, ap, subst, sym}
-use Rattle.acl_nfs4.specs.declared.ace.AceRef.{AceRef}
-use Rattle.acl_eval.specs.Column.{column}
-use Rattle.acl_normal.specs.Left.{IsTidy}
-use Rattle.acl_normal.specs.Places.{nothing_left}
-use Rattle.acl_normal.specs.internal.Reduced.{IsReducedOf}
-use Rattle.acl_normal.specs.internal.Shown.{aces_in, bits_in, with_masks}
+use Rattle.acl_normal.proofs.Common.{AceRef, aces_in, ap, bits_in, column, IsReducedOf, IsTidy, List, nothing_left, subst, sym, with_masks, ℕ, ◌∙◌, ◌≡◌}
 use Rattle.acl_normal.proofs.rows.Rows.{order_alike, rows_alike}
 use Rattle.acl_normal.proofs.reduce.reduced_list.Goals as goal
 

@@ -1,7 +1,5 @@
-use Rattle.std.specs.Prelude.{◌≡◌, ◌++◌, drop, length, take}
-use Rattle.std.proofs.Common.{◌∙◌, sym}
+use Rattle.acl_normal.proofs.Common.{aces_in, bits_in, drop, length, sym, take, with_masks, ◌++◌, ◌∙◌, ◌≡◌}
 use Rattle.std.proofs.lemmas.List.{take_at}
-use Rattle.acl_normal.specs.internal.Shown.{aces_in, bits_in, with_masks}
 use Rattle.acl_normal.proofs.reduce.Reducing.{two_passes, reduction_grants, reduction_irreducible, reduction_rights}
 use Rattle.acl_normal.proofs.reduce.Unneeded.{firsts_through}
 use Rattle.acl_normal.proofs.reduce.reduced_masks.Goals as goal

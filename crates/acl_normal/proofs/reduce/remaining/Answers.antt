@@ -1,6 +1,4 @@
-use Rattle.std.proofs.Common.{subst, sym}
-use Rattle.std.proofs.lemmas.Result.{IfOk-weaker}
-use Rattle.acl_normal.specs.internal.Reduced.{IsReducedOf}
+use Rattle.acl_normal.proofs.Common.{IfOk-weaker, IsReducedOf, subst, sym}
 use Rattle.acl_normal.proofs.reduce.remaining.Goals as goal
 
 pub returns : goal.returns

@@ -1,7 +1,5 @@
-use Rattle.std.proofs.Common.{subst, sym}
+use Rattle.acl_normal.proofs.Common.{all_rights, has_bit, subst, sym, trailing_zeros, w32}
 use Rattle.std.specs.Bool.{IsTrue}
-use Rattle.std.specs.Int.{trailing_zeros, w32}
-use Rattle.acl_perm.specs.Bits.{all_rights, has_bit}
 use Rattle.acl_normal.proofs.comparison.Asked.{right_bit}
 use Rattle.acl_normal.proofs.comparison.Difference.right.Goals as goal
 

@@ -1,7 +1,5 @@
-use Rattle.std.proofs.Common.{subst}
-use Rattle.std.specs.Prelude.{IfOk, IsNone, ◌↔◌}
-use Rattle.acl_perm.specs.Bits.{all_rights}
-use Rattle.acl_eval.specs.Grant.{SameGrants}
+use Rattle.acl_normal.proofs.Common.{all_rights, IfOk, SameGrants, subst, ◌↔◌}
+use Rattle.std.specs.Prelude.{IsNone}
 use Rattle.acl_normal.proofs.comparison.comparing.compare.Goals as goal
 use Rattle.acl_normal.proofs.comparison.FirstSet.{same_list_same}
 

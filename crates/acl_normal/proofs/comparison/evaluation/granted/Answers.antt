@@ -1,9 +1,7 @@
-use Rattle.std.specs.Prelude.{refl}
-use Rattle.std.proofs.Common.{arith, ap, subst, sym}
+use Rattle.acl_normal.proofs.Common.{ap, arith, IsMask, refl, subst, sym}
 use Rattle.acl_normal.proofs.comparison.evaluation.granted.Goals as goal
 use Rattle.acl_normal.proofs.comparison.evaluation.granted.Goals.{in-Allow, in-Deny}
 use Rattle.acl_normal.proofs.comparison.SetEvaluation.{loop_allow, loop_deny, loop_ends, loop_starts}
-use Rattle.acl_perm.specs.Bits.{IsMask}
 
 pub loop-item-init : goal.loop-item-init
 loop-item-init c = record { decides = loop_starts _ _; granted = refl; decided = refl }

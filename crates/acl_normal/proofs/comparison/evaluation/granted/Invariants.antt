@@ -1,7 +1,6 @@
 use Rattle.acl_normal.proofs.comparison.evaluation.granted.Given as goal
 use Rattle.acl_normal.proofs.comparison.SetEvaluation.{DecidesAll}
-use Rattle.acl_normal.specs.internal.CodeSets.{set_of}
-use Rattle.acl_perm.specs.Bits.{IsMask}
+use Rattle.acl_normal.proofs.Common.{IsMask, set_of}
 
 abbrev pub invariant-loop-item : goal.invariant-loop-item
 invariant-loop-item l = record {

@@ -1,5 +1,4 @@
-use Rattle.std.specs.Prelude.{refl}
-use Rattle.std.proofs.Common.{arith}
+use Rattle.acl_normal.proofs.Common.{arith, refl}
 use Rattle.acl_normal.proofs.comparison.evaluation.rights_of.Goals as goal
 use Rattle.acl_normal.proofs.comparison.SetEvaluation.{covers_all, covers_more}
 

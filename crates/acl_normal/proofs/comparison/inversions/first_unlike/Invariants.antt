@@ -1,6 +1,5 @@
-use Rattle.std.specs.Prelude.{ℕ, ◌<◌, slice_index_or}
+use Rattle.acl_normal.proofs.Common.{no_standing, SameAlone, slice_index_or, ℕ, ◌<◌}
 use Rattle.acl_normal.proofs.comparison.inversions.first_unlike.Given as goal
-use Rattle.acl_normal.specs.internal.FirstPlaces.{SameAlone, no_standing}
 
 abbrev pub invariant-loop-k : goal.invariant-loop-k
 invariant-loop-k l = (k : ℕ) → k < l.k → SameAlone (slice_index_or l.standings k no_standing)

@@ -1,26 +1,28 @@
-use Rattle.std.proofs.Common.{◌∙◌, ap, subst}
-use Rattle.std.proofs.lemmas.List.{map-append}
-use Rattle.acl_nfs4.specs.Ace.{ace}
-use Rattle.acl_normal.proofs.comparison.MentionedRows.{whole_ready, whoms_ready}
+use Rattle.acl_normal.proofs.Common.{ArePlacesOf, arith, IfSome, principals, subst, sym, ◌∙◌}
+use Rattle.std.proofs.Common.{length}
+use Rattle.acl_normal.proofs.comparison.SamePlacesLemmas.{both_named, copies_there, first_mentions, joined_mentions}
 use Rattle.acl_normal.proofs.comparison.mentioned.mentioned.Goals as goal
-use Rattle.acl_normal.specs.internal.Shown.{aces_in}
-use Rattle.acl_normal.specs.internal.FirstPlaces.{AreWhoms}
-use Rattle.acl_normal.specs.internal.SetSearch.{principals}
 
-pub whoms-requires : goal.whoms-requires
-whoms-requires c = whoms_ready _ _ _ _ _ _ _ _ _ _ c.deref.ensures.value c.deref-2.ensures.value
-    c.deref-5.ensures.value c.deref-6.ensures.value c.deref-4.ensures.value c.in_ok-sorted.ensures.rows
-    c.in_ok-table.ensures c.in_ok-numbers.ensures
+pub add_copies-requires : goal.add_copies-requires
+add_copies-requires c = copies_there (principals c.in_ok-mentions.mentions.principals.items) c.args.list.now
+    c.args.other.now c.in_ok-mentions.mentions.whoms.items c.in-Some.places.items c.deref.result.now _
+    (subst (λ r. IfSome r (λ v. ArePlacesOf c.args.list.now c.args.other.now (length c.args.other.now) v.items))
+    c.in-Some.is c.in_ok-places.ensures) c.deref.ensures.value c.in_ok-mentions.ensures.whoms
+    (omega (arith, c.in_ok-mentions.mentions.whoms.ok.0))
+
+pub returns-in-Some : goal.returns-in-Some
+returns-in-Some c =
+    let places : ArePlacesOf c.args.list.now c.args.other.now (length c.args.other.now) c.in-Some.places.items =
+    subst (λ r. IfSome r (λ v. ArePlacesOf c.args.list.now c.args.other.now (length c.args.other.now) v.items))
+    c.in-Some.is c.in_ok-places.ensures in
+    record {
+      in_order = c.in_ok-mentions.ensures.in_order ∙ first_mentions c.args.list.now c.args.other.now _ places;
+      whoms = both_named (principals c.in_ok-mentions.mentions.principals.items) c.args.list.now c.args.other.now
+          c.in_ok-mentions.mentions.whoms.items _ c.deref.result.now c.in_ok-mentions.ensures.whoms
+          (subst (λ v. ArePlacesOf c.args.list.now c.args.other.now (length c.args.other.now) v)
+          (sym c.deref.ensures.value) places) c.in_ok-add_copies.ensures;
+    }
 
 pub returns : goal.returns
-returns c =
-    let both = ap aces_in (c.deref-5.ensures.value ∙ c.in_ok-aces.ensures)
-    ∙ map-append ace c.args.list.now c.args.other.now in
-    record {
-      in_order =
-          whole_ready c.args.list.now c.args.other.now _ _ _ _ _ _ c.in_ok-aces.ensures c.deref-2.ensures.value
-          c.deref-4.ensures.value c.in_ok-table.ensures c.in_ok-numbers.ensures;
-      whoms =
-          subst (λ v. AreWhoms (principals c.in_ok-numbers.numbers.whole.items) v c.in_ok-whoms.whoms.items) both
-          c.in_ok-whoms.ensures;
-    }
+returns c = joined_mentions c.args.list.now c.args.other.now _ _ _ c.deref-2.ensures.value c.in_ok-aces.ensures
+    c.mentions_of-2.ensures

@@ -1,10 +1,7 @@
-use Rattle.std.proofs.Common.{arith, refl, sym}
-use Rattle.std.proofs.lemmas.List.{length-map}
+use Rattle.std.proofs.Common.{refl}
+use Rattle.acl_normal.proofs.Common.{ace, arith, length-map, principal, principals, sym}
 use Rattle.acl_normal.proofs.comparison.standing.firsts.Goals as goal
-use Rattle.acl_nfs4.specs.Ace.{ace}
 use Rattle.acl_normal.proofs.comparison.FirstPlaceLemmas.{firsts_more, firsts_start, whom_within, whoms_length}
-use Rattle.acl_normal.specs.internal.SetSearch.{principals}
-use Rattle.acl_perm.specs.Principal.{principal}
 
 pub place_of_everyone-end-requires : goal.place_of_everyone-end-requires
 place_of_everyone-end-requires c = whoms_length (principals c.args.whole.now) _ _ c.requires

@@ -1,8 +1,5 @@
-use Rattle.std.specs.Prelude.{◌≤◌}
+use Rattle.acl_normal.proofs.Common.{aces_in, AreFirstFrom, principals, ◌≤◌}
 use Rattle.acl_normal.proofs.comparison.standing.firsts.Given as goal
-use Rattle.acl_normal.specs.internal.Shown.{aces_in}
-use Rattle.acl_normal.specs.internal.FirstPlaces.{AreFirstFrom}
-use Rattle.acl_normal.specs.internal.SetSearch.{principals}
 
 abbrev pub invariant-loop-place : goal.invariant-loop-place
 invariant-loop-place l = record {

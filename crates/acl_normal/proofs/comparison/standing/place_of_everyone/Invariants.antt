@@ -1,6 +1,5 @@
-use Rattle.std.specs.Prelude.{◌≡◌, ℕ, ◌<◌, false}
+use Rattle.acl_normal.proofs.Common.{aces_in, false, ℕ, ◌<◌, ◌≡◌}
 use Rattle.acl_normal.proofs.comparison.standing.place_of_everyone.Given as goal
-use Rattle.acl_normal.specs.internal.Shown.{aces_in}
 use Rattle.acl_normal.specs.internal.FirstPlaces.{stops_at}
 
 abbrev pub invariant-loop-i : goal.invariant-loop-i

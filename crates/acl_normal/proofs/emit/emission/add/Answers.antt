@@ -1,7 +1,6 @@
-use Rattle.std.proofs.Common.{◌*◌, ◌+◌, ◌<◌, length, ◌∙◌, sym, ap, arith}
+use Rattle.std.proofs.Common.{◌*◌, ◌+◌, ◌<◌, length}
 use Rattle.std.proofs.lemmas.Result.{on_ok_weaker}
-use Rattle.acl_perm.specs.Order.{kind_rank}
-use Rattle.acl_normal.specs.Places.{key_here, nothing_left}
+use Rattle.acl_normal.proofs.Common.{ap, arith, key_here, kind_rank, nothing_left, sym, ◌∙◌}
 use Rattle.acl_normal.proofs.emit.Few.{remaining_few}
 use Rattle.acl_normal.proofs.emit.Marks.{adds, fits_written, number_at}
 use Rattle.acl_normal.proofs.rows.Rows.{row_below}

@@ -1,7 +1,5 @@
-use Rattle.std.proofs.Common.{◌≡◌, ℕ, ◌*◌, ◌∙◌, length, slice_index_or, sym, ap, arith, subst}
-use Rattle.acl_eval.specs.Column.{column}
-use Rattle.acl_normal.specs.Places.{nothing_left}
-use Rattle.acl_normal.specs.internal.Ready.{FitsKeys, marks}
+use Rattle.std.proofs.Common.{◌≡◌, ℕ, ◌*◌, length, slice_index_or}
+use Rattle.acl_normal.proofs.Common.{ap, arith, column, FitsKeys, marks, nothing_left, subst, sym, ◌∙◌}
 use Rattle.acl_normal.proofs.emit.Filled.{fills_nothing, fills_on, fills_all}
 use Rattle.acl_normal.proofs.emit.Marks.{fits_zeros, nothing_marked, zero_at}
 use Rattle.acl_normal.proofs.unique.Outline.{outline_length}
@@ -10,7 +8,7 @@ use Rattle.acl_normal.proofs.emit.emission.fill.Goals as goal
 pub loop-bit-init : goal.loop-bit-init
 loop-bit-init c = (
   fills_nothing c.args.rows.now (marks (nothing_left c.args.rows.now) c.args.ready.now),
-  subst (FitsKeys (nothing_left c.args.rows.now)) (sym c.requires)
+  subst (FitsKeys (nothing_left c.args.rows.now)) (sym c.requires.none)
       (fits_zeros (nothing_left c.args.rows.now) (2 * length c.args.rows.now)
       (ap (λ n. 2 * n) (sym (outline_length c.args.rows.now)))),
 )
@@ -28,6 +26,6 @@ returns-clause-marks c =
     fills_all c.args.rows.now (marks (nothing_left c.args.rows.now) c.args.ready.now) _ c.loop-bit.bit
     c.loop-bit.invariant.0
     (nothing_marked (nothing_left c.args.rows.now) c.args.ready.now
-    (subst (λ v. (n : ℕ) → slice_index_or v n 0 ≡ 0) (sym c.requires) (zero_at (2 * length c.args.rows.now))))
+    (subst (λ v. (n : ℕ) → slice_index_or v n 0 ≡ 0) (sym c.requires.none) (zero_at (2 * length c.args.rows.now))))
     (omega (arith, c.loop-bit-test.false, c.loop-bit.auto.bit-end))
     (λ b l. ap (λ v. column v b) (sym c.rows.view_is) ∙ c.rows.invariant.list.tidy.low b l)

@@ -1,5 +1,4 @@
-use Rattle.acl_normal.specs.Places.{nothing_left}
-use Rattle.acl_normal.specs.internal.Ready.{FitsKeys, marks}
+use Rattle.acl_normal.proofs.Common.{FitsKeys, marks, nothing_left}
 use Rattle.acl_normal.proofs.emit.Filled.{Fills}
 use Rattle.acl_normal.proofs.emit.emission.fill.Given as goal
 

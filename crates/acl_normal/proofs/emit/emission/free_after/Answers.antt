@@ -1,8 +1,5 @@
-use Rattle.std.proofs.Common.{◌∙◌, sym, subst, true, false, arith}
-use Rattle.acl_perm.specs.Kind.{other_kind}
-use Rattle.acl_normal.specs.Keys.{plain_key}
-use Rattle.acl_normal.specs.Places.{nothing_left}
-use Rattle.acl_normal.specs.internal.Ready.{Enters, marks}
+use Rattle.std.proofs.Common.{true, false}
+use Rattle.acl_normal.proofs.Common.{arith, Enters, marks, nothing_left, other_kind, plain_key, subst, sym, ◌∙◌}
 use Rattle.acl_normal.proofs.emit.NewlyFree.{FreesBelow, frees_nothing, frees_on_absent, frees_on_user, frees_on_other, frees_all}
 use Rattle.acl_normal.proofs.unique.Bits.{past_absent}
 use Rattle.acl_normal.proofs.emit.emission.free_after.Goals as goal
@@ -12,7 +9,7 @@ pub loop-right-init : goal.loop-right-init
 loop-right-init c = (
   frees_nothing (plain_key c.args.at) c.args.mask.bits c.args.rows.now
       (marks (nothing_left c.args.rows.now) c.args.ready.now),
-  c.requires,
+  c.requires.keys,
   omega arith,
 )
 

@@ -1,7 +1,4 @@
-use Rattle.std.specs.Prelude.{◌-◌, ◌≤◌}
-use Rattle.acl_normal.specs.Keys.{plain_key}
-use Rattle.acl_normal.specs.Places.{nothing_left}
-use Rattle.acl_normal.specs.internal.Ready.{FitsKeys, marks}
+use Rattle.acl_normal.proofs.Common.{FitsKeys, marks, nothing_left, plain_key, ◌-◌, ◌≤◌}
 use Rattle.acl_normal.proofs.emit.NewlyFree.{FreesBelow}
 use Rattle.acl_normal.proofs.emit.emission.free_after.Given as goal
 

@@ -1,8 +1,4 @@
-use Rattle.std.proofs.Common.{◌∙◌, sym, ap}
-use Rattle.acl_eval.specs.Column.{column}
-use Rattle.acl_normal.specs.Keys.{plain_key}
-use Rattle.acl_normal.specs.Places.{nothing_left}
-use Rattle.acl_normal.specs.internal.Ready.{marks}
+use Rattle.acl_normal.proofs.Common.{ap, column, marks, nothing_left, plain_key, sym, ◌∙◌}
 use Rattle.acl_normal.proofs.emit.Drained.{popped_mask, ready_within, takes}
 use Rattle.acl_normal.proofs.emit.emission.pop.Goals as goal
 

@@ -1,11 +1,5 @@
-use Rattle.std.proofs.Common.{◌≡◌, ◌+◌, ◌<◌, length, ◌∙◌, sym, subst, arith, ap}
-use Rattle.std.specs.Prelude.{◌≢◌, ◌∷◌, ◌++◌, [], take}
-use Rattle.acl_perm.specs.Profile.{full}
-use Rattle.acl_nfs4.specs.Spelling.{IsAccepted}
-use Rattle.acl_normal.specs.Left.{left}
-use Rattle.acl_normal.specs.Places.{mask_here}
-use Rattle.acl_normal.specs.internal.Rising.{all_cleared}
-use Rattle.acl_normal.specs.internal.Shown.{bits_in, with_masks}
+use Rattle.std.proofs.Common.{◌≡◌, ◌+◌, ◌<◌, length}
+use Rattle.acl_normal.proofs.Common.{[], all_cleared, ap, arith, bits_in, full, IsAccepted, left, mask_here, subst, sym, take, with_masks, ◌++◌, ◌∙◌, ◌∷◌, ◌≢◌}
 use Rattle.acl_normal.proofs.emit.Risen.{all_places, cleared_more, cleared_past, next_cleared, shown, shown_at}
 use Rattle.acl_normal.proofs.reduce.LaterBits.{length_masks, mask_there}
 use Rattle.acl_normal.proofs.unique.Bits.{bits_at, bits_length}

@@ -1,7 +1,4 @@
-use Rattle.std.specs.Prelude.{◌≡◌, take}
-use Rattle.acl_normal.specs.Left.{left}
-use Rattle.acl_normal.specs.internal.Rising.{all_cleared}
-use Rattle.acl_normal.specs.internal.Shown.{bits_in, with_masks}
+use Rattle.acl_normal.proofs.Common.{all_cleared, bits_in, left, take, with_masks, ◌≡◌}
 use Rattle.acl_normal.proofs.emit.rising.cleared.Given as goal
 
 -- the list of the places so far

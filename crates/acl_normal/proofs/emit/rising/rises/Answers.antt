@@ -1,9 +1,5 @@
-use Rattle.std.proofs.Common.{◌≡◌, ◌+◌, ◌<◌, length, ◌∙◌, sym, ap, subst, arith}
-use Rattle.std.specs.Prelude.{slice_index_or}
-use Rattle.acl_perm.specs.Order.{kind_rank}
-use Rattle.acl_normal.specs.Places.{mask_here}
-use Rattle.acl_normal.specs.internal.Rising.{HasRisen}
-use Rattle.acl_normal.specs.internal.Shown.{bits_in, with_masks}
+use Rattle.std.proofs.Common.{◌≡◌, ◌+◌, ◌<◌, length}
+use Rattle.acl_normal.proofs.Common.{ap, arith, bits_in, HasRisen, kind_rank, mask_here, slice_index_or, subst, sym, with_masks, ◌∙◌}
 use Rattle.acl_normal.proofs.emit.Marks.{rank_below}
 use Rattle.acl_normal.proofs.emit.Risen.{all_risen, none_risen, number_few, number_there, risen_more, risen_past}
 use Rattle.acl_normal.proofs.reduce.LaterBits.{length_masks, mask_there}

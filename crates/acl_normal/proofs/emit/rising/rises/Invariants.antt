@@ -1,5 +1,4 @@
-use Rattle.acl_normal.specs.internal.Rising.{HasRisen}
-use Rattle.acl_normal.specs.internal.Shown.{bits_in, with_masks}
+use Rattle.acl_normal.proofs.Common.{bits_in, HasRisen, with_masks}
 use Rattle.acl_normal.proofs.emit.rising.rises.Given as goal
 
 -- the keys of the places so far rise, and have numbers below the bound

@@ -1,8 +1,4 @@
-use Rattle.std.proofs.Common.{sym, subst}
-use Rattle.std.specs.Prelude.{option_map, ◌++◌, ◌∷◌, []}
-use Rattle.acl_nfs4.specs.Ace.{ace}
-use Rattle.acl_normal.specs.internal.Shown.{aces_in}
-use Rattle.acl_normal.specs.internal.Passes.{IsLeastCandidate}
+use Rattle.acl_normal.proofs.Common.{[], ace, aces_in, IsLeastCandidate, option_map, subst, sym, ◌++◌, ◌∷◌}
 use Rattle.acl_normal.proofs.plain.Candidates.{best_with}
 use Rattle.acl_normal.proofs.plain.emission.better.Goals as goal
 

@@ -1,6 +1,5 @@
-use Rattle.std.proofs.Common.{ap, ◌∙◌, refl}
-use Rattle.acl_nfs4.specs.Ace.{ace}
-use Rattle.acl_normal.specs.Normal.{flags_for}
+use Rattle.std.proofs.Common.{refl}
+use Rattle.acl_normal.proofs.Common.{ace, ap, flags_for, ◌∙◌}
 use Rattle.acl_normal.proofs.plain.Candidates.{candidate_within}
 use Rattle.acl_normal.proofs.plain.emission.candidate.Goals as goal
 

@@ -1,8 +1,5 @@
-use Rattle.std.proofs.Common.{sym, subst}
-use Rattle.acl_perm.specs.Profile.{full}
-use Rattle.acl_nfs4.specs.Ace.{ace}
-use Rattle.acl_normal.specs.internal.Shown.{aces_in}
-use Rattle.acl_normal.specs.internal.Passes.{AreNowhereFree, IsLeastCandidate}
+use Rattle.acl_normal.proofs.Common.{ace, aces_in, full, IsLeastCandidate, subst, sym}
+use Rattle.acl_normal.specs.internal.Passes.{AreNowhereFree}
 use Rattle.acl_normal.proofs.plain.Candidates.{none_free}
 use Rattle.acl_normal.proofs.plain.InTurn.{Emitting, Taken, coming_accepted, emitting_all, emitting_more, emitting_none, fewer_left}
 use Rattle.acl_normal.proofs.plain.emission.emit.Goals as goal

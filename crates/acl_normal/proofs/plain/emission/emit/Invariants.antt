@@ -1,5 +1,4 @@
-use Rattle.acl_normal.specs.internal.Shown.{aces_in}
-use Rattle.acl_normal.specs.internal.Counts.{count_left}
+use Rattle.acl_normal.proofs.Common.{aces_in, count_left}
 use Rattle.acl_normal.proofs.plain.InTurn.{Emitting}
 use Rattle.acl_normal.proofs.plain.emission.emit.Given as goal
 

@@ -1,8 +1,4 @@
-use Rattle.std.proofs.Common.{arith}
-use Rattle.acl_nfs4.specs.Ace.{ace}
-use Rattle.acl_eval.specs.Column.{column}
-use Rattle.acl_normal.specs.Keys.{ace_key}
-use Rattle.acl_normal.specs.internal.Passes.{conflicts_before}
+use Rattle.acl_normal.proofs.Common.{ace, ace_key, arith, column, conflicts_before}
 use Rattle.acl_normal.proofs.plain.Passes.{free_more, union_more, blocks_gathered}
 use Rattle.acl_normal.proofs.plain.emission.free_bits.Goals as goal
 

@@ -1,11 +1,4 @@
-use Rattle.std.specs.Prelude.{take}
-use Rattle.acl_perm.specs.Bits.{IsMask}
-use Rattle.acl_nfs4.specs.Ace.{ace}
-use Rattle.acl_eval.specs.Column.{column}
-use Rattle.acl_normal.specs.Keys.{ace_key}
-use Rattle.acl_normal.specs.Normal.{is_free}
-use Rattle.acl_normal.specs.internal.Shown.{aces_in}
-use Rattle.acl_normal.specs.internal.Passes.{conflicts_before}
+use Rattle.acl_normal.proofs.Common.{ace, ace_key, aces_in, column, conflicts_before, is_free, IsMask, take}
 use Rattle.acl_normal.proofs.plain.Passes.{Marks}
 use Rattle.acl_normal.proofs.plain.emission.free_bits.Given as goal
 

@@ -1,8 +1,4 @@
-use Rattle.std.proofs.Common.{sym, subst, arith}
-use Rattle.std.specs.Prelude.{option_map, take}
-use Rattle.acl_nfs4.specs.Ace.{ace}
-use Rattle.acl_normal.specs.internal.Shown.{aces_in}
-use Rattle.acl_normal.specs.internal.Passes.{Best}
+use Rattle.acl_normal.proofs.Common.{ace, aces_in, arith, Best, option_map, subst, sym, take}
 use Rattle.acl_normal.proofs.unique.Kept.{ace_at}
 use Rattle.acl_normal.proofs.plain.Passes.{list_of-more}
 use Rattle.acl_normal.proofs.plain.emission.least.Goals as goal

@@ -1,7 +1,4 @@
-use Rattle.std.specs.Prelude.{option_map, take}
-use Rattle.acl_nfs4.specs.Ace.{ace}
-use Rattle.acl_normal.specs.internal.Shown.{aces_in}
-use Rattle.acl_normal.specs.internal.Passes.{Best}
+use Rattle.acl_normal.proofs.Common.{ace, aces_in, Best, option_map, take}
 use Rattle.acl_normal.proofs.plain.emission.least.Given as goal
 
 -- the best of the ACEs so far

@@ -1,9 +1,5 @@
-use Rattle.std.proofs.Common.{refl, sym, ap, subst, ◌∙◌, arith}
-use Rattle.acl_nfs4.specs.Ace.{ace}
-use Rattle.acl_nfs4.specs.Who.{principal_of}
-use Rattle.acl_eval.specs.Column.{column}
-use Rattle.acl_normal.specs.internal.Shown.{aces_in}
-use Rattle.acl_normal.specs.internal.Passes.{KeepsProfiles}
+use Rattle.std.proofs.Common.{refl}
+use Rattle.acl_normal.proofs.Common.{ace, aces_in, ap, arith, column, KeepsProfiles, principal_of, subst, sym, ◌∙◌}
 use Rattle.acl_normal.proofs.plain.Emptied.{emptied_more}
 use Rattle.acl_normal.proofs.unique.Kept.{ace_at, difference_fewer, fewer_bits, keeps_more}
 use Rattle.acl_normal.proofs.plain.emission.without.Goals as goal

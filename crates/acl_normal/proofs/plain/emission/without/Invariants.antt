@@ -1,10 +1,4 @@
-use Rattle.std.specs.Prelude.{◌≡◌, ℕ, take}
-use Rattle.acl_perm.specs.Bits.{has_bit}
-use Rattle.acl_nfs4.specs.Ace.{ace}
-use Rattle.acl_nfs4.specs.Who.{principal_of}
-use Rattle.acl_eval.specs.Column.{column}
-use Rattle.acl_normal.specs.internal.Shown.{aces_in}
-use Rattle.acl_normal.specs.internal.Passes.{KeepsProfiles}
+use Rattle.acl_normal.proofs.Common.{ace, aces_in, column, has_bit, KeepsProfiles, principal_of, take, ℕ, ◌≡◌}
 use Rattle.acl_normal.proofs.plain.Emptied.{emptied}
 use Rattle.acl_normal.proofs.plain.emission.without.Given as goal
 

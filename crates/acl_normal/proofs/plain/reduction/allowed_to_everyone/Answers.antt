@@ -1,6 +1,4 @@
-use Rattle.std.proofs.Common.{arith}
-use Rattle.acl_perm.specs.Principal.{everyone}
-use Rattle.acl_normal.specs.internal.Passes.{is_shadowed}
+use Rattle.acl_normal.proofs.Common.{arith, everyone, is_shadowed}
 use Rattle.acl_normal.proofs.plain.Passes.{allowed_more, union_more, shadows_gathered}
 use Rattle.acl_normal.proofs.plain.reduction.allowed_to_everyone.Goals as goal
 

@@ -1,12 +1,4 @@
-use Rattle.std.specs.Prelude.{take}
-use Rattle.acl_perm.specs.Bits.{IsMask}
-use Rattle.acl_perm.specs.Principal.{everyone}
-use Rattle.acl_perm.specs.declared.kind.Kind.TheVariants.{Allow}
-use Rattle.acl_eval.specs.Column.{column}
-use Rattle.acl_normal.specs.Keys.{kind_eq}
-use Rattle.acl_normal.specs.internal.Shown.{aces_in}
-use Rattle.acl_normal.specs.internal.Passes.{is_shadowed}
-use Rattle.acl_normal.specs.internal.Plain.{default}
+use Rattle.acl_normal.proofs.Common.{aces_in, Allow, column, default, everyone, is_shadowed, IsMask, kind_eq, take}
 use Rattle.acl_normal.proofs.plain.Passes.{Marks}
 use Rattle.acl_normal.proofs.plain.reduction.allowed_to_everyone.Given as goal
 

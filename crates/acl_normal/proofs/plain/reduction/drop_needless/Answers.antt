@@ -1,13 +1,5 @@
-use Rattle.std.proofs.Common.{◌+◌, refl, sym, ap, subst, ◌∙◌, arith}
-use Rattle.std.specs.Prelude.{◌++◌, ◌&&◌, drop}
-use Rattle.acl_perm.specs.Bits.{has_bit}
-use Rattle.acl_nfs4.specs.Ace.{ace}
-use Rattle.acl_nfs4.specs.Who.{principal_of}
-use Rattle.acl_eval.specs.Column.{column}
-use Rattle.acl_normal.specs.internal.Needed.{default_at}
-use Rattle.acl_normal.specs.internal.Shown.{aces_in}
-use Rattle.acl_normal.specs.internal.Passes.{KeepsProfiles}
-use Rattle.acl_normal.specs.internal.Plain.{default, is_needed, needed_keys}
+use Rattle.std.proofs.Common.{◌+◌, refl}
+use Rattle.acl_normal.proofs.Common.{ace, aces_in, ap, arith, column, default, default_at, drop, has_bit, is_needed, KeepsProfiles, needed_keys, principal_of, subst, sym, ◌&&◌, ◌++◌, ◌∙◌}
 use Rattle.acl_normal.proofs.plain.Passes.{Marks}
 use Rattle.acl_normal.proofs.unique.Kept.{ace_at, front_true, fewer_bits, keeps_more}
 use Rattle.acl_normal.proofs.plain.NeededBits.{needed_more}

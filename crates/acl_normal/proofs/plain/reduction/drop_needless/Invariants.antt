@@ -1,8 +1,4 @@
-use Rattle.std.specs.Prelude.{◌≡◌, ℕ, ◌++◌, drop}
-use Rattle.acl_eval.specs.Column.{column}
-use Rattle.acl_normal.specs.internal.Shown.{aces_in}
-use Rattle.acl_normal.specs.internal.Passes.{KeepsProfiles}
-use Rattle.acl_normal.specs.internal.Plain.{default, needed_keys}
+use Rattle.acl_normal.proofs.Common.{aces_in, column, default, drop, KeepsProfiles, needed_keys, ℕ, ◌++◌, ◌≡◌}
 use Rattle.acl_normal.proofs.plain.reduction.drop_needless.Given as goal
 
 -- what is kept so far, and what is needed of the rest, is what is needed of all

@@ -1,10 +1,5 @@
-use Rattle.std.proofs.Common.{refl, sym, ap, subst, ◌∙◌, arith}
-use Rattle.std.specs.Prelude.{take}
-use Rattle.acl_nfs4.specs.Ace.{ace}
-use Rattle.acl_nfs4.specs.Who.{principal_of}
-use Rattle.acl_eval.specs.Column.{column}
-use Rattle.acl_normal.specs.internal.Shown.{aces_in}
-use Rattle.acl_normal.specs.internal.Passes.{KeepsProfiles, is_shadowed}
+use Rattle.std.proofs.Common.{refl}
+use Rattle.acl_normal.proofs.Common.{ace, aces_in, ap, arith, column, is_shadowed, KeepsProfiles, principal_of, subst, sym, take, ◌∙◌}
 use Rattle.acl_normal.proofs.plain.Passes.{Marks}
 use Rattle.acl_normal.proofs.unique.Kept.{ace_at, difference_fewer, fewer_bits, keeps_more}
 use Rattle.acl_normal.proofs.plain.Reached.{reached_more}

@@ -1,8 +1,4 @@
-use Rattle.std.specs.Prelude.{◌≡◌, ℕ, [], take}
-use Rattle.acl_eval.specs.Column.{column}
-use Rattle.acl_normal.specs.internal.Shown.{aces_in}
-use Rattle.acl_normal.specs.internal.Passes.{KeepsProfiles}
-use Rattle.acl_normal.specs.internal.Plain.{unshadowed}
+use Rattle.acl_normal.proofs.Common.{[], aces_in, column, KeepsProfiles, take, unshadowed, ℕ, ◌≡◌}
 use Rattle.acl_normal.proofs.plain.reduction.drop_shadowed.Given as goal
 
 -- of the ACEs so far, what isn't shadowed is kept

@@ -1,8 +1,4 @@
-use Rattle.std.proofs.Common.{arith}
-use Rattle.acl_nfs4.specs.Ace.{ace}
-use Rattle.acl_nfs4.specs.Who.{principal_of}
-use Rattle.acl_eval.specs.Column.{column}
-use Rattle.acl_normal.specs.internal.Plain.{has_opposite}
+use Rattle.acl_normal.proofs.Common.{ace, arith, column, has_opposite, principal_of}
 use Rattle.acl_normal.proofs.plain.Passes.{union_more, opposites_gathered}
 use Rattle.acl_normal.proofs.plain.reduction.opposite.Goals as goal
 

@@ -1,10 +1,4 @@
-use Rattle.std.specs.Prelude.{take}
-use Rattle.acl_nfs4.specs.Ace.{ace}
-use Rattle.acl_nfs4.specs.Who.{principal_of}
-use Rattle.acl_eval.specs.Column.{column}
-use Rattle.acl_normal.specs.internal.Shown.{aces_in}
-use Rattle.acl_normal.specs.internal.Plain.{has_opposite}
-use Rattle.acl_perm.specs.Bits.{IsMask}
+use Rattle.acl_normal.proofs.Common.{ace, aces_in, column, has_opposite, IsMask, principal_of, take}
 use Rattle.acl_normal.proofs.plain.Passes.{Marks}
 use Rattle.acl_normal.proofs.plain.reduction.opposite.Given as goal
 

@@ -1,6 +1,4 @@
-use Rattle.std.proofs.Common.{arith}
-use Rattle.acl_perm.specs.Principal.{principal}
-use Rattle.acl_normal.specs.internal.Passes.{is_shadowed}
+use Rattle.acl_normal.proofs.Common.{arith, is_shadowed, principal}
 use Rattle.acl_normal.proofs.plain.Passes.{union_more, shadows_gathered}
 use Rattle.acl_normal.proofs.plain.reduction.shadow.Goals as goal
 

@@ -1,8 +1,4 @@
-use Rattle.std.specs.Prelude.{take}
-use Rattle.acl_perm.specs.Principal.{principal}
-use Rattle.acl_normal.specs.internal.Shown.{aces_in}
-use Rattle.acl_normal.specs.internal.Passes.{is_shadowed}
-use Rattle.acl_perm.specs.Bits.{IsMask}
+use Rattle.acl_normal.proofs.Common.{aces_in, is_shadowed, IsMask, principal, take}
 use Rattle.acl_normal.proofs.plain.Passes.{Marks}
 use Rattle.acl_normal.proofs.plain.reduction.shadow.Given as goal
 

@@ -1,5 +1,4 @@
-use Rattle.acl_normal.specs.internal.Shown.{aces_in}
-use Rattle.std.proofs.Common.{ap, ◌∙◌}
+use Rattle.acl_normal.proofs.Common.{aces_in, ap, ◌∙◌}
 use Rattle.acl_normal.proofs.plain.small_sets.first_difference.Goals as goal
 use Rattle.acl_normal.proofs.comparison.FirstSet.{comparison_of, named_of}
 use Rattle.acl_normal.proofs.comparison.MentionedRows.{mentions_same}

@@ -1,9 +1,6 @@
-use Rattle.std.specs.Prelude.{drop}
+use Rattle.acl_normal.proofs.Common.{aces_in, drop, pairs, principals}
 use Rattle.acl_normal.proofs.plain.small_sets.first_pair.Given as goal
 use Rattle.acl_normal.proofs.comparison.SetSearchLemmas.{GoesOn}
-use Rattle.acl_normal.specs.internal.Shown.{aces_in}
-use Rattle.acl_normal.specs.internal.SetSearch.{principals}
-use Rattle.acl_normal.specs.SmallSets.{pairs}
 
 abbrev pub invariant-loop-i : goal.invariant-loop-i
 invariant-loop-i l = GoesOn (aces_in l.list) (aces_in l.other) (pairs (principals (drop l.i l.whole)))

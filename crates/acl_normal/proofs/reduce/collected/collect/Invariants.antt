@@ -1,5 +1,4 @@
-use Rattle.acl_normal.specs.internal.Shown.{aces_in}
-use Rattle.std.specs.Prelude.{◌≡◌, ◌++◌}
+use Rattle.acl_normal.proofs.Common.{aces_in, ◌++◌, ◌≡◌}
 use Rattle.acl_normal.proofs.reduce.collected.collect.Given as goal
 
 -- the ACEs so far and those that are left are the list

@@ -1,7 +1,4 @@
-use Rattle.std.specs.Prelude.{◌≡◌, ◌+◌, ◌<◌, ◌||◌, [], ◌∷◌, ◌++◌, bit_or, length, refl, slice_index_or, slice_set}
-use Rattle.std.proofs.Common.{◌∙◌, sym, ap, subst, arith}
-use Rattle.acl_perm.specs.Bits.{IsDifference, has_bit}
-use Rattle.acl_normal.specs.internal.Shown.{bits_in}
+use Rattle.acl_normal.proofs.Common.{[], ap, arith, bit_or, bits_in, has_bit, IsDifference, length, refl, slice_index_or, slice_set, subst, sym, ◌++◌, ◌+◌, ◌<◌, ◌||◌, ◌∙◌, ◌∷◌, ◌≡◌}
 use Rattle.acl_normal.proofs.reduce.FirstMasks.{Reaches, reaches_all, reaches_more, reaches_none, reaches_thinned, row_seen}
 use Rattle.acl_normal.proofs.unique.Bits.{bits_all, bits_at, bits_length, bits_push, bits_set}
 use Rattle.acl_normal.proofs.reduce.first.first_masks.Goals as goal

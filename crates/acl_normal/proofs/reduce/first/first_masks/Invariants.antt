@@ -1,5 +1,4 @@
-use Rattle.acl_perm.specs.Bits.{IsMask}
-use Rattle.acl_normal.specs.internal.Shown.{bits_in}
+use Rattle.acl_normal.proofs.Common.{bits_in, IsMask}
 use Rattle.acl_normal.proofs.reduce.FirstMasks.{Reaches}
 use Rattle.acl_normal.proofs.reduce.first.first_masks.Given as goal
 

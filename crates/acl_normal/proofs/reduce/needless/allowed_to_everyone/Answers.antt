@@ -1,7 +1,4 @@
-use Rattle.std.specs.Prelude.{◌≡◌, ◌<◌, length, slice_index_or, refl}
-use Rattle.std.proofs.Common.{◌∙◌, arith}
-use Rattle.acl_nfs4.specs.Ace.{ace}
-use Rattle.acl_normal.specs.internal.Shown.{bits_in, with_masks}
+use Rattle.acl_normal.proofs.Common.{ace, arith, bits_in, length, refl, slice_index_or, with_masks, ◌<◌, ◌∙◌, ◌≡◌}
 use Rattle.acl_normal.proofs.reduce.FirstMasks.{masked}
 use Rattle.acl_normal.proofs.reduce.LaterBits.{allows_all, allows_more, allows_start, length_masks, masked_at, quiet_index}
 use Rattle.acl_normal.proofs.unique.Bits.{bits_at, bits_length}

@@ -1,5 +1,4 @@
-use Rattle.acl_perm.specs.Bits.{IsMask}
-use Rattle.acl_normal.specs.internal.Shown.{bits_in, with_masks}
+use Rattle.acl_normal.proofs.Common.{bits_in, IsMask, with_masks}
 use Rattle.acl_normal.proofs.reduce.LaterBits.{AllowsTo}
 use Rattle.acl_normal.proofs.reduce.needless.allowed_to_everyone.Given as goal
 

@@ -1,16 +1,6 @@
-use Rattle.std.proofs.Common.{◌≡◌, ◌+◌, ◌-◌, ◌<◌, length, true, not, ◌&&◌, suc, ◌∙◌, sym, ap, subst, arith}
-use Rattle.std.specs.Prelude.{ℕ, slice_index_or, slice_set}
-use Rattle.std.proofs.lemmas.Bool.{and_parts}
-use Rattle.acl_perm.specs.Bits.{has_bit}
-use Rattle.acl_nfs4.specs.Ace.{ace}
-use Rattle.acl_nfs4.specs.Who.{principal_of}
-use Rattle.acl_eval.specs.Scan.{without}
-use Rattle.acl_normal.specs.Keys.{ace_key}
-use Rattle.acl_normal.specs.Keys.{plain_key}
-use Rattle.acl_normal.specs.Left.{IsTidy, KeepsFirsts}
-use Rattle.acl_normal.specs.internal.Needed.{default_at, is_kept, opposes}
-use Rattle.acl_normal.specs.Places.{take_out}
-use Rattle.acl_normal.specs.internal.Shown.{bits_in, with_masks}
+use Rattle.std.proofs.Common.{◌≡◌, ◌+◌, ◌-◌, ◌<◌, length, true, not, ◌&&◌, suc}
+use Rattle.acl_normal.proofs.Common.{ace, ace_key, and_parts, ap, arith, bits_in, default_at, has_bit, IsTidy, KeepsFirsts, plain_key, principal_of, slice_index_or, slice_set, subst, sym, take_out, with_masks, without, ℕ, ◌∙◌}
+use Rattle.acl_normal.specs.internal.Needed.{is_kept, opposes}
 use Rattle.acl_normal.proofs.rows.Quiet.{tidy_taken}
 use Rattle.acl_normal.proofs.reduce.FirstMasks.{masked}
 use Rattle.acl_normal.proofs.reduce.FirstRows.{key_at_index}

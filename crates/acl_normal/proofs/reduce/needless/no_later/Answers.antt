@@ -1,5 +1,4 @@
-use Rattle.std.specs.Prelude.{true, false}
-use Rattle.acl_perm.specs.declared.kind.Kind.TheVariants.{Deny, Allow}
+use Rattle.acl_normal.proofs.Common.{Allow, Deny, false, true}
 use Rattle.acl_normal.proofs.unique.Bits.{no_bits_of_zero}
 use Rattle.acl_normal.proofs.reduce.needless.no_later.Goals as goal
 

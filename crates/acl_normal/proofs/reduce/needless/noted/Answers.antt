@@ -1,5 +1,4 @@
-use Rattle.std.specs.Prelude.{refl}
-use Rattle.acl_perm.specs.declared.kind.Kind.TheVariants.{Deny, Allow}
+use Rattle.acl_normal.proofs.Common.{Allow, Deny, refl}
 use Rattle.acl_normal.proofs.reduce.LaterBits.{noted_other}
 use Rattle.acl_normal.proofs.reduce.needless.noted.Goals as goal
 

@@ -1,11 +1,8 @@
-use Rattle.std.proofs.Common.{◌≡◌, rules}
+use Rattle.std.proofs.Common.{◌≡◌}
 use Rattle.std.proofs.lemmas.Fn.{always_returns_same}
 use Rattle.acl_normal.proofs.rows.RowNumbers.{found_row, missing_row}
 use Rattle.acl_normal.proofs.rows.numbers.find_row.Goals as goal
-use Rattle.acl_normal.specs.Places.{key_here}
-use Rattle.acl_normal.specs.internal.Shown.{aces_in}
-use Rattle.acl_perm.specs.Order.{principal_cmp}
-use Rattle.acl_perm.specs.Principal.{principal}
+use Rattle.acl_normal.proofs.Common.{aces_in, key_here, principal, principal_cmp, rules}
 
 pub returns-in-Ok-clause-found : goal.returns-in-Ok-clause-found
 returns-in-Ok-clause-found c =

@@ -1,8 +1,6 @@
-use Rattle.std.specs.Prelude.{map}
+use Rattle.acl_normal.proofs.Common.{aces_in, map, named_at}
 use Rattle.acl_normal.proofs.rows.RowNumbers.{AreNumberedTo}
 use Rattle.acl_normal.proofs.rows.numbers.rows_of.Given as goal
-use Rattle.acl_normal.specs.internal.RowNumbers.{named_of}
-use Rattle.acl_normal.specs.internal.Shown.{aces_in}
 
 abbrev pub invariant-loop-i : goal.invariant-loop-i
-invariant-loop-i l = AreNumberedTo (aces_in l.aces) (map named_of l.named) l.rows.items l.start l.i
+invariant-loop-i l = AreNumberedTo (aces_in l.aces) (map (named_at (aces_in l.aces)) l.sorted) l.rows.items l.start l.i

@@ -1,5 +1,4 @@
-use Rattle.std.specs.Prelude.{◌-◌, ◌≤◌}
-use Rattle.acl_normal.specs.internal.Classes.{is_users}
+use Rattle.acl_normal.proofs.Common.{is_users, ◌-◌, ◌≤◌}
 use Rattle.acl_normal.proofs.rows.WaitingPlaces.{NotesBelow}
 use Rattle.acl_normal.proofs.rows.waiting.note.Given as goal
 

@@ -1,9 +1,5 @@
-use Rattle.std.proofs.Common.{◌∙◌, ap}
-use Rattle.std.specs.BTreeMap.{is_at}
-use Rattle.std.specs.List.{list_any}
-use Rattle.std.specs.Ordering.{nat_cmp}
+use Rattle.acl_normal.proofs.Common.{ap, IfOk-weaker, is_at, list_any, nat_cmp, ◌∙◌}
 use Rattle.std.proofs.IntoIterSteps.{All-taken}
-use Rattle.std.proofs.lemmas.Result.{IfOk-weaker}
 use Rattle.acl_normal.proofs.rows.waiting.set_of.Goals as goal
 
 pub returns : goal.returns

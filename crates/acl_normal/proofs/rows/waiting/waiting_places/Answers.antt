@@ -1,9 +1,5 @@
-use Rattle.std.proofs.Common.{◌≡◌, ◌∙◌, ap, length, subst, sym, arith}
-use Rattle.std.proofs.lemmas.List.{take_all}
-use Rattle.acl_perm.specs.Principal.{is_user}
-use Rattle.acl_normal.specs.internal.Classes.{is_users}
-use Rattle.acl_normal.specs.internal.Shown.{bits_in, with_masks}
-use Rattle.acl_normal.specs.internal.Waiting.{HoldWaiting}
+use Rattle.std.proofs.Common.{◌≡◌, length}
+use Rattle.acl_normal.proofs.Common.{ap, arith, bits_in, HoldWaiting, is_user, is_users, subst, sym, take_all, with_masks, ◌∙◌}
 use Rattle.acl_normal.proofs.rows.WaitingPlaces.{holds_more}
 use Rattle.acl_normal.proofs.unique.Bits.{bits_at, bits_length}
 use Rattle.acl_normal.proofs.unique.Outline.{length_shown}

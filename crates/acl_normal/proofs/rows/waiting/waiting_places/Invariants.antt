@@ -1,6 +1,5 @@
 use Rattle.std.proofs.Common.{take}
-use Rattle.acl_normal.specs.internal.Shown.{bits_in, with_masks}
-use Rattle.acl_normal.specs.internal.Waiting.{HoldWaiting}
+use Rattle.acl_normal.proofs.Common.{bits_in, HoldWaiting, with_masks}
 use Rattle.acl_normal.proofs.rows.waiting.waiting_places.Given as goal
 
 abbrev pub invariant-loop-place : goal.invariant-loop-place

@@ -1,7 +1,7 @@
 use Rattle.std.proofs.Common.{sym, subst, ◌+◌}
 use Rattle.acl_normal.proofs.comparison.compared.Compared.least_member.Goals as goal
-use Rattle.acl_normal.proofs.comparison.compared.Compared.least_member.Goals.{then-has_right+in_ok-standings+in_ok-least, else-has_right}
-use Rattle.acl_normal.proofs.comparison.RowFacts.{LeastMember, least_done, least_skip, member_step, rows_limit, unused_pairs}
+use Rattle.acl_normal.proofs.comparison.compared.Compared.least_member.Goals.{then-may_differ+in_ok-standings+in_ok-least, else-may_differ}
+use Rattle.acl_normal.proofs.comparison.RowFacts.{LeastMember, least_done, least_skip, member_step, rows_limit, same_pairs}
 use Rattle.acl_normal.proofs.comparison.TableFacts.{slice_within}
 use Rattle.acl_normal.specs.internal.TwoLists.{StandAs, all_mentioned}
 
@@ -15,16 +15,16 @@ first_inverting-requires-clause-places c =
     slice_within c.args.self.now _ _ _ _ c.deref.ensures.value c.longer-size.ensures.within c.in_ok-standings.ensures
 
 pub loop-bit-preserved : goal.loop-bit-preserved
-loop-bit-preserved c = elim c.if-has_right.branch [
-  | then-has_right+in_ok-standings+in_ok-least w ↦ subst (LeastMember c.args.self.now (c.loop-bit.bit + 1))
+loop-bit-preserved c = elim c.if-may_differ.branch [
+  | then-may_differ+in_ok-standings+in_ok-least w ↦ subst (LeastMember c.args.self.now (c.loop-bit.bit + 1))
       (sym w.least-is)
       (member_step _ _ _ _ _ _ _
       (subst (StandAs c.args.self.now c.loop-bit.bit) (sym w.deref.ensures.value) w.in_ok-standings.ensures)
-      c.requires (c.has_right.ensures.right w.if-has_right.true) w.in_ok-least.ensures.within
+      c.requires (c.may_differ.ensures.right w.if-may_differ.true) w.in_ok-least.ensures.within
       w.in_ok-least.ensures.before w.in_ok-least.ensures.at c.loop-bit.invariant)
-  | else-has_right w ↦ subst (LeastMember c.args.self.now (c.loop-bit.bit + 1)) (sym w.least-is)
+  | else-may_differ w ↦ subst (LeastMember c.args.self.now (c.loop-bit.bit + 1)) (sym w.least-is)
       (least_skip _ _ _ _
-      (unused_pairs c.args.self.now c.loop-bit.bit (c.has_right.ensures.unused w.if-has_right.false))
+      (same_pairs c.args.self.now c.loop-bit.bit (c.may_differ.ensures.same w.if-may_differ.false))
       c.loop-bit.invariant)
 ]
 

@@ -1,7 +1,7 @@
 use Rattle.std.proofs.Common.{arith, sym, ap, subst, length, ◌+◌}
 use Rattle.acl_normal.proofs.comparison.compared.Compared.least_partner.Goals as goal
-use Rattle.acl_normal.proofs.comparison.compared.Compared.least_partner.Goals.{then-has_right+in_ok-standings, else-has_right}
-use Rattle.acl_normal.proofs.comparison.RowFacts.{LeastPartner, least_done, least_skip, others_length, partner_loop, rows_length, unused_pair}
+use Rattle.acl_normal.proofs.comparison.compared.Compared.least_partner.Goals.{then-may_differ+in_ok-standings, else-may_differ}
+use Rattle.acl_normal.proofs.comparison.RowFacts.{LeastPartner, least_done, least_skip, others_length, partner_loop, rows_length, same_pair}
 use Rattle.acl_normal.specs.internal.TwoLists.{all_mentioned}
 
 pub split_at-requires : goal.split_at-requires
@@ -22,16 +22,16 @@ first_inverted-least-requires c =
     )
 
 pub loop-bit-preserved : goal.loop-bit-preserved
-loop-bit-preserved c = elim c.if-has_right.branch [
-  | then-has_right+in_ok-standings w ↦ subst (LeastPartner c.args.self.now c.args.at (c.loop-bit.bit + 1))
+loop-bit-preserved c = elim c.if-may_differ.branch [
+  | then-may_differ+in_ok-standings w ↦ subst (LeastPartner c.args.self.now c.args.at (c.loop-bit.bit + 1))
       (sym w.least-is)
       (partner_loop _ _ _ _ _ _ _ _ _ _ _ c.requires.at w.in_ok-standings.ensures w.as_slice.ensures.value
-      w.split_at.ensures.back w.index.ensures c.requires.alone (c.has_right.ensures.right w.if-has_right.true)
+      w.split_at.ensures.back w.index.ensures c.requires.alone (c.may_differ.ensures.right w.if-may_differ.true)
       w.first_inverted-least.ensures.within w.first_inverted-least.ensures.before
       w.first_inverted-least.ensures.at c.loop-bit.invariant)
-  | else-has_right w ↦ subst (LeastPartner c.args.self.now c.args.at (c.loop-bit.bit + 1)) (sym w.least-is)
+  | else-may_differ w ↦ subst (LeastPartner c.args.self.now c.args.at (c.loop-bit.bit + 1)) (sym w.least-is)
       (least_skip _ _ _ _
-      (unused_pair c.args.self.now c.args.at c.loop-bit.bit (c.has_right.ensures.unused w.if-has_right.false))
+      (same_pair c.args.self.now c.args.at c.loop-bit.bit (c.may_differ.ensures.same w.if-may_differ.false))
       c.loop-bit.invariant)
 ]
 

@@ -1,7 +1,7 @@
 use Rattle.std.proofs.Common.{sym, subst, ◌+◌}
 use Rattle.acl_normal.proofs.comparison.compared.Compared.least_single.Goals as goal
-use Rattle.acl_normal.proofs.comparison.compared.Compared.least_single.Goals.{then-has_right+in_ok-standings, else-has_right}
-use Rattle.acl_normal.proofs.comparison.RowFacts.{LeastSingle, least_done, least_skip, rows_limit, single_step, unused_one}
+use Rattle.acl_normal.proofs.comparison.compared.Compared.least_single.Goals.{then-may_differ+in_ok-standings, else-may_differ}
+use Rattle.acl_normal.proofs.comparison.RowFacts.{LeastSingle, least_done, least_skip, rows_limit, single_step, same_one}
 use Rattle.acl_normal.specs.internal.TwoLists.{StandAs, all_mentioned}
 
 pub first_unlike-least-requires : goal.first_unlike-least-requires
@@ -10,15 +10,15 @@ first_unlike-least-requires c =
     c.loop-bit.invariant.within
 
 pub loop-bit-preserved : goal.loop-bit-preserved
-loop-bit-preserved c = elim c.if-has_right.branch [
-  | then-has_right+in_ok-standings w ↦ subst (LeastSingle c.args.self.now (c.loop-bit.bit + 1)) (sym w.least-is)
+loop-bit-preserved c = elim c.if-may_differ.branch [
+  | then-may_differ+in_ok-standings w ↦ subst (LeastSingle c.args.self.now (c.loop-bit.bit + 1)) (sym w.least-is)
       (single_step _ _ _ _ _ _ _
       (subst (StandAs c.args.self.now c.loop-bit.bit) (sym w.deref.ensures.value) w.in_ok-standings.ensures)
-      (c.has_right.ensures.right w.if-has_right.true) w.first_unlike-least.ensures.within
+      (c.may_differ.ensures.right w.if-may_differ.true) w.first_unlike-least.ensures.within
       w.first_unlike-least.ensures.before w.first_unlike-least.ensures.at c.loop-bit.invariant)
-  | else-has_right w ↦ subst (LeastSingle c.args.self.now (c.loop-bit.bit + 1)) (sym w.least-is)
+  | else-may_differ w ↦ subst (LeastSingle c.args.self.now (c.loop-bit.bit + 1)) (sym w.least-is)
       (least_skip _ _ _ _
-      (unused_one c.args.self.now c.loop-bit.bit (c.has_right.ensures.unused w.if-has_right.false))
+      (same_one c.args.self.now c.loop-bit.bit (c.may_differ.ensures.same w.if-may_differ.false))
       c.loop-bit.invariant)
 ]
 

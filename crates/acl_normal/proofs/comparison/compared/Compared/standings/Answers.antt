@@ -1,10 +1,6 @@
-use Rattle.std.proofs.Common.{ap, subst, ◌∙◌}
-use Rattle.std.proofs.lemmas.List.{take_all}
+use Rattle.acl_normal.proofs.Common.{all_mentioned, ap, AreFirstFrom, AreStandings, principals, subst, take_all, ◌∙◌}
 use Rattle.acl_normal.proofs.comparison.compared.Compared.standings.Goals as goal
 use Rattle.acl_normal.proofs.comparison.RowFacts.{rows_more}
-use Rattle.acl_normal.specs.internal.FirstPlaces.{AreFirstFrom, AreStandings}
-use Rattle.acl_normal.specs.internal.SetSearch.{principals}
-use Rattle.acl_normal.specs.internal.TwoLists.{all_mentioned}
 
 pub loop-i-preserved : goal.loop-i-preserved
 loop-i-preserved c = rows_more _ _ _ _ _ _ _ _ _ _ _ _ _ c.loop-i-test.true c.index.ensures c.index-in-loop-i.ensures

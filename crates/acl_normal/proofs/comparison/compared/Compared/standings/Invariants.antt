@@ -1,7 +1,5 @@
-use Rattle.std.specs.Prelude.{take}
+use Rattle.acl_normal.proofs.Common.{AreStandings, principals, take}
 use Rattle.acl_normal.proofs.comparison.compared.Compared.standings.Given as goal
-use Rattle.acl_normal.specs.internal.FirstPlaces.{AreStandings}
-use Rattle.acl_normal.specs.internal.SetSearch.{principals}
 
 abbrev pub invariant-loop-i : goal.invariant-loop-i
 invariant-loop-i l = AreStandings (principals (take l.i l.mentioned)) l.self.first l.self.second l.fn.right.bit

@@ -1,6 +1,5 @@
-use Rattle.std.proofs.Common.{◌≡◌, false, subst, sym}
-use Rattle.acl_perm.specs.Principal.{principal}
-use Rattle.acl_normal.specs.internal.Rows.{is_named}
+use Rattle.std.proofs.Common.{◌≡◌, false}
+use Rattle.acl_normal.proofs.Common.{is_named, principal, subst, sym}
 use Rattle.acl_normal.proofs.rows.Rows.{unnamed_taken}
 use Rattle.acl_normal.proofs.rows.merged.MergedRows.emit.Goals as goal
 

@@ -1,7 +1,5 @@
-use Rattle.std.proofs.Common.{◌≡◌, ◌<◌, ◌^◌, Some, length, slice_index_or, ◌∙◌, sym, ap, subst, arith}
-use Rattle.acl_perm.specs.Principal.{principal, is_user}
-use Rattle.acl_normal.specs.Places.{first_at, slot_of, take_out}
-use Rattle.acl_normal.specs.internal.Rows.{IsRowOf}
+use Rattle.std.proofs.Common.{◌≡◌, ◌<◌, ◌^◌, Some, length, slice_index_or}
+use Rattle.acl_normal.proofs.Common.{ap, arith, first_at, is_user, IsRowOf, principal, slot_of, subst, sym, take_out, ◌∙◌}
 use Rattle.acl_normal.proofs.rows.BitTaken.{emit_right, same_default, NoKeys, slot_below, Without}
 use Rattle.acl_normal.proofs.rows.FirstPlaces.{first_by_none, first_by_place, first_in}
 use Rattle.acl_normal.proofs.rows.Rows.{row_below}
@@ -21,8 +19,8 @@ kind_at-kind-requires c =
     let at_row = subst (IsRowOf c.args.row p) (sym c.self.view_is) c.requires in
     first_in c.args.right.bit p xs _ (first_by_place c.args.right.bit p xs _ (sym (c.in-Some.ensures p at_row)))
 
-pub emit-requires : goal.emit-requires
-emit-requires c = subst (IsRowOf c.args.row (principal c.args.p)) (sym c.self.view_is) c.requires
+pub take_out-requires : goal.take_out-requires
+take_out-requires c = subst (IsRowOf c.args.row (principal c.args.p)) (sym c.self.view_is) c.requires
 
 pub invariant_of-self : goal.invariant_of-self
 invariant_of-self c =
@@ -51,8 +49,8 @@ invariant_of-self c =
     (slice_index_or s.waiting.items (slot_of c.kind_at-kind.result (is_user p) b) NoKeys).keys c.remove.new.self.keys =
     subst (λ v. Without c.in-Some.place v.keys c.remove.new.self.keys) set c.remove.ensures.updates.0 in
     let is_right = right_there b p xs _ first (c.self.invariant.rights b) in
-    let taken : c.emit.new.self ≡ take_out p (2 ^ b) xs =
-    c.emit.ensures ∙ ap (λ v. take_out p v xs) (c.alone.ensures is_right) in
+    let taken : c.take_out.new.self ≡ take_out p (2 ^ b) xs =
+    c.take_out.ensures ∙ ap (λ v. take_out p v xs) (c.alone.ensures is_right) in
     rw (at, taken)
     (emit_right s p b c.kind_at-kind.result c.in-Some.place c.remove.new.self c.self.invariant c.args.right.within
     first less)
@@ -64,7 +62,7 @@ returns-in-Some c =
     let b = c.args.right.bit in
     let at_row = subst (IsRowOf c.args.row p) (sym c.self.view_is) c.requires in
     let first = first_by_place b p xs _ (sym (c.in-Some.ensures p at_row)) in
-    c.emit.ensures
+    c.take_out.ensures
     ∙ ap (λ v. take_out p v xs) (c.alone.ensures (right_there b p xs _ first (c.self.invariant.rights b)))
     ∙ ap (take_out (principal c.args.p) (2 ^ c.args.right.bit)) c.self.view_is
 

@@ -1,8 +1,5 @@
-use Rattle.std.proofs.Common.{◌≡◌, ◌∙◌, sym, ap, arith, ⊎_elim}
-use Rattle.std.proofs.lemmas.Bool.{cases_lt}
-use Rattle.acl_perm.specs.Principal.{principal}
-use Rattle.acl_normal.specs.Places.{nothing_left, take_out}
-use Rattle.acl_normal.specs.internal.Ready.{low_bits}
+use Rattle.std.proofs.Common.{◌≡◌}
+use Rattle.acl_normal.proofs.Common.{ap, arith, cases_lt, low_bits, nothing_left, principal, sym, take_out, ⊎_elim, ◌∙◌}
 use Rattle.acl_normal.proofs.rows.BitsTaken.{take_zero, emit_more, emit_same, low_all}
 use Rattle.acl_normal.proofs.rows.Publics.{no_right_above}
 use Rattle.acl_normal.proofs.rows.Rows.{is_row_alike, outline_taken}

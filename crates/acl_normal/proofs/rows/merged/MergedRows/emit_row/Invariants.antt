@@ -1,7 +1,5 @@
 use Rattle.std.proofs.Common.{◌≡◌, ◌-◌, ◌≤◌}
-use Rattle.acl_perm.specs.Principal.{principal}
-use Rattle.acl_normal.specs.Places.{take_out}
-use Rattle.acl_normal.specs.internal.Ready.{low_bits}
+use Rattle.acl_normal.proofs.Common.{low_bits, principal, take_out}
 use Rattle.acl_normal.proofs.rows.merged.MergedRows.emit_row.Given as goal
 
 abbrev pub invariant-loop-right : goal.invariant-loop-right

@@ -1,9 +1,5 @@
-use Rattle.std.proofs.Common.{◌≡◌, ◌∙◌, ap, subst, sym}
-use Rattle.acl_perm.specs.Bits.{all_rights}
-use Rattle.acl_eval.specs.Grant.{SameGrants}
-use Rattle.acl_normal.specs.Left.{KeepsFirsts}
-use Rattle.acl_normal.specs.Places.{waits}
-use Rattle.acl_normal.specs.internal.Shown.{bits_in, with_masks}
+use Rattle.std.proofs.Common.{◌≡◌}
+use Rattle.acl_normal.proofs.Common.{all_rights, ap, bits_in, KeepsFirsts, SameGrants, subst, sym, waits, with_masks, ◌∙◌}
 use Rattle.acl_normal.proofs.rows.merged.MergedRows.new.Goals as goal
 
 pub invariant_of-result : goal.invariant_of-result

@@ -1,6 +1,5 @@
-use Rattle.std.proofs.Common.{◌≡◌, [], refl, ◌∙◌, subst}
-use Rattle.acl_eval.specs.Column.{column}
-use Rattle.acl_normal.specs.internal.Classes.{is_users}
+use Rattle.std.proofs.Common.{◌≡◌, [], refl}
+use Rattle.acl_normal.proofs.Common.{column, is_users, subst, ◌∙◌}
 use Rattle.acl_normal.proofs.rows.Waits.{waits_nowhere}
 use Rattle.acl_normal.proofs.rows.merged.MergedRows.waiting.Goals as goal
 

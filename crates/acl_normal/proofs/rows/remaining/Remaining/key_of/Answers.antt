@@ -1,15 +1,5 @@
-use Rattle.std.proofs.Common.{◌≡◌, ◌+◌, ◌<◌, ◌/◌, ◌%◌, ◌*◌, ◌∙◌, ℕ, ap, arith, length, refl, slice_index_or, subst, sym}
-use Rattle.acl_perm.specs.Order.{kind_rank}
-use Rattle.acl_perm.specs.Principal.{principal}
-use Rattle.acl_perm.specs.declared.kind.Kind.{Kind}
-use Rattle.acl_perm.specs.declared.kind.Kind.TheVariants.{Deny, Allow}
-use Rattle.acl_nfs4.specs.Who.{principal_of}
-use Rattle.acl_nfs4.specs.Ace.{ace}
-use Rattle.acl_nfs4.specs.declared.ace.AceRef.{AceRef}
-use Rattle.acl_normal.specs.Keys.{Key}
-use Rattle.acl_normal.specs.Places.{key_here}
-use Rattle.acl_normal.specs.internal.Remaining.{remaining_of}
-use Rattle.acl_normal.specs.internal.Rows.{is_named, row_of}
+use Rattle.std.proofs.Common.{◌≡◌, ◌+◌, ◌<◌, ◌/◌, ◌%◌, ◌*◌, ℕ, length, refl, slice_index_or}
+use Rattle.acl_normal.proofs.Common.{ace, AceRef, Allow, ap, arith, Deny, is_named, Key, key_here, Kind, kind_rank, principal, principal_of, remaining_of, row_of, subst, sym, ◌∙◌}
 use Rattle.acl_normal.proofs.emit.InRemaining.{length_remaining, order_there}
 use Rattle.acl_normal.proofs.emit.Marks.{number_rank}
 use Rattle.acl_normal.proofs.rows.BitsTaken.{key_there}

@@ -1,8 +1,4 @@
-use Rattle.std.proofs.Common.{◌∙◌, ap, arith}
-use Rattle.acl_nfs4.specs.declared.ace.AceRef.{AceRef}
-use Rattle.acl_normal.specs.Keys.{Key}
-use Rattle.acl_normal.specs.internal.Remaining.{masks_left}
-use Rattle.acl_normal.specs.internal.Shown.{bits_in}
+use Rattle.acl_normal.proofs.Common.{AceRef, ap, arith, bits_in, Key, masks_left, ◌∙◌}
 use Rattle.acl_normal.proofs.rows.BitsTaken.{key_of_left, place_of_left}
 use Rattle.acl_normal.proofs.rows.remaining.Remaining.kind_at.Goals as goal
 

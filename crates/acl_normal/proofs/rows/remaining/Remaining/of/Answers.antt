@@ -1,7 +1,5 @@
-use Rattle.std.proofs.Common.{◌≡◌, ◌∙◌, ap, arith, length, slice_index_or, subst}
-use Rattle.std.proofs.lemmas.List.{get_or-replicate}
-use Rattle.acl_normal.specs.internal.Remaining.{AreQueues, masks_left}
-use Rattle.acl_normal.specs.internal.Shown.{bits_in, with_masks}
+use Rattle.std.proofs.Common.{◌≡◌, length, slice_index_or}
+use Rattle.acl_normal.proofs.Common.{ap, arith, bits_in, get_or-replicate, masks_left, with_masks, ◌∙◌}
 use Rattle.acl_normal.proofs.emit.InRemaining.{all_remains, begins_right}
 use Rattle.acl_normal.proofs.unique.Bits.{bits_all, bits_length}
 use Rattle.acl_normal.proofs.rows.remaining.Remaining.of.Goals as goal
@@ -27,11 +25,7 @@ invariant_of-result c =
     begins_right _ (omega (arith, c.requires.few, c.args.reduced.aces.ok))
     (omega (arith, c.requires.places, c.args.reduced.aces.ok))
     (omega (arith, c.in_ok-left.ensures.len, c.len.ensures, c.args.reduced.aces.ok))
-    c.requires.reduced
-    (subst (λ v. AreQueues (with_masks v (bits_in c.args.reduced.masks.items)) c.in_ok-queues.queues.items)
-    c.deref.ensures.value
-    (subst (λ v. AreQueues (with_masks c.deref.result.now (bits_in v)) c.in_ok-queues.queues.items)
-    c.deref-2.ensures.value c.in_ok-queues.ensures)) (all c)
+    c.requires.reduced (all c)
 
 pub returns : goal.returns
 returns c = ap (with_masks c.args.reduced.aces.items) (all c)

@@ -1,8 +1,5 @@
-use Rattle.std.proofs.Common.{◌≡◌, ◌∙◌, None, Some, ap, arith, length, slice_index_or, subst, sym, true}
-use Rattle.acl_perm.specs.Bits.{has_bit}
-use Rattle.acl_normal.specs.Places.{mask_here}
-use Rattle.acl_normal.specs.internal.Remaining.{remaining_of}
-use Rattle.acl_normal.specs.internal.Rows.{IsRowOf, first_place_of}
+use Rattle.std.proofs.Common.{◌≡◌, None, Some, length, slice_index_or, true}
+use Rattle.acl_normal.proofs.Common.{ap, arith, first_place_of, has_bit, IsRowOf, mask_here, remaining_of, subst, sym, ◌∙◌}
 use Rattle.acl_normal.proofs.emit.InRemaining.{order_there, row_there}
 use Rattle.acl_normal.proofs.rows.FirstPlaces.{row_has, row_passed}
 use Rattle.acl_normal.proofs.rows.remaining.Remaining.place_in.Goals as goal

@@ -1,5 +1,4 @@
-use Rattle.std.specs.Prelude.{◌≤◌}
-use Rattle.acl_normal.specs.internal.Remaining.{remaining_of}
+use Rattle.acl_normal.proofs.Common.{remaining_of, ◌≤◌}
 use Rattle.acl_normal.proofs.rows.FirstPlaces.{ArePassed}
 use Rattle.acl_normal.proofs.rows.remaining.Remaining.place_in.Given as goal
 

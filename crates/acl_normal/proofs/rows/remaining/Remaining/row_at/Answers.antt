@@ -1,7 +1,5 @@
-use Rattle.std.proofs.Common.{◌<◌, ◌∙◌, sym, subst, length}
-use Rattle.acl_normal.specs.Places.{key_here}
-use Rattle.acl_normal.specs.internal.Remaining.{remaining_of}
-use Rattle.acl_normal.specs.internal.Rows.{IsRowOf}
+use Rattle.std.proofs.Common.{◌<◌, length}
+use Rattle.acl_normal.proofs.Common.{IsRowOf, key_here, remaining_of, subst, sym, ◌∙◌}
 use Rattle.acl_normal.proofs.emit.InRemaining.{row_there}
 use Rattle.acl_normal.proofs.rows.Rows.{named_here}
 use Rattle.acl_normal.proofs.rows.remaining.Remaining.row_at.Goals as goal

@@ -1,10 +1,5 @@
-use Rattle.std.proofs.Common.{◌≡◌, List, ◌∙◌, sym, ap}
-use Rattle.acl_nfs4.specs.Ace.{Ace}
-use Rattle.acl_nfs4.specs.declared.ace.AceRef.{AceRef}
-use Rattle.acl_normal.specs.declared.rows.remaining.Remaining.TheInside.{Inside}
-use Rattle.acl_normal.specs.Places.{nothing_left}
-use Rattle.acl_normal.specs.internal.Remaining.{IsRemaining, remaining_of}
-use Rattle.acl_normal.specs.internal.Shown.{aces_in}
+use Rattle.std.proofs.Common.{◌≡◌, List}
+use Rattle.acl_normal.proofs.Common.{Ace, AceRef, aces_in, ap, Inside, IsRemaining, nothing_left, remaining_of, sym, ◌∙◌}
 use Rattle.acl_normal.proofs.emit.InRemaining.{outline_of}
 use Rattle.acl_normal.proofs.rows.Rows.{found_row, missed_row, order_alike, rows_alike}
 use Rattle.acl_normal.proofs.rows.remaining.Remaining.row_named.Goals as goal

@@ -1,11 +1,5 @@
-use Rattle.std.proofs.Common.{◌≡◌, ◌∙◌, ap, sym, subst, arith, slice_index_or}
-use Rattle.std.specs.Prelude.{slice_set}
-use Rattle.acl_perm.specs.Principal.{principal}
-use Rattle.acl_eval.specs.Scan.{without}
-use Rattle.acl_normal.specs.Places.{take_out}
-use Rattle.acl_normal.specs.internal.Remaining.{masks_left}
-use Rattle.acl_normal.specs.internal.Rows.{IsRowOf}
-use Rattle.acl_normal.specs.internal.Shown.{bits_in, with_masks}
+use Rattle.std.proofs.Common.{◌≡◌, slice_index_or}
+use Rattle.acl_normal.proofs.Common.{ap, arith, bits_in, IsRowOf, masks_left, principal, slice_set, subst, sym, take_out, with_masks, without, ◌∙◌}
 use Rattle.acl_normal.proofs.emit.InRemaining.{row_of_named, taken_right, taken_view}
 use Rattle.acl_normal.proofs.unique.Bits.{bits_at, bits_set, difference_is}
 use Rattle.acl_normal.proofs.rows.remaining.Remaining.take_out.Goals as goal

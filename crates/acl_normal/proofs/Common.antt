@@ -1,0 +1,83 @@
+-- The names that the proofs of this crate use most, from std, from the crates below and from specs/, in one place.
+pub use Rattle.acl_eval.proofs.Same.{equivalence}
+pub use Rattle.acl_eval.proofs.Scans.{has_bit-without}
+pub use Rattle.acl_eval.specs.Column.{Column, column, first_kind, SameVerdicts, takes_part, verdict}
+pub use Rattle.acl_eval.specs.Grant.{is_allow, SameGrants}
+pub use Rattle.acl_eval.specs.Laws.{IsEquivalence}
+pub use Rattle.acl_eval.specs.Scan.{without}
+pub use Rattle.acl_nfs4.proofs.Within.{fits_of}
+pub use Rattle.acl_nfs4.specs.Ace.{Ace, ace}
+pub use Rattle.acl_nfs4.specs.Spelling.{Fits, IsAccepted, IsAce, spelling, weight}
+pub use Rattle.acl_nfs4.specs.Who.{everyone_name, group_name, owner_name, principal_of}
+pub use Rattle.acl_nfs4.specs.Within.{IsProfile, IsWithin}
+pub use Rattle.acl_nfs4.specs.declared.ace.AceRef.{AceRef}
+pub use Rattle.acl_normal.specs.Keys.{ace_key, compare_keys, conflicts, Key, key_record, kind_eq, plain_key, principal_eq}
+pub use Rattle.acl_normal.specs.Laws.{Has}
+pub use Rattle.acl_normal.specs.Left.{IsTidy, KeepsFirsts, left}
+pub use Rattle.acl_normal.specs.Normal.{counts, flags_for, HasMasks, HasNames, HasNoEmptyMask, HasNormalFlags, is_free, is_inherit_only, IsIrreducibleList, IsNormal, IsQuiet, without_bit}
+pub use Rattle.acl_normal.specs.NormalForm.{IsNormalFormOf}
+pub use Rattle.acl_normal.specs.Places.{first_at, is_blocked, is_waiting, key_here, mask_here, nothing_left, principal_here, same_class, slot_of, take_out, waits, waits_before, without_bits}
+pub use Rattle.acl_normal.specs.SmallSets.{is_mentioning, longest, mentioned, mentioned_with, pairs, partners, singles, small_sets}
+pub use Rattle.acl_normal.specs.SmallSituations.{HasName, HaveNames, is_among, longest_name, small_situation}
+pub use Rattle.acl_normal.specs.Tables.{AddsRow, AreRows, HasKey, HasPlaces, of_borrowed, with_bit}
+pub use Rattle.acl_normal.specs.declared.comparison.small_set.SmallSet.{SmallSet}
+pub use Rattle.acl_normal.specs.declared.comparison.standing.Standing.{Standing}
+pub use Rattle.acl_normal.specs.declared.comparison.standing.Whom.{Whom}
+pub use Rattle.acl_normal.specs.declared.comparison.standing.Whom.TheVariants.{Everyone, Nobody, One}
+pub use Rattle.acl_normal.specs.declared.emit.emission.Emitted.{Emitted}
+pub use Rattle.acl_normal.specs.declared.rows.remaining.Remaining.TheInside.{Inside}
+pub use Rattle.acl_normal.specs.internal.Alike.{is_either, is_either_or_everyone, IsAlike, IsIrreducible}
+pub use Rattle.acl_normal.specs.internal.Classes.{is_users}
+pub use Rattle.acl_normal.specs.internal.CodeSets.{set_of}
+pub use Rattle.acl_normal.specs.internal.Counts.{count_left}
+pub use Rattle.acl_normal.specs.internal.Emissions.{HasEmptyColumns, HasOnceColumns, IsEmission, IsOnce, IsStep}
+pub use Rattle.acl_normal.specs.internal.Emitted.{emitted_ace, emitted_aces, StandInRows}
+pub use Rattle.acl_normal.specs.internal.FirstPlaces.{AgreesAt, AreFirstFrom, AreStandings, AreWhoms, first_place, inverts, inverts_any, IsStanding, IsWhom, no_ace, no_standing, SameAlone}
+pub use Rattle.acl_normal.specs.internal.Heads.{BeginsWith}
+pub use Rattle.acl_normal.specs.internal.Needed.{default_at}
+pub use Rattle.acl_normal.specs.internal.Passes.{Best, conflicts_before, is_shadowed, IsLeastCandidate, KeepsProfiles}
+pub use Rattle.acl_normal.specs.internal.PlaceTables.{is_of_camp}
+pub use Rattle.acl_normal.specs.internal.Plain.{default, has_opposite, is_needed, needed_keys, reduced, unshadowed, without_principal}
+pub use Rattle.acl_normal.specs.internal.Queues.{AreNoted, AreQueues, IsQueueAt}
+pub use Rattle.acl_normal.specs.internal.Ready.{Enters, FitsKeys, Grows, key_eq, low_bits, Marked, marks, who_for}
+pub use Rattle.acl_normal.specs.internal.Reduced.{IsReducedOf}
+pub use Rattle.acl_normal.specs.internal.Remaining.{IsQueue, IsRemaining, masks_left, remaining_of}
+pub use Rattle.acl_normal.specs.internal.Rising.{all_cleared, cleared, HasRisen}
+pub use Rattle.acl_normal.specs.internal.RowNumbers.{named_at, named_from, who_here}
+pub use Rattle.acl_normal.specs.internal.Rows.{AreRowNumbers, first_place_of, is_named, IsByPrincipal, IsRowOf, key_number, row_of}
+pub use Rattle.acl_normal.specs.internal.SamePlaces.{ArePlacesOf}
+pub use Rattle.acl_normal.specs.internal.SetSearch.{AreGranted, differ, FindsFirst, GrantAlikeTo, is_granted_to, IsRising, principals}
+pub use Rattle.acl_normal.specs.internal.Shown.{aces_in, bits_in, with_masks}
+pub use Rattle.acl_normal.specs.internal.TwoLists.{all_mentioned, FindSet, StandAs, two_lists, TwoLists}
+pub use Rattle.acl_normal.specs.internal.Waiting.{HoldWaiting}
+pub use Rattle.acl_perm.proofs.Bools.{and_false_right}
+pub use Rattle.acl_perm.proofs.Orders.{key_order, principal_exact, principal_order}
+pub use Rattle.acl_perm.proofs.Sets.{bits_from_mask, has_bit-and, has_bit-or, IsMask-lt, no_bit, same_set}
+pub use Rattle.acl_perm.specs.Bits.{all_rights, has_bit, identifier_group, IsDifference, IsMask, IsSubset, IsUnion}
+pub use Rattle.acl_perm.specs.Kind.{other_kind}
+pub use Rattle.acl_perm.specs.Order.{kind_rank, principal_cmp, principal_name}
+pub use Rattle.acl_perm.specs.Overlap.{may_overlap}
+pub use Rattle.acl_perm.specs.Principal.{everyone, group, group_named, is_user, owner, Principal, principal, user}
+pub use Rattle.acl_perm.specs.Profile.{full, Profile}
+pub use Rattle.acl_perm.specs.Situation.{IsName, IsSituation, matches, Situation}
+pub use Rattle.acl_perm.specs.declared.kind.Kind.{Kind}
+pub use Rattle.acl_perm.specs.declared.kind.Kind.TheVariants.{Allow, Deny}
+pub use Rattle.acl_perm.specs.declared.mask.Mask.{Mask}
+pub use Rattle.acl_perm.specs.internal.Totality.{principal_total}
+pub use Rattle.std.proofs.Common.{add-one, ap, append_assoc, arith, inl, inr, lit<, rules, subst, sym, ⊎_elim, ◌∙◌}
+pub use Rattle.std.proofs.Math.Seq.{get_or-append_seam}
+pub use Rattle.std.proofs.lemmas.Bool.{and_from, and_parts, cases_eq, cases_lt, eq-eqb, eqb-false, eqb-true, false_from_ne_true, false≢true, le-ltb, lt-ltb, ne_eqb, or_cases, or_from, or_left, or_parts, or_right}
+pub use Rattle.std.proofs.lemmas.List.{append-nil, at_drop_more, drop_all, drop_more, get_or-map, get_or-replicate, get_or-set_other, get_or-set_same, get_or_append_left, get_or_default, get_or_read, length-append, length-map, length-replicate, length-set, length-take-le, map-append, take_all, take_more}
+pub use Rattle.std.proofs.lemmas.Nat.Bits.{bit_at-lt, bit_at-zero, bit_at_above}
+pub use Rattle.std.proofs.lemmas.Option.{same_Some}
+pub use Rattle.std.proofs.lemmas.Result.{IfOk-weaker}
+pub use Rattle.std.specs.BTreeMap.{is_at}
+pub use Rattle.std.specs.Cmp.{nat_cmp_is}
+pub use Rattle.std.specs.Cmp.Lexicographic.{slice_cmp}
+pub use Rattle.std.specs.Int.{bit_at, trailing_zeros, w32}
+pub use Rattle.std.specs.List.{AllByRecursion, AllZip, list_any}
+pub use Rattle.std.specs.Ordering.{is_eq, is_le, is_lt, nat_cmp, ordering_reverse}
+pub use Rattle.std.specs.Prelude.{[], All, bit_and, bit_or, Bool, cond, drop, Err, false, IfNone, IfOk, IfSome, if◌then◌else◌, is_none, is_some, IsTrue, length, List, map, max, nat_lt, None, not, Ok, Option, option_map, refl, replicate, Result, slice_index_or, slice_set, Some, suc, take, true, unwrap_or, vec_len, zero, ℕ, ◌%◌, ◌&&◌, ◌*◌, ◌++◌, ◌+◌, ◌-◌, ◌/◌, ◌<◌, ◌==◌, ◌^◌, ◌||◌, ◌↔◌, ◌∷◌, ◌≡◌, ◌≢◌, ◌≤◌, ◌⊎◌}
+pub use Rattle.std.specs.Str.{bytes_eq}
+pub use Rattle.std.specs.declared.cmp.Ordering.{Ordering}
+pub use Rattle.std.specs.declared.cmp.Ordering.TheVariants.{Equal, Greater, Less}

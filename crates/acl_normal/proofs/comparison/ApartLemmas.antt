@@ -1,0 +1,217 @@
+-- The rights on which two lists may differ, by a walk over both.
+use Rattle.acl_normal.proofs.Common.{Ace, ace, AceRef, aces_in, and_parts, ap, AreWhoms, arith, at_drop_more, Bool, column, cond, differ, drop, eq-eqb, eqb-true, Everyone, everyone, false, false≢true, get_or-map, has_bit, IsUnion, IsWhom, length, length-map, List, no_ace, no_bit, Nobody, not, One, or_parts, Principal, principal_eq, principal_of, refl, slice_index_or, subst, sym, takes_part, true, Whom, ℕ, ◌&&◌, ◌+◌, ◌<◌, ◌==◌, ◌∙◌, ◌∷◌, ◌≡◌}
+use Rattle.acl_normal.proofs.comparison.FirstPlaceLemmas.{whom_at}
+use Rattle.acl_normal.proofs.comparison.Numbers.{is_of_own}
+use Rattle.acl_normal.proofs.comparison.TableFacts.{same_kind}
+use Rattle.acl_normal.proofs.unique.Names.{principal_eq_same}
+use Rattle.acl_normal.specs.internal.FirstPlaces.{names_any, same_whom}
+use Rattle.acl_normal.specs.internal.RightsApart.{AreApart, HasOpenBits, say_the_same}
+use Rattle.acl_normal.specs.internal.SetSearch.{AreRightsOf}
+use Rattle.acl_normal.specs.declared.comparison.apart.Statement.{Statement}
+use Rattle.acl_perm.specs.Kind.{is_allow}
+
+-- an ACE that has the bit and takes part stands first in its column
+column_cons : (a : Ace) (rest : List Ace) (bit : ℕ)
+    → column (a ∷ rest) bit
+    ≡ cond (has_bit a.mask bit && takes_part a) ((principal_of a, a.kind) ∷ column rest bit) (column rest bit)
+column_cons a rest bit = go (has_bit a.mask bit && takes_part a) refl
+  where
+    go : (t : Bool) → (has_bit a.mask bit && takes_part a) ≡ t
+        → column (a ∷ rest) bit
+        ≡ cond (has_bit a.mask bit && takes_part a) ((principal_of a, a.kind) ∷ column rest bit) (column rest bit)
+    go true h = rw h refl
+    go false h = rw h refl
+
+-- whom the ACE at a place names
+pub named_at : (whole : List Principal) (refs : List AceRef) (ws : List Whom) (x : AceRef) (w : Whom) (i : ℕ)
+    → i < length refs → x ≡ slice_index_or refs i x → w ≡ slice_index_or ws i Nobody → AreWhoms whole (aces_in refs) ws
+    → IsWhom whole (ace x) w
+named_at whole refs ws x w i lt at wi all =
+    subst (λ v. IsWhom whole (ace x) v)
+    (sym wi)
+    (subst (λ v. IsWhom whole v (slice_index_or ws i Nobody))
+    (get_or-map ace refs i x no_ace lt ∙ ap ace (sym at))
+    (whom_at whole (aces_in refs) ws i (omega (arith, lt, length-map refs ace)) all))
+
+-- the column of what is left at a place begins with the ACE there
+column_at : (refs : List AceRef) (x : AceRef) (i bit : ℕ) → i < length refs → x ≡ slice_index_or refs i x
+    → column (aces_in (drop i refs)) bit ≡ column (ace x ∷ aces_in (drop (i + 1) refs)) bit
+column_at refs x i bit lt at =
+    at_drop_more (λ r. column (aces_in r) bit) refs i x lt
+    ∙ ap (λ v. column (ace v ∷ aces_in (drop (i + 1) refs)) bit) (sym at)
+
+-- where a bit isn't apart, the open bits tell whether the ACE is in its column
+open_is : (whole : List Principal) (a : Ace) (w : Whom) (apart mask bit : ℕ) → IsWhom whole a w
+    → HasOpenBits a w apart mask → has_bit apart bit ≡ false
+    → has_bit mask bit ≡ (has_bit a.mask bit && takes_part a)
+open_is whole a w apart mask bit i h e =
+    h.bits bit ∙ ap (λ t. (has_bit a.mask bit && names_any w) && not t) e
+    ∙ and_true (has_bit a.mask bit && names_any w) ∙ ap (λ t. has_bit a.mask bit && t) (sym i.part)
+  where
+    and_true : (t : Bool) → (t && true) ≡ t
+    and_true true = refl
+    and_true false = refl
+
+-- an ACE without the bit is passed over
+passed : (whole : List Principal) (refs : List AceRef) (ws : List Whom) (x : AceRef) (w : Whom)
+    (i apart mask bit : ℕ) → i < length refs → x ≡ slice_index_or refs i x → w ≡ slice_index_or ws i Nobody
+    → AreWhoms whole (aces_in refs) ws → HasOpenBits (ace x) w apart mask → has_bit apart bit ≡ false
+    → has_bit mask bit ≡ false
+    → column (aces_in (drop i refs)) bit ≡ column (aces_in (drop (i + 1) refs)) bit
+passed whole refs ws x w i apart mask bit lt at wi all h e f =
+    let test = sym (open_is whole (ace x) w apart mask bit (named_at whole refs ws x w i lt at wi all) h e) ∙ f in
+    column_at refs x i bit lt at ∙ column_cons (ace x) (aces_in (drop (i + 1) refs)) bit
+    ∙ ap (λ t. cond t ((principal_of (ace x), x.kind) ∷ column (aces_in (drop (i + 1) refs)) bit)
+    (column (aces_in (drop (i + 1) refs)) bit)) test
+
+-- two ACEs of which the same is named are of one principal
+same_principal : (whole : List Principal) (a b : Ace) (w : Whom) → IsWhom whole a w → IsWhom whole b w
+    → takes_part a ≡ true → principal_of a ≡ principal_of b
+same_principal whole a b w h i t = own a w h t ∙ sym (own b w i (i.part ∙ sym h.part ∙ t))
+  where
+    named : Whom → Principal
+    named Nobody = everyone
+    named (One k) = slice_index_or whole k everyone
+    named Everyone = everyone
+
+    own : (c : Ace) (v : Whom) → IsWhom whole c v → takes_part c ≡ true → principal_of c ≡ named v
+    own c Nobody j u = absurd (false≢true (sym j.part ∙ u))
+    own c Everyone j u = principal_eq_same (principal_of c) everyone
+        (and_parts (takes_part c) (principal_eq (principal_of c) everyone) j.all).1
+    own c (One k) j u =
+        let other : principal_eq (principal_of c) everyone ≡ false =
+        sym (ap (λ s. s && principal_eq (principal_of c) everyone) u) ∙ j.all in
+        principal_eq_same (principal_of c) (slice_index_or whole k everyone)
+        (sym (is_of_own c (slice_index_or whole k everyone) u other) ∙ j.hit k j.within ∙ eq-eqb k k refl)
+
+-- at the places here and there of two lists, the columns of what is left decide whether those of the lists are the same,
+-- but for the rights apart
+pub record AreWalked (refs others : List AceRef) (here there apart : ℕ) : Type 0 where
+  pub same : (bit : ℕ) → has_bit apart bit ≡ false
+      → column (aces_in (drop here refs)) bit ≡ column (aces_in (drop there others)) bit
+      → column (aces_in refs) bit ≡ column (aces_in others) bit
+
+-- before the first ACEs nothing is decided
+pub walk_starts : (refs others : List AceRef) → AreWalked refs others 0 0 0
+walk_starts refs others = record { same = λ bit e h. h }
+
+-- past an ACE of the first list without open rights
+pub walk_here : (whole : List Principal) (refs others : List AceRef) (ws : List Whom) (x : AceRef) (w : Whom)
+    (here there apart own : ℕ) → here < length refs → x ≡ slice_index_or refs here x → w ≡ slice_index_or ws here Nobody
+    → AreWhoms whole (aces_in refs) ws → HasOpenBits (ace x) w apart own → own ≡ 0
+    → AreWalked refs others here there apart → AreWalked refs others (here + 1) there apart
+walk_here whole refs others ws x w here there apart own lt at wi all h none inv = record {
+  same = λ bit e rest. inv.same bit e
+      (passed whole refs ws x w here apart own bit lt at wi all h e (ap (λ m. has_bit m bit) none ∙ no_bit bit) ∙ rest);
+}
+
+-- past one of the second
+pub walk_there : (whole : List Principal) (refs others : List AceRef) (ws : List Whom) (x : AceRef) (w : Whom)
+    (here there apart own : ℕ) → there < length others → x ≡ slice_index_or others there x
+    → w ≡ slice_index_or ws there Nobody → AreWhoms whole (aces_in others) ws → HasOpenBits (ace x) w apart own → own ≡ 0
+    → AreWalked refs others here there apart → AreWalked refs others here (there + 1) apart
+walk_there whole refs others ws x w here there apart own lt at wi all h none inv = record {
+  same = λ bit e rest. inv.same bit e (rest
+      ∙ sym (passed whole others ws x w there apart own bit lt at wi all h e
+      (ap (λ m. has_bit m bit) none ∙ no_bit bit)));
+}
+
+-- past one of each list that are not alike, whose rights are apart from now on
+pub walk_apart : (whole : List Principal) (refs others : List AceRef) (ws vs : List Whom) (x y : AceRef) (w v : Whom)
+    (here there apart own theirs more new : ℕ) → here < length refs → there < length others
+    → x ≡ slice_index_or refs here x → y ≡ slice_index_or others there y → w ≡ slice_index_or ws here Nobody
+    → v ≡ slice_index_or vs there Nobody → AreWhoms whole (aces_in refs) ws → AreWhoms whole (aces_in others) vs
+    → HasOpenBits (ace x) w apart own → HasOpenBits (ace y) v apart theirs → IsUnion apart own more
+    → IsUnion more theirs new
+    → AreWalked refs others here there apart → AreWalked refs others (here + 1) (there + 1) new
+walk_apart whole refs others ws vs x y w v here there apart own theirs more new lh lt xa ya wi vi hw hv ho ht u z inv =
+    record {
+      same = λ bit e rest.
+          let outer = or_parts (has_bit more bit) (has_bit theirs bit) (sym (z bit) ∙ e) in
+          let inner = or_parts (has_bit apart bit) (has_bit own bit) (sym (u bit) ∙ outer.0) in
+          inv.same bit inner.0 (passed whole refs ws x w here apart own bit lh xa wi hw ho inner.0 inner.1 ∙ rest
+          ∙ sym (passed whole others vs y v there apart theirs bit lt ya vi hv ht inner.0 outer.1));
+    }
+
+-- past one of each list that are alike
+pub walk_both : (whole : List Principal) (refs others : List AceRef) (ws vs : List Whom) (x y : AceRef) (w v : Whom)
+    (here there apart own theirs : ℕ) → here < length refs → there < length others
+    → x ≡ slice_index_or refs here x → y ≡ slice_index_or others there y → w ≡ slice_index_or ws here Nobody
+    → v ≡ slice_index_or vs there Nobody → AreWhoms whole (aces_in refs) ws → AreWhoms whole (aces_in others) vs
+    → HasOpenBits (ace x) w apart own → HasOpenBits (ace y) v apart theirs → own ≡ theirs → w ≡ v → x.kind ≡ y.kind
+    → AreWalked refs others here there apart → AreWalked refs others (here + 1) (there + 1) apart
+walk_both whole refs others ws vs x y w v here there apart own theirs lh lt xa ya wi vi hw hv ho ht oe we ke inv =
+    record { same = λ bit e rest. inv.same bit e (heads bit e rest) }
+  where
+    named : IsWhom whole (ace x) w
+    named = named_at whole refs ws x w here lh xa wi hw
+
+    also : IsWhom whole (ace y) v
+    also = named_at whole others vs y v there lt ya vi hv
+
+    joined : (t u : Bool) (bit : ℕ) → t ≡ u → (t ≡ true → principal_of (ace x) ≡ principal_of (ace y))
+        → column (aces_in (drop (here + 1) refs)) bit ≡ column (aces_in (drop (there + 1) others)) bit
+        → cond t ((principal_of (ace x), x.kind) ∷ column (aces_in (drop (here + 1) refs)) bit)
+        (column (aces_in (drop (here + 1) refs)) bit)
+        ≡ cond u ((principal_of (ace y), y.kind) ∷ column (aces_in (drop (there + 1) others)) bit)
+        (column (aces_in (drop (there + 1) others)) bit)
+    joined true true bit e p rest = rw (p refl, ke, rest) refl
+    joined false false bit e p rest = rest
+    joined true false bit e p rest = cc
+    joined false true bit e p rest = cc
+
+    heads : (bit : ℕ) → has_bit apart bit ≡ false
+        → column (aces_in (drop (here + 1) refs)) bit ≡ column (aces_in (drop (there + 1) others)) bit
+        → column (aces_in (drop here refs)) bit ≡ column (aces_in (drop there others)) bit
+    heads bit e rest =
+        column_at refs x here bit lh xa ∙ column_cons (ace x) (aces_in (drop (here + 1) refs)) bit
+        ∙ joined (has_bit x.mask.bits bit && takes_part (ace x)) (has_bit y.mask.bits bit && takes_part (ace y)) bit
+        (sym (open_is whole (ace x) w apart own bit named ho e) ∙ ap (λ m. has_bit m bit) oe
+        ∙ open_is whole (ace y) v apart theirs bit also ht e)
+        (λ t. same_principal whole (ace x) (ace y) w named (subst (λ k. IsWhom whole (ace y) k) (sym we) also)
+        (and_parts (has_bit x.mask.bits bit) (takes_part (ace x)) t).1)
+        rest
+        ∙ sym (column_at others y there bit lt ya ∙ column_cons (ace y) (aces_in (drop (there + 1) others)) bit)
+
+-- with the rights of what is left, the lists are told apart
+pub walk_ends : (refs others left right : List AceRef) (here there apart own theirs more new : ℕ)
+    → left ≡ drop here refs → right ≡ drop there others → AreRightsOf (aces_in left) own
+    → AreRightsOf (aces_in right) theirs → IsUnion apart own more → IsUnion more theirs new
+    → AreWalked refs others here there apart → AreApart (aces_in refs) (aces_in others) new
+walk_ends refs others left right here there apart own theirs more new le re ho ht u z inv = record {
+  same = λ bit e.
+      let outer = or_parts (has_bit more bit) (has_bit theirs bit) (sym (z bit) ∙ e) in
+      let inner = or_parts (has_bit apart bit) (has_bit own bit) (sym (u bit) ∙ outer.0) in
+      inv.same bit inner.0 (ap (λ r. column (aces_in r) bit) (sym le) ∙ ho.unused bit inner.1
+      ∙ sym (ht.unused bit outer.1) ∙ ap (λ r. column (aces_in r) bit) re);
+}
+
+-- whom two ACEs name alike
+named_alike : (v w : Whom) → same_whom v w ≡ true → v ≡ w
+named_alike Nobody Nobody h = refl
+named_alike (One i) (One k) h = ap One (eqb-true i k h)
+named_alike Everyone Everyone h = refl
+named_alike Nobody (One k) h = cc
+named_alike Nobody Everyone h = cc
+named_alike (One i) Nobody h = cc
+named_alike (One i) Everyone h = cc
+named_alike Everyone Nobody h = cc
+named_alike Everyone (One k) h = cc
+
+-- what two ACEs say that say the same
+pub record AreAlike (s t : Statement) : Type 0 where
+  pub rights : s.rights.bits ≡ t.rights.bits
+  pub whom : s.whom ≡ t.whom
+  pub kind : s.kind ≡ t.kind
+
+-- the test tells it
+pub alike_is : (s t : Statement) → say_the_same s t ≡ true → AreAlike s t
+alike_is s t h =
+    let outer = and_parts ((s.rights.bits == t.rights.bits) && not (differ (is_allow t.kind) (is_allow s.kind)))
+    (same_whom s.whom t.whom) h in
+    let inner = and_parts (s.rights.bits == t.rights.bits) (not (differ (is_allow t.kind) (is_allow s.kind))) outer.0 in
+    record {
+      rights = eqb-true s.rights.bits t.rights.bits inner.0;
+      whom = named_alike s.whom t.whom outer.1;
+      kind = sym (same_kind t.kind s.kind inner.1);
+    }

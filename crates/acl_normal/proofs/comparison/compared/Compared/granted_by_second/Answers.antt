@@ -1,0 +1,10 @@
+use Rattle.acl_normal.proofs.comparison.FirstPlaceLemmas.{whoms_length}
+use Rattle.acl_normal.proofs.comparison.MembersFacts.{granted_second}
+use Rattle.acl_normal.proofs.comparison.compared.Compared.granted_by_second.Goals as goal
+use Rattle.acl_normal.specs.internal.SetSearch.{principals}
+
+pub granted_to-requires : goal.granted_to-requires
+granted_to-requires c = whoms_length (principals c.self.inside.mentioned.now) _ _ c.self.invariant.second_whoms
+
+pub returns : goal.returns
+returns c = granted_second c.self.inside c.args.self.now _ _ c.self.invariant c.self.view_is c.granted_to.ensures c.requires

@@ -1,0 +1,84 @@
+-- The bytes with which the names of a list begin, and heads of what is behind them.
+use Rattle.acl_normal.proofs.Common.{[], Ace, ace, AceRef, aces_in, ap, arith, BeginsWith, cases_lt, inl, inr, length, length-map, List, map, named_at, named_from, Principal, principal_here, principal_of, refl, slice_index_or, subst, suc, take, take_all, zero, ℕ, ◌+◌, ◌<◌, ◌∙◌, ◌∷◌, ◌≡◌, ◌≤◌, ◌⊎◌}
+use Rattle.std.specs.List.{All, Contains}
+use Rattle.acl_normal.specs.declared.rows.numbers.HeadedPlace.{HeadedPlace}
+use Rattle.acl_normal.specs.internal.Heads.{AllBegin, IsHeadOf}
+use Rattle.acl_normal.specs.internal.RowNumbers.{AreHeaded, DoHeadsTell}
+use Rattle.acl_normal.proofs.rows.HeadOrder.{lesser_head, ranks_alike}
+use Rattle.acl_normal.proofs.Whoms.{compared_by_whos}
+use Rattle.acl_normal.proofs.rows.RowNumbers.{named_in}
+
+-- the first bytes of the first bytes
+take_within : (k n : ℕ) (xs : List ℕ) → k ≤ n → take k (take n xs) ≡ take k xs
+take_within zero n xs l = refl
+take_within (suc k) zero xs l = absurd (omega (arith, l))
+take_within (suc k) (suc n) [] l = refl
+take_within (suc k) (suc n) (x ∷ xs) l = ap (λ v. x ∷ v) (take_within k n xs (omega (arith, l)))
+
+take_length : (k : ℕ) (xs : List ℕ) → length (take k xs) ≤ length xs
+take_length zero xs = omega arith
+take_length (suc k) [] = omega arith
+take_length (suc k) (x ∷ xs) = omega (arith, take_length k xs)
+
+-- a name begins with less, too
+begins_shorter : (start less : List ℕ) (p : Principal) → less ≡ take (length less) start → BeginsWith start p
+    → BeginsWith less p
+begins_shorter start less p e h name n =
+    e ∙ ap (take (length less)) (h name n)
+    ∙ take_within (length less) (length start) name
+    (omega (arith, ap length e, take_length (length less) start))
+
+-- one ACE more
+pub begin_more : (aces : List AceRef) (start less : List ℕ) (i : ℕ) (a : AceRef) → i < length aces
+    → a ≡ slice_index_or aces i a → less ≡ take (length less) start → BeginsWith less (principal_of (ace a))
+    → ((k : ℕ) → k < i → BeginsWith start (principal_here (aces_in aces) k))
+    → (k : ℕ) → k < i + 1 → BeginsWith less (principal_here (aces_in aces) k)
+begin_more aces start less i a l here e last before k u = go (cases_lt k i)
+  where
+    go : (k < i) ⊎ (i ≤ k) → BeginsWith less (principal_here (aces_in aces) k)
+    go (inl b) = begins_shorter start less (principal_here (aces_in aces) k) e (before k b)
+    go (inr b) =
+        let same : i ≡ k = omega (arith, u, b) in
+        subst (BeginsWith less) (named_in aces i a l here ∙ ap (principal_here (aces_in aces)) same) last
+
+-- the place is one of the list, and the head is of whom its ACE names
+pub record IsHeaded (common : ℕ) (xs : List Ace) (n : HeadedPlace) : Type 0 where
+  pub within : n.place < length xs
+  pub head : IsHeadOf common n.head (principal_here xs n.place)
+
+-- heads of what is behind a common beginning tell
+pub heads_tell : (start : List ℕ) (xs : List Ace) (places : List HeadedPlace) → AllBegin start xs
+    → All (IsHeaded (length start) xs) places → DoHeadsTell xs places
+heads_tell start xs places begin h = record {
+  lesser = λ m n c d l. let at = is m c in
+      let other = is n d in
+      lesser_head start m.head n.head (principal_here xs m.place) (principal_here xs n.place) at.head other.head
+      (begin m.place at.within) (begin n.place other.within) l;
+  same = λ m n c d e. let at = is m c in
+      let other = is n d in
+      compared_by_whos xs m.place n.place at.within other.within
+      (ranks_alike (length start) m.head n.head (principal_here xs m.place) (principal_here xs n.place) at.head
+      other.head e);
+}
+  where
+    is : (n : HeadedPlace) → Contains places n → IsHeaded (length start) xs n
+    is n c = subst (IsHeaded (length start) xs) c.2 (h c.0 n c.1)
+
+-- the place of an ACE of the code, and the head of whom it names
+pub headed_here : (common : ℕ) (aces : List AceRef) (i : ℕ) (a : AceRef) (head : ℕ) {p : Principal} → i < length aces
+    → a ≡ slice_index_or aces i a → p ≡ principal_of (ace a) → IsHeadOf common head p
+    → IsHeaded common (aces_in aces) (record { head = head; place = i })
+headed_here common aces i a head l here whom is = record {
+  within = omega (arith, l, length-map aces ace);
+  head = subst (IsHeadOf common head) (whom ∙ named_in aces i a l here) is;
+}
+
+-- all places, with their heads
+pub headed_all : (start : List ℕ) (aces : List AceRef) (places : List HeadedPlace) (i : ℕ) → length aces ≤ i
+    → AllBegin start (aces_in aces)
+    → map (named_at (aces_in aces)) places ≡ named_from 0 (aces_in (take i aces))
+    → All (IsHeaded (length start) (aces_in aces)) places → AreHeaded (aces_in aces) places
+headed_all start aces places i l begin names heads = record {
+  names = names ∙ ap (λ v. named_from 0 (aces_in v)) (take_all i aces l);
+  heads = heads_tell start (aces_in aces) places begin heads;
+}

@@ -1,0 +1,84 @@
+//! The rights on which two lists may differ, found by one walk over both.
+ghost use Rattle.std.specs.Prelude.{◌≡◌, List, length};
+ghost use Rattle.acl_perm.specs.Principal.{Principal};
+ghost use Rattle.acl_nfs4.specs.Ace.{ace};
+ghost use Rattle.acl_normal.specs.internal.Shown.{aces_in};
+ghost use Rattle.acl_normal.specs.internal.FirstPlaces.{AreWhoms};
+ghost use Rattle.acl_normal.specs.internal.RightsApart.{AreApart, HasOpenBits, say_the_same};
+
+use super::evaluation::rights_of;
+use super::standing::Whom;
+use acl_nfs4::AceRef;
+use acl_perm::{Kind, Mask};
+
+/// What an ACE says on some rights: of whom it speaks, and whether it allows or denies them.
+#[derive(Clone, Copy)]
+struct Statement {
+    whom: Whom,
+    kind: Kind,
+    rights: Mask,
+}
+
+/// The rights past which two lists have the same ACEs in the same order. Both lists are walked together: where their
+/// next ACEs say different things, the rights of these two are apart, and ACEs with no other right are passed over.
+pub(crate) fn rights_apart(
+    list: &[AceRef<'_>],
+    whoms: &[Whom],
+    other: &[AceRef<'_>],
+    other_whoms: &[Whom],
+) -> Mask
+    requires whoms { length whoms.now ≡ length list.now }
+    requires other_whoms { length other_whoms.now ≡ length other.now }
+    ensures { (whole : List Principal) → AreWhoms whole (aces_in list.now) whoms.now
+        → AreWhoms whole (aces_in other.now) other_whoms.now
+        → AreApart (aces_in list.now) (aces_in other.now) result.bits }
+{
+    let mut apart = Mask::NONE;
+    let mut here = 0;
+    let mut there = 0;
+    while here < list.len() && there < other.len() {
+        let own = open_statement(&list[here], whoms[here], apart);
+        let theirs = open_statement(&other[there], other_whoms[there], apart);
+        if own.rights.bits() == 0 {
+            here += 1;
+        } else if theirs.rights.bits() == 0 {
+            there += 1;
+        } else if say_the_same(own, theirs) {
+            here += 1;
+            there += 1;
+        } else {
+            apart = apart.union(own.rights).union(theirs.rights);
+            here += 1;
+            there += 1;
+        }
+    }
+    apart
+        .union(rights_of(&list[here..]))
+        .union(rights_of(&other[there..]))
+}
+
+// Whether two ACEs say the same of the same.
+fn say_the_same(own: Statement, theirs: Statement) -> bool
+    ensures { result ≡ say_the_same own theirs }
+{
+    own.rights.bits() == theirs.rights.bits()
+        && own.kind.is_allow() == theirs.kind.is_allow()
+        && own.whom.is_same(theirs.whom)
+}
+
+// What an ACE says on all rights but some.
+fn open_statement(item: &AceRef<'_>, whom: Whom, apart: Mask) -> Statement
+    ensures rights { HasOpenBits (ace item.now) whom apart.bits result.rights.bits }
+    ensures whom { result.whom ≡ whom }
+    ensures kind { result.kind ≡ item.now.kind }
+{
+    let rights = match whom {
+        Whom::Nobody => Mask::NONE,
+        _ => item.mask.difference(apart),
+    };
+    Statement {
+        whom,
+        kind: item.kind,
+        rights,
+    }
+}

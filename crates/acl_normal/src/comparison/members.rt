@@ -1,0 +1,37 @@
+//! Sets of at most two of the principals that lists mention, by their numbers.
+ghost use Rattle.std.specs.Prelude.{◌≡◌};
+ghost use Rattle.acl_normal.specs.internal.Members.{has_number, is_matched};
+
+use super::standing::Whom;
+
+/// None, one or two of the principals by their numbers, the lesser first.
+#[derive(Clone, Copy)]
+pub(crate) enum Members {
+    Nobody,
+    One(usize),
+    Two(usize, usize),
+}
+
+impl Members {
+    // Whether the principal of a number is of the set.
+    fn has(self, number: usize) -> bool
+        ensures { result ≡ has_number self number }
+    {
+        match self {
+            Members::Nobody => false,
+            Members::One(i) => i == number,
+            Members::Two(i, j) => i == number || j == number,
+        }
+    }
+
+    /// Whether an ACE names a principal of the set, or everyone.
+    pub(crate) fn matches(self, whom: Whom) -> bool
+        ensures { result ≡ is_matched self whom }
+    {
+        match whom {
+            Whom::Nobody => false,
+            Whom::One(number) => self.has(number),
+            Whom::Everyone => true,
+        }
+    }
+}

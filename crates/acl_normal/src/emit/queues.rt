@@ -1,0 +1,165 @@
+//! Queues of the places that wait, by kind, class and right.
+ghost use Rattle.std.specs.Prelude.{◌≡◌, ◌≢◌, ℕ, ◌+◌, ◌<◌, ◌≤◌, ◌^◌, List, IfOk, OnOk, false, true, length, vec_len};
+ghost use Rattle.acl_nfs4.specs.Ace.{Ace};
+ghost use Rattle.acl_perm.specs.Bits.{has_bit};
+ghost use Rattle.acl_normal.specs.Places.{is_blocked, mask_here, slot_of, waits_before};
+ghost use Rattle.acl_normal.specs.internal.Classes.{is_users};
+ghost use Rattle.acl_normal.specs.internal.Queues.{AreNoted, AreQueues, IsQueueAt, MovesOn, Puts, head_in, place_in};
+
+use crate::bits::next_right;
+use crate::class::Class;
+use crate::rows::remaining::Remaining;
+use crate::rows::waiting::slot;
+use acl_perm::Kind;
+use acl_perm::internal::Bit;
+use std::alloc::{AllocError, Global};
+
+/// A place that waits, and the number of the link with the next place of its queue.
+#[derive(Clone, Copy)]
+pub(crate) struct Link {
+    pub(crate) place: usize,
+    pub(crate) next: usize,
+}
+
+/// The places that wait with each right, by kind and class, in order. None before the first of a queue waits any more;
+/// others may have left from amid it.
+#[derive(Drop)]
+pub(crate) struct Queues {
+    /// The links of all queues. Each queue ends with link 0, which has no place, and each link comes after its next.
+    pub(crate) links: Vec<Link>,
+    /// By kind, class and right, the number of the first link.
+    pub(crate) heads: Vec<usize>,
+}
+
+impl Queues {
+    /// The queues of all that waits.
+    pub(crate) fn of(alloc: Global, rows: &Remaining<'_>) -> Result<Queues, AllocError>
+        ensures { IfOk result (λ queues. AreQueues rows.now queues) }
+    {
+        // The look at a field gives the proof the invariant of `rows`, here and below. It does nothing.
+        let _ = &rows.masks;
+        let mut queues = Queues::new(alloc, rows.len())?;
+        for done in 0..rows.len() {
+            queues.note(rows, rows.len() - 1 - done)?;
+        }
+        Ok(queues)
+    }
+
+    /// Empty queues, with room for a number of places.
+    fn new(alloc: Global, places: usize) -> Result<Queues, AllocError>
+        requires { places < 2 ^ 63 }
+        ensures { IfOk result (λ queues. (list : List Ace)
+            → AreNoted list (length list) 0 queues) }
+    {
+        let mut links = Vec::with_capacity(alloc, places + 1)?;
+        links.push(Link { place: 0, next: 0 })?;
+        let heads = vec![in alloc; 0; 84]?;
+        Ok(Queues { links, heads })
+    }
+
+    /// Puts a place at the front of the queues of the rights that its ACE has.
+    fn note(&mut self, rows: &Remaining<'_>, place: usize) -> Result<(), AllocError>
+        requires place { place < length rows.now }
+        requires noted { AreNoted rows.now (place + 1) 0 self.old }
+        ensures { OnOk result (AreNoted rows.now place 0 self.new) }
+    {
+        let _ = &rows.masks;
+        let kind = rows.kind_at(place);
+        let class = rows.class_at(place);
+        let mask = rows.mask_at(place);
+        let mut from = 0;
+        while let Some(right) = next_right(mask, from) {
+            self.put(place, slot(kind, class, right))?;
+            from = right.bit + 1;
+        }
+        Ok(())
+    }
+
+    /// Puts a place at the front of the queue of a slot.
+    fn put(&mut self, place: usize, slot: usize) -> Result<(), AllocError>
+        requires { slot < vec_len self.old.heads }
+        ensures { OnOk result (Puts place slot self.old self.new) }
+    {
+        let next = self.heads[slot];
+        let at = self.links.len();
+        self.links.push(Link { place, next })?;
+        self.heads[slot] = at;
+        Ok(())
+    }
+
+    /// The number of the first link of the queue of a kind, a class and a right.
+    pub(crate) fn head(&self, kind: Kind, class: Class, right: Bit) -> usize
+        requires { vec_len self.now.heads ≡ 84 }
+        ensures { result ≡ head_in self.now (slot_of kind (is_users class) right.bit) }
+    {
+        self.heads[slot(kind, class, right)]
+    }
+
+    /// The number of the first link of a queue whose place still waits, or 0 where none does.
+    fn first_link(&self, rows: &Remaining<'_>, kind: Kind, class: Class, right: Bit) -> usize
+        requires { AreQueues rows.now self.now }
+        ensures queue { IsQueueAt kind (is_users class) right.bit rows.now
+            self.now.links.items result }
+        ensures waits { result ≢ 0
+            → has_bit (mask_here rows.now (place_in self.now result)) right.bit ≡ true }
+    {
+        let mut at = self.head(kind, class, right);
+        while at != 0 {
+            let link = self.links[at];
+            if rows.has(link.place, right) {
+                return at;
+            }
+            at = link.next;
+        }
+        0
+    }
+
+    /// Lets the queue of a kind, a class and a right begin where a place still waits, or at its end.
+    pub(crate) fn move_on(&mut self, rows: &Remaining<'_>, kind: Kind, class: Class, right: Bit)
+        requires { AreQueues rows.now self.old }
+        ensures queues { AreQueues rows.now self.new }
+        ensures moved { MovesOn kind (is_users class) right.bit rows.now self.old self.new }
+    {
+        let first = self.first_link(rows, kind, class, right);
+        self.heads[slot(kind, class, right)] = first;
+    }
+
+    /// The first place that waits in a kind and a class with a right, or the greatest number where none does.
+    fn first_waiting(&self, rows: &Remaining<'_>, kind: Kind, class: Class, right: Bit) -> usize
+        requires { AreQueues rows.now self.now }
+        ensures before { (place : ℕ) → place ≤ result
+            → waits_before kind (is_users class) right.bit rows.now place ≡ false }
+        ensures behind { (place : ℕ) → result < place → place < 2 ^ 64
+            → waits_before kind (is_users class) right.bit rows.now place ≡ true }
+    {
+        let at = self.first_link(rows, kind, class, right);
+        if at == 0 {
+            return usize::MAX;
+        }
+        self.links[at].place
+    }
+
+    /// The last place where an ACE of a kind and a class with a right has nothing before it that conflicts with it.
+    pub(crate) fn last_clear(
+        &self,
+        rows: &Remaining<'_>,
+        kind: Kind,
+        class: Class,
+        right: Bit,
+    ) -> usize
+        requires { AreQueues rows.now self.now }
+        ensures clear { (place : ℕ) → place ≤ result
+            → is_blocked kind (is_users class) right.bit rows.now place ≡ false }
+        ensures blocked { (place : ℕ) → result < place → place < 2 ^ 64
+            → is_blocked kind (is_users class) right.bit rows.now place ≡ true }
+    {
+        let others = self.first_waiting(rows, kind.other(), Class::Others, right);
+        match class {
+            Class::Users => others,
+            Class::Others => {
+                let users = self.first_waiting(rows, kind.other(), Class::Users, right);
+                if users < others { users } else { others }
+            }
+        }
+    }
+}

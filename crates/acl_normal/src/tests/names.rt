@@ -1,0 +1,67 @@
+//! The order of names, whatever bytes they begin with.
+
+use super::harness::{ALLOW, GROUP, READ_DATA, ace_of, kept, passes};
+use crate::normalize;
+use acl_nfs4::{Acl, PushFault};
+use std::alloc::Global;
+use std::process::Abort;
+
+// How many bytes all names of a list begin with: below, at and above those that are compared as a number, and as many
+// as fit before eight others.
+static STARTS: [usize; 7] = [0, 3, 4, 7, 8, 9, 1016];
+
+// How the names of a list go on, as the ACEs come and in order: in order already, out of order at the last place, out of
+// order at the first, with names that are there twice, and with names that are the beginning of others.
+static ENDS: [(&[&[u8]], &[&[u8]]); 6] = [
+    (&[b"a", b"b", b"c"], &[b"a", b"b", b"c"]),
+    (&[b"b", b"c", b"a"], &[b"a", b"b", b"c"]),
+    (&[b"c", b"a", b"b"], &[b"a", b"b", b"c"]),
+    (&[b"b", b"a", b"b", b"a", b"a"], &[b"a", b"b"]),
+    (&[b"ab", b"a", b"abc"], &[b"a", b"ab", b"abc"]),
+    (
+        &[b"1234567b", b"1234567a", b"1234567", b"1234567a"],
+        &[b"1234567", b"1234567a", b"1234567b"],
+    ),
+];
+
+// A list of names that begin with so many bytes and go on so.
+fn list_of(alloc: Global, start: usize, flags: u32, ends: &[&[u8]]) -> Result<Acl, PushFault> {
+    let mut list = Acl::new(alloc);
+    for end in ends {
+        let mut name = kept(vec![in alloc; b'x'; start])?;
+        kept(name.extend_from_slice(end))?;
+        if let Some(ace) = ace_of(ALLOW, flags, READ_DATA, &name) {
+            list.push(ace)?;
+        }
+    }
+    Ok(list)
+}
+
+fn is_put_in_order(
+    alloc: Global,
+    start: usize,
+    flags: u32,
+    given: &[&[u8]],
+    wanted: &[&[u8]],
+) -> Result<bool, PushFault> {
+    let list = list_of(alloc, start, flags, given)?;
+    let sorted = list_of(alloc, start, flags, wanted)?;
+    let form = kept(normalize(alloc, &list))?;
+    Ok(form == sorted)
+}
+
+/// Users, and groups, stand in the order of their names, each once.
+pub fn names(rt: &impl Abort, alloc: Global) -> Result<(), PushFault> {
+    for start in &STARTS {
+        for (given, wanted) in &ENDS {
+            assert!(rt; is_put_in_order(alloc, *start, 0, given, wanted)?);
+            assert!(rt; is_put_in_order(alloc, *start, GROUP, given, wanted)?);
+        }
+    }
+    Ok(())
+}
+
+#[test]
+fn normal_form_has_names_in_order(rt: HostRuntime) {
+    assert!(rt; passes(names(&rt, rt.alloc())));
+}
