@@ -15,7 +15,7 @@ static void say(const List *list, const u32 *number, u32 rows, int bit, Said *sa
         places[row * step] = ~0u;
     for (u32 k = 0; k < list->count; k++) {
         const Ace *ace = &list->aces[k];
-        if (ace->flags & INHERIT_ONLY || !(ace->mask >> bit & 1))
+        if (!(ace->mask >> bit & 1) || ace->flags & INHERIT_ONLY)
             continue;
         if (ace->rank == EVERYONE) {
             whole = k;
@@ -137,6 +137,108 @@ static void put_difference(const Rows *rows, u32 mentioned, const u32 *set, int 
     finish(1);
 }
 
+/* The rows of both lists, by one sort; the places of the second count from the end of the first. */
+static Rows rows_of_both(const List *first, const List *second)
+{
+    const Ace *named = first_named(first);
+    if (!named)
+        named = first_named(second);
+    u32 common = named ? common_start(named, second, common_start(named, first, named->len)) : 0;
+    u32 both = first->count + second->count;
+    Headed *items = room(both, sizeof(Headed));
+    u32 count = (u32)(headed(second, first->count, common, headed(first, 0, common, items)) - items);
+    return numbered(sorted(items, count), count, both);
+}
+
+static int is_same_principal(const Ace *a, const Ace *b)
+{
+    return a->rank == b->rank && (!is_named(a) || (a->len == b->len && !memcmp(a->who, b->who, a->len)));
+}
+
+/* The number of a principal among the rows, or their count where it is in none. */
+static u32 found(const Rows *rows, const Ace *ace)
+{
+    Headed wanted = { head_of(ace, 0), ace, 0 };
+    u32 low = 0, high = rows->count;
+    while (low < high) {
+        u32 middle = low + (high - low) / 2;
+        Headed there = { head_of(rows->first[middle], 0), rows->first[middle], 0 };
+        if (is_same(&there, &wanted))
+            return middle;
+        if (is_before(&there, &wanted))
+            low = middle + 1;
+        else
+            high = middle;
+    }
+    return rows->count;
+}
+
+/* The rows of both lists, if the second names only whom the first names: only the first is sorted. An ACE of the second
+ * is looked for where the one before it was found, and by halves where that misses. */
+static int rows_by_finger(const List *first, const List *second, Rows *to)
+{
+    Rows rows = rows_of(first);
+    u32 *number = room((size_t)first->count + second->count, sizeof(u32)), finger = 0;
+    memcpy(number, rows.number, first->count * sizeof(u32));
+    for (u32 k = 0; k < second->count; k++) {
+        const Ace *ace = &second->aces[k];
+        if (ace->flags & INHERIT_ONLY)
+            continue;
+        for (u32 tries = 0; tries < 2 && finger < first->count && first->aces[finger].flags & INHERIT_ONLY; tries++)
+            finger++;
+        if (finger < first->count && !(first->aces[finger].flags & INHERIT_ONLY)
+            && is_same_principal(&first->aces[finger], ace)) {
+            number[first->count + k] = rows.number[finger];
+        } else if ((number[first->count + k] = found(&rows, ace)) == rows.count) {
+            free(number);
+            return 0;
+        }
+        finger++;
+    }
+    *to = (Rows){ rows.first, number, rows.count };
+    return 1;
+}
+
+/* The next ACE from a place on that takes part and has a right. */
+static u32 next_with(const List *list, u32 place, int bit)
+{
+    while (place < list->count && (!(list->aces[place].mask >> bit & 1) || list->aces[place].flags & INHERIT_ONLY))
+        place++;
+    return place;
+}
+
+/* The rights on which the lists may differ: on the others they have the same ACEs in the same order. */
+static u32 rights_apart(const List *first, const List *second, const u32 *number, u32 mask)
+{
+    u32 apart = 0;
+    u32 here[COUNT] = { 0 };
+    for (u32 k = 0; k < second->count && apart != mask; k++) {
+        if (second->aces[k].flags & INHERIT_ONLY)
+            continue;
+        for (u32 left = second->aces[k].mask & ~apart; left; left &= left - 1) {
+            int bit = bit_at(left);
+            u32 place = here[bit] = next_with(first, here[bit], bit);
+            if (place == first->count || first->aces[place].kind != second->aces[k].kind
+                || number[place] != number[first->count + k])
+                apart |= 1u << bit;
+            here[bit]++;
+        }
+    }
+    for (u32 left = mask & ~apart; left; left &= left - 1)
+        if (next_with(first, here[bit_at(left)], bit_at(left)) < first->count)
+            apart |= left & -left;
+    return apart;
+}
+
+static u32 all_rights(const List *list)
+{
+    u32 mask = 0;
+    for (u32 k = 0; k < list->count; k++)
+        if (!(list->aces[k].flags & INHERIT_ONLY))
+            mask |= list->aces[k].mask;
+    return mask;
+}
+
 static void compare(void)
 {
     List first, second;
@@ -149,15 +251,14 @@ static void compare(void)
         put_text("same\n");
         finish(0);
     }
-    u32 both = first.count + second.count, size = (first.count > second.count ? first.count : second.count) + 1;
-    Headed *items = room(both, sizeof(Headed)), *behind = headed(&second, first.count, headed(&first, 0, items));
-    u32 count = (u32)(behind - items);
-    Rows rows = numbered(sorted(items, count), count, both);
-    u32 mentioned = rows.count, mask = 0, set[2] = { ~0u, ~0u };
+    u32 size = (first.count > second.count ? first.count : second.count) + 1;
+    Rows rows;
+    if (!rows_by_finger(&first, &second, &rows))
+        rows = rows_of_both(&first, &second);
+    u32 mentioned = rows.count, set[2] = { ~0u, ~0u };
     if (mentioned && rows.first[mentioned - 1]->rank == EVERYONE)
         mentioned--;
-    for (u32 k = 0; k < count; k++)
-        mask |= items[k].ace->mask;
+    u32 mask = rights_apart(&first, &second, rows.number, all_rights(&first) | all_rights(&second));
     Said *said = room((size_t)rows.count + 1, sizeof(Said));
     /* none, or one: the row behind the mentioned is that of everyone */
     u32 limit = mentioned + 1, single = limit;

@@ -1,6 +1,7 @@
 /* normalize and table. */
 
-/* The order of principals: by a head of rank and seven bytes, and then by the name. */
+/* The order of principals: by a head of rank and seven bytes, and then by the name. The bytes are those behind the ones
+ * with which all names begin. */
 
 typedef struct {
     u64 head;
@@ -8,15 +9,47 @@ typedef struct {
     u32 place;
 } Headed;
 
-static inline u64 head_of(const Ace *ace)
+static inline int is_named(const Ace *ace)
+{
+    return ace->rank == USER || ace->rank == GROUP_NAMED;
+}
+
+/* With how many bytes the names of a list begin as `first` does, up to `most`. */
+static u32 common_start(const Ace *first, const List *list, u32 most)
+{
+    for (u32 k = 0; k < list->count && most; k++) {
+        const Ace *ace = &list->aces[k];
+        if (!is_named(ace))
+            continue;
+        if (ace->len < most)
+            most = ace->len;
+        if (memcmp(first->who, ace->who, most))
+            for (u32 same = 0;; same++)
+                if (first->who[same] != ace->who[same]) {
+                    most = same;
+                    break;
+                }
+    }
+    return most;
+}
+
+static const Ace *first_named(const List *list)
+{
+    for (u32 k = 0; k < list->count; k++)
+        if (is_named(&list->aces[k]))
+            return &list->aces[k];
+    return 0;
+}
+
+static inline u64 head_of(const Ace *ace, u32 common)
 {
     u64 bytes = 0;
-    if (ace->rank != USER && ace->rank != GROUP_NAMED)
+    if (!is_named(ace))
         return (u64)ace->rank << 56;
-    if (ace->len >= 8)
-        memcpy(&bytes, ace->who, 8);
+    if (ace->len >= common + 8)
+        memcpy(&bytes, ace->who + common, 8);
     else
-        memcpy(&bytes, ace->who, ace->len);
+        memcpy(&bytes, ace->who + common, ace->len - common);
     return (u64)ace->rank << 56 | __builtin_bswap64(bytes) >> 8;
 }
 
@@ -24,7 +57,7 @@ static inline int is_same(const Headed *a, const Headed *b)
 {
     if (a->head != b->head)
         return 0;
-    if (a->ace->rank != USER && a->ace->rank != GROUP_NAMED)
+    if (!is_named(a->ace))
         return 1;
     return a->ace->len == b->ace->len && !memcmp(a->ace->who, b->ace->who, a->ace->len);
 }
@@ -33,7 +66,7 @@ static inline int is_before(const Headed *a, const Headed *b)
 {
     if (a->head != b->head)
         return a->head < b->head;
-    if (a->ace->rank == USER || a->ace->rank == GROUP_NAMED) {
+    if (is_named(a->ace)) {
         int order = by_bytes(a->ace->who, a->ace->len, b->ace->who, b->ace->len);
         if (order)
             return order < 0;
@@ -41,15 +74,15 @@ static inline int is_before(const Headed *a, const Headed *b)
     return a->place < b->place;
 }
 
-/* Merges runs that rise already, from short ones on. */
-static Headed *sorted(Headed *items, u32 count)
+/* Merges runs that rise already, from short ones on, and puts the result over the items. */
+static void merge(Headed *items, u32 count)
 {
     u32 *runs = room((size_t)count + 2, sizeof(u32)), many = 0;
     for (u32 k = 0; k < count; k++)
         if (k == 0 || !is_before(&items[k - 1], &items[k]))
             runs[many++] = k;
     runs[many] = count;
-    Headed *from = items, *to = many > 1 ? room(count, sizeof(Headed)) : items;
+    Headed *from = items, *to = many > 1 ? room(count, sizeof(Headed)) : items, *other = to;
     while (many > 1) {
         u32 done = 0;
         for (u32 r = 0; r < many; r += 2) {
@@ -62,19 +95,72 @@ static Headed *sorted(Headed *items, u32 count)
             runs[done++] = runs[r];
         }
         runs[many = done] = count;
-        Headed *other = from;
+        Headed *swapped = from;
         from = to;
-        to = other;
+        to = swapped;
+    }
+    if (from != items)
+        memcpy(items, from, count * sizeof(Headed));
+    if (other != items)
+        free(other);
+    free(runs);
+}
+
+static int is_in_order(const Headed *items, u32 count)
+{
+    for (u32 k = 1; k < count; k++)
+        if (!is_before(&items[k - 1], &items[k]))
+            return 0;
+    return 1;
+}
+
+/* Puts items in the order of their heads, those of one head as they come: a pass for each byte in which heads differ. */
+static Headed *by_heads(Headed *items, u32 count)
+{
+    u64 any = 0, all = ~0ull;
+    for (u32 k = 0; k < count; k++) {
+        any |= items[k].head;
+        all &= items[k].head;
+    }
+    Headed *from = items, *to = room(count, sizeof(Headed));
+    for (int shift = 0; shift < 64; shift += 8) {
+        if (!((any & ~all) >> shift & 0xff))
+            continue;
+        u32 starts[257] = { 0 };
+        for (u32 k = 0; k < count; k++)
+            starts[(from[k].head >> shift & 0xff) + 1]++;
+        for (int byte = 1; byte < 256; byte++)
+            starts[byte] += starts[byte - 1];
+        for (u32 k = 0; k < count; k++)
+            to[starts[from[k].head >> shift & 0xff]++] = from[k];
+        Headed *swapped = from;
+        from = to;
+        to = swapped;
     }
     return from;
 }
 
+/* Items that are in order need no sort. Of one head they are put in order by their names. */
+static Headed *sorted(Headed *items, u32 count)
+{
+    if (is_in_order(items, count))
+        return items;
+    items = by_heads(items, count);
+    for (u32 k = 0, next; k < count; k = next) {
+        for (next = k + 1; next < count && items[next].head == items[k].head; next++)
+            ;
+        if (next - k > 1 && is_named(items[k].ace))
+            merge(items + k, next - k);
+    }
+    return items;
+}
+
 /* Puts down what takes part; the places of the list count from `first`. */
-static Headed *headed(const List *list, u32 first, Headed *to)
+static Headed *headed(const List *list, u32 first, u32 common, Headed *to)
 {
     for (u32 k = 0; k < list->count; k++)
         if (!(list->aces[k].flags & INHERIT_ONLY))
-            *to++ = (Headed){ head_of(&list->aces[k]), &list->aces[k], first + k };
+            *to++ = (Headed){ head_of(&list->aces[k], common), &list->aces[k], first + k };
     return to;
 }
 
@@ -97,8 +183,10 @@ static Rows numbered(const Headed *items, u32 count, u32 places)
 
 static Rows rows_of(const List *list)
 {
+    const Ace *named = first_named(list);
+    u32 common = named ? common_start(named, list, named->len) : 0;
     Headed *items = room(list->count, sizeof(Headed));
-    u32 count = (u32)(headed(list, 0, items) - items);
+    u32 count = (u32)(headed(list, 0, common, items) - items);
     return numbered(sorted(items, count), count, list->count);
 }
 
@@ -229,10 +317,30 @@ static void look(Emission *it, int bit, int kind)
     set_free(it, &it->columns[bit][!kind][1], bit, users < others ? users : others);
 }
 
+/* Whether the keys of the ACEs that have a bit left rise: such a list is its own normal form. */
+static int is_rising(const List *list, const u32 *number, const u32 *masks)
+{
+    u32 least = 0;
+    for (u32 k = 0; k < list->count; k++)
+        if (masks[k]) {
+            u32 key = number[k] * 2 + (list->aces[k].kind == ALLOW);
+            if (key < least)
+                return 0;
+            least = key + 1;
+        }
+    return 1;
+}
+
 static void normal_form(const List *list, const Rows *of, void (*emit)(const Ace *, u32 row, u32 kind, u32 mask))
 {
     u32 rows = of->count, *number = of->number, *masks = room(list->count, sizeof(u32));
     reduce(list, number, rows, masks);
+    if (is_rising(list, number, masks)) {
+        for (u32 k = 0; k < list->count; k++)
+            if (masks[k])
+                emit(&list->aces[k], number[k], list->aces[k].kind, masks[k]);
+        return;
+    }
     Emission *it = cleared(1, sizeof(Emission));
     it->left = cleared(rows * 2, sizeof(u32));
     it->free = cleared(rows * 2, sizeof(u32));
@@ -299,6 +407,20 @@ static void put_row(const Ace *ace, u32 row, u32 kind, u32 mask)
     put_byte('\n');
 }
 
+/* Cuts a list to the ACEs that take part and have a right, with that right alone, and returns their places in it. */
+static u32 *cut_to(List *list, u32 right)
+{
+    u32 *places = room(list->count, sizeof(u32)), left = 0;
+    for (u32 k = 0; k < list->count; k++)
+        if (!(list->aces[k].flags & INHERIT_ONLY) && list->aces[k].mask & right) {
+            list->aces[left] = list->aces[k];
+            list->aces[left].mask = right;
+            places[left++] = k;
+        }
+    list->count = left;
+    return places;
+}
+
 static void table(int argc, char **argv)
 {
     const char *name = option(argc, argv, "bit");
@@ -306,11 +428,11 @@ static void table(int argc, char **argv)
         end(3, "usage");
     asked = bit_of(rights, (const u8 *)name, strlen(name));
     List list = read_list();
+    u32 *places = cut_to(&list, asked);
     Rows rows = rows_of(&list);
     sources = room(rows.count, sizeof(u32));
     for (u32 k = list.count; k--;)
-        if (!(list.aces[k].flags & INHERIT_ONLY) && list.aces[k].mask & asked)
-            sources[rows.number[k]] = k;
+        sources[rows.number[k]] = places[k];
     normal_form(&list, &rows, put_row);
     finish(0);
 }
