@@ -1,4 +1,4 @@
--- Each ACE of the list that stands for a POSIX ACL is one that may stand in a list.
+-- Each ACE of the list of a POSIX ACL may be in a list, so only the limits can refuse that list.
 use Rattle.std.proofs.Common.{◌∙◌, ◌≡◌, ℕ, zero, suc, ◌-◌, ◌<◌, ◌≤◌, Bool, true, false, cond, eqb, ltb, leb, List, [], ◌∷◌, ◌++◌, length, get_or, refl, ap, arith}
 use Rattle.std.specs.Prelude.{count_ones, ◌&&◌, ◌||◌, not, slice_index}
 use Rattle.std.specs.List.{AllByRecursion, filter, flat_map, list_all}
@@ -24,11 +24,10 @@ use Rattle.acl_posix.specs.Mask.{effective_of}
 use Rattle.acl_nfs4.specs.Ace.{Ace}
 use Rattle.acl_nfs4.specs.Limits.{longest_who}
 use Rattle.acl_nfs4.specs.Who.{IsWho, is_no_who_len, is_plain, is_special, is_unknown_special, ends_in_at, owner_name, group_name, everyone_name}
-use Rattle.acl_nfs4.specs.Spelling.{IsAce, IsAccepted, weight}
-use Rattle.acl_nfs4.proofs.Lists.{weight-cons}
-use Rattle.acl_nfs4.specs.Owned.{IsOwned}
-use Rattle.acl_nfs4.specs.internal.Body.{aces_of}
-use Rattle.acl_eval.specs.Bridge.{image, who_of, flags_of, ace_of, each, is_user_tag, is_group_tag, is_other_tag, allow_of, deny_of, decide_of, bridge_list}
+use Rattle.acl_nfs4.specs.Spelling.{IsAce, weight}
+use Rattle.acl_nfs4.proofs.Exports.{weight-cons}
+use Rattle.acl_eval.specs.Bridge.{image, bridged_who, bridged_flags, ace_of, each, is_user_tag, is_group_tag, is_other_tag, allow_of, deny_of, decide_of, bridge_list}
+use Rattle.acl_eval.specs.Bridge.{image, bridged_who, bridged_flags, ace_of, each, is_user_tag, is_group_tag, is_other_tag, allow_of, deny_of, decide_of, bridge_list}
 use Rattle.acl_eval.specs.BridgeNames.{NamesDiffer, NamesStand, OnlyLimitsRefuse}
 use Rattle.acl_eval.proofs.Images.{image_mask, image_some}
 use Rattle.acl_eval.proofs.EntryRuns.{effective_lt, everywhere}
@@ -76,7 +75,7 @@ is_who-decimal n lt =
     (digits_plain (decimal n) digits)
     (ap (λ (b : Bool). b && not (is_special (decimal n))) at)
 
--- each name may stand as a who, and none is a special identifier
+-- each name is a valid who, and none is a special identifier
 pub names_stand : NamesStand
 names_stand n lt = (is_who-decimal n lt, rw (not_owner n lt, not_group n lt, not_everyone n lt) refl)
 
@@ -99,16 +98,17 @@ is_who-everyone = no_fault everyone_name refl (text everyone_name refl) refl ref
 
 -- ---- ACEs
 
--- the ACE may stand in a list, and has a bit
+-- the ACE may be in a list, and its mask is not empty
 abbrev Good : Ace → Type 0
 Good a = IsAce full a × (0 < count_ones a.mask)
 
-with_who : (k : Kind) (l : Tag) (p : ℕ) → p < 8 → IsWithin all_flags (flags_of l) → IsWho (who_of l)
+with_who : (k : Kind) (l : Tag) (p : ℕ) → p < 8 → IsWithin all_flags (bridged_flags l) → IsWho (bridged_who l)
     → AllByRecursion Good (ace_of k l p)
 unfolding ace_of
 with_who k l p lt fl w =
     elim (eqb p 0) as (λ t. eqb p 0 ≡ t
-    → AllByRecursion Good (cond t [] (record { kind = k; flags = flags_of l; mask = image p; who = who_of l } ∷ []))) [
+    → AllByRecursion Good (cond t []
+    (record { kind = k; flags = bridged_flags l; mask = image p; who = bridged_who l } ∷ []))) [
       | true ↦ λ e. tt
       | false ↦ λ e. ((record { flags = fl; mask = image_mask p lt; who = w }, image_some p lt e), tt)
     ] refl
@@ -171,7 +171,7 @@ aces_good E all =
     together (users ++ group_allows ++ group_denies) (each is_other_tag (allow_of E) es)
     (together (users ++ group_allows) group_denies (together users group_allows a b) c) d
 
--- each ACE of the list may stand in a list
+-- each ACE of the bridged list may be in a list
 pub aces_stand : (E : Entries) → AllByRecursion IsEntry (fin.entries E) → AllByRecursion (IsAce full) (bridge_list E)
 aces_stand E all = everywhere Good (IsAce full) (λ a g. g.0) (bridge_list E) (aces_good E all)
 
@@ -179,12 +179,12 @@ no_longer : (xs : List Ace) → AllByRecursion Good xs → length xs ≤ weight 
 no_longer [] h = omega arith
 no_longer (a ∷ xs) h = omega (arith, h.0.1, no_longer xs h.1, weight-cons a xs)
 
--- no ACE is without a bit
+-- the list has no more ACEs than mask bits, because no mask is empty
 pub length_within : (E : Entries) → AllByRecursion IsEntry (fin.entries E) → length (bridge_list E) ≤ weight
     (bridge_list E)
 length_within E all = no_longer (bridge_list E) (aces_good E all)
 
--- nothing but the limits of a list refuses the list of a valid ACL
+-- only the limits of a list can refuse the list of a valid ACL
 pub only_limits_refuse : OnlyLimitsRefuse
 only_limits_refuse entries access = (
   λ ok. (ok.count, ok.weight),
@@ -195,14 +195,3 @@ only_limits_refuse entries access = (
         aces_stand entries (recursion_from_All IsEntry (fin.entries entries) access.within);
   },
 )
-
--- ---- an owned list is accepted
-
--- an owned list is accepted
-pub owned_accepted : (n w : ℕ) (bytes : List ℕ) → IsOwned n w bytes → IsAccepted full (aces_of n bytes)
-owned_accepted n w bytes o = record {
-  count = omega (arith, o.small, o.spells.whole);
-  weight =
-      o.spells.spells.weight;
-  each = o.spells.spells.each;
-}

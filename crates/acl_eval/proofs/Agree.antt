@@ -1,4 +1,4 @@
--- One bit of the list of a POSIX ACL, against the access check.
+-- One bit of the list of a POSIX ACL, compared with the access check.
 use Rattle.std.proofs.Common.{◌≡◌, ℕ, ◌^◌, ◌<◌, Bool, true, false, cond, List, [], ◌∷◌, refl, sym, ap, subst, ◌∙◌}
 use Rattle.std.specs.Prelude.{bit_and, ◌&&◌, ◌||◌, ◌==◌, not, unwrap_or, Option, Some, None, is_some, T}
 use Rattle.std.specs.List.{list_any, AllByRecursion}
@@ -19,7 +19,7 @@ use Rattle.acl_posix.specs.Mode.{perm_at}
 use Rattle.acl_posix.specs.Check as posix
 use Rattle.acl_posix.specs.Check.{Object, Requester, contains, grants}
 use Rattle.acl_eval.proofs.ValidChecks.{mask_contains, plain, complete, plain_check}
-use Rattle.acl_posix.proofs.Tags.{same_tag}
+use Rattle.acl_posix.proofs.Exports.{same_tag}
 use Rattle.acl_eval.specs.Bridge.{is_user_tag, is_group_tag, is_other_tag, bridge_list}
 use Rattle.acl_eval.specs.BridgeLaws.{by_name, IsAsked, IsAccess}
 use Rattle.acl_eval.proofs.Runs.{run}
@@ -60,7 +60,7 @@ masked_bit (Some m) n j want e pos all =
     has_bit-and n m j ∙ ap (λ (z : Bool). z && has_bit m j) (sym (contains_power n j want e pos))
     ∙ ap (λ (z : Bool). contains n want && z) (sym (contains_power m j want e pos))
 
--- a bit of an entry that MASK limits is one of the entry and of MASK
+-- an entry that MASK limits has a bit if and only if the entry and MASK have it
 masked : (E : Entries) (e : Tag × ℕ) (want j b : ℕ) → IsRight want j b → is_masked e.0 ≡ true
     → bit_of E j e ≡ (contains e.1 want && mask_contains E want)
 masked E e want j b right is =
@@ -82,7 +82,7 @@ less Less h = refl
 less Equal h = absurd h
 less Greater h = absurd h
 
--- what stands behind a tag is greater
+-- the entries after a tag have greater tags
 below_found : (k q : Tag) (p : ℕ) (ps : List (Tag × ℕ)) → T (below_all tag_cmp k ps) → fin.find tag_cmp q ps ≡ Some p
     → tag_cmp k q ≡ Less
 below_found k q p [] h f = absurd cc
@@ -165,7 +165,7 @@ group_masked (group id) h = refl
 group_masked mask h = absurd cc
 group_masked other h = absurd cc
 
--- an entry that is asked allows or denies
+-- an entry that matches allows or denies
 split : (g v m : Bool) → (g && m) ≡ ((g && (v && m)) || (g && (not v && m)))
 split false v m = refl
 split true true true = refl
@@ -233,7 +233,7 @@ others_decide E s want j b (e ∷ ps) right sorted =
 
 -- ---- the whole check
 
--- what the plain check answers of a requester who is not the owner and has no entry
+-- the answer of the plain check for a requester who is not the owner and has no entry
 abbrev class_check : Entries → Object → Requester → ℕ → Bool
 class_check E object requester want = cond (posix.any_matches E object.group requester.groups)
     (posix.any_contains E object.group requester.groups want && mask_contains E want) (contains (perm_at E other) want)
@@ -250,20 +250,20 @@ class_decides E object requester want j b right a all =
     let allowed : Bool = list_any (allows_test E s j) es in
     let last : Bool = cond (list_any (others_test E s j) es) true false in
     let some : list_any (λ e. is_group_tag e.0 && concerns s e.0) es ≡ matched =
-    any_alike (λ e. is_group_tag e.0 && concerns s e.0) (λ e. posix.matches og requester.groups e.0) es
-    (everywhere IsEntry (λ e. (is_group_tag e.0 && concerns s e.0) ≡ posix.matches og requester.groups e.0)
+    any_alike (λ e. is_group_tag e.0 && concerns s e.0) (λ e. posix.tag_matches og requester.groups e.0) es
+    (everywhere IsEntry (λ e. (is_group_tag e.0 && concerns s e.0) ≡ posix.tag_matches og requester.groups e.0)
     (λ e is. group_test object requester e.0 a gs is.0) es all) in
     let one : (e : Tag × ℕ) → IsEntry e → allows_test E s j e
-    ≡ ((posix.matches og requester.groups e.0 && contains e.1 want) && mask_contains E want) = λ e is.
+    ≡ ((posix.tag_matches og requester.groups e.0 && contains e.1 want) && mask_contains E want) = λ e is.
     reorder (is_group_tag e.0) (bit_of E j e) (contains e.1 want) (mask_contains E want) (concerns s e.0)
     (λ g. masked E e want j b right (group_masked e.0 g))
     ∙ ap (λ (z : Bool). (z && contains e.1 want) && mask_contains E want) (group_test object requester e.0 a gs is.0) in
     let granted : allowed ≡ (posix.any_contains E og requester.groups want && mask_contains E want) =
     any_alike (allows_test E s j)
-    (λ e. (posix.matches og requester.groups e.0 && contains e.1 want) && mask_contains E want) es
+    (λ e. (posix.tag_matches og requester.groups e.0 && contains e.1 want) && mask_contains E want) es
     (everywhere IsEntry (λ e. allows_test E s j e
-    ≡ ((posix.matches og requester.groups e.0 && contains e.1 want) && mask_contains E want)) one es all)
-    ∙ any_and (λ e. posix.matches og requester.groups e.0 && contains e.1 want) (mask_contains E want) es in
+    ≡ ((posix.tag_matches og requester.groups e.0 && contains e.1 want) && mask_contains E want)) one es all)
+    ∙ any_and (λ e. posix.tag_matches og requester.groups e.0 && contains e.1 want) (mask_contains E want) es in
     let others : last ≡ contains (perm_at E other) want =
     cond_bool (list_any (others_test E s j) es) ∙ others_decide E s want j b es right (fin.entries_sorted E)
     ∙ ap (λ (o : Option ℕ). contains (unwrap_or o 0) want) (sym (fin.get-entries E other)) in
@@ -272,7 +272,7 @@ class_decides E object requester want j b right a all =
     ∙ ap (λ (z : Bool). cond matched z last) granted
     ∙ ap (λ (z : Bool). cond matched (posix.any_contains E og requester.groups want && mask_contains E want) z) others
 
--- an option that is there is that of some value
+-- an option that is not None has a value
 some_value : (o : Option ℕ) → is_some o ≡ true → (p : ℕ) × (o ≡ Some p)
 some_value None h = absurd cc
 some_value (Some p) h = (p, refl)
@@ -307,7 +307,7 @@ agrees_plainly E object requester want j b access a right =
           (sym (fin.get-entries E u))
     ] refl
 
--- each bit of the list is granted exactly if the check grants the permission that it is of
+-- the list grants a bit if and only if the check grants the permission to which the bit belongs
 pub agrees : (E : Entries) (object : Object) (requester : Requester) (want j b : ℕ) → IsAccess E
     → IsAsked object requester → IsRight want j b
     → run (bridge_list E) (by_name object requester) b false ≡ grants E object requester want

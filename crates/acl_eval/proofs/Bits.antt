@@ -1,4 +1,4 @@
--- Whether a set has all of one bit, or of two, as `contains` of the sets tells it.
+-- Whether a set has one bit, or two bits, by the result of `contains`.
 use Rattle.std.proofs.Common.{◌≡◌, ℕ, ◌*◌, ◌/◌, ◌%◌, ◌^◌, ◌<◌, eqb, refl, sym, ap, ◌∙◌, arith}
 use Rattle.std.specs.Prelude.{bit_and, ◌&&◌}
 use Rattle.std.specs.Int.{bit_at}
@@ -8,7 +8,7 @@ use Rattle.acl_perm.specs.Bits.{has_bit}
 by_digit : (d p : ℕ) → d < 2 → 0 < p → eqb (d * p) p ≡ eqb d 1
 by_digit d p lt pos = grind arith
 
--- a set has all of a power of two exactly if it has that bit
+-- a set contains a power of two if and only if it has that bit
 pub contains_power : (n k p : ℕ) → p ≡ 2 ^ k → 0 < p → eqb (bit_and n p) p ≡ has_bit n k
 contains_power n k p e pos =
     ap (λ (m : ℕ). eqb m p) (ap (bit_and n) e ∙ and_pow n k ∙ ap (λ (q : ℕ). bit_at n k * q) (sym e))

@@ -12,7 +12,7 @@ use Rattle.acl_posix.specs.Id.{IsId}
 use Rattle.acl_posix.specs.Tag.{Tag, user_obj, user, mask, other}
 use Rattle.acl_posix.specs.Entries.{Entries}
 use Rattle.acl_posix.specs.Mode.{perm_at}
-use Rattle.acl_posix.specs.Check.{Object, Requester, ids, contains, matches, any_matches, any_contains, grants}
+use Rattle.acl_posix.specs.Check.{Object, Requester, ids, contains, tag_matches, any_matches, any_contains, grants}
 use Rattle.acl_eval.specs.Grant.{Grant, grants_bit}
 use Rattle.acl_eval.specs.Bridge.{image, bridge_list}
 use Rattle.acl_eval.specs.BridgeLaws.{by_name, IsAsked, IsAccess, GrantsSingles, KeepsGrants}
@@ -67,16 +67,16 @@ plain_less E object requester want less sub =
     let one = λ (p : ℕ). contains_less p want less sub in
     let limit : mask_contains E want ≡ true → mask_contains E less ≡ true = one (unwrap_or (fin.get E mask) 7) in
     let class : any_contains E og gs want ≡ true → any_contains E og gs less ≡ true =
-    any_less (λ e. matches og gs e.0 && contains e.1 want) (λ e. matches og gs e.0 && contains e.1 less) (fin.entries E)
-    (λ e. and_less (matches og gs e.0) (contains e.1 want) (matches og gs e.0) (contains e.1 less) (λ m. m) (one e.1))
-    in
+    any_less (λ e. tag_matches og gs e.0 && contains e.1 want) (λ e. tag_matches og gs e.0 && contains e.1 less)
+    (fin.entries E) (λ e. and_less (tag_matches og gs e.0) (contains e.1 want) (tag_matches og gs e.0)
+    (contains e.1 less) (λ m. m) (one e.1)) in
     choose_less (requester.user == object.user) _ _ _ _ (one (perm_at E user_obj))
     (choose_less (fin.contains_key E u) _ _ _ _ (and_less _ _ _ _ (one (perm_at E u)) limit)
     (choose_less (any_matches E og gs) _ _ _ _ (and_less _ _ _ _ class limit) (one (perm_at E other))))
 
 -- ---- the laws
 
--- a right of an image is granted exactly if the check grants its permission
+-- a right of an image is granted if and only if the check grants its permission
 bit_granted : (E : Entries) (object : Object) (requester : Requester) (want j b : ℕ) → IsAccess E
     → IsAsked object requester → IsRight want j b
     → grants_bit (bridge_list E) (by_name object requester) b ≡ grants E object requester want
@@ -101,7 +101,7 @@ single E object requester want j b access a right lt has = (
       }) ∙ h,
 )
 
--- one permission is granted by the list exactly if it is by the check
+-- the list grants one permission if and only if the check grants it
 pub grants_singles : GrantsSingles
 unfolding image
 grants_singles entries object requester want access a (inl r) = rw r

@@ -1,4 +1,4 @@
--- Whom the ACEs of an entry speak of: decimal names of different ids differ, and none is a special who.
+-- Whom the ACEs of an entry match: the decimal names of different ids differ, and none is a special who.
 use Rattle.std.proofs.Common.{◌≡◌, ℕ, ◌<◌, Bool, true, false, eqb, List, [], ◌∷◌, refl, sym, ap, subst, ◌∙◌, arith}
 use Rattle.std.specs.Prelude.{◌&&◌, ◌||◌, ◌==◌, map}
 use Rattle.std.specs.List.{AllByRecursion}
@@ -21,13 +21,13 @@ use Rattle.acl_posix.specs.Check.{Object, Requester}
 use Rattle.acl_perm.proofs.Bools.{same_answers}
 use Rattle.acl_nfs4.specs.Ace.{Ace}
 use Rattle.acl_nfs4.specs.Who.{owner_name, group_name, everyone_name}
-use Rattle.acl_eval.specs.Bridge.{who_of, flags_of, is_user_tag, is_group_tag}
+use Rattle.acl_eval.specs.Bridge.{bridged_who, bridged_flags, is_user_tag, is_group_tag}
 use Rattle.acl_eval.specs.BridgeLaws.{by_name, IsAsked}
 use Rattle.acl_eval.specs.Scan.{speaks}
 
 -- ---- decimal names
 
--- a byte that is no digit begins no number
+-- a number does not begin with a byte that is not a digit
 not_decimal : (n c : ℕ) (cs : List ℕ) → IsId n → 57 < c → decimal n ≡ c ∷ cs → ⊥
 not_decimal n c cs h big e =
     omega (arith, digit_from_value c (subst (AllDigits 10) e (decimal_is_IsNumeral n (omega arith)).0.1).0)
@@ -50,7 +50,7 @@ not_group n h = unequal (decimal n) group_name (λ e. not_decimal n _ _ h (omega
 pub not_everyone : (n : ℕ) → IsId n → bytes_eq (decimal n) everyone_name ≡ false
 not_everyone n h = unequal (decimal n) everyone_name (λ e. not_decimal n _ _ h (omega arith) e)
 
--- names are equal exactly if the ids are
+-- names are equal if and only if the ids are
 pub same_name : (m n : ℕ) → IsId m → IsId n → bytes_eq (decimal m) (decimal n) ≡ (m == n)
 same_name m n p q = same_answers (bytes_eq (decimal m) (decimal n)) (m == n)
     (λ h. eq-eqb m n (decimal_injective m n (omega arith) (omega arith)
@@ -63,7 +63,7 @@ same_id m n p q = same_answers (bytes_eq (decimal m) (decimal n)) (n == m)
     (sym (decimal_injective m n (omega arith) (omega arith) ((bytes_eq-Decides (decimal m) (decimal n)).0 h))))
     (λ h. (bytes_eq-Decides (decimal m) (decimal n)).1 (ap decimal (sym (eqb-true n m h))))
 
--- a group is one of some by name exactly if it is by id
+-- a group is among some groups by its name if and only if it is by its id
 is_one : (id : ℕ) (gs : List ℕ) → IsId id → AllByRecursion IsId gs → is_one_of (decimal id) (map decimal gs)
     ≡ posix.is_member id gs
 is_one id [] h all = refl
@@ -74,9 +74,9 @@ is_one id (g ∷ gs) h all = ap (λ (b : Bool). b || is_one_of (decimal id) (map
 
 -- an ACE of a tag, with these rights
 abbrev pub ace_with : Kind → Tag → ℕ → Ace
-ace_with kind tag rights = record { kind = kind; flags = flags_of tag; mask = rights; who = who_of tag }
+ace_with kind tag rights = record { kind = kind; flags = bridged_flags tag; mask = rights; who = bridged_who tag }
 
--- the ACEs of a tag speak of the requester
+-- the ACEs of a tag match the requester
 abbrev pub concerns : Situation → Tag → Bool
 concerns s tag = speaks s (ace_with Allow tag 0)
 
@@ -89,7 +89,7 @@ concerns_group s id h = rw (not_owner id h, not_group id h, not_everyone id h) r
 equal_numbers : (m n : ℕ) → is_eq (nat_cmp m n) ≡ eqb m n
 equal_numbers m n = grind (arith, nat_tests)
 
--- of a requester who is not the owner, an ACE of USER_OBJ or USER speaks exactly if it is that of this user
+-- an ACE of USER_OBJ or USER matches a requester who is not the owner if and only if it is the ACE of this user
 pub user_test : (object : Object) (requester : Requester) (l : Tag) → IsAsked object requester → IsTag l
     → (requester.user == object.user) ≡ false
     → (is_user_tag l && concerns (by_name object requester) l) ≡ eq_by_cmp tag_cmp (user requester.user) l
@@ -101,10 +101,10 @@ user_test object requester (group id) a is differ = refl
 user_test object requester mask a is differ = refl
 user_test object requester other a is differ = refl
 
--- an ACE of GROUP_OBJ or GROUP speaks of the requester exactly if the entry matches
+-- an ACE of GROUP_OBJ or GROUP matches the requester if and only if the entry does
 pub group_test : (object : Object) (requester : Requester) (l : Tag) → IsAsked object requester
     → AllByRecursion IsId requester.groups → IsTag l
-    → (is_group_tag l && concerns (by_name object requester) l) ≡ posix.matches object.group requester.groups l
+    → (is_group_tag l && concerns (by_name object requester) l) ≡ posix.tag_matches object.group requester.groups l
 group_test object requester user_obj a gs is = refl
 group_test object requester (user id) a gs is = refl
 group_test object requester group_obj a gs is = is_one object.group requester.groups a.owning_group gs

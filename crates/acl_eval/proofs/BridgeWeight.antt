@@ -1,4 +1,4 @@
--- The weight of the list that stands for a POSIX ACL.
+-- The weight of the list of a POSIX ACL.
 use Rattle.std.proofs.Common.{◌≡◌, ℕ, ◌+◌, ◌-◌, ◌<◌, ◌≤◌, Bool, true, false, cond, eqb, List, [], ◌∷◌, ◌++◌, length, get_or, take, refl, sym, ap, ◌∙◌, arith}
 use Rattle.std.specs.Prelude.{count_ones, sum_by, IsTrue, ◌↔◌, All}
 use Rattle.std.specs.List.{AllByRecursion, filter, flat_map}
@@ -15,9 +15,10 @@ use Rattle.acl_posix.specs.Entries.{Entries, IsEntry, pairs, pair_of}
 use Rattle.acl_posix.specs.Mask.{effective_of}
 use Rattle.acl_perm.specs.Profile.{full}
 use Rattle.acl_nfs4.specs.Ace.{Ace}
+use Rattle.acl_nfs4.specs.Limits.{most_weight}
 use Rattle.acl_nfs4.specs.Spelling.{weight, IsAccepted}
-use Rattle.acl_nfs4.proofs.Lists.{weight-cons}
-use Rattle.acl_eval.specs.Bridge.{image, who_of, flags_of, ace_of, allow_of, deny_of, decide_of, each, is_user_tag, is_group_tag, is_other_tag, bridge_list}
+use Rattle.acl_nfs4.proofs.Exports.{weight-cons}
+use Rattle.acl_eval.specs.Bridge.{image, bridged_who, bridged_flags, ace_of, allow_of, deny_of, decide_of, each, is_user_tag, is_group_tag, is_other_tag, bridge_list}
 use Rattle.acl_eval.specs.internal.BridgeBody.{cost_of}
 use Rattle.acl_eval.proofs.Images.{four_bits, image_none}
 use Rattle.acl_eval.proofs.EntryRuns.{effective_lt}
@@ -27,12 +28,12 @@ weight_ace : (k : Kind) (l : Tag) (p : ℕ) → weight (ace_of k l p) ≡ count_
 unfolding ace_of
 weight_ace k l p =
     elim (eqb p 0) as (λ t. eqb p 0 ≡ t
-    → weight (cond t [] (record { kind = k; flags = flags_of l; mask = image p; who = who_of l } ∷ []))
+    → weight (cond t [] (record { kind = k; flags = bridged_flags l; mask = image p; who = bridged_who l } ∷ []))
     ≡ count_ones (image p)) [
       | true ↦ λ e. sym image_none ∙ ap (λ (n : ℕ). count_ones (image n)) (sym (eqb-true p 0 e))
       | false ↦ λ e. omega (
         arith,
-        weight-cons (record { kind = k; flags = flags_of l; mask = image p; who = who_of l }) [],
+        weight-cons (record { kind = k; flags = bridged_flags l; mask = image p; who = bridged_who l }) [],
       )
     ] refl
 
@@ -79,7 +80,7 @@ entry_cost E (group id) n lt = omega (arith, both_weigh E (group id, n) lt)
 entry_cost E mask n lt = refl
 entry_cost E other n lt = omega (arith, weight_ace Allow other n)
 
--- what an entry costs
+-- the number of mask bits of an entry, over all its ACEs
 abbrev pub cost : Tag × ℕ → ℕ
 cost e = cost_of e.0 e.1
 
@@ -98,7 +99,7 @@ total E (e ∷ es) all = omega (
   sum_by-cons cost e es,
 )
 
--- the weight of the list is what its entries cost
+-- the weight of the list is the sum of the costs of the entries
 weight_bridge : (E : Entries) → AllByRecursion IsEntry (fin.entries E) → weight (bridge_list E) ≡ sum_by cost
     (fin.entries E)
 unfolding bridge_list
@@ -110,8 +111,8 @@ weight_bridge E all =
     let O = each is_other_tag (allow_of E) es in
     omega (arith, weight-append (D ++ A ++ N) O, weight-append (D ++ A) N, weight-append D A, total E es all)
 
--- the list is accepted exactly if its weight is within the limit
-accepted_by_weight : (E : Entries) → AllByRecursion IsEntry (fin.entries E) → (sum_by cost (fin.entries E) ≤ 65536)
+-- the list is accepted if and only if its weight is within the limit
+accepted_by_weight : (E : Entries) → AllByRecursion IsEntry (fin.entries E) → (sum_by cost (fin.entries E) ≤ most_weight)
     ↔ IsAccepted full (bridge_list E)
 accepted_by_weight E all = (
   λ le. record {
@@ -125,23 +126,23 @@ accepted_by_weight E all = (
 
 -- ---- entry by entry
 
--- one entry more
+-- one more entry adds its cost
 cost_more : (es : List Entry) (i : ℕ) (e : Entry) → i < length es → e ≡ get_or es i e
     → sum_by (λ (x : Entry). cost (pair_of x)) (take (i + 1) es) ≡ sum_by (λ (x : Entry). cost (pair_of x)) (take i es)
     + cost (pair_of e)
 cost_more es i e lt read = sum_by_more (λ (x : Entry). cost (pair_of x)) es i e lt
     ∙ ap (λ (x : Entry). sum_by (λ (y : Entry). cost (pair_of y)) (take i es) + cost (pair_of x)) (sym read)
 
--- the cost of a list of entries, as data and as the code holds them
+-- the cost of some entries is the same for the pairs of the specification and for the entries of the code
 costs : (es : List Entry) → sum_by cost (pairs es) ≡ sum_by (λ (x : Entry). cost (pair_of x)) es
 costs [] = refl
 costs (e ∷ es) =
     omega (arith, sum_by-cons cost (pair_of e) (pairs es), sum_by-cons (λ (x : Entry). cost (pair_of x)) e es, costs es)
 
--- where the entries so far cost too much, the list is not accepted
+-- if the entries so far cost too much, the list is not accepted
 pub too_heavy : (E : Entries) (es : List Entry) (i : ℕ) (e : Entry) (sum : ℕ) → All IsEntry (fin.entries E)
     → pairs es ≡ fin.entries E → i < length es → e ≡ get_or es i e
-    → sum ≡ sum_by (λ (x : Entry). cost (pair_of x)) (take i es) → 65536 < sum + cost (pair_of e)
+    → sum ≡ sum_by (λ (x : Entry). cost (pair_of x)) (take i es) → most_weight < sum + cost (pair_of e)
     → IsTrue false ↔ IsAccepted full (bridge_list E)
 too_heavy E es i e sum within is lt read so_far big =
     let all = recursion_from_All IsEntry (fin.entries E) within in
@@ -161,10 +162,10 @@ too_heavy E es i e sum within is lt read so_far big =
           )),
     )
 
--- where all cost no more than the limit, it is
+-- if all entries cost no more than the limit, the list is accepted
 pub light_enough : (E : Entries) (es : List Entry) (i : ℕ) (sum : ℕ) → All IsEntry (fin.entries E)
     → pairs es ≡ fin.entries E → length es ≤ i
-    → sum ≡ sum_by (λ (x : Entry). cost (pair_of x)) (take i es) → sum ≤ 65536 → IsTrue true ↔ IsAccepted full
+    → sum ≡ sum_by (λ (x : Entry). cost (pair_of x)) (take i es) → sum ≤ most_weight → IsTrue true ↔ IsAccepted full
     (bridge_list E)
 light_enough E es i sum within is le so_far small =
     let all = recursion_from_All IsEntry (fin.entries E) within in

@@ -1,22 +1,23 @@
--- The list of a child, and what of its parent's it keeps.
-use Rattle.std.proofs.Common.{◌≡◌, ℕ, ◌+◌, ◌*◌, ◌≤◌, Bool, true, false, List, [], ◌∷◌, ◌++◌, length, refl, sym, ap, subst, ◌∙◌, arith}
+-- The list of a child, and which facts about the list of its parent still hold for it.
+use Rattle.std.proofs.Common.{◌≡◌, ℕ, ◌+◌, ◌*◌, ◌≤◌, Bool, true, false, List, [], ◌∷◌, ◌++◌, length, refl, sym, ap, subst, ◌∙◌, append_assoc, arith}
 use Rattle.std.specs.Prelude.{bit_and, bit_or, count_ones, Option, None, Some, IsTrue, ◌&&◌, ◌||◌}
 use Rattle.std.specs.List.{AllByRecursion}
 use Rattle.std.specs.Int.{bit_at}
 use Rattle.std.proofs.lemmas.Bool.{eqb-true}
+use Rattle.std.proofs.lemmas.List.{append-nil}
 use Rattle.std.proofs.lemmas.Nat.{and_comm}
 use Rattle.std.proofs.lemmas.Nat.Bits.{and_pow}
 use Rattle.std.proofs.lemmas.Option.{same_Some}
 use Rattle.acl_perm.proofs.Sets.{has_bit-and, has_bit-or, same_set}
 use Rattle.acl_perm.specs.Bits.{has_bit, inherit_only}
-use Rattle.acl_perm.specs.Profile.{Profile}
+use Rattle.acl_perm.specs.Profile.{Profile, full}
 use Rattle.acl_nfs4.specs.Ace.{Ace}
 use Rattle.acl_nfs4.specs.Spelling.{Fits, IsAccepted, IsAce, weight}
 use Rattle.acl_nfs4.specs.Within.{IsWithin}
-use Rattle.acl_nfs4.proofs.Lists.{weight-cons}
+use Rattle.acl_nfs4.proofs.Exports.{front_accepted, weight-cons}
 use Rattle.acl_eval.specs.declared.inherit.ChildKind.{ChildKind}
 use Rattle.acl_eval.specs.declared.inherit.ChildKind.TheVariants.{File, Directory}
-use Rattle.acl_eval.specs.Inheritance.{child_flags, children, ends, goes_on, waits, with_flags, file_inherit, directory_inherit, no_propagate_inherit, kept_at_the_end, kept_on_the_way, inherit_only_alone}
+use Rattle.acl_eval.specs.Inheritance.{child_flags, children, ends, goes_on, waiting_flags, with_flags, file_inherit, directory_inherit, no_propagate_inherit, kept_at_the_end, kept_on_the_way, inherit_only_alone}
 
 -- ---- flags within a set
 
@@ -32,13 +33,13 @@ either_kept false e s p q = q
 bit_within : (set n k : ℕ) → IsWithin set n → (has_bit n k && has_bit set k) ≡ has_bit n k
 bit_within set n k is = sym (has_bit-and n set k) ∙ ap (λ (m : ℕ). has_bit m k) is
 
--- a part of what lies within a set does
+-- a part of a number within a set is within the set
 pub part_within : (set n c : ℕ) → IsWithin set n → IsWithin set (bit_and n c)
 part_within set n c is = same_set _ _ (λ k.
     has_bit-and (bit_and n c) set k ∙ ap (λ (b : Bool). b && has_bit set k) (has_bit-and n c k)
     ∙ both_kept (has_bit n k) (has_bit c k) (has_bit set k) (bit_within set n k is) ∙ sym (has_bit-and n c k))
 
--- and so does what two parts have
+-- and so is a union of two numbers within the set
 pub union_within : (set m n : ℕ) → IsWithin set m → IsWithin set n → IsWithin set (bit_or m n)
 union_within set m n p q = same_set _ _ (λ k.
     has_bit-and (bit_or m n) set k ∙ ap (λ (b : Bool). b && has_bit set k) (has_bit-or m n k)
@@ -50,7 +51,7 @@ pub inherit_only_within : (set : ℕ) → has_bit set inherit_only ≡ true → 
 inherit_only_within set h = and_comm 8 set ∙ and_pow set 3
     ∙ ap (λ (d : ℕ). d * 8) (eqb-true (bit_at set 3) 1 h)
 
--- the flags of an ACE of the child lie within a set with INHERIT_ONLY within which those of the parent's lie
+-- if the flags of an ACE are within a set with INHERIT_ONLY, so are the flags of the ACE in the child
 pub child_within : (set : ℕ) (kind : ChildKind) (flags f : ℕ) → has_bit set inherit_only ≡ true → IsWithin set flags
     → child_flags kind flags ≡ Some f → IsWithin set f
 child_within set kind flags f h is e =
@@ -63,7 +64,7 @@ child_within set kind flags f h is e =
     goes_on_in : Some (goes_on flags) ≡ Some f → IsWithin set f
     goes_on_in q = subst (IsWithin set) (same_Some _ _ q) (part_within set flags kept_on_the_way is)
 
-    waits_in : Some (waits flags) ≡ Some f → IsWithin set f
+    waits_in : Some (waiting_flags flags) ≡ Some f → IsWithin set f
     waits_in q = subst (IsWithin set) (same_Some _ _ q)
         (union_within set (goes_on flags) inherit_only_alone (part_within set flags kept_on_the_way is)
         (inherit_only_within set h))
@@ -82,7 +83,7 @@ child_within set kind flags f h is e =
 
 -- ---- a whole list
 
--- an ACE that the child has, and one that it hasn't
+-- an ACE that the child has
 pub child_has : (kind : ChildKind) (a : Ace) (list : List Ace) (f : ℕ) → child_flags kind a.flags ≡ Some f
     → children kind (a ∷ list) ≡ with_flags a f ∷ children kind list
 child_has kind a list f e = rw e refl
@@ -103,7 +104,7 @@ each_child P kind (a ∷ list) step each = by (each_child P kind list step each.
     by rest None e = subst (AllByRecursion P) (sym (child_lacks kind a list e)) rest
     by rest (Some f) e = subst (AllByRecursion P) (sym (child_has kind a list f e)) (step a f e each.0, rest)
 
--- a list's sum of numbers that flags do not change is no greater in the child
+-- a sum over the ACEs that does not depend on flags is no greater in the child
 no_more : (total : List Ace → ℕ) (of : Ace → ℕ) → ((a : Ace) (list : List Ace) → total (a ∷ list) ≡ of a + total list)
     → ((a : Ace) (f : ℕ) → of (with_flags a f) ≡ of a) → (kind : ChildKind) (list : List Ace)
     → total (children kind list) ≤ total list
@@ -145,10 +146,39 @@ child_accepted p kind list h ok = record {
       ok.each;
 }
 
+-- ---- ACE by ACE
+
 -- one more ACE moves from what is to come to what the child has
 pub moved : (done rest : List Ace) (a : Ace) → (done ++ a ∷ []) ++ rest ≡ done ++ a ∷ rest
-moved [] rest a = refl
-moved (b ∷ done) rest a = ap (λ (t : List Ace). b ∷ t) (moved done rest a)
+moved done rest a = append_assoc done (a ∷ []) rest
+
+-- the ACEs so far and the child of the rest of the parent are the whole child: after an ACE that the child has,
+pub one_more : (kind : ChildKind) (done : List Ace) (a : Ace) (f : ℕ) (left rest whole : List Ace) → left ≡ a ∷ rest
+    → child_flags kind a.flags ≡ Some f → done ++ children kind left ≡ whole
+    → (done ++ with_flags a f ∷ []) ++ children kind rest ≡ whole
+one_more kind done a f left rest whole next has so_far =
+    append_assoc done (with_flags a f ∷ []) (children kind rest)
+    ∙ ap (λ (list : List Ace). done ++ list) (sym (child_has kind a rest f has))
+    ∙ ap (λ (list : List Ace). done ++ children kind list) (sym next) ∙ so_far
+
+-- after an ACE that the child does not have,
+pub no_more_of : (kind : ChildKind) (done : List Ace) (a : Ace) (left rest whole : List Ace) → left ≡ a ∷ rest
+    → child_flags kind a.flags ≡ None → done ++ children kind left ≡ whole → done ++ children kind rest ≡ whole
+no_more_of kind done a left rest whole next lacks so_far =
+    ap (λ (list : List Ace). done ++ list) (sym (child_lacks kind a rest lacks))
+    ∙ ap (λ (list : List Ace). done ++ children kind list) (sym next) ∙ so_far
+
+-- and after the last ACE
+pub all_done : (kind : ChildKind) (done left whole : List Ace) → left ≡ [] → done ++ children kind left ≡ whole
+    → done ≡ whole
+all_done kind done left whole none so_far =
+    sym (append-nil done) ∙ ap (λ (list : List Ace). done ++ children kind list) (sym none) ∙ so_far
+
+-- the ACEs so far and one more are accepted, because an accepted list begins with them
+pub one_more_accepted : (kind : ChildKind) (done : List Ace) (a : Ace) (rest whole : List Ace)
+    → (done ++ a ∷ []) ++ children kind rest ≡ whole → IsAccepted full whole → IsAccepted full (done ++ a ∷ [])
+one_more_accepted kind done a rest whole is ok =
+    front_accepted full (done ++ a ∷ []) (children kind rest) (subst (IsAccepted full) (sym is) ok)
 
 -- ---- the table, row by row
 
@@ -165,20 +195,20 @@ pub directory_ended : (flags : ℕ) → has_bit flags no_propagate_inherit ≡ t
     → child_flags Directory flags ≡ Some (ends flags)
 directory_ended flags n d = rw (d, n) refl
 
--- not one that ends before it
+-- it does not have an ACE that ends before it
 pub directory_ended_before : (flags : ℕ) → has_bit flags no_propagate_inherit ≡ true
     → has_bit flags directory_inherit ≡ false → child_flags Directory flags ≡ None
 directory_ended_before flags n d = rw (d, n) refl
 
--- one that is handed on
+-- it has an ACE that it passes on
 pub directory_inherited : (flags : ℕ) → has_bit flags no_propagate_inherit ≡ false
     → has_bit flags directory_inherit ≡ true → child_flags Directory flags ≡ Some (goes_on flags)
 directory_inherited flags n d = rw (d, n) refl
 
--- one for files alone, which waits
+-- it has an ACE for files alone, which waits
 pub directory_for_files : (flags : ℕ) → has_bit flags no_propagate_inherit ≡ false
     → has_bit flags directory_inherit ≡ false → has_bit flags file_inherit ≡ true
-    → child_flags Directory flags ≡ Some (waits flags)
+    → child_flags Directory flags ≡ Some (waiting_flags flags)
 directory_for_files flags n d f = rw (d, n, f) refl
 
 -- and no other

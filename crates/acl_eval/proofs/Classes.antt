@@ -9,18 +9,18 @@ use Rattle.acl_nfs4.specs.Ace.{Ace}
 use Rattle.acl_eval.specs.ListMode.{is_granted_by, perm_of}
 use Rattle.acl_eval.specs.internal.Settled.{settled}
 
--- at the end of the list a bit is granted exactly if it was
+-- at the end of the list a bit is granted if and only if it is granted already
 pub at_the_end : (test : Principal → Bool) (granted left bit : ℕ)
     → settled test granted left [] bit ≡ has_bit granted bit
 at_the_end test granted left bit =
     ap (λ (x : Bool). has_bit granted bit || x) (and_false_right (has_bit left bit))
     ∙ or_false_right (has_bit granted bit)
 
--- the same permissions, where the four bits are the same
+-- if the four bits are the same, so are the permissions
 pub same_perm : (g h : ℕ → Bool) → g 0 ≡ h 0 → g 1 ≡ h 1 → g 2 ≡ h 2 → g 5 ≡ h 5 → perm_of g ≡ perm_of h
 same_perm g h a b c d = rw (a, b, c, d) refl
 
--- what a whole list settles is the permissions that it grants
+-- the bits that a whole list settles give the permissions that it grants
 pub perm_is : (test : Principal → Bool) (granted left : ℕ) (rest list : List Ace) → rest ≡ []
     → ((bit : ℕ) → settled test granted left rest bit ≡ settled test 0 all_rights list bit)
     → perm_of (has_bit granted) ≡ perm_of (is_granted_by test list)
@@ -34,6 +34,6 @@ pub begins : (test : Principal → Bool) (granted left : ℕ) (rest list : List 
     → left ≡ all_rights → (bit : ℕ) → settled test granted left rest bit ≡ settled test 0 all_rights list bit
 begins test granted left rest list e g l bit = rw (e, g, l) refl
 
--- the same mode, where the three parts are the same
+-- if the three parts are the same, so is the mode
 pub three : (a b c d e f : ℕ) → a ≡ d → b ≡ e → c ≡ f → mode_of_parts a b c ≡ mode_of_parts d e f
 three a b c d e f p q r = rw (p, q, r) refl

@@ -9,7 +9,7 @@ use Rattle.acl_eval.specs.Column.{takes_part}
 use Rattle.acl_eval.specs.Grant.{grants_bit, is_allow}
 use Rattle.acl_eval.specs.Scan.{speaks}
 
--- an ACE that has the bit and speaks of the requester decides it; behind any other the rest does
+-- an ACE that has the bit and matches the requester decides the bit; otherwise the rest of the list decides it
 pub bit_at_first : (a : Ace) (list : List Ace) (s : Situation) (bit : ℕ) → grants_bit (a ∷ list) s bit
     ≡ (if has_bit a.mask bit && speaks s a then is_allow a.kind else grants_bit list s bit)
 bit_at_first a list s bit = by (has_bit a.mask bit) (takes_part a) (matches s (principal_of a)) refl refl refl

@@ -1,4 +1,4 @@
--- The ACE that decides, as the search finds it and as the contract says it, and what is granted by it.
+-- The ACE that decides: the one that the search finds is the one of the contract, and what is granted follows from it.
 use Rattle.std.proofs.Common.{◌≡◌, ℕ, ◌+◌, Bool, true, false, List, [], ◌∷◌, Some, refl, sym, ◌∙◌}
 use Rattle.std.specs.Prelude.{option_map, ◌↔◌, IsTrue}
 use Rattle.std.specs.List.{find, position_from}
@@ -59,7 +59,7 @@ allow_is : (k : Kind) → IsTrue (is_allow k) ↔ (Some k ≡ Some Allow)
 allow_is Deny = (λ h. absurd cc, λ e. absurd cc)
 allow_is Allow = (λ h. refl, λ e. refl)
 
--- a bit is granted exactly if an ALLOW decides it
+-- a bit is granted if and only if an ALLOW decides it
 pub granted_is : (list : List Ace) (s : Situation) (bit : ℕ)
     → IsTrue (grants_bit list s bit) ↔ (deciding_kind list s bit ≡ Some Allow)
 granted_is [] s bit = (λ h. absurd cc, λ e. absurd cc)
@@ -70,7 +70,7 @@ granted_is (a ∷ list) s bit = by (granted_is list s bit) (decides s bit a) ref
     by rest true e = rw (bit_at_first a list s bit, e) (allow_is a.kind)
     by rest false e = rw (bit_at_first a list s bit, e) rest
 
--- and a request exactly if one decides each of its bits
+-- and a request if and only if an ALLOW decides each of its bits
 pub granted_by_allows : (list : List Ace) (s : Situation) (request : ℕ) → Grant list s request
     ↔ ((bit : ℕ) → IsTrue (has_bit request bit) → deciding_kind list s bit ≡ Some Allow)
 granted_by_allows list s request = (

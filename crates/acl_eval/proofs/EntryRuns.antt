@@ -22,7 +22,7 @@ use Rattle.acl_eval.proofs.BridgeNames.{ace_with, concerns}
 
 -- ---- one entry
 
--- the ACE of a tag answers a bit where it has the permission and speaks of the requester
+-- the ACE of a tag decides a bit if it has the permission and matches the requester
 run_ace : (k : Kind) (l : Tag) (p : ℕ) (s : Situation) (j b : ℕ) (r : Bool) → Stands j b → p < 8
     → run (ace_of k l p) s b r ≡ cond (has_bit p j && concerns s l) (is_allow k) r
 unfolding ace_of
@@ -47,19 +47,19 @@ effective_lt E e lt = elim (is_masked e.0) as (λ t. cond t (bit_and e.1 (unwrap
   | false ↦ lt
 ]
 
--- what an entry allows answers where it has the permission
+-- what an entry allows decides a bit if the entry has the permission
 run_allow : (E : Entries) (e : Tag × ℕ) (s : Situation) (j b : ℕ) (r : Bool) → Stands j b → e.1 < 8
     → run (allow_of E e) s b r ≡ cond (has_bit (effective_of E e) j && concerns s e.0) true r
 run_allow E e s j b r st lt = run_ace Allow e.0 (effective_of E e) s j b r st (effective_lt E e lt)
 
--- what it denies answers where it has not
+-- what an entry denies decides a bit if the entry does not have the permission
 run_deny : (E : Entries) (e : Tag × ℕ) (s : Situation) (j b : ℕ) (r : Bool) → Stands j b → j < 3 → e.1 < 8
     → run (deny_of E e) s b r ≡ cond (not (has_bit (effective_of E e) j) && concerns s e.0) false r
 run_deny E e s j b r st js lt =
     run_ace Deny e.0 (7 - effective_of E e) s j b r st (omega arith)
     ∙ ap (λ (h : Bool). cond (h && concerns s e.0) false r) (complement j (effective_of E e) js (effective_lt E e lt))
 
--- and both together always answer, where they speak of the requester
+-- and both together always decide, if they match the requester
 run_decide : (E : Entries) (e : Tag × ℕ) (s : Situation) (j b : ℕ) (r : Bool) → Stands j b → j < 3 → e.1 < 8
     → run (decide_of E e) s b r ≡ cond (concerns s e.0) (has_bit (effective_of E e) j) r
 run_decide E e s j b r st js lt =
@@ -70,12 +70,12 @@ run_decide E e s j b r st js lt =
 
 -- ---- a list of entries
 
--- the answer of the first element that is asked, and the given one where there is none
+-- the answer of the first element that passes the test, or the given answer if there is none
 abbrev pub first : {X : Type 0} → (X → Bool) → (X → Bool) → List X → Bool → Bool
 first m v [] r = r
 first m v (x ∷ xs) r = cond (m x) (v x) (first m v xs r)
 
--- some entries of a list answer by the first that is asked
+-- the first entry that passes the test decides for some entries of a list
 run_each : (which : Tag → Bool) (f : Tag × ℕ → List Ace) (m v : Tag × ℕ → Bool) (s : Situation) (b : ℕ) (r : Bool)
     (es : List (Tag × ℕ))
     → AllByRecursion (λ e. (t : Bool) → run (f e) s b t ≡ cond (m e) (v e) t) es
@@ -91,7 +91,7 @@ run_each which f m v s b r (e ∷ es) all =
       | false ↦ rest
     ]
 
--- where all answer alike, it counts only whether some is asked
+-- if all elements give the same answer, it only matters whether one of them passes the test
 first_const : {X : Type 0} (m : X → Bool) (c : Bool) (xs : List X) (r : Bool) → first m (λ _. c) xs r
     ≡ cond (list_any m xs) c r
 first_const m c [] r = refl
@@ -103,34 +103,34 @@ first_const m c (x ∷ xs) r =
 abbrev pub bit_of : Entries → ℕ → Tag × ℕ → Bool
 bit_of E j e = has_bit (effective_of E e) j
 
--- an entry of a user is asked
+-- an entry of a user matches
 abbrev pub users_test : Situation → Tag × ℕ → Bool
 users_test s e = is_user_tag e.0 && concerns s e.0
 
--- an entry of a group is asked and allows
+-- an entry of a group matches and allows
 abbrev pub allows_test : Entries → Situation → ℕ → Tag × ℕ → Bool
 allows_test E s j e = is_group_tag e.0 && (bit_of E j e && concerns s e.0)
 
--- an entry of a group is asked and denies
+-- an entry of a group matches and denies
 abbrev pub denies_test : Entries → Situation → ℕ → Tag × ℕ → Bool
 denies_test E s j e = is_group_tag e.0 && (not (bit_of E j e) && concerns s e.0)
 
--- OTHER is asked and allows
+-- OTHER matches and allows
 abbrev pub others_test : Entries → Situation → ℕ → Tag × ℕ → Bool
 others_test E s j e = is_other_tag e.0 && (bit_of E j e && concerns s e.0)
 
--- what the group class and OTHER answer
+-- the answer of the group class and OTHER
 abbrev pub class_answer : Entries → Situation → ℕ → List (Tag × ℕ) → Bool
 class_answer E s j es = cond (list_any (allows_test E s j) es) true (cond (list_any (denies_test E s j) es) false
     (cond (list_any (others_test E s j) es) true false))
 
--- what holds of all elements, and implies something, makes that hold of all
+-- a fact that holds for all elements implies any weaker fact for all elements
 pub everywhere : {X : Type 0} (P Q : X → Type 0) → ((x : X) → P x → Q x) → (xs : List X) → AllByRecursion P xs
     → AllByRecursion Q xs
 everywhere P Q f [] h = tt
 everywhere P Q f (x ∷ xs) h = (f x h.0, everywhere P Q f xs h.1)
 
--- the list answers by the first entry of a user that is asked, and else by the group class and OTHER
+-- the first entry of a user that matches decides for the list, and otherwise the group class and OTHER
 pub run_bridge : (E : Entries) (s : Situation) (j b : ℕ) → Stands j b → j < 3 → AllByRecursion IsEntry (fin.entries E)
     → run (bridge_list E) s b false ≡ first (users_test s) (bit_of E j) (fin.entries E)
     (class_answer E s j (fin.entries E))

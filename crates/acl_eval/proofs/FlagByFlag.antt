@@ -6,7 +6,7 @@ use Rattle.acl_perm.proofs.Bools.{and_true_right, and_false_right, or_true_right
 use Rattle.acl_perm.proofs.Sets.{has_bit-and, has_bit-or}
 use Rattle.acl_perm.specs.Bits.{has_bit, inherit_only, identifier_group}
 use Rattle.acl_eval.specs.declared.inherit.ChildKind.TheVariants.{File, Directory}
-use Rattle.acl_eval.specs.Inheritance.{child_flags, ends, goes_on, waits, file_inherit, directory_inherit, no_propagate_inherit, inherited, kept_at_the_end, kept_on_the_way, inherit_only_alone}
+use Rattle.acl_eval.specs.Inheritance.{child_flags, ends, goes_on, waiting_flags, file_inherit, directory_inherit, no_propagate_inherit, inherited, kept_at_the_end, kept_on_the_way, inherit_only_alone}
 use Rattle.acl_eval.specs.InheritanceLaws.{IsByFlag, successful_access, failed_access}
 
 -- a flag that is kept, and one that is cleared
@@ -16,25 +16,25 @@ kept n c k e = has_bit-and n c k ∙ ap (λ (b : Bool). has_bit n k && b) e ∙ 
 cleared : (n c k : ℕ) → has_bit c k ≡ false → has_bit (bit_and n c) k ≡ false
 cleared n c k e = has_bit-and n c k ∙ ap (λ (b : Bool). has_bit n k && b) e ∙ and_false_right (has_bit n k)
 
--- a flag beside one that is set, and that one
+-- a flag of a union with one flag, and that flag itself
 beside : (n c k : ℕ) → has_bit c k ≡ false → has_bit (bit_or n c) k ≡ has_bit n k
 beside n c k e = has_bit-or n c k ∙ ap (λ (b : Bool). has_bit n k || b) e ∙ or_false_right (has_bit n k)
 
 set : (n c k : ℕ) → has_bit c k ≡ true → has_bit (bit_or n c) k ≡ true
 set n c k e = has_bit-or n c k ∙ ap (λ (b : Bool). has_bit n k || b) e ∙ or_true_right (has_bit n k)
 
--- of flags of which a set is kept, that has those that say nothing of inheritance
+-- a kept set that has the flags that are not about inheritance leaves these as they are
 by_part : (on : Bool) (flags c : ℕ) → has_bit (bit_and flags c) file_inherit ≡ (on && has_bit flags file_inherit)
     → has_bit (bit_and flags c) directory_inherit ≡ (on && has_bit flags directory_inherit)
     → has_bit (bit_and flags c) no_propagate_inherit ≡ false
     → has_bit (bit_and flags c) inherit_only ≡ (on && not (has_bit flags directory_inherit))
     → has_bit c successful_access ≡ true → has_bit c failed_access ≡ true → has_bit c identifier_group ≡ true
     → has_bit c inherited ≡ false → IsByFlag on flags (bit_and flags c)
-by_part on flags c file directory ends waits success failed group not_inherited = record {
+by_part on flags c file directory ends waiting_flags success failed group not_inherited = record {
   file = file;
   directory = directory;
   ends = ends;
-  waits = waits;
+  waits = waiting_flags;
   success = kept flags c successful_access success;
   failed = kept flags c failed_access failed;
   group = kept flags c identifier_group group;
@@ -56,7 +56,7 @@ handed_on flags n d =
     (cleared flags kept_on_the_way inherit_only refl ∙ sym (ap not d)) refl refl refl refl
 
 waiting : (flags : ℕ) → has_bit flags no_propagate_inherit ≡ false → has_bit flags directory_inherit ≡ false
-    → IsByFlag true flags (waits flags)
+    → IsByFlag true flags (waiting_flags flags)
 waiting flags n d =
     let on = goes_on flags in
     let stays = λ (k : ℕ) (e : has_bit inherit_only_alone k ≡ false) (h : has_bit kept_on_the_way k ≡ true).
@@ -72,7 +72,7 @@ waiting flags n d =
       not_inherited = beside on inherit_only_alone inherited refl ∙ cleared flags kept_on_the_way inherited refl;
     }
 
--- of a file
+-- the flags of an ACE in a file
 pub files_by_flag : (flags f : ℕ) → child_flags File flags ≡ Some f → IsByFlag false flags f
 files_by_flag flags f e = by (has_bit flags file_inherit) refl e
   where
@@ -80,7 +80,7 @@ files_by_flag flags f e = by (has_bit flags file_inherit) refl e
     by true pe e = subst (IsByFlag false flags) (same_Some _ _ (sym (rw pe refl) ∙ e)) (ended flags)
     by false pe e = let none : child_flags File flags ≡ None = rw pe refl in absurd cc
 
--- of a directory
+-- the flags of an ACE in a directory
 pub directories_by_flag : (flags f : ℕ) → child_flags Directory flags ≡ Some f
     → IsByFlag (not (has_bit flags no_propagate_inherit)) flags f
 directories_by_flag flags f e =

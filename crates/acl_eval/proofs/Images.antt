@@ -7,12 +7,12 @@ use Rattle.acl_perm.specs.Bits.{all_rights, has_bit, IsMask}
 use Rattle.acl_perm.proofs.Sets.{has_bit-above}
 use Rattle.acl_eval.specs.Bridge.{image}
 
--- what a function answers of the numbers below n
+-- the values of a function for the numbers below n
 abbrev pub answers : {A : Type 0} → ℕ → (ℕ → A) → List A
 answers zero f = []
 answers (suc n) f = f 0 ∷ answers n (λ k. f (suc k))
 
--- two functions with the same answers below n answer alike there
+-- two functions with the same values below n agree there
 pub same_answers : {A : Type 0} (n : ℕ) (f g : ℕ → A) → answers n f ≡ answers n g → (k : ℕ) → k < n → f k ≡ g k
 same_answers zero f g e k lt = absurd (omega (arith, lt))
 same_answers (suc n) f g e zero lt = cc
@@ -20,18 +20,18 @@ same_answers (suc n) f g e (suc k) lt =
     let others : answers n (λ k. f (suc k)) ≡ answers n (λ k. g (suc k)) = cc in
     same_answers n (λ k. f (suc k)) (λ k. g (suc k)) others k (omega (arith, lt))
 
--- the right is one of the permission: each image has it exactly if it is of a set with that permission
+-- the right belongs to the permission: an image has the right if and only if its set has the permission
 pub record Stands (j b : ℕ) : Type 0 where
   pub same : (p : ℕ) → p < 8 → has_bit (image p) b ≡ has_bit p j
 
--- READ_DATA is read, WRITE_DATA and APPEND_DATA are write, and EXECUTE is execute
+-- READ_DATA belongs to read, WRITE_DATA and APPEND_DATA to write, and EXECUTE to execute
 pub record Rights : Type 0 where
   pub read_data : Stands 2 0
   pub write_data : Stands 1 1
   pub append_data : Stands 1 2
   pub execute : Stands 0 5
 
--- each right is of its permission
+-- each of these rights belongs to its permission
 pub rights : Rights
 unfolding image
 rights = record {
@@ -54,7 +54,7 @@ pub image_mask : (p : ℕ) → p < 8 → IsMask (image p)
 unfolding image
 image_mask = same_answers 8 (λ p. bit_and (image p) all_rights) image refl
 
--- that of some permissions is not empty
+-- the image of some permissions is not empty
 pub image_some : (p : ℕ) → p < 8 → eqb p 0 ≡ false → 0 < count_ones (image p)
 unfolding image lib.Count.ones
 image_some p lt some = ltb-true _ _
@@ -66,19 +66,19 @@ pub four_bits : (p : ℕ) → p < 8 → count_ones (image p) + count_ones (image
 unfolding image lib.Count.ones
 four_bits = same_answers 8 (λ p. count_ones (image p) + count_ones (image (7 - p))) (λ p. 4) refl
 
--- and that of none is
+-- the image of no permissions is empty
 pub image_none : count_ones (image 0) ≡ 0
 unfolding image lib.Count.ones
 image_none = refl
 
--- the image as code joins it of its three parts
+-- the image is the union of three parts, as the code computes it
 pub image_parts : (p : ℕ) → p < 8 → bit_or (bit_or (cond (eqb (bit_and p 4) 4) 1 0) (cond (eqb (bit_and p 2) 2) 6 0))
     (cond (eqb (bit_and p 1) 1) 32 0) ≡ image p
 unfolding image
 image_parts = same_answers 8 (λ p. bit_or (bit_or (cond (eqb (bit_and p 4) 4) 1 0) (cond (eqb (bit_and p 2) 2) 6 0))
     (cond (eqb (bit_and p 1) 1) 32 0)) image refl
 
--- the other rights of a byte are of no image
+-- no image has one of the other rights of the first byte
 record Others : Type 0 where
   third : (p : ℕ) → p < 8 → has_bit (image p) 3 ≡ false
   fourth : (p : ℕ) → p < 8 → has_bit (image p) 4 ≡ false
@@ -94,7 +94,7 @@ others = record {
   seventh = same_answers 8 (λ p. has_bit (image p) 7) (λ p. false) refl;
 }
 
--- which permission a right of an image is of
+-- the permission to which a right of an image belongs
 pub record Permits (want b : ℕ) : Type 0 where
   pub j : ℕ
   pub small : j < 3
@@ -104,7 +104,7 @@ pub record Permits (want b : ℕ) : Type 0 where
 permits : (want b j : ℕ) → want < 8 → j < 3 → Stands j b → has_bit (image want) b ≡ true → Permits want b
 permits want b j lt small st h = record { j = j; small = small; stands = st; has = sym (st.same want lt) ∙ h }
 
--- each right of an image is one of a permission
+-- each right of an image belongs to a permission
 pub image_bit : (want b : ℕ) → want < 8 → has_bit (image want) b ≡ true → Permits want b
 image_bit want zero lt h = permits want 0 2 lt (omega arith) rights.read_data h
 image_bit want (suc zero) lt h = permits want 1 1 lt (omega arith) rights.write_data h

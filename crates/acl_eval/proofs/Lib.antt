@@ -3,6 +3,7 @@ pub mod Members
 pub mod Columns
 pub mod Scans
 pub mod Deciders
+pub mod Noted
 pub mod Same
 pub mod Children
 pub mod FlagByFlag

@@ -1,4 +1,4 @@
--- Whether a name is one of a list: tests of references, and a search by halves among names in order.
+-- Whether a name is in a list: tests of references, and binary search among names in order.
 use Rattle.std.proofs.Common.{◌≡◌, ℕ, ◌+◌, ◌<◌, ◌≤◌, Bool, true, false, List, [], ◌∷◌, refl, sym, ◌∙◌, ap, subst, arith, inl, inr, length}
 use Rattle.std.proofs.lemmas.Bool.{cases_lt}
 use Rattle.std.proofs.lemmas.List.{get_or-map, length-map}
@@ -17,20 +17,20 @@ use Rattle.std.specs.declared.cmp.Ordering.TheVariants.{Less, Equal, Greater}
 use Rattle.acl_eval.specs.internal.GroupOrder.{AreInOrder}
 use Rattle.acl_eval.specs.internal.GroupTable.{is_same_name}
 
--- a test of what each reference points to
+-- a test of the values behind references
 pub any_now : (p : List ℕ → Bool) (xs : List (Bor (List ℕ)))
     → list_any p (map (λ g. g.now) xs) ≡ list_any (λ g. p g.now) xs
 any_now p [] = refl
 any_now p (x ∷ xs) = ap (λ (b : Bool). p x.now || b) (any_now p xs)
 
--- a name is that of a group of a set exactly if it is one of the names
+-- a set of groups has a name if and only if the name is one of its names
 pub named_alike : (groups : List (Bor (List ℕ))) (name : Bor (List ℕ))
     → list_any (is_same_name (record { bytes = name })) (map (λ g. record { bytes = g }) groups)
     ≡ list_any (bytes_eq name.now) (map (λ g. g.now) groups)
 named_alike [] name = refl
 named_alike (group ∷ groups) name = ap (λ (b : Bool). bytes_eq name.now group.now || b) (named_alike groups name)
 
--- no name is empty, said of the references and of what they point to
+-- no name is empty, for the references and for the values behind them
 pub all_named : (names : List (Bor (List ℕ)))
     → All (λ g. 0 < length g.now) names ↔ All (λ g. 0 < length g) (map (λ g. g.now) names)
 all_named names = (
@@ -39,7 +39,7 @@ all_named names = (
       (get_or-map (λ (g : Bor (List ℕ)). g.now) names k d d.now lt) (h k d.now (rw length-map lt)),
 )
 
--- two names are equal exactly if neither comes first
+-- two names are equal if and only if neither comes first
 eq_as_cmp : (name group : List ℕ) (o : Ordering) → slice_cmp nat_cmp group name ≡ o → bytes_eq name group ≡ is_eq o
 eq_as_cmp name group o e = nat_list_eq_equiv.symm name group ∙ texts_ties group name ∙ ap is_eq e
 
@@ -59,7 +59,7 @@ not_above name next h = by (slice_cmp nat_cmp name next) refl
     by Equal e h = ap is_lt (back ∙ ap ordering_reverse e)
     by Greater e h = absurd cc
 
--- names of which each does not come after the next are in order
+-- if no name comes after the next one, the names are in order
 pub in_order : (names : List (Bor (List ℕ))) (r : Bool)
     → IsAllAdjacentAnswer (λ (x : Bor (List ℕ)) (y : Bor (List ℕ)) (b : Bool). partial_le
     (λ (x : Bor (List ℕ)) (y : Bor (List ℕ)). slice_partial_cmp (λ a b. Some (nat_cmp a b)) x.now y.now) x y ≡ b)
@@ -69,7 +69,7 @@ in_order names true each e k d low lt =
     not_above (slice_index_or names k d).now (slice_index_or names (k + 1) d).now (each k d lt)
 in_order names false each e k d low lt = absurd cc
 
--- what a search by halves finds among names in order is there, and what it does not find is not
+-- a binary search among names in order finds a name if and only if it is there
 pub halves : (names : List (Bor (List ℕ))) (name : Bor (List ℕ)) (r : Result ℕ ℕ) → AreInOrder names
     → IsSearchInRange r (length names)
     → IsBinarySearchResult (λ (y : Bor (List ℕ)). slice_cmp nat_cmp y.now name.now) names r

@@ -1,4 +1,4 @@
--- More ACEs at the end of a list that stays accepted, entry by entry and part by part.
+-- A list that grows, entry by entry and part by part, and stays accepted.
 use Rattle.std.proofs.Common.{◌≡◌, ℕ, ◌+◌, ◌<◌, Bool, true, false, cond, eqb, List, [], ◌∷◌, ◌++◌, length, get_or, take, drop, refl, sym, ap, subst, ◌∙◌, append_assoc}
 use Rattle.std.specs.List.{filter, flat_map}
 use Rattle.std.specs.FinMap as fin
@@ -14,21 +14,21 @@ use Rattle.acl_nfs4.specs.Ace.{Ace}
 use Rattle.acl_nfs4.specs.Spelling.{IsAccepted}
 use Rattle.acl_eval.specs.declared.bridging.Part.{Part}
 use Rattle.acl_eval.specs.declared.bridging.Part.TheVariants.{Users, GroupAllows, GroupDenies, Others}
-use Rattle.acl_eval.specs.Bridge.{image, who_of, flags_of, ace_of, each, is_user_tag, is_group_tag, is_other_tag, allow_of, deny_of, decide_of, bridge_list}
-use Rattle.acl_eval.specs.internal.BridgeBody.{part_of}
-use Rattle.acl_nfs4.proofs.Lists.{front_accepted}
+use Rattle.acl_eval.specs.Bridge.{image, bridged_who, bridged_flags, ace_of, each, is_user_tag, is_group_tag, is_other_tag, allow_of, deny_of, decide_of, bridge_list}
+use Rattle.acl_eval.specs.internal.BridgeBody.{bridged_part}
+use Rattle.acl_nfs4.proofs.Exports.{front_accepted}
 use Rattle.acl_perm.specs.Profile.{full}
 
 -- ---- one ACE
 
--- no permissions add no ACE
+-- without permissions no ACE is added
 pub none_of : (k : Kind) (l : Tag) (p : ℕ) (xs : List Ace) → p ≡ 0 → xs ≡ xs ++ ace_of k l p
 unfolding ace_of
 none_of k l p xs e = rw e (sym (append-nil xs))
 
--- some add one
-pub one_of : (k : Kind) (l : Tag) (p flags rights : ℕ) (who : List ℕ) → (p ≡ 0 → ⊥) → flags ≡ flags_of l
-    → rights ≡ image p → who ≡ who_of l
+-- with some permissions one ACE is added
+pub one_of : (k : Kind) (l : Tag) (p flags rights : ℕ) (who : List ℕ) → (p ≡ 0 → ⊥) → flags ≡ bridged_flags l
+    → rights ≡ image p → who ≡ bridged_who l
     → record { kind = k; flags = flags; mask = rights; who = who } ∷ [] ≡ ace_of k l p
 unfolding ace_of
 one_of k l p flags rights who some fe me we =
@@ -38,23 +38,17 @@ one_of k l p flags rights who some fe me we =
       mask = rights;
       who =
           who;
-    } ∷ []) (cond t [] (record { kind = k; flags = flags_of l; mask = image p; who = who_of l } ∷ []))) [
+    } ∷ []) (cond t [] (record { kind = k; flags = bridged_flags l; mask = image p; who = bridged_who l } ∷ []))) [
       | true ↦ λ e. absurd (some (eqb-true p 0 e))
       | false ↦ λ e i. record { kind = k; flags = fe i; mask = me i; who = we i } ∷ []
     ] refl
 
 -- ---- what an entry allows, and then what it denies
 
--- a list that stays accepted with both stays so with the first
+-- if a list is accepted with two more parts, it is accepted with the first of them
 pub first_fits : (old a b : List Ace) → IsAccepted full (old ++ (a ++ b)) → IsAccepted full (old ++ a)
 first_fits old a b ok =
     front_accepted full (old ++ a) b (subst (λ (l : List Ace). IsAccepted full l) (sym (append_assoc old a b)) ok)
-
--- and with the second behind the first
-pub second_fits : (old mid a b : List Ace) → mid ≡ old ++ a → IsAccepted full (old ++ (a ++ b))
-    → IsAccepted full (mid ++ b)
-second_fits old mid a b so_far ok = subst (λ (l : List Ace). IsAccepted full l)
-    (sym (ap (λ (l : List Ace). l ++ b) so_far ∙ append_assoc old a b)) ok
 
 -- ---- one entry after the other
 
@@ -63,44 +57,45 @@ each-append : (which : Tag → Bool) (f : Tag × ℕ → List Ace) (xs ys : List
 each-append which f xs ys = ap (flat_map f) (filter-append (λ (e : Tag × ℕ). which e.0) xs ys)
     ∙ flat_map-append f (filter (λ (e : Tag × ℕ). which e.0) xs) (filter (λ (e : Tag × ℕ). which e.0) ys)
 
-part-append : (E : Entries) (part : Part) (xs ys : List (Tag × ℕ)) → part_of E part (xs ++ ys)
-    ≡ part_of E part xs ++ part_of E part ys
+part-append : (E : Entries) (part : Part) (xs ys : List (Tag × ℕ)) → bridged_part E part (xs ++ ys)
+    ≡ bridged_part E part xs ++ bridged_part E part ys
 part-append E Users xs ys = each-append is_user_tag (decide_of E) xs ys
 part-append E GroupAllows xs ys = each-append is_group_tag (allow_of E) xs ys
 part-append E GroupDenies xs ys = each-append is_group_tag (deny_of E) xs ys
 part-append E Others xs ys = each-append is_other_tag (allow_of E) xs ys
 
 part_more : (E : Entries) (part : Part) (es : List Entry) (i : ℕ) (e : Entry) → i < length es → e ≡ get_or es i e
-    → part_of E part (pairs (take (i + 1) es)) ≡ part_of E part (pairs (take i es)) ++ part_of E part (pair_of e ∷ [])
+    → bridged_part E part (pairs (take (i + 1) es))
+    ≡ bridged_part E part (pairs (take i es)) ++ bridged_part E part (pair_of e ∷ [])
 part_more E part es i e lt read =
-    ap (λ (xs : List Entry). part_of E part (pairs xs)) (take_more es i e lt)
-    ∙ ap (part_of E part) (map-append pair_of (take i es) (get_or es i e ∷ []))
+    ap (λ (xs : List Entry). bridged_part E part (pairs xs)) (take_more es i e lt)
+    ∙ ap (bridged_part E part) (map-append pair_of (take i es) (get_or es i e ∷ []))
     ∙ part-append E part (pairs (take i es)) (pair_of (get_or es i e) ∷ [])
-    ∙ ap (λ (x : Entry). part_of E part (pairs (take i es)) ++ part_of E part (pair_of x ∷ [])) (sym read)
+    ∙ ap (λ (x : Entry). bridged_part E part (pairs (take i es)) ++ bridged_part E part (pair_of x ∷ [])) (sym read)
 
 -- one more entry adds its ACEs to the part
 pub part_kept : (E : Entries) (part : Part) (es : List Entry) (i : ℕ) (e : Entry) (old mid next : List Ace)
     → i < length es → e ≡ get_or es i e
-    → mid ≡ old ++ part_of E part (pairs (take i es)) → next ≡ mid ++ part_of E part (pair_of e ∷ [])
-    → next ≡ old ++ part_of E part (pairs (take (i + 1) es))
+    → mid ≡ old ++ bridged_part E part (pairs (take i es)) → next ≡ mid ++ bridged_part E part (pair_of e ∷ [])
+    → next ≡ old ++ bridged_part E part (pairs (take (i + 1) es))
 part_kept E part es i e old mid next lt read so_far step =
-    step ∙ ap (λ (l : List Ace). l ++ part_of E part (pair_of e ∷ [])) so_far
-    ∙ append_assoc old (part_of E part (pairs (take i es))) (part_of E part (pair_of e ∷ []))
+    step ∙ ap (λ (l : List Ace). l ++ bridged_part E part (pair_of e ∷ [])) so_far
+    ∙ append_assoc old (bridged_part E part (pairs (take i es))) (bridged_part E part (pair_of e ∷ []))
     ∙ ap (λ (l : List Ace). old ++ l) (sym (part_more E part es i e lt read))
 
--- where the list stays accepted with the part, it stays so with the ACEs of one entry more
+-- if the list is accepted with the whole part, it is accepted with the ACEs of one more entry
 pub entry_fits : (E : Entries) (part : Part) (es : List Entry) (i : ℕ) (e : Entry) (old mid : List Ace)
     → i < length es → e ≡ get_or es i e → pairs es ≡ fin.entries E
-    → mid ≡ old ++ part_of E part (pairs (take i es)) → IsAccepted full (old ++ part_of E part (fin.entries E))
-    → IsAccepted full (mid ++ part_of E part (pair_of e ∷ []))
+    → mid ≡ old ++ bridged_part E part (pairs (take i es)) → IsAccepted full (old ++ bridged_part E part (fin.entries E))
+    → IsAccepted full (mid ++ bridged_part E part (pair_of e ∷ []))
 entry_fits E part es i e old mid lt read is so_far ok =
-    let front : List Ace = part_of E part (pairs (take (i + 1) es)) in
-    let more : List Ace = part_of E part (pairs (drop (i + 1) es)) in
-    let here : mid ++ part_of E part (pair_of e ∷ []) ≡ old ++ front =
-    part_kept E part es i e old mid (mid ++ part_of E part (pair_of e ∷ [])) lt read so_far refl in
-    let whole : front ++ more ≡ part_of E part (fin.entries E) =
+    let front : List Ace = bridged_part E part (pairs (take (i + 1) es)) in
+    let more : List Ace = bridged_part E part (pairs (drop (i + 1) es)) in
+    let here : mid ++ bridged_part E part (pair_of e ∷ []) ≡ old ++ front =
+    part_kept E part es i e old mid (mid ++ bridged_part E part (pair_of e ∷ [])) lt read so_far refl in
+    let whole : front ++ more ≡ bridged_part E part (fin.entries E) =
     sym (part-append E part (pairs (take (i + 1) es)) (pairs (drop (i + 1) es)))
-    ∙ ap (part_of E part) (sym (map-append pair_of (take (i + 1) es) (drop (i + 1) es))
+    ∙ ap (bridged_part E part) (sym (map-append pair_of (take (i + 1) es) (drop (i + 1) es))
     ∙ ap pairs (take-append-drop (i + 1) es) ∙ is) in
     subst (λ (l : List Ace). IsAccepted full l) (sym here)
     (first_fits old front more (subst (λ (l : List Ace). IsAccepted full (old ++ l)) (sym whole) ok))
@@ -108,9 +103,9 @@ entry_fits E part es i e old mid lt read is so_far ok =
 -- ---- one part after the other
 
 abbrev all_of : Entries → Part → List Ace
-all_of E part = part_of E part (fin.entries E)
+all_of E part = bridged_part E part (fin.entries E)
 
--- the four parts one after the other are the list
+-- the four parts, one after the other, are the list
 pub whole : (E : Entries) (a b c d e : List Ace) → a ≡ [] → b ≡ a ++ all_of E Users → c ≡ b ++ all_of E GroupAllows
     → d ≡ c ++ all_of E GroupDenies → e ≡ d ++ all_of E Others → e ≡ bridge_list E
 unfolding bridge_list
@@ -120,7 +115,7 @@ whole E a b c d e ae be ce de ee =
     ∙ ap (λ (l : List Ace). l ++ all_of E GroupAllows) (be
     ∙ ap (λ (l : List Ace). l ++ all_of E Users) ae)))
 
--- what each part stands behind
+-- the list is accepted after each of its parts
 record Fronts (E : Entries) : Type 0 where
   pub users : IsAccepted full (all_of E Users)
   pub allows : IsAccepted full (all_of E Users ++ all_of E GroupAllows)
@@ -137,7 +132,7 @@ fronts E ok =
     let allows = front_accepted full (U ++ A) D denies in
     record { users = front_accepted full U A allows; allows = allows; denies = denies; others = ok }
 
--- the list stays accepted with the first part
+-- the list is accepted with the first part
 pub users_fit : (E : Entries) (a : List Ace) → a ≡ [] → IsAccepted full (bridge_list E)
     → IsAccepted full (a ++ all_of E Users)
 users_fit E a ae ok =

@@ -1,4 +1,4 @@
--- One bit of a list, as an answer with one for where nothing decides.
+-- One bit of a list, as an answer that takes the answer to give if no ACE decides.
 use Rattle.std.proofs.Common.{◌≡◌, ℕ, Bool, false, cond, List, [], ◌∷◌, ◌++◌, refl, sym, ap, ◌∙◌}
 use Rattle.std.specs.Prelude.{◌&&◌}
 use Rattle.acl_perm.specs.Bits.{has_bit}
@@ -8,19 +8,19 @@ use Rattle.acl_eval.specs.Grant.{grants_bit, is_allow}
 use Rattle.acl_eval.specs.Scan.{speaks}
 use Rattle.acl_eval.proofs.Columns.{bit_at_first}
 
--- what the first ACE that has the bit and speaks of the requester answers, and the given answer where there is none
+-- the answer of the first ACE that has the bit and matches the requester, or the given answer if there is none
 abbrev pub run : List Ace → Situation → ℕ → Bool → Bool
 run [] s b r = r
 run (a ∷ list) s b r = cond (has_bit a.mask b && speaks s a) (is_allow a.kind) (run list s b r)
 
--- of two lists the second answers where the first decides nothing
+-- of two lists, the second one answers if the first one does not decide the bit
 pub run-append : (xs ys : List Ace) (s : Situation) (b : ℕ) (r : Bool)
     → run (xs ++ ys) s b r ≡ run xs s b (run ys s b r)
 run-append [] ys s b r = refl
 run-append (a ∷ xs) ys s b r =
     ap (λ (z : Bool). cond (has_bit a.mask b && speaks s a) (is_allow a.kind) z) (run-append xs ys s b r)
 
--- where nothing decides, the bit is denied
+-- if no ACE decides, the bit is denied
 pub run_grants : (list : List Ace) (s : Situation) (b : ℕ) → run list s b false ≡ grants_bit list s b
 run_grants [] s b = refl
 run_grants (a ∷ list) s b =

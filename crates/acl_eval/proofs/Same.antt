@@ -45,14 +45,14 @@ same_kind Allow Allow e = refl
 same_kind Deny Allow e = absurd cc
 same_kind Allow Deny e = absurd cc
 
--- a request of one bit is granted exactly if the bit is
+-- a request of one bit is granted if and only if the bit is
 pub grant_one : (list : List Ace) (s : Situation) (k : ℕ) → Grant list s (2 ^ k) ↔ (grants_bit list s k ≡ true)
 grant_one list s k = (
   λ g. g k (one_bit k),
   λ g i h. subst (λ (n : ℕ). grants_bit list s n ≡ true) (sym (only_bit k i h)) g,
 )
 
--- lists grant the same exactly if they grant each bit alike
+-- lists grant the same if and only if they grant each bit alike
 pub by_bits : (rights : ℕ) (list other : List Ace) → SameGrants rights list other
     ↔ ((s : Situation) → IsSituation s → (bit : ℕ) → IsTrue (has_bit rights bit)
     → grants_bit list s bit ≡ grants_bit other s bit)
@@ -70,7 +70,7 @@ by_bits rights list other = (
   ),
 )
 
--- lists grant the same exactly if their columns decide alike
+-- lists grant the same if and only if their columns decide alike
 pub by_columns : (rights : ℕ) (list other : List Ace) → SameGrants rights list other
     ↔ ((bit : ℕ) → IsTrue (has_bit rights bit) → SameVerdicts (column list bit) (column other bit))
 by_columns rights list other =

@@ -1,4 +1,4 @@
--- Going over a list ACE by ACE, and what that says of each bit.
+-- A list is read ACE by ACE, and what this decides about each bit.
 use Rattle.std.proofs.Common.{◌≡◌, ◌≢◌, ℕ, ◌+◌, ◌%◌, ◌^◌, ◌<◌, Bool, true, false, eqb, List, [], ◌∷◌, refl, sym, ap, ◌∙◌, arith, inl, inr}
 use Rattle.std.specs.Prelude.{bit_and, bit_xor, ◌&&◌, not, ◌↔◌, IsTrue}
 use Rattle.std.specs.Int.{bit_at}
@@ -16,7 +16,7 @@ use Rattle.acl_eval.proofs.Columns.{bit_at_first}
 
 -- ---- one ACE of a scan
 
--- nothing left is granted
+-- if no bit is left, the request is granted
 pub none_left : (list : List Ace) (s : Situation) (left : ℕ) → left ≡ 0 → true ≡ scan list s left
 none_left [] s left e = rw e refl
 none_left (a ∷ list) s left e = rw e refl
@@ -33,7 +33,7 @@ passes a list s left none = by (eqb left 0) (speaks s a) (is_allow a.kind) refl 
     by false true true z e f = rw (z, e, f) (ap (scan list s) (sym (ap (bit_xor left) none ∙ xor_zero_r left)))
     by false true false z e f = rw (z, e, f, none) refl
 
--- nor does one that doesn't speak of the requester
+-- nor does an ACE that does not match the requester
 pub silent : (a : Ace) (list : List Ace) (s : Situation) (left : ℕ) → speaks s a ≡ false
     → scan list s left ≡ scan (a ∷ list) s left
 silent a list s left e = by (eqb left 0) refl
@@ -42,18 +42,18 @@ silent a list s left e = by (eqb left 0) refl
     by true z = rw z (sym (none_left list s left (eqb-true left 0 z)))
     by false z = rw (z, e) refl
 
--- one that allows takes its bits away
+-- an ACE that allows removes its bits from those that are left
 pub allowed : (a : Ace) (list : List Ace) (s : Situation) (left : ℕ) → left ≢ 0 → speaks s a ≡ true
     → is_allow a.kind ≡ true → scan list s (without left a.mask) ≡ scan (a ∷ list) s left
 allowed a list s left some e k = rw (ne_eqb left 0 some, e, k) refl
 
--- one that allows all that is left ends the scan
+-- an ACE that allows all bits that are left ends the scan
 pub last_allowed : (a : Ace) (list : List Ace) (s : Situation) (left : ℕ) → left ≢ 0 → speaks s a ≡ true
     → is_allow a.kind ≡ true → bit_and left a.mask ≡ left → true ≡ scan (a ∷ list) s left
 last_allowed a list s left some e k all =
     none_left list s _ (ap (bit_xor left) all ∙ xor_self left) ∙ allowed a list s left some e k
 
--- and so does one that denies something of it
+-- and so does an ACE that denies one of them
 pub denied : (a : Ace) (list : List Ace) (s : Situation) (left : ℕ) → left ≢ 0 → speaks s a ≡ true
     → is_allow a.kind ≡ false → bit_and left a.mask ≢ 0 → false ≡ scan (a ∷ list) s left
 denied a list s left some e k common = rw (ne_eqb left 0 some, e, k, ne_eqb _ _ common) refl
@@ -64,7 +64,7 @@ taken : (d e f : ℕ) → d < 2 → e < 2 → f < 2 → (eqb f 1 ≡ (eqb d 1 &&
     → eqb ((d + f) % 2) 1 ≡ (eqb d 1 && not (eqb e 1))
 taken d e f dl el fl h = grind arith
 
--- the bits of one set that another has not
+-- the bits of one set that another does not have
 pub has_bit-without : (m n k : ℕ) → has_bit (without m n) k ≡ (has_bit m k && not (has_bit n k))
 has_bit-without m n k =
     ap (λ (d : ℕ). eqb d 1) (bit_at_xor m (bit_and m n) k)
@@ -143,7 +143,7 @@ by_true b G e g = (λ _. g, λ _. e)
 by_false : (b : Bool) (G : Type 0) → b ≡ false → (G → ⊥) → IsTrue b ↔ G
 by_false b G e never = (λ t. absurd (true≢false (sym t ∙ e)), λ g. absurd (never g))
 
--- a scan grants a request exactly if each of its bits is granted by itself
+-- a scan grants a request if and only if each of its bits is granted alone
 pub scan_is-below : (list : List Ace) (s : Situation) (m : ℕ) → m < 2 ^ 32 → IsTrue (scan list s m) ↔ Grant list s m
 scan_is-below [] s m lt = (
   λ z. grant_none [] s m (eqb-true m 0 z),
@@ -169,6 +169,6 @@ scan_is-below (a ∷ list) s m lt =
     by rest false true false false z e f h =
         by_false _ _ (rw (z, e, f, h) refl) (grant_denies a list s m lt e f (λ n. true≢false (sym (eq-eqb _ _ n) ∙ h)))
 
--- the same of a set of rights
+-- the same for a set of rights
 pub scan_is : (list : List Ace) (s : Situation) (m : ℕ) → IsMask m → IsTrue (scan list s m) ↔ Grant list s m
 scan_is list s m is = scan_is-below list s m (IsMask-lt m is)

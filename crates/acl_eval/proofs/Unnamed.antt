@@ -1,4 +1,4 @@
--- The mode of a list without the ACEs of users and groups that it names.
+-- The mode of a list without the ACEs of named users and groups.
 use Rattle.std.proofs.Common.{◌≡◌, ℕ, Bool, true, false, List, [], ◌∷◌, refl, ap}
 use Rattle.std.specs.Prelude.{◌==◌, ◌||◌, Option, unwrap_or}
 use Rattle.acl_perm.specs.Bits.{has_bit}
@@ -14,7 +14,7 @@ use Rattle.acl_eval.specs.Grant.{is_allow}
 use Rattle.acl_eval.specs.ListMode.{is_for_group, is_for_others, is_for_owner, is_granted_by, mode_of_list, perm_of}
 use Rattle.acl_eval.specs.Unnamed.{is_unnamed, unnamed}
 
--- the test passes no named principal
+-- no named principal passes the test
 abbrev PassesNoName : (Principal → Bool) → Type 0
 PassesNoName test = (p : Principal) → is_unnamed p ≡ false → test p ≡ false
 

@@ -12,14 +12,13 @@ use Rattle.acl_posix.specs.Valid.{missing, IsValid}
 use Rattle.acl_posix.specs.Mode.{perm_at}
 use Rattle.acl_posix.specs.Check.{Object, Requester, contains, is_contained, entry_contains, is_member, any_matches, any_contains, class_contains, grants}
 use Rattle.acl_posix.specs.internal.GroupSearch.{group_contains}
-use Rattle.acl_posix.proofs.Tags.{same_tag, is_none}
-use Rattle.acl_posix.proofs.Groups.{any_group, contains_empty}
+use Rattle.acl_posix.proofs.Exports.{any_group, contains_empty, is_none, same_tag}
 
 -- MASK contains the request, or there is none
 abbrev pub mask_contains : Entries → ℕ → Bool
 mask_contains E want = contains (unwrap_or (fin.get E mask) 7) want
 
--- the check without the question which entries are there
+-- the check without the tests for missing entries
 abbrev pub plain : Entries → Object → Requester → ℕ → Bool
 plain E object requester want =
     cond (requester.user == object.user) (contains (perm_at E user_obj) want)
@@ -31,14 +30,14 @@ plain E object requester want =
 
 -- ---- what a valid set has
 
--- USER_OBJ, GROUP_OBJ, OTHER, and MASK where there is a USER or GROUP
+-- there are USER_OBJ, GROUP_OBJ and OTHER, and there is MASK if there is a USER or GROUP
 pub record Complete (E : Entries) : Type 0 where
   pub owner : is_some (fin.get E user_obj) ≡ true
   pub group : is_some (fin.get E group_obj) ≡ true
   pub others : is_some (fin.get E other) ≡ true
   pub masked : (list_any is_named (fin.keys E) && not (is_some (fin.get E mask))) ≡ false
 
--- a valid set has the entries that have to be there
+-- a valid set has all entries that it must have
 pub complete : (E : Entries) → IsValid E → Complete E
 unfolding missing
 complete E v =
@@ -68,7 +67,7 @@ named_there l (p ∷ ps) named h =
           ∙ or_true_right (is_named p.0)
     ] refl h
 
--- a set with a USER or GROUP has one that is named
+-- a set with a USER or GROUP has a named entry
 some_named : (E : Entries) (l : Tag) → is_named l ≡ true → is_some (fin.get E l) ≡ true
     → list_any is_named (fin.keys E) ≡ true
 some_named E l named h =
@@ -84,7 +83,7 @@ has_mask E l c named h = by (is_some (fin.get E mask)) (sym (ap (λ (b : Bool). 
     by true e = refl
     by false e = absurd cc
 
--- one without MASK has no USER or GROUP
+-- a valid set without MASK has no USER or GROUP
 pub none_named : (E : Entries) (l : Tag) → Complete E → is_named l ≡ true → is_some (fin.get E mask) ≡ false
     → fin.get E l ≡ None
 none_named E l c named no_mask = is_none (fin.get E l) (by (is_some (fin.get E l)) refl)
@@ -95,7 +94,7 @@ none_named E l c named no_mask = is_none (fin.get E l) (by (is_some (fin.get E l
 
 -- ---- the check
 
--- an entry that is there contains what its permissions do
+-- an entry of the set contains a request if and only if its permissions do
 pub there : (o : Option ℕ) (d want : ℕ) → is_some o ≡ true → contains (unwrap_or o d) want ≡ is_contained o want
 there None d want h = absurd cc
 there (Some n) d want h = refl
@@ -134,7 +133,7 @@ and_same true a false true f g h = absurd cc
 and_same true a false false f g h = refl
 and_same false a e c f g h = absurd cc
 
--- where an entry of a group matches, MASK and one of these decide, and without MASK that of the owning group
+-- if the entry of a group matches, MASK and such an entry decide, or without MASK the entry of the owning group
 class_plain : (E : Entries) (og want : ℕ) (gs : List ℕ) → Complete E → contains 7 want ≡ true
     → any_matches E og gs ≡ true
     → (any_contains E og gs want && mask_contains E want) ≡ class_contains E og gs want
@@ -163,7 +162,7 @@ choose : (t a b c d : Bool) → (t ≡ true → a ≡ b) → c ≡ d → cond t 
 choose true a b c d f e = f refl
 choose false a b c d f e = e
 
--- of a valid set, the check needn't ask which entries are there
+-- for a valid set, the check needs no tests for missing entries
 pub plain_check : (E : Entries) (object : Object) (requester : Requester) (want : ℕ) → IsValid E
     → contains 7 want ≡ true → plain E object requester want ≡ grants E object requester want
 unfolding grants

@@ -25,13 +25,13 @@ image perm = (if has_bit perm read then 0x1 else 0) + (if has_bit perm write the
     + (if has_bit perm execute then 0x20 else 0)
 
 -- the who of the ACEs of an entry: the name of an id is its decimal digits; MASK has no ACE
-abbrev pub who_of : Tag → List ℕ
-who_of user_obj = owner_name
-who_of (user id) = decimal id
-who_of group_obj = group_name
-who_of (group id) = decimal id
-who_of mask = []
-who_of other = everyone_name
+abbrev pub bridged_who : Tag → List ℕ
+bridged_who user_obj = owner_name
+bridged_who (user id) = decimal id
+bridged_who group_obj = group_name
+bridged_who (group id) = decimal id
+bridged_who mask = []
+bridged_who other = everyone_name
 
 -- USER_OBJ and USER
 abbrev pub is_user_tag : Tag → Bool
@@ -50,13 +50,13 @@ abbrev pub identifier_group_alone : ℕ
 identifier_group_alone = 0x40
 
 -- the flags of the ACEs of an entry: IDENTIFIER_GROUP for named groups, and no flag for others
-abbrev pub flags_of : Tag → ℕ
-flags_of tag = if is_group_tag tag && is_named tag then identifier_group_alone else 0
+abbrev pub bridged_flags : Tag → ℕ
+bridged_flags tag = if is_group_tag tag && is_named tag then identifier_group_alone else 0
 
 -- the ACE of a tag with the rights of these permissions, or none if there are no permissions
 unfoldable pub ace_of : Kind → Tag → ℕ → List Ace
 ace_of kind tag perm = if perm == 0 then []
-    else record { kind = kind; flags = flags_of tag; mask = image perm; who = who_of tag } ∷ []
+    else record { kind = kind; flags = bridged_flags tag; mask = image perm; who = bridged_who tag } ∷ []
 
 -- what an entry allows: its effective permissions
 abbrev pub allow_of : Entries → Tag × ℕ → List Ace

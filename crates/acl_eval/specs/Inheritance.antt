@@ -44,8 +44,8 @@ abbrev pub goes_on : ℕ → ℕ
 goes_on flags = bit_and flags kept_on_the_way
 
 -- the child passes the ACE on, and the ACE takes no part
-abbrev pub waits : ℕ → ℕ
-waits flags = bit_or (goes_on flags) inherit_only_alone
+abbrev pub waiting_flags : ℕ → ℕ
+waiting_flags flags = bit_or (goes_on flags) inherit_only_alone
 
 -- the flags of an ACE of the parent in the child, or none if the child does not have the ACE
 abbrev pub child_flags : ChildKind → ℕ → Option ℕ
@@ -54,7 +54,7 @@ child_flags Directory flags =
     if has_bit flags directory_inherit
     then (if has_bit flags no_propagate_inherit then Some (ends flags) else Some (goes_on flags))
     else (if has_bit flags no_propagate_inherit then None
-    else (if has_bit flags file_inherit then Some (waits flags) else None))
+    else (if has_bit flags file_inherit then Some (waiting_flags flags) else None))
 
 -- an ACE with other flags
 abbrev pub with_flags : Ace → ℕ → Ace

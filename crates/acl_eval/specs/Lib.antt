@@ -12,4 +12,5 @@ pub mod Unnamed
 pub mod Bridge
 pub mod BridgeLaws
 pub mod BridgeNames
+pub mod Programs
 pub mod internal

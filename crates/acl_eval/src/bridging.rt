@@ -5,8 +5,8 @@ ghost use Rattle.acl_perm.specs.Profile.{full};
 ghost use Rattle.acl_posix.specs.Tag.{tag_of};
 ghost use Rattle.acl_posix.specs.Entries.{pair_of};
 ghost use Rattle.acl_nfs4.specs.Spelling.{IsAccepted};
-ghost use Rattle.acl_eval.specs.Bridge.{IsBridgeFault, ace_of, allow_of, bridge_list, decide_of, deny_of, flags_of, image, is_group_tag, is_other_tag, is_user_tag, who_of};
-ghost use Rattle.acl_eval.specs.internal.BridgeBody.{cost_of, part_of};
+ghost use Rattle.acl_eval.specs.Bridge.{IsBridgeFault, ace_of, allow_of, bridge_list, decide_of, deny_of, bridged_flags, image, is_group_tag, is_other_tag, is_user_tag, bridged_who};
+ghost use Rattle.acl_eval.specs.internal.BridgeBody.{cost_of, bridged_part, word_bits};
 
 use crate::permissions::{EXECUTE, READ, WRITE, WRITE_RIGHTS};
 use acl_nfs4::{AceRef, Acl, Flags, Kind, MOST_WEIGHT, Mask};
@@ -39,7 +39,7 @@ impl From<AllocError> for BridgeFault {
     }
 }
 
-/// The parts of the list, each over all entries.
+/// The parts of the list. Each part is made from all entries.
 #[derive(Clone, Copy)]
 enum Part {
     Users,
@@ -74,7 +74,7 @@ pub fn bridge(alloc: Global, acl: &PosixAcl) -> Result<Acl, BridgeFault>
     Ok(bridged(alloc, acl)?)
 }
 
-// The list, where it is accepted. Only want of memory fails.
+// Returns the list, which must be accepted. Fails only if memory runs out.
 fn bridged(alloc: Global, acl: &PosixAcl) -> Result<Acl, AllocError>
     requires { IsAccepted full (bridge_list acl.now) }
     ensures { IfOk result (λ list. list ≡ bridge_list acl.now) }
@@ -87,7 +87,7 @@ fn bridged(alloc: Global, acl: &PosixAcl) -> Result<Acl, AllocError>
     Ok(list)
 }
 
-// Whether the list is within the limits. Its weight decides this, because no ACE has an empty mask.
+// Returns whether the list is within the limits. Its weight decides this, because no ACE has an empty mask.
 fn is_within(acl: &PosixAcl) -> bool
     ensures { IsTrue result ↔ IsAccepted full (bridge_list acl.now) }
 {
@@ -102,10 +102,10 @@ fn is_within(acl: &PosixAcl) -> bool
     true
 }
 
-// The number of mask bits of an entry, over all its ACEs.
+// Returns the number of mask bits of an entry, over all its ACEs.
 fn cost_of(entry: Entry) -> u32
     ensures cost { result ≡ cost_of (tag_of entry.tag) entry.perm.bits }
-    ensures small { result ≤ 32 }
+    ensures small { result ≤ word_bits }
 {
     match entry.tag {
         Tag::UserObj | Tag::User(_) | Tag::GroupObj | Tag::Group(_) => 4,
@@ -114,11 +114,11 @@ fn cost_of(entry: Entry) -> u32
     }
 }
 
-// Adds one part of the list. It is inlined for each part, so that an entry of another part costs a test alone.
+// Adds one part of the list. It is inlined for each part, so that an entry of another part costs only a test.
 #[inline(always)]
 fn push_part(list: &mut Acl, acl: &PosixAcl, part: Part) -> Result<(), AllocError>
-    requires { IsAccepted full (list.old ++ part_of acl.now part (set.entries acl.now)) }
-    ensures { OnOk result (list.new ≡ list.old ++ part_of acl.now part (set.entries acl.now)) }
+    requires { IsAccepted full (list.old ++ bridged_part acl.now part (set.entries acl.now)) }
+    ensures { OnOk result (list.new ≡ list.old ++ bridged_part acl.now part (set.entries acl.now)) }
 {
     let entries = acl.entries();
     for entry in entries {
@@ -130,8 +130,8 @@ fn push_part(list: &mut Acl, acl: &PosixAcl, part: Part) -> Result<(), AllocErro
 // Adds the ACEs of one entry in a part.
 #[inline(always)]
 fn push_entry(list: &mut Acl, acl: &PosixAcl, entry: Entry, part: Part) -> Result<(), AllocError>
-    requires { IsAccepted full (list.old ++ part_of acl.now part (pair_of entry ∷ [])) }
-    ensures { OnOk result (list.new ≡ list.old ++ part_of acl.now part (pair_of entry ∷ [])) }
+    requires { IsAccepted full (list.old ++ bridged_part acl.now part (pair_of entry ∷ [])) }
+    ensures { OnOk result (list.new ≡ list.old ++ bridged_part acl.now part (pair_of entry ∷ [])) }
 {
     match part {
         Part::Users if is_user_tag(entry.tag) => push_decided(list, acl, entry),
@@ -198,17 +198,17 @@ fn push_denied(list: &mut Acl, acl: &PosixAcl, entry: Entry) -> Result<(), Alloc
     )
 }
 
-// The permissions that are denied if these are allowed.
+// Returns the permissions that are denied if these are allowed.
 fn rest_of(perm: Perm) -> Perm
     ensures { result.bits ≡ 7 - perm.bits }
 {
     Perm::ALL.difference(perm)
 }
 
-// Adds the ACE of a tag with its name and these permissions. Where there are none it adds no ACE, so none is without a
-// bit.
+// Adds the ACE of a tag with its name and these permissions. If there are no permissions, it adds no ACE, so no ACE has
+// an empty mask.
 fn push_ace(list: &mut Acl, kind: Kind, tag: Tag, perm: Perm, who: &[u8]) -> Result<(), AllocError>
-    requires named { who.now ≡ who_of (tag_of tag) }
+    requires named { who.now ≡ bridged_who (tag_of tag) }
     requires accepted { IsAccepted full (list.old ++ ace_of kind (tag_of tag) perm.bits) }
     ensures { OnOk result (list.new ≡ list.old ++ ace_of kind (tag_of tag) perm.bits) }
 {
@@ -223,9 +223,9 @@ fn push_ace(list: &mut Acl, kind: Kind, tag: Tag, perm: Perm, who: &[u8]) -> Res
     })
 }
 
-// The name of a tag. A number is written into the buffer.
+// Returns the name of the ACEs of a tag. The digits of an id are written into the buffer.
 fn who_of<'a>(tag: Tag, digits: &'a mut Buffer) -> &'a [u8]
-    ensures { result.now ≡ who_of (tag_of tag) }
+    ensures { result.now ≡ bridged_who (tag_of tag) }
 {
     match tag {
         Tag::UserObj => b"OWNER@",
@@ -237,7 +237,7 @@ fn who_of<'a>(tag: Tag, digits: &'a mut Buffer) -> &'a [u8]
 }
 
 fn flags_of(tag: Tag) -> Flags
-    ensures { result.bits ≡ flags_of (tag_of tag) }
+    ensures { result.bits ≡ bridged_flags (tag_of tag) }
 {
     match tag {
         Tag::Group(_) => Flags::IDENTIFIER_GROUP,
@@ -245,7 +245,7 @@ fn flags_of(tag: Tag) -> Flags
     }
 }
 
-// The rights of permissions.
+// Returns the rights of permissions.
 fn image(perm: Perm) -> Mask
     ensures { result.bits ≡ image perm.bits }
 {
@@ -254,7 +254,7 @@ fn image(perm: Perm) -> Mask
         | rights_of(perm, EXECUTE, Mask::EXECUTE)
 }
 
-// The rights of one permission, if it is there.
+// Returns the rights of one permission if it is in the set, and otherwise no rights.
 fn rights_of(perm: Perm, permission: Perm, rights: Mask) -> Mask
     ensures { result.bits
         ≡ (if bit_and perm.bits permission.bits == permission.bits then rights.bits else 0) }

@@ -2,7 +2,7 @@
 ghost use Rattle.std.specs.Prelude.{◌≡◌, option_map};
 ghost use Rattle.acl_eval.specs.Deciding.{decides, deciding_kind, deciding_place};
 ghost use Rattle.acl_eval.specs.Situation.{situation};
-ghost use Rattle.acl_eval.specs.internal.Asked.{asked};
+ghost use Rattle.acl_eval.specs.internal.Asked.{asked_situation};
 ghost use Rattle.acl_eval.specs.internal.DecidingBody.{decision_from};
 
 use crate::situation::{Object, Requester};
@@ -47,7 +47,7 @@ pub fn deciding_ace(
 }
 
 fn first_deciding(aces: Aces<'_>, standing: &Standing<'_>, right: Right) -> Option<Decision>
-    ensures { result ≡ decision_from 0 (decides (asked standing.now) right.bit) aces.entry }
+    ensures { result ≡ decision_from 0 (decides (asked_situation standing.now) right.bit) aces.entry }
 {
     // No place is above the number of ACEs, which fits a `usize`.
     let _number = aces.len();

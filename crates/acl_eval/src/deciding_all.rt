@@ -4,7 +4,7 @@ ghost use Rattle.acl_perm.specs.Bits.{all_rights, has_bit};
 ghost use Rattle.acl_nfs4.specs.Ace.{Ace, ace};
 ghost use Rattle.acl_eval.specs.Deciding.{decides, decision_of, deciding_kind, deciding_place};
 ghost use Rattle.acl_eval.specs.Situation.{situation};
-ghost use Rattle.acl_eval.specs.internal.Asked.{asked};
+ghost use Rattle.acl_eval.specs.internal.Asked.{asked_situation};
 ghost use Rattle.acl_eval.specs.internal.DecidingBody.{decision_from, found_in};
 
 use crate::deciding::Decision;
@@ -16,14 +16,16 @@ use acl_perm::{Mask, Right};
 /// For each right, the ACE that decides it.
 #[derive(Clone, Copy, Debug, PartialEq, Eq)]
 pub struct Decisions {
-    by_bit: [Option<Decision>; 21],
+    by_bit: [Option<Decision>; Right::COUNT],
 }
 
 impl Decisions {
     fn new() -> Decisions
         ensures { (bit : ℕ) → decision_of result bit ≡ None }
     {
-        Decisions { by_bit: [None; 21] }
+        Decisions {
+            by_bit: [None; Right::COUNT],
+        }
     }
 
     /// Returns the ACE that decides the right. Returns `None` if no ACE does, which denies the right.
@@ -64,7 +66,7 @@ pub fn deciding_aces(aces: Aces<'_>, object: &Object<'_>, requester: &Requester<
 
 fn decisions_of(aces: Aces<'_>, standing: &Standing<'_>) -> Decisions
     ensures { (bit : ℕ) → IsTrue (has_bit all_rights bit)
-        → decision_of result bit ≡ decision_from 0 (decides (asked standing.now) bit) aces.entry }
+        → decision_of result bit ≡ decision_from 0 (decides (asked_situation standing.now) bit) aces.entry }
 {
     // No place is above the number of ACEs, which fits a `usize`.
     let _number = aces.len();
@@ -102,8 +104,8 @@ impl SoFar {
     fn meet(&mut self, place: usize, item: &AceRef<'_>, standing: &Standing<'_>)
         requires { 1 ≤ length item.now.who.now }
         ensures found { (list : List Ace) (bit : ℕ)
-            → found_in (asked standing.now) self.new (place + 1) list bit
-            ≡ found_in (asked standing.now) self.old place (ace item.now ∷ list) bit }
+            → found_in (asked_situation standing.now) self.new (place + 1) list bit
+            ≡ found_in (asked_situation standing.now) self.old place (ace item.now ∷ list) bit }
         ensures none { (bit : ℕ) → has_bit self.new.left.bits bit ≡ true
             → (decision_of self.new.decisions bit ≡ decision_of self.old.decisions bit)
             × (has_bit self.old.left.bits bit ≡ true) }

@@ -4,7 +4,7 @@ ghost use Rattle.acl_eval.specs.Situation.{groups_of, situation};
 ghost use Rattle.acl_eval.specs.internal.GroupTable.{HoldsGroups};
 ghost use Rattle.acl_eval.specs.Grant.{Grant};
 ghost use Rattle.acl_eval.specs.Scan.{scan};
-ghost use Rattle.acl_eval.specs.internal.Asked.{asked};
+ghost use Rattle.acl_eval.specs.internal.Asked.{asked_situation};
 
 use crate::group_table::GroupTable;
 use crate::situation::{Object, Requester};
@@ -12,27 +12,6 @@ use crate::standing::Standing;
 use acl_nfs4::{Aces, AclView};
 use acl_perm::{Kind, Mask};
 use std::alloc::{AllocError, Global};
-
-/// Whether the list grants the requester the whole mask on the object, by RFC 8881, section 6.2.1: of the ACEs without
-/// INHERIT_ONLY, the first that has a bit and speaks of the requester decides it, and what no ACE decides is denied.
-/// The empty mask is granted. It goes over the list once, ends as soon as the answer is known, and takes no memory.
-/// An ACE of a group looks its name up among the requester's groups: by halves where these are more than 16 and stand
-/// in the order of their bytes, and else one by one, which at 1,000 groups costs up to a microsecond. So at worst the
-/// cost is the number of ACEs times that of groups; for many groups there is `grants_by_table`.
-///
-/// ```rust
-/// let list = parse_text(alloc, b"ALLOW - READ_DATA|WRITE_DATA bob")?;
-/// let object = Object::new(b"alice", b"staff").ok_or("a name is empty")?;
-/// let bob = Requester::new(b"bob", &[]).ok_or("a name is empty")?;
-/// assert!(rt; grants(list.aces(), &object, &bob, Mask::WRITE_DATA));
-/// assert!(rt; !grants(list.aces(), &object, &bob, Mask::ALL));
-/// ```
-#[tactic(auto, using(crate::proofs::Scans::scan_is))]
-pub fn grants(aces: Aces<'_>, object: &Object<'_>, requester: &Requester<'_>, mask: Mask) -> bool
-    ensures { IsTrue result ↔ Grant aces.entry (situation object.now requester.now) mask.bits }
-{
-    scan(aces, &Standing::new(*object, *requester), mask.bits())
-}
 
 /// Returns whether the list grants the request, as `grants` does, for a requester in many groups. Where it saves time,
 /// the groups are put into a hash table first. Each group of the list is then looked up in constant time, in whatever
@@ -63,7 +42,31 @@ pub fn grants_by_table(
     Ok(is_granted_by(list.aces(), object, requester, &table, mask))
 }
 
-// Whether the list grants the request, where the groups are in a table.
+/// Returns whether the list grants the requester the whole mask on the object (RFC 8881, section 6.2.1). For each right
+/// of the mask, the first ACE without INHERIT_ONLY that has the right and matches the requester decides; a right that
+/// no ACE decides is denied. The empty mask is granted. The function reads the list once, stops as soon as the answer
+/// is known, and takes no memory.
+///
+/// The group of an ACE is looked up among the groups of the requester: by binary search if there are many and they are
+/// in the order of their bytes, and otherwise one by one, which takes up to a microsecond for 1,000 groups. So in the
+/// worst case the time is proportional to the number of ACEs times the number of groups. `grants_by_table` is faster
+/// for many groups.
+///
+/// ```rust
+/// let list = parse_text(alloc, b"ALLOW - READ_DATA|WRITE_DATA bob")?;
+/// let object = Object::new(b"alice", b"staff").ok_or("a name is empty")?;
+/// let bob = Requester::new(b"bob", &[]).ok_or("a name is empty")?;
+/// assert!(rt; grants(list.aces(), &object, &bob, Mask::WRITE_DATA));
+/// assert!(rt; !grants(list.aces(), &object, &bob, Mask::ALL));
+/// ```
+#[tactic(auto, using(crate::proofs::Scans::scan_is))]
+pub fn grants(aces: Aces<'_>, object: &Object<'_>, requester: &Requester<'_>, mask: Mask) -> bool
+    ensures { IsTrue result ↔ Grant aces.entry (situation object.now requester.now) mask.bits }
+{
+    scan(aces, &Standing::new(*object, *requester), mask.bits())
+}
+
+// Returns whether the list grants the request. The groups are in a table.
 #[tactic(auto, using(crate::proofs::Scans::scan_is))]
 fn is_granted_by(
     aces: Aces<'_>,
@@ -82,10 +85,10 @@ fn is_granted_by(
     )
 }
 
-// Whether the rest of a request is granted.
+// Returns whether the rights that are left of a request are granted.
 #[tactic(auto, using(crate::proofs::Scans::none_left))]
 fn scan(aces: Aces<'_>, standing: &Standing<'_>, mut left: u32) -> bool
-    ensures { result ≡ scan aces.entry (asked standing.now) left }
+    ensures { result ≡ scan aces.entry (asked_situation standing.now) left }
 {
     if left == 0 {
         return true;

@@ -4,7 +4,7 @@ ghost use Rattle.acl_perm.specs.Bits.{IsSubset, has_bit};
 ghost use Rattle.acl_nfs4.specs.Ace.{Ace, ace};
 ghost use Rattle.acl_eval.specs.Situation.{situation};
 ghost use Rattle.acl_eval.specs.Grant.{Grant, grants_bit, is_allow};
-ghost use Rattle.acl_eval.specs.internal.Asked.{asked};
+ghost use Rattle.acl_eval.specs.internal.Asked.{asked_situation};
 ghost use Rattle.acl_eval.specs.internal.GrantingBody.{decided_by, granted_in};
 
 use crate::situation::{Object, Requester};
@@ -36,7 +36,7 @@ pub fn granted(aces: Aces<'_>, object: &Object<'_>, requester: &Requester<'_>, m
 
 fn granted_to(aces: Aces<'_>, standing: &Standing<'_>, mask: Mask) -> Mask
     ensures { (bit : ℕ) → has_bit result.bits bit
-        ≡ (has_bit mask.bits bit && grants_bit aces.entry (asked standing.now) bit) }
+        ≡ (has_bit mask.bits bit && grants_bit aces.entry (asked_situation standing.now) bit) }
 {
     let mut so_far = SoFar::new(mask);
     for ace in aces {
@@ -71,8 +71,8 @@ impl SoFar {
     #[inline(always)]
     fn after(self, item: &AceRef<'_>, standing: &Standing<'_>) -> SoFar
         requires { 1 ≤ length item.now.who.now }
-        ensures { (list : List Ace) (bit : ℕ) → granted_in (asked standing.now) result list bit
-            ≡ granted_in (asked standing.now) self (ace item.now ∷ list) bit }
+        ensures { (list : List Ace) (bit : ℕ) → granted_in (asked_situation standing.now) result list bit
+            ≡ granted_in (asked_situation standing.now) self (ace item.now ∷ list) bit }
     {
         let decided = self.left.intersection(item.mask);
         if decided.bits() == 0 || !standing.is_meant_by(item) {

@@ -7,7 +7,7 @@ use std::alloc::{AllocError, Global};
 use std::collections::HashSet;
 use std::hash::{Hash, Hasher};
 
-/// The name of a group. It is hashed as a whole, which for a long name takes far less than byte by byte.
+/// The name of a group. It is hashed as a whole, which for a long name is much faster than byte by byte.
 #[derive(Clone, Copy, Debug, PartialEq, Eq)]
 struct GroupName<'a> {
     bytes: &'a [u8],
@@ -33,7 +33,7 @@ pub(crate) struct GroupTable<'a> {
 }
 
 impl<'a> GroupTable<'a> {
-    /// The table of these names.
+    /// Makes a table of these names.
     pub(crate) fn new(alloc: Global, names: &[&'a [u8]]) -> Result<GroupTable<'a>, AllocError>
         ensures { IfOk result (λ table. HoldsGroups table (map (λ g. g.now) names.now)) }
     {
@@ -41,7 +41,7 @@ impl<'a> GroupTable<'a> {
         Ok(GroupTable { names })
     }
 
-    /// Whether one of the groups has the name.
+    /// Returns whether one of the groups has the name.
     pub(crate) fn contains(&self, name: &[u8]) -> bool
         ensures { result ≡ is_in_table self.now name.entry }
     {
@@ -49,7 +49,7 @@ impl<'a> GroupTable<'a> {
     }
 }
 
-// The set of these names.
+// Returns the set of these names.
 fn names_of<'a>(alloc: Global, names: &[&'a [u8]]) -> Result<HashSet<GroupName<'a>>, AllocError>
     ensures { IfOk result (IsFromIterResult is_same_name
         (map (λ g. record { bytes = g }) names.now)) }

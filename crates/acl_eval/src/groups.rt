@@ -4,8 +4,11 @@ ghost use Rattle.std.specs.List.{list_any};
 ghost use Rattle.std.specs.Str.{bytes_eq};
 ghost use Rattle.acl_eval.specs.internal.GroupOrder.{AreInOrder};
 
-// Few names are looked up one by one faster than by halves or in a table.
+// Up to this number of names, a look-up one by one is faster than a binary search or a table.
 const FEW: usize = 16;
+
+// A binary search takes about as long as putting this many names into a table.
+const PUTS_PER_SEARCH: usize = 4;
 
 /// The names of groups, and whether they are many and known to be in the order of their bytes.
 #[derive(Clone, Copy, Debug)]
@@ -33,11 +36,10 @@ impl<'a> Groups<'a> {
         self.names
     }
 
-    /// Whether so many look-ups take longer than to make a table of the names. A look-up by halves takes about as long
-    /// as to put four names into a table.
+    /// Returns whether this many look-ups take longer than making a table of the names.
     pub(crate) fn are_worth_a_table(&self, look_ups: usize) -> bool {
         if self.in_order {
-            look_ups > self.names.len() / 4
+            look_ups > self.names.len() / PUTS_PER_SEARCH
         } else {
             look_ups > FEW && self.names.len() > FEW
         }

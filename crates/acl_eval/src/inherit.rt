@@ -37,8 +37,8 @@ pub fn child(alloc: Global, parent: &Acl, kind: ChildKind) -> Result<Acl, AllocE
     child_of_view(alloc, &parent.view(), kind)
 }
 
-/// Returns the list that `child` returns, for a parent whose list is still in its XDR bytes, without a copy of the parent.
-/// Returns `AllocError` only if memory runs out.
+/// Returns the list that `child` returns, for a parent whose list is still in its XDR bytes, without a copy of the
+/// parent. Returns `AllocError` only if memory runs out.
 #[tactic(auto)]
 pub fn child_of_view(
     alloc: Global,

@@ -11,7 +11,7 @@ ghost use Rattle.acl_eval.specs.BridgeNames.{NamesDiffer, NamesStand, OnlyLimits
 ghost use Rattle.acl_eval.specs.Deciding.{deciding_kind};
 ghost use Rattle.acl_perm.specs.declared.kind.Kind.TheVariants.{Allow};
 ghost use Rattle.acl_eval.specs.Grant.{Grant, SameBits, SameColumns, SameGrants, grants_bit};
-ghost use Rattle.acl_eval.specs.Inheritance.{child_flags, children, directory_inherit, ends, file_inherit, goes_on, no_propagate_inherit, waits};
+ghost use Rattle.acl_eval.specs.Inheritance.{child_flags, children, directory_inherit, ends, file_inherit, goes_on, no_propagate_inherit, waiting_flags};
 ghost use Rattle.acl_eval.specs.InheritanceLaws.{IsByFlag};
 ghost use Rattle.acl_eval.specs.Laws.{IsEquivalence};
 ghost use Rattle.acl_eval.specs.ListMode.{mode_of_list};
@@ -93,7 +93,7 @@ pub fn directories_inherit()
         → child_flags Directory flags ≡ Some (goes_on flags) }
     ensures for_files { (flags : ℕ) → has_bit flags no_propagate_inherit ≡ false
         → has_bit flags directory_inherit ≡ false → has_bit flags file_inherit ≡ true
-        → child_flags Directory flags ≡ Some (waits flags) }
+        → child_flags Directory flags ≡ Some (waiting_flags flags) }
     ensures absent { (flags : ℕ) → has_bit flags no_propagate_inherit ≡ false
         → has_bit flags directory_inherit ≡ false → has_bit flags file_inherit ≡ false
         → child_flags Directory flags ≡ None }

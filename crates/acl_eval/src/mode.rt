@@ -45,7 +45,7 @@ enum FileClass {
 }
 
 impl FileClass {
-    // Whether the ACEs of a principal decide for the class. Those of `EVERYONE@` decide for each.
+    // Returns whether the ACEs of a principal decide for the class. Those of `EVERYONE@` decide for every class.
     fn is_decided_by(self, whom: Principal<'_>) -> bool
         ensures { result ≡ decides_for self (principal whom.entry) }
     {
@@ -126,7 +126,7 @@ fn can_execute(granted: Mask) -> bool
     granted.contains(Mask::EXECUTE)
 }
 
-// The permission if it is granted, and otherwise none.
+// Returns the permission if it is granted, and otherwise no permission.
 fn part(perm: Perm, is_granted: bool) -> Perm
     ensures { result.bits ≡ (if is_granted then perm.bits else 0) }
 {

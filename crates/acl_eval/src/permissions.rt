@@ -8,7 +8,7 @@ pub(crate) const WRITE: Perm = Perm { bits: 2 };
 
 pub(crate) const EXECUTE: Perm = Perm { bits: 1 };
 
-/// To write is to change the data that is there and to add to it.
+/// The rights of write: to change existing data, and to append data.
 pub(crate) const WRITE_RIGHTS: Mask = Mask {
     bits: Mask::WRITE_DATA.bits | Mask::APPEND_DATA.bits,
 };

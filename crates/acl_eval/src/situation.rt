@@ -100,7 +100,7 @@ impl<'a> Requester<'a> {
         self.groups.names()
     }
 
-    /// Whether so many look-ups of groups take longer than to make a table of the user's groups.
+    /// Returns whether this many look-ups of groups take longer than making a table of the groups.
     pub(crate) fn is_worth_a_table(&self, look_ups: usize) -> bool {
         self.groups.are_worth_a_table(look_ups)
     }
@@ -114,7 +114,7 @@ impl<'a> Requester<'a> {
     }
 }
 
-// Whether none of the names is empty.
+// Returns whether no name is empty.
 fn are_named(user: &[u8], groups: &[&[u8]]) -> bool
     ensures { IsTrue result
         ↔ ((0 < length user.now) × All (λ g. 0 < length g.now) groups.now) }

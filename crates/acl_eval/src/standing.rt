@@ -16,8 +16,9 @@ use crate::situation::{Object, Requester};
 use acl_nfs4::AceRef;
 use acl_perm::Principal;
 
-/// A requester of an object, with what is the same for each ACE told once: whether it is the owner, whether it is in
-/// the owning group, and the last byte of its name. Groups that were put into a table are looked up there.
+/// A requester of an object, with the facts that are the same for each ACE: whether the requester is the owner, whether
+/// the requester is in the owning group, and the last byte of the requester's name. If the groups are in a table, they
+/// are looked up there.
 #[derive(Drop)]
 pub(crate) struct Standing<'a> {
     object: Object<'a>,
@@ -32,32 +33,23 @@ pub(crate) struct Standing<'a> {
     ghost ends: { last ≡ last_of (user_of requester) },
 }
 
-fn last_byte(name: &[u8]) -> u8
-    ensures { result ≡ last_of name.now }
-{
-    match name {
-        [.., last] => *last,
-        [] => 0,
-    }
-}
-
 impl<'a> Standing<'a> {
-    ghost use Rattle.acl_eval.specs.internal.Asked.{asked};
+    ghost use Rattle.acl_eval.specs.internal.Asked.{asked_situation};
 
     pub(crate) fn new(object: Object<'a>, requester: Requester<'a>) -> Self
-        ensures { asked result ≡ situation object.entry requester.entry }
+        ensures { asked_situation result ≡ situation object.entry requester.entry }
     {
         Standing::with_table(object, requester, None)
     }
 
-    /// The same, where the groups of the requester may also be in a table.
+    /// Makes the same, with a table of the groups of the requester if there is one.
     pub(crate) fn with_table(
         object: Object<'a>,
         requester: Requester<'a>,
         table: Option<&'a GroupTable<'a>>,
     ) -> Self
         requires { ForSome table (λ t. HoldsGroups t.now (groups_of requester)) }
-        ensures { asked result ≡ situation object.entry requester.entry }
+        ensures { asked_situation result ≡ situation object.entry requester.entry }
     {
         Standing {
             object,
@@ -69,12 +61,12 @@ impl<'a> Standing<'a> {
         }
     }
 
-    /// Returns whether the ACE takes part and matches the requester. Most ACEs are of a user, and are tested first:
-    /// they have neither flag, and a who without `@` at its end is no special one.
+    /// Returns whether the ACE takes part and matches the requester. Most ACEs are for a user, and are tested first:
+    /// they have neither flag, and a who that does not end in `@` is not special.
     #[inline(always)]
     pub(crate) fn is_meant_by(&self, item: &AceRef<'_>) -> bool
         requires { 1 ≤ length item.now.who.now }
-        ensures { result ≡ speaks (asked self.now) (ace item.now) }
+        ensures { result ≡ speaks (asked_situation self.now) (ace item.now) }
     {
         let last = item.who[item.who.len() - 1];
         if last != b'@' && item.takes_part() && !item.flags.is_group() {
@@ -83,11 +75,11 @@ impl<'a> Standing<'a> {
         item.takes_part() && self.is_match(item.principal())
     }
 
-    // Not part of `is_meant_by`, which is then small enough to be inlined.
+    // This is not part of `is_meant_by`, so that `is_meant_by` is small enough to be inlined.
     #[inline(never)]
     fn is_match(&self, whom: Principal<'_>) -> bool
         ensures { result
-            ≡ matches (asked self.now) (principal whom.entry) }
+            ≡ matches (asked_situation self.now) (principal whom.entry) }
     {
         match whom {
             Principal::Owner => self.is_owner,
@@ -105,5 +97,15 @@ impl<'a> Standing<'a> {
             Some(table) => table.contains(name),
             None => self.requester.is_in(name),
         }
+    }
+}
+
+// Returns the last byte of a name, or 0 for the empty name.
+fn last_byte(name: &[u8]) -> u8
+    ensures { result ≡ last_of name.now }
+{
+    match name {
+        [.., last] => *last,
+        [] => 0,
     }
 }

@@ -53,7 +53,7 @@ abbrev pub HasNoSpace : List ℕ → Type 0
 HasNoSpace bytes = IsTrue (list_all (λ b. not (b == space)) bytes)
 
 -- each of the first three fields extends to the next space, and the last one to the end of the line
-pub record HasFields (line : List ℕ) (fields : LineFields) : Type 0 where
+pub record HasLineFields (line : List ℕ) (fields : LineFields) : Type 0 where
   pub order : line ≡ fields.kind ++ space ∷ (fields.flags ++ space ∷ (fields.mask ++ space ∷ fields.who))
   pub kind : HasNoSpace fields.kind
   pub flags : HasNoSpace fields.flags
@@ -62,7 +62,7 @@ pub record HasFields (line : List ℕ) (fields : LineFields) : Type 0 where
 -- the fields of a line name the parts of an ACE
 pub record SpellsAce (line : List ℕ) (a : Ace) : Type 0 where
   pub fields : LineFields
-  pub has : HasFields line fields
+  pub has : HasLineFields line fields
   pub kind : fields.kind ≡ kind_name a.kind
   pub flags : SpellsFlags fields.flags a.flags
   pub mask : SpellsMask fields.mask a.mask

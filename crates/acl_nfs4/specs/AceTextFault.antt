@@ -4,7 +4,7 @@ use Rattle.std.specs.Prelude.{◌≡◌, ◌≢◌, ◌+◌, ◌<◌, ◌≤◌,
 use Rattle.acl_perm.specs.Profile.{Profile}
 use Rattle.acl_perm.specs.declared.kind.Kind.{Kind}
 use Rattle.acl_nfs4.specs.Ace.{Ace}
-use Rattle.acl_nfs4.specs.AceText.{TextLine, LineFields, HasFields, SpellEach, ace_lines, kind_name, space}
+use Rattle.acl_nfs4.specs.AceText.{TextLine, LineFields, HasLineFields, SpellEach, ace_lines, kind_name, space}
 use Rattle.acl_nfs4.specs.FlagNames.{SpellsFlags}
 use Rattle.acl_nfs4.specs.Rights.{SpellsMask}
 use Rattle.acl_nfs4.specs.Limits.{most_aces, most_weight}
@@ -38,13 +38,13 @@ who_column fields = length fields.kind + length fields.flags + length fields.mas
 -- ---- how far a line is right, as the next one after lines that spell a list
 
 -- the list can accept one more ACE, and the line has these fields
-pub record IsCut (list : List Ace) (line : TextLine) (fields : LineFields) : Type 0 where
+pub record IsSplit (list : List Ace) (line : TextLine) (fields : LineFields) : Type 0 where
   pub room : length list < most_aces
-  pub has : HasFields line.bytes fields
+  pub has : HasLineFields line.bytes fields
 
 -- the line is right up to its type
 pub record IsTyped (list : List Ace) (line : TextLine) (fields : LineFields) : Type 0 where
-  pub cut : IsCut list line fields
+  pub cut : IsSplit list line fields
   pub kind : Kind
   pub is_kind : fields.kind ≡ kind_name kind
 
@@ -83,7 +83,7 @@ pub record IsNotFour (list : List Ace) (line : TextLine) (at_line at_column : �
 -- the first field is not a type
 pub record IsNoKind (list : List Ace) (line : TextLine) (at_line at_column : ℕ) : Type 0 where
   pub fields : LineFields
-  pub cut : IsCut list line fields
+  pub cut : IsSplit list line fields
   pub no_kind : (kind : Kind) → fields.kind ≢ kind_name kind
   pub place : IsAt line.number 1 at_line at_column
 

@@ -11,6 +11,7 @@ pub mod Rights
 pub mod FlagNames
 pub mod AceText
 pub mod AceTextFault
+pub mod Programs
 pub mod Owned
 pub mod Push
 pub mod Laws

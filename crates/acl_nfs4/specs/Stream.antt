@@ -13,30 +13,30 @@ use Rattle.acl_nfs4.specs.declared.feed.fed.Fed.{Fed}
 use Rattle.acl_nfs4.specs.declared.feed.fed.Fed.TheVariants.{More, Done, Refused}
 
 -- bytes that end before their list does
-abbrev pub IsCut : Profile → List ℕ → Type 0
-IsCut p text = (o : ℕ) × IsFault p text o Truncated
+abbrev pub IsCutShort : Profile → List ℕ → Type 0
+IsCutShort p text = (o : ℕ) × IsFault p text o Truncated
 
 -- what a feed represents: the stream so far, which is cut short; or the list with which it began; or its fault
-pub data Standing : Type 0 where
-  more : (p : Profile) (stream : List ℕ) → Standing
-  done : (list : List Ace) → Standing
-  refused : (fault : Fault) → Standing
+pub data StreamState : Type 0 where
+  more : (p : Profile) (stream : List ℕ) → StreamState
+  done : (list : List Ace) → StreamState
+  refused : (fault : Fault) → StreamState
 
 -- a growth was refused
 abbrev pub no_memory : Fault
 no_memory = record { offset = 0; reason = Memory }
 
 -- a growth was refused, or the text has this fault and is not cut short
-abbrev pub Refuses : Profile → List ℕ → Fault → Type 0
-Refuses p text f = (f ≡ no_memory) ⊎ (IsFault p text f.offset f.reason × (f.reason ≢ Truncated))
+abbrev pub RefusesStream : Profile → List ℕ → Fault → Type 0
+RefusesStream p text f = (f ≡ no_memory) ⊎ (IsFault p text f.offset f.reason × (f.reason ≢ Truncated))
 
 -- the answer to one more piece, and what the feed represents then: the stream is cut short, or begins with a list that
 -- ends in this piece, or has a fault; later pieces do not change a list or a fault
-abbrev pub Feeds : Standing → List ℕ → Fed → Standing → Type 0
-Feeds (more p s) piece More new = (new ≡ more p (s ++ piece)) × IsCut p (s ++ piece)
+abbrev pub Feeds : StreamState → List ℕ → Fed → StreamState → Type 0
+Feeds (more p s) piece More new = (new ≡ more p (s ++ piece)) × IsCutShort p (s ++ piece)
 Feeds (more p s) piece (Done taken) new =
     (list : List Ace) × (new ≡ done list) × (taken ≤ length piece) × Xdr p list (s ++ take taken piece)
-Feeds (more p s) piece (Refused f) new = (new ≡ refused f) × Refuses p (s ++ piece) f
+Feeds (more p s) piece (Refused f) new = (new ≡ refused f) × RefusesStream p (s ++ piece) f
 Feeds (done list) piece More new = ⊥
 Feeds (done list) piece (Done taken) new = (new ≡ done list) × (taken ≡ 0)
 Feeds (done list) piece (Refused f) new = ⊥
@@ -57,11 +57,11 @@ pub record FedExactly (p : Profile) (stream : List ℕ) (n : ℕ) (answer : Fed)
       → IsFedOrFails answer (Refused f)
 
 -- the result if no more pieces come: the list, that the stream is cut short, or the fault
-abbrev pub Finishes : Standing → Result (List Ace) Fault → Type 0
-Finishes (more p s) (Ok list) = ⊥
-Finishes (more p s) (Err f) = (f.reason ≡ Truncated) × IsFault p s f.offset f.reason
-Finishes (done list) result = result ≡ Ok list
-Finishes (refused f) result = result ≡ Err f
+abbrev pub FinishesStream : StreamState → Result (List Ace) Fault → Type 0
+FinishesStream (more p s) (Ok list) = ⊥
+FinishesStream (more p s) (Err f) = (f.reason ≡ Truncated) × IsFault p s f.offset f.reason
+FinishesStream (done list) result = result ≡ Ok list
+FinishesStream (refused f) result = result ≡ Err f
 
 -- ---- what is held
 
@@ -72,7 +72,7 @@ HoldsLittle s = (length s < 4)
     × (length tail < 16 + longest_who))
 
 -- a feed that answers More holds little beyond whole ACEs
-abbrev pub IsSmall : Standing → Type 0
+abbrev pub IsSmall : StreamState → Type 0
 IsSmall (more p s) = HoldsLittle s
 IsSmall (done list) = Unit {0}
 IsSmall (refused f) = Unit {0}
@@ -80,12 +80,12 @@ IsSmall (refused f) = Unit {0}
 -- ---- many pieces
 
 -- pieces are fed one after the other, with these answers, and then the feed represents this
-abbrev pub FeedsEach : Standing → List (List ℕ) → List Fed → Standing → Type 0
+abbrev pub FeedsEach : StreamState → List (List ℕ) → List Fed → StreamState → Type 0
 FeedsEach old [] [] new = new ≡ old
 FeedsEach old [] (answer ∷ answers) new = ⊥
 FeedsEach old (piece ∷ pieces) [] new = ⊥
 FeedsEach old (piece ∷ pieces) (answer ∷ answers) new =
-    (now : Standing) × Feeds old piece answer now × FeedsEach now pieces answers new
+    (now : StreamState) × Feeds old piece answer now × FeedsEach now pieces answers new
 
 -- the answer to the bytes behind a piece of n bytes, as an answer to both together
 abbrev pub further : ℕ → Fed → Fed
@@ -102,7 +102,7 @@ together (piece ∷ pieces) (Done taken ∷ answers) = Done taken
 together (piece ∷ pieces) (Refused f ∷ answers) = Refused f
 
 -- in one of two cases a growth was refused; or the answers are the same, and the feed represents the same
-abbrev pub SameOrFails : Fed → Standing → Fed → Standing → Type 0
+abbrev pub SameOrFails : Fed → StreamState → Fed → StreamState → Type 0
 SameOrFails a x b y = (a ≡ Refused no_memory) ⊎ ((b ≡ Refused no_memory) ⊎ ((a ≡ b) × (x ≡ y)))
 
 -- ---- reading from a source

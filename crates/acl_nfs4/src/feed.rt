@@ -7,7 +7,7 @@ pub(crate) mod stream;
 
 ghost use Rattle.std.specs.Prelude.{◌≡◌, ℕ, ◌+◌, ◌≤◌, ◌<◌, ◌^◌, ◌++◌, List, [], MatchResult, length, take, drop};
 ghost use Rattle.acl_perm.specs.Profile.{Profile as Allowed, full, profile_of};
-ghost use Rattle.acl_nfs4.specs.Stream.{FedExactly, Feeds, Finishes, IsCut, IsSmall, more};
+ghost use Rattle.acl_nfs4.specs.Stream.{FedExactly, Feeds, FinishesStream, IsCutShort, IsSmall, more};
 ghost use Rattle.acl_nfs4.specs.Fault.{IsFault};
 ghost use Rattle.acl_nfs4.specs.declared.feed.fed.Fed.TheVariants.{Done};
 ghost use Rattle.acl_nfs4.specs.declared.xdr.fault.Reason.TheVariants.{Truncated};
@@ -38,10 +38,10 @@ pub struct Feed {
 
 impl Model for Feed {
     ghost use Rattle.acl_perm.specs.Profile.{profile_of};
-    ghost use Rattle.acl_nfs4.specs.Stream.{Standing};
+    ghost use Rattle.acl_nfs4.specs.Stream.{StreamState};
     ghost use Rattle.acl_nfs4.specs.internal.Progress.{IsFeed, standing};
 
-    ghost Value = { Standing };
+    ghost Value = { StreamState };
 
     ghost view = { λ s. standing (profile_of s.profile) s.stage s.progress s.text };
 
@@ -72,22 +72,6 @@ impl Feed {
         }
     }
 
-    // Takes a piece whole, and then drops the bytes that do not belong to the list.
-    fn take(&mut self, piece: &[u8]) -> Fed
-        ensures { Feeds self.old piece.now result self.new }
-    {
-        match self.stage {
-            Stage::Done => Fed::Done { taken: 0 },
-            Stage::Refused(fault) => Fed::Refused(fault),
-            Stage::Open(_) => {
-                let step = advance(&mut self.text, piece, self.progress, self.profile);
-                self.stage = step.stage;
-                self.progress = step.progress;
-                step.fed
-            }
-        }
-    }
-
     /// Takes the next piece of the stream. It keeps in memory the bytes that belong to the list, and requests no memory
     /// for a count or a length before the bytes have arrived. After `Done` and `Refused` nothing changes.
     ///
@@ -97,7 +81,7 @@ impl Feed {
     /// assert!(rt; feed.feed(&[0, 0, 0xff]) == Fed::Done { taken: 2 });
     /// assert!(rt; feed.finish()?.is_empty());
     /// ```
-    #[tactic(auto, using(crate::proofs::Held::taken_within))]
+    #[tactic(auto, using(crate::proofs::feed::Held::taken_within))]
     pub fn feed(&mut self, piece: &[u8]) -> Fed
         ensures feeds { Feeds self.old piece.now result self.new }
         // The answer depends on the stream alone, however it is cut into pieces.
@@ -111,6 +95,25 @@ impl Feed {
         match self.stage {
             Stage::Open(_) => self.take_all(piece),
             _ => self.take(piece),
+        }
+    }
+
+    /// Returns the list, if the stream ends here. Otherwise returns that the stream is cut short, or the fault that was
+    /// reported. It takes no memory.
+    pub fn finish(self) -> Result<Acl, Fault>
+        ensures told { FinishesStream self result }
+        // For a stream that is cut short no list is returned.
+        ensures cut { (p : Allowed) (s : List ℕ) → self ≡ more p s → MatchResult result
+            (λ _. ⊥) (λ f. (f.reason ≡ Truncated) × IsFault p s f.offset Truncated) }
+    {
+        match self.stage {
+            Stage::Open(fault) => Err(fault),
+            Stage::Refused(fault) => Err(fault),
+            Stage::Done => Ok(Acl {
+                count: self.progress.seen,
+                weight: self.progress.weight,
+                body: self.text.into_body(),
+            }),
         }
     }
 
@@ -142,22 +145,19 @@ impl Feed {
         }
     }
 
-    /// Returns the list, if the stream ends here. Otherwise returns that the stream is cut short, or the fault that was
-    /// reported. It takes no memory.
-    pub fn finish(self) -> Result<Acl, Fault>
-        ensures told { Finishes self result }
-        // For a stream that is cut short no list is returned.
-        ensures cut { (p : Allowed) (s : List ℕ) → self ≡ more p s → MatchResult result
-            (λ _. ⊥) (λ f. (f.reason ≡ Truncated) × IsFault p s f.offset Truncated) }
+    // Takes a piece whole, and then drops the bytes that do not belong to the list.
+    fn take(&mut self, piece: &[u8]) -> Fed
+        ensures { Feeds self.old piece.now result self.new }
     {
         match self.stage {
-            Stage::Open(fault) => Err(fault),
-            Stage::Refused(fault) => Err(fault),
-            Stage::Done => Ok(Acl {
-                count: self.progress.seen,
-                weight: self.progress.weight,
-                body: self.text.into_body(),
-            }),
+            Stage::Done => Fed::Done { taken: 0 },
+            Stage::Refused(fault) => Fed::Refused(fault),
+            Stage::Open(_) => {
+                let step = advance(&mut self.text, piece, self.progress, self.profile);
+                self.stage = step.stage;
+                self.progress = step.progress;
+                step.fed
+            }
         }
     }
 }

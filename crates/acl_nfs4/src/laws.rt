@@ -15,7 +15,7 @@ ghost use Rattle.acl_nfs4.specs.declared.text.fault.AceTextFault.{AceTextFault};
 ghost use Rattle.acl_nfs4.specs.Laws.{BeginsSpelling, pairs_of};
 ghost use Rattle.acl_nfs4.specs.declared.xdr.fault.Reason.{Reason};
 ghost use Rattle.std.specs.Prelude.{[]};
-ghost use Rattle.acl_nfs4.specs.Stream.{Feeds, FeedsEach, SameOrFails, Standing, more, together};
+ghost use Rattle.acl_nfs4.specs.Stream.{Feeds, FeedsEach, SameOrFails, StreamState, more, together};
 ghost use Rattle.acl_nfs4.specs.declared.feed.fed.Fed.{Fed};
 
 /// No spelling is the beginning of another, and none spells two lists, under each profile.
@@ -68,11 +68,11 @@ pub fn weight_counts_pairs()
 /// It does not matter how a stream is cut into pieces. Pieces that are fed one after the other to a new `Feed` have the
 /// same answer as all of them fed at once, and leave it in the same state. In one of the two cases memory may run out.
 pub fn any_cutting()
-    ensures together { (p : Profile) (pieces : List (List ℕ)) (answers : List Fed) (new : Standing)
+    ensures together { (p : Profile) (pieces : List (List ℕ)) (answers : List Fed) (new : StreamState)
         → FeedsEach (more p []) pieces answers new
         → Feeds (more p []) (concat pieces) (together pieces answers) new }
-    ensures once { (p : Profile) (pieces : List (List ℕ)) (answers : List Fed) (new : Standing)
-        (once : Fed) (now : Standing) → IsProfile p → FeedsEach (more p []) pieces answers new
+    ensures once { (p : Profile) (pieces : List (List ℕ)) (answers : List Fed) (new : StreamState)
+        (once : Fed) (now : StreamState) → IsProfile p → FeedsEach (more p []) pieces answers new
         → Feeds (more p []) (concat pieces) once now
         → SameOrFails (together pieces answers) new once now }
 {}

@@ -3,6 +3,7 @@
 
 mod ace;
 mod feed;
+pub mod internal;
 pub mod laws;
 mod limits;
 mod list;

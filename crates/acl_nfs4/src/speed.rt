@@ -1,11 +1,11 @@
-//! Calls with many ACEs, to count their instructions and their time: `bench/calls` runs each test alone.
+//! Calls with many ACEs. `bench/calls` runs each test alone, and counts its instructions and its time.
 
 use super::*;
 use std::alloc::{AllocError, Global};
 
 const COUNT: u32 = 65_536;
 
-// The text of so many ACEs with READ_DATA, for the users `u00000`, `u00001` and so on.
+// Returns the bytes of COUNT ACEs with READ_DATA, for the users `u00000`, `u00001` and so on.
 fn text(alloc: Global) -> Result<Vec<u8>, AllocError> {
     let mut text = Vec::new(alloc);
     text.extend_from_slice(&COUNT.to_be_bytes())?;
@@ -19,7 +19,7 @@ fn text(alloc: Global) -> Result<Vec<u8>, AllocError> {
     Ok(text)
 }
 
-// A call that is timed. A feed takes pieces of 4,096 bytes, or single ones.
+// A call that is timed. A feed takes pieces of 4,096 bytes, or single bytes.
 #[derive(Clone, Copy)]
 enum Call {
     Parse,
@@ -29,14 +29,14 @@ enum Call {
     Encode,
 }
 
-// How often, of so many times, the text gives the list.
+// Returns how often `parse` finds the list, of this many calls.
 fn parsed(text: &[u8], times: usize) -> usize {
     (0..times)
         .filter(|_| AclView::parse(text).is_ok_and(|(_, len)| len == 1_572_868))
         .count()
 }
 
-// Whether the list is returned, or memory ran out.
+// Returns whether the answer is the list, or memory ran out.
 fn is_given(answer: Result<Acl, Fault>) -> bool {
     match answer {
         Ok(list) => list.len() == 65_536,
@@ -44,7 +44,7 @@ fn is_given(answer: Result<Acl, Fault>) -> bool {
     }
 }
 
-// How often a source gives the list.
+// Returns how often `decode` returns the list.
 fn decoded(alloc: Global, text: &[u8], times: usize) -> usize {
     (0..times)
         .filter(|_| is_given(decode(alloc, &mut Counted::new(text))))
@@ -59,14 +59,14 @@ fn fed_once(alloc: Global, text: &[u8], size: usize) -> Result<Acl, Fault> {
     feed.finish()
 }
 
-// How often a feed gives the list.
+// Returns how often a feed returns the list.
 fn fed(alloc: Global, text: &[u8], size: usize, times: usize) -> usize {
     (0..times)
         .filter(|_| is_given(fed_once(alloc, text, size)))
         .count()
 }
 
-// How often the list is written.
+// Returns how often the list is written.
 fn encoded(alloc: Global, text: &[u8], times: usize) -> usize {
     let (Ok(list), Ok(mut room)) = (
         decode(alloc, &mut Counted::new(text)),
@@ -79,7 +79,7 @@ fn encoded(alloc: Global, text: &[u8], times: usize) -> usize {
         .count()
 }
 
-// Whether a call succeeds each of so many times, if there is memory for the text.
+// Returns whether each of this many calls succeeds, if there is memory for the bytes.
 fn goes_well(alloc: Global, call: Call, times: usize) -> bool {
     let Ok(text) = text(alloc) else {
         return true;

@@ -36,7 +36,7 @@ pub(crate) fn is_no_who_len(len: usize) -> bool
 }
 
 /// Refuses bytes of this length that are not valid as a who.
-#[tactic(auto, using(crate::proofs::PlainText::plain_ascii))]
+#[tactic(auto, using(crate::proofs::plain_ascii::PlainText::plain_ascii))]
 #[inline(always)]
 pub(crate) fn judge_text(who: &[u8]) -> Result<(), WhoFault>
     requires { is_no_who_len (length who.now) ≡ false }
@@ -77,7 +77,7 @@ fn judge_bytes(who: &[u8]) -> Result<(), WhoFault>
     Ok(())
 }
 
-#[tactic(auto, using(crate::proofs::PlainText::text_tests))]
+#[tactic(auto, using(crate::proofs::plain_ascii::PlainText::text_tests))]
 fn is_text(bytes: &[u8]) -> bool
     ensures { result ≡ is_utf8 bytes.now }
 {

@@ -5,7 +5,7 @@ pub use Rattle.acl_eval.specs.Column.{Column, column, first_kind, SameVerdicts, 
 pub use Rattle.acl_eval.specs.Grant.{is_allow, SameGrants}
 pub use Rattle.acl_eval.specs.Laws.{IsEquivalence}
 pub use Rattle.acl_eval.specs.Scan.{without}
-pub use Rattle.acl_nfs4.proofs.Within.{fits_of}
+pub use Rattle.acl_nfs4.proofs.Exports.{fits_of}
 pub use Rattle.acl_nfs4.specs.Ace.{Ace, ace}
 pub use Rattle.acl_nfs4.specs.Spelling.{Fits, IsAccepted, IsAce, spelling, weight}
 pub use Rattle.acl_nfs4.specs.Who.{everyone_name, group_name, owner_name, principal_of}
@@ -13,13 +13,16 @@ pub use Rattle.acl_nfs4.specs.Within.{IsProfile, IsWithin}
 pub use Rattle.acl_nfs4.specs.declared.ace.AceRef.{AceRef}
 pub use Rattle.acl_normal.specs.Keys.{ace_key, compare_keys, conflicts, Key, key_record, kind_eq, plain_key, principal_eq}
 pub use Rattle.acl_normal.specs.Laws.{Has}
-pub use Rattle.acl_normal.specs.Left.{IsTidy, KeepsFirsts, left}
-pub use Rattle.acl_normal.specs.Normal.{counts, flags_for, HasMasks, HasNames, HasNoEmptyMask, HasNormalFlags, is_free, is_inherit_only, IsIrreducibleList, IsNormal, IsQuiet, without_bit}
+pub use Rattle.acl_normal.specs.Left.{KeepsFirsts, left}
+pub use Rattle.acl_normal.specs.Normal.{counts, flags_for, HasNoEmptyMask, HasNormalFlags, is_free, is_inherit_only, IsIrreducibleList, IsNormal, without_bit}
+pub use Rattle.acl_normal.specs.internal.Tidy.{HasMasks, HasNames, IsQuiet, IsTidy}
 pub use Rattle.acl_normal.specs.NormalForm.{IsNormalFormOf}
-pub use Rattle.acl_normal.specs.Places.{first_at, is_blocked, is_waiting, key_here, mask_here, nothing_left, principal_here, same_class, slot_of, take_out, waits, waits_before, without_bits}
-pub use Rattle.acl_normal.specs.SmallSets.{is_mentioning, longest, mentioned, mentioned_with, pairs, partners, singles, small_sets}
+pub use Rattle.acl_normal.specs.Places.{first_at, is_waiting, nothing_left, same_class, take_out, waits, without_bits}
+pub use Rattle.acl_normal.specs.internal.Places.{is_blocked, key_here, mask_here, principal_here, slot_of, waits_before}
+pub use Rattle.acl_normal.specs.SmallSets.{is_mentioning, longest, mentioned, mentioned_with, principal_pairs, partners, singles, small_sets}
 pub use Rattle.acl_normal.specs.SmallSituations.{HasName, HaveNames, is_among, longest_name, small_situation}
-pub use Rattle.acl_normal.specs.Tables.{AddsRow, AreRows, HasKey, HasPlaces, of_borrowed, with_bit}
+pub use Rattle.acl_normal.specs.Tables.{AreRows, of_borrowed, with_bit}
+pub use Rattle.acl_normal.specs.internal.TableRows.{AddsRow, HasKey, HasFirstPlaces}
 pub use Rattle.acl_normal.specs.declared.comparison.small_set.SmallSet.{SmallSet}
 pub use Rattle.acl_normal.specs.declared.comparison.standing.Standing.{Standing}
 pub use Rattle.acl_normal.specs.declared.comparison.standing.Whom.{Whom}
@@ -44,12 +47,11 @@ pub use Rattle.acl_normal.specs.internal.Reduced.{IsReducedOf}
 pub use Rattle.acl_normal.specs.internal.Remaining.{IsQueue, IsRemaining, masks_left, remaining_of}
 pub use Rattle.acl_normal.specs.internal.Rising.{all_cleared, cleared, HasRisen}
 pub use Rattle.acl_normal.specs.internal.RowNumbers.{named_at, named_from, who_here}
-pub use Rattle.acl_normal.specs.internal.Rows.{AreRowNumbers, first_place_of, is_named, IsByPrincipal, IsRowOf, key_number, row_of}
+pub use Rattle.acl_normal.specs.internal.Rows.{AreRowNumbers, first_place_of, is_principal_of, IsByPrincipal, IsRowOf, key_number, row_of}
 pub use Rattle.acl_normal.specs.internal.SamePlaces.{ArePlacesOf}
-pub use Rattle.acl_normal.specs.internal.SetSearch.{AreGranted, differ, FindsFirst, GrantAlikeTo, is_granted_to, IsRising, principals}
-pub use Rattle.acl_normal.specs.internal.Shown.{aces_in, bits_in, with_masks}
+pub use Rattle.acl_normal.specs.internal.SetSearch.{IsGrantedTo, differ, FindsFirst, GrantAlikeTo, is_granted_to, IsRisingSet, principals}
+pub use Rattle.acl_normal.specs.internal.Shown.{aces_in, mask_numbers, with_masks}
 pub use Rattle.acl_normal.specs.internal.TwoLists.{all_mentioned, FindSet, StandAs, two_lists, TwoLists}
-pub use Rattle.acl_normal.specs.internal.Waiting.{HoldWaiting}
 pub use Rattle.acl_perm.proofs.Bools.{and_false_right}
 pub use Rattle.acl_perm.proofs.Orders.{key_order, principal_exact, principal_order}
 pub use Rattle.acl_perm.proofs.Sets.{bits_from_mask, has_bit-and, has_bit-or, IsMask-lt, no_bit, same_set}

@@ -1,5 +1,7 @@
 -- the names that most proofs import
 pub mod Common
+-- what holds of each element of a list
+pub mod Each
 pub mod unique
 pub mod InPlace
 pub mod NotedPlaces

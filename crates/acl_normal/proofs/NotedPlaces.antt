@@ -1,5 +1,5 @@
 -- The places of the ACEs that have a right, noted by row, place by place.
-use Rattle.acl_normal.proofs.Common.{Ace, ap, AreRowNumbers, arith, Bool, cases_lt, eqb-false, eqb-true, false, false≢true, first_place_of, get_or-set_other, has_bit, HasPlaces, inl, inr, IsRowOf, IsTidy, key_here, length, List, mask_here, Principal, principal_here, refl, row_of, same_Some, slice_index_or, slice_set, Some, sym, true, ℕ, ⊎_elim, ◌+◌, ◌<◌, ◌==◌, ◌∙◌, ◌≡◌, ◌≢◌, ◌≤◌, ◌⊎◌}
+use Rattle.acl_normal.proofs.Common.{Ace, ap, AreRowNumbers, arith, Bool, cases_lt, eqb-false, eqb-true, false, false≢true, first_place_of, get_or-set_other, has_bit, HasFirstPlaces, inl, inr, IsRowOf, IsTidy, key_here, length, List, mask_here, Principal, principal_here, refl, row_of, same_Some, slice_index_or, slice_set, Some, sym, true, ℕ, ⊎_elim, ◌+◌, ◌<◌, ◌==◌, ◌∙◌, ◌≡◌, ◌≢◌, ◌≤◌, ◌⊎◌}
 use Rattle.std.proofs.lemmas.Grind.{get_or-set_at}
 use Rattle.acl_normal.proofs.rows.FirstPlaces.{first_by_place, first_in, has_first, named_there, row_has}
 use Rattle.acl_normal.proofs.rows.Rows.{named_here, row_below}
@@ -8,10 +8,6 @@ use Rattle.acl_normal.proofs.rows.Rows.{named_here, row_below}
 abbrev pub NotesTo : ℕ → List Ace → List ℕ → ℕ → Type 0
 NotesTo b xs places to = (row : ℕ) (p : Principal) (i : ℕ) → IsRowOf row p xs → first_place_of b p xs ≡ Some i → i < to
     → slice_index_or places row 0 ≡ i
-
--- at first none
-pub none_noted : (b : ℕ) (xs : List Ace) (places : List ℕ) → NotesTo b xs places 0
-none_noted b xs places row p i at first l = absurd (omega (arith, l))
 
 -- the row of a place is one of as many as there are places
 pub row_inside : (xs : List Ace) (rows : List ℕ) (i : ℕ) → AreRowNumbers xs rows → i < length xs
@@ -61,7 +57,7 @@ noted_past b xs places i lacks so row p j at first below =
 
 -- at the end all are noted
 pub noted_all : (b : ℕ) (xs : List Ace) (places : List ℕ) (i : ℕ) → length xs ≤ i → NotesTo b xs places i
-    → HasPlaces b xs places
+    → HasFirstPlaces b xs places
 noted_all b xs places i end so row p j at first =
     let within = first_in b p xs _ (first_by_place b p xs j first) in
     so row p j at first (omega (arith, within, end))

@@ -1,24 +1,17 @@
 -- The table of one bit, row by row.
-use Rattle.std.proofs.Common.{◌≡◌, ℕ, ◌+◌, ◌≤◌, ◌<◌, suc, Bool, true, false, List, [], ◌∷◌, ◌++◌, length, take, drop, refl}
-use Rattle.std.specs.Prelude.{filter}
-use Rattle.acl_normal.proofs.Common.{Ace, AddsRow, All, ap, append-nil, AreRows, arith, column, counts, Emitted, emitted_ace, emitted_aces, first_at, first_place_of, has_bit, HasKey, HasPlaces, identifier_group, IsAlike, IsOnce, KeepsFirsts, Kind, map, map-append, None, of_borrowed, Option, plain_key, Principal, principal_of, slice_index_or, Some, StandInRows, subst, sym, take_all, take_more, with_bit, ◌∙◌}
+use Rattle.std.proofs.Common.{◌≡◌, ℕ, ◌+◌, ◌≤◌, ◌<◌, suc, true, List, [], ◌∷◌, ◌++◌, length, take, drop, refl}
+use Rattle.acl_normal.proofs.Common.{Ace, AddsRow, All, ap, AreRows, arith, column, counts, Emitted, emitted_ace, emitted_aces, first_at, first_place_of, has_bit, HasKey, HasFirstPlaces, identifier_group, IsAlike, IsOnce, KeepsFirsts, Kind, map, map-append, None, of_borrowed, Option, plain_key, Principal, principal_of, slice_index_or, Some, StandInRows, subst, sym, take_all, take_more, with_bit, ◌∙◌}
 use Rattle.std.proofs.lemmas.List.Elements.{filter-append}
 use Rattle.acl_normal.specs.Tables.{IsRow, TableRow}
 use Rattle.acl_normal.specs.declared.bit_table.BorrowedRow.{BorrowedRow}
 use Rattle.acl_normal.proofs.unique.Columns.{column_has}
-use Rattle.acl_normal.proofs.reduce.LaterBits.{kind_in, kind_first}
+use Rattle.acl_normal.proofs.rows.TakeOut.{kind_in, kind_first}
 use Rattle.acl_normal.proofs.unique.ListColumns.{column-append}
 use Rattle.acl_normal.proofs.unique.Names.{overlaps_itself}
 use Rattle.acl_normal.proofs.unique.SameOrder.{once_has}
 use Rattle.acl_normal.proofs.unique.Unique.{no_inherit_only}
 use Rattle.acl_normal.proofs.five_forms.Writing.{split_at}
 use Rattle.acl_normal.proofs.rows.Rows.{row_below}
-
--- an ACE without the bit has no row
-pub no_row : (b : ℕ) (xs : List Ace) (a : Ace) (rows : List BorrowedRow) → has_bit a.mask b ≡ false
-    → AddsRow b xs a rows rows
-no_row b xs a rows lacks list so =
-    rw lacks (subst (λ v. AreRows b xs v (map of_borrowed rows)) (sym (append-nil list)) so)
 
 rows_push : (b : ℕ) (xs list : List Ace) (a : Ace) (rows : List TableRow) (r : TableRow) → AreRows b xs list rows
     → IsRow b xs a r → AreRows b xs (list ++ a ∷ []) (rows ++ r ∷ [])
@@ -140,11 +133,11 @@ row_there xs es shown n stand is count = subst (λ v. All (λ e. e.row < n) v) (
 -- the rows of all, by their places in a list
 pub rows_shown : (b : ℕ) (xs : List Ace) (places held : List ℕ) (es shown : List Emitted) (rows : List TableRow)
     → held ≡ places → shown ≡ es
-    → ((list : List Ace) → HasPlaces b list held → StandInRows list shown
+    → ((list : List Ace) → HasFirstPlaces b list held → StandInRows list shown
     → All (λ e. HasKey b list (emitted_ace e)) shown → AreRows b list (with_bit b (emitted_aces shown)) rows)
-    → HasPlaces b xs places → StandInRows xs es → All (λ e. HasKey b xs (emitted_ace e)) es
+    → HasFirstPlaces b xs places → StandInRows xs es → All (λ e. HasKey b xs (emitted_ace e)) es
     → AreRows b xs (with_bit b (emitted_aces es)) rows
 rows_shown b xs places held es shown rows same is so at stand keys =
     subst (λ v. AreRows b xs (with_bit b (emitted_aces v)) rows) is
-    (so xs (subst (λ v. HasPlaces b xs v) (sym same) at) (subst (λ v. StandInRows xs v) (sym is) stand)
+    (so xs (subst (λ v. HasFirstPlaces b xs v) (sym same) at) (subst (λ v. StandInRows xs v) (sym is) stand)
     (subst (λ v. All (λ e. HasKey b xs (emitted_ace e)) v) (sym is) keys))

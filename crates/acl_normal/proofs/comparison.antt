@@ -18,13 +18,13 @@ pub mod FirstSet
 pub mod Numbers
 -- the principals that lists mention, by row and by number
 pub mod MentionedRows
--- where a list first speaks of each principal
+-- where a list first mentions each principal
 pub mod FirstPlaceLemmas
 -- what two principals are granted, by what each is granted alone and which comes first
 pub mod PairGrants
 -- the least number of a principal at which two lists grant otherwise, bit by bit
 pub mod RowFacts
--- tables tell which standings invert another
+-- tables that show which standings invert another
 pub mod TableFacts
 -- the first small set, by least numbers
 pub mod Assembly

@@ -1,5 +1,5 @@
--- the order of the principals of the code
-pub mod Order
+-- ACEs of the code and their masks, by place
+pub mod ByPlace
 -- pairs of a kind and a place
 pub mod PairParts
 -- whether places wait before a place
@@ -32,3 +32,5 @@ pub mod RisingRows
 pub mod Beginnings
 -- what the public calls on merged rows say, from what those on one bit say
 pub mod Publics
+-- a right that is taken out, as the code has it
+pub mod EmitRight

@@ -2,7 +2,7 @@
 pub mod Names
 -- one bit of a list that begins with an ACE, or that is two lists
 pub mod Columns
--- a column without a principal
+-- a column without a principal, and a column in which each principal is at most once
 pub mod Shorter
 -- the first key of a column that passes a test
 pub mod FirstKind
@@ -42,7 +42,7 @@ pub mod Weights
 pub mod Kept
 -- lists that fit a profile grant nothing outside it
 pub mod Profiles
--- normal forms have equal spellings exactly if their sources grant the same
+-- normal forms have equal spellings if and only if their sources grant the same
 pub mod Spelled
 -- what is known of an accepted list: each who is a name, and each bit is a right
 pub mod Accepted
@@ -52,5 +52,5 @@ pub mod Outline
 pub mod Forming
 -- that the keys of the normal form are keys of the source
 pub mod Taken
--- the five normal forms of a list, and what they tell of it
+-- the five normal forms of a list, and what they say about the list
 pub mod FiveFormLemmas

@@ -1,13 +1,12 @@
 -- What is left of a list of ACEs while its normal form is made (RFC 8881, section 6.2.1): the list, by place, with the
 -- masks that are left.
-use Rattle.std.specs.Prelude.{◌≡◌, ℕ, ◌<◌, ◌≤◌, false, if◌then◌else◌, ◌==◌, IsTrue, List, [], ◌∷◌, Some}
+use Rattle.std.specs.Prelude.{◌≡◌, ℕ, ◌<◌, false, if◌then◌else◌, ◌==◌, IsTrue, List, [], ◌∷◌, Some}
 use Rattle.acl_perm.specs.Bits.{has_bit}
 use Rattle.acl_perm.specs.Principal.{Principal}
 use Rattle.acl_perm.specs.declared.kind.Kind.{Kind}
 use Rattle.acl_nfs4.specs.Ace.{Ace}
 use Rattle.acl_eval.specs.Column.{column}
-use Rattle.acl_normal.specs.internal.Emissions.{HasOnceColumns}
-use Rattle.acl_normal.specs.Normal.{IsQuiet, is_free}
+use Rattle.acl_normal.specs.Normal.{is_free}
 use Rattle.acl_normal.specs.Places.{first_at}
 
 -- the ACEs of which something is left
@@ -28,9 +27,3 @@ HasFree list p bits =
 -- the lowest of the bits
 abbrev pub IsLowest : ℕ → ℕ → Type 0
 IsLowest bit bits = IsTrue (has_bit bits bit) × ((other : ℕ) → other < bit → has_bit bits other ≡ false)
-
--- each column has each principal once; an ACE that takes no part has no bit, and no bit is above the twenty-one
-pub record IsTidy (list : List Ace) : Type 0 where
-  pub once : HasOnceColumns list
-  pub quiet : IsQuiet list
-  pub low : (bit : ℕ) → 21 ≤ bit → column list bit ≡ []

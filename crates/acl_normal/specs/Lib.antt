@@ -13,3 +13,4 @@ pub mod OneRight
 pub mod Difference
 pub mod RequesterNames
 pub mod Tables
+pub mod Programs

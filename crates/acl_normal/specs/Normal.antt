@@ -1,9 +1,9 @@
 -- The normal form of a list of ACEs (this library's own, over what lists grant by RFC 8881, section 6.2.1): no bit that
 -- plays no part, one order, and no flag that plays no part.
-use Rattle.std.specs.Prelude.{⊤, ◌≡◌, ◌≢◌, ℕ, ◌^◌, Bool, true, false, not, ◌||◌, ◌&&◌, IsTrue, List, [], ◌∷◌, ◌++◌}
+use Rattle.std.specs.Prelude.{⊤, ◌≡◌, ◌≢◌, ℕ, ◌^◌, Bool, false, not, ◌||◌, ◌&&◌, IsTrue, List, [], ◌∷◌, ◌++◌}
 use Rattle.std.specs.List.{AllByRecursion}
 use Rattle.std.specs.Ordering.{is_le}
-use Rattle.acl_perm.specs.Bits.{has_bit, all_rights, inherit_only, IsSubset}
+use Rattle.acl_perm.specs.Bits.{has_bit, all_rights, inherit_only}
 use Rattle.acl_perm.specs.Principal.{Principal, owner, user, group, group_named, everyone}
 use Rattle.acl_nfs4.specs.Ace.{Ace}
 use Rattle.acl_nfs4.specs.Who.{principal_of}
@@ -11,7 +11,6 @@ use Rattle.acl_eval.specs.Column.{Column, column}
 use Rattle.acl_eval.specs.Grant.{SameGrants}
 use Rattle.acl_eval.specs.Scan.{without}
 use Rattle.acl_normal.specs.Keys.{Key, ace_key, principal_eq, kind_eq, conflicts, compare_keys}
-use Rattle.acl_normal.specs.SmallSituations.{HasName}
 
 -- the ACE without one bit of its mask
 abbrev pub without_bit : Ace → ℕ → Ace
@@ -72,15 +71,3 @@ is_inherit_only a = has_bit a.flags inherit_only
 -- the ACE has the bit and takes part, so that it is a key of the bit's column
 abbrev pub counts : ℕ → Ace → Bool
 counts bit a = has_bit a.mask bit && not (is_inherit_only a)
-
--- an ACE that takes no part has no bit
-abbrev pub IsQuiet : List Ace → Type 0
-IsQuiet list = AllByRecursion (λ a. is_inherit_only a ≡ true → a.mask ≡ 0) list
-
--- every bit is one of the sixteen rights
-abbrev pub HasMasks : List Ace → Type 0
-HasMasks list = AllByRecursion (λ a. IsSubset a.mask all_rights) list
-
--- each who that is a user or group name is a name that a situation may have
-abbrev pub HasNames : List Ace → Type 0
-HasNames list = AllByRecursion (λ a. HasName (principal_of a)) list

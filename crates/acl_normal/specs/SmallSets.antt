@@ -45,13 +45,13 @@ partners p [] = []
 partners p (q ∷ rest) = if may_overlap p q then (p ∷ q ∷ []) ∷ partners p rest else partners p rest
 
 -- the sets of two of the principals that may overlap, the lesser first: by the first, then by the second
-abbrev pub pairs : List Principal → List (List Principal)
-pairs [] = []
-pairs (p ∷ rest) = partners p rest ++ pairs rest
+abbrev pub principal_pairs : List Principal → List (List Principal)
+principal_pairs [] = []
+principal_pairs (p ∷ rest) = partners p rest ++ principal_pairs rest
 
 -- the sets of none, one, or two of the principals that may overlap
 abbrev pub small_sets : List Principal → List (List Principal)
-small_sets whole = [] ∷ (singles whole ++ pairs whole)
+small_sets whole = [] ∷ (singles whole ++ principal_pairs whole)
 
 -- the number of bytes of the strange names: more than any name that the lists mention has
 abbrev pub strange_length : List Ace → List Ace → ℕ

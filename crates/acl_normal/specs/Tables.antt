@@ -1,17 +1,12 @@
 -- The table of one bit: the ACEs of a normal form that have it, and where they come from (this library's own; the bits
 -- are those of RFC 8881, section 6.2.1.3.1).
-use Rattle.std.specs.Prelude.{⊤, ◌≡◌, true, ℕ, List, [], ◌∷◌, ◌++◌, filter, map, slice_index_or, Bool, Some}
+use Rattle.std.specs.Prelude.{⊤, ◌≡◌, ℕ, List, [], ◌∷◌, filter, map, Bool, Some}
 use Rattle.acl_perm.specs.Bits.{has_bit, identifier_group}
-use Rattle.acl_perm.specs.Principal.{Principal}
 use Rattle.acl_perm.specs.declared.kind.Kind.{Kind}
 use Rattle.acl_nfs4.specs.Ace.{Ace}
 use Rattle.acl_nfs4.specs.Who.{principal_of}
-use Rattle.acl_eval.specs.Column.{column, first_kind}
-use Rattle.acl_normal.specs.internal.Alike.{is_either}
-use Rattle.acl_normal.specs.internal.Rows.{IsRowOf, first_place_of}
 use Rattle.acl_normal.specs.NormalForm.{IsNormalFormOf}
 use Rattle.acl_normal.specs.Places.{first_at}
-use Rattle.acl_normal.specs.Normal.{counts}
 use Rattle.acl_normal.specs.declared.bit_table.BorrowedRow.{BorrowedRow}
 use Rattle.acl_normal.specs.declared.bit_table.Row.{Row}
 
@@ -62,20 +57,3 @@ IsTable bit source rows = IsTableOf bit source (map of_row rows)
 -- the same of rows whose whos are lent
 abbrev pub IsBorrowedTable : ℕ → List Ace → List BorrowedRow → Type 0
 IsBorrowedTable bit source rows = IsTableOf bit source (map of_borrowed rows)
-
--- ---- words that only code needs
-
--- by row, the place of the first ACE of the principal that has the bit, where one has it
-abbrev pub HasPlaces : ℕ → List Ace → List ℕ → Type 0
-HasPlaces bit list places = (row : ℕ) (p : Principal) (place : ℕ) → IsRowOf row p list
-    → first_place_of bit p list ≡ Some place → slice_index_or places row 0 ≡ place
-
--- where the ACE has the bit, its key is in the list
-abbrev pub HasKey : ℕ → List Ace → Ace → Type 0
-HasKey bit list a =
-    counts bit a ≡ true → first_kind (is_either (principal_of a) (principal_of a)) (column list bit) ≡ Some a.kind
-
--- the row of an ACE was added, where it has the bit
-abbrev pub AddsRow : ℕ → List Ace → Ace → List BorrowedRow → List BorrowedRow → Type 0
-AddsRow bit source a old new = (list : List Ace) → AreRows bit source list (map of_borrowed old)
-    → AreRows bit source (list ++ with_bit bit (a ∷ [])) (map of_borrowed new)

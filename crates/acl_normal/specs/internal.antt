@@ -62,3 +62,9 @@ pub mod Members
 pub mod RightsApart
 -- where a list names the same as another
 pub mod SamePlaces
+-- ACEs and keys by their places in a list, and the numbers of the sets of places
+pub mod Places
+-- lists on the way to a normal form
+pub mod Tidy
+-- how the rows of the table of one bit come about
+pub mod TableRows

@@ -4,21 +4,23 @@ ghost use Rattle.acl_perm.specs.Bits.{has_bit, identifier_group};
 ghost use Rattle.acl_nfs4.specs.Ace.{Ace, ace};
 ghost use Rattle.acl_nfs4.specs.Who.{principal_of};
 ghost use Rattle.acl_normal.specs.internal.Emitted.{StandInRows, emitted_ace, emitted_aces};
-ghost use Rattle.acl_normal.specs.Left.{IsLowest, IsTidy, left};
+ghost use Rattle.acl_normal.specs.Left.{IsLowest, left};
+ghost use Rattle.acl_normal.specs.internal.Tidy.{IsTidy};
 ghost use Rattle.acl_normal.specs.Normal.{flags_for};
 ghost use Rattle.acl_normal.specs.internal.Reduced.{IsReducedOf};
 ghost use Rattle.acl_normal.specs.internal.Remaining.{IsNumbered};
 ghost use Rattle.acl_normal.specs.internal.Rising.{IsRising, all_cleared};
 ghost use Rattle.acl_normal.specs.internal.Rows.{AreRowNumbers, first_place_of};
-ghost use Rattle.acl_normal.specs.internal.Shown.{bits_in, with_masks};
-ghost use Rattle.acl_normal.specs.Tables.{AddsRow, AreRows, HasKey, HasPlaces, IsBorrowedTable, IsTable, of_borrowed, of_row, with_bit};
+ghost use Rattle.acl_normal.specs.internal.Shown.{mask_numbers, with_masks};
+ghost use Rattle.acl_normal.specs.Tables.{AreRows, IsBorrowedTable, IsTable, of_borrowed, of_row, with_bit};
+ghost use Rattle.acl_normal.specs.internal.TableRows.{AddsRow, HasKey, HasFirstPlaces};
 
 use crate::emit::emission::{Emitted, normalize_left};
 use crate::emit::rising::rises;
+use crate::merged::lowest;
 use crate::normal_form::{ace_of, flags_of};
-use crate::reduce::{Reduced, reduced_list};
-use crate::rows::merged::lowest;
-use crate::rows::remaining::Remaining;
+use crate::reduce::reduced_list;
+use crate::rows::remaining::{Reduced, Remaining};
 use acl_nfs4::{AceRef, Acl, AclView};
 use acl_perm::internal::Bit;
 use acl_perm::{Kind, Mask};
@@ -136,9 +138,9 @@ fn risen_rows<'a>(
 ) -> Result<Vec<BorrowedRow<'a>>, AllocError>
     requires places { vec_len reduced.now.masks ≡ vec_len reduced.now.aces }
     requires reduced { IsReducedOf list.now
-        (with_masks reduced.now.aces.items (bits_in reduced.now.masks.items)) }
+        (with_masks reduced.now.aces.items (mask_numbers reduced.now.masks.items)) }
     requires rising { IsRising
-        (left (with_masks reduced.now.aces.items (bits_in reduced.now.masks.items))) }
+        (left (with_masks reduced.now.aces.items (mask_numbers reduced.now.masks.items))) }
     ensures { IfOk result (λ rows. IsBorrowedTable right.bit list.now rows.items) }
 {
     // The call is made for its clause alone, which says that the list is accepted.
@@ -155,9 +157,9 @@ fn rows_in_place<'a>(
     right: Bit,
 ) -> Result<Vec<BorrowedRow<'a>>, AllocError>
     requires masks { length masks.now ≡ length aces.now }
-    requires tidy { IsTidy (with_masks aces.now (bits_in masks.now)) }
-    ensures { IfOk result (λ rows. AreRows right.bit (with_masks aces.now (bits_in masks.now))
-        (with_bit right.bit (all_cleared (left (with_masks aces.now (bits_in masks.now)))))
+    requires tidy { IsTidy (with_masks aces.now (mask_numbers masks.now)) }
+    ensures { IfOk result (λ rows. AreRows right.bit (with_masks aces.now (mask_numbers masks.now))
+        (with_bit right.bit (all_cleared (left (with_masks aces.now (mask_numbers masks.now)))))
         (map of_borrowed rows.items)) }
 {
     let mut rows = Vec::with_capacity(alloc, aces.len())?;
@@ -202,10 +204,10 @@ fn emitted_rows<'a>(
 ) -> Result<Vec<BorrowedRow<'a>>, AllocError>
     requires few { vec_len reduced.aces < 2 ^ 32 }
     requires places { vec_len reduced.masks ≡ vec_len reduced.aces }
-    requires rows { IsNumbered (with_masks reduced.aces.items (bits_in reduced.masks.items))
+    requires rows { IsNumbered (with_masks reduced.aces.items (mask_numbers reduced.masks.items))
         reduced.numbers.rows.items reduced.numbers.order.items }
     requires reduced { IsReducedOf list.now
-        (with_masks reduced.aces.items (bits_in reduced.masks.items)) }
+        (with_masks reduced.aces.items (mask_numbers reduced.masks.items)) }
     ensures { IfOk result (λ rows. IsBorrowedTable right.bit list.now rows.items) }
 {
     // The call is made for its clause alone, which says that the list is accepted.
@@ -228,11 +230,11 @@ fn places(
     right: Bit,
 ) -> Result<Vec<usize>, AllocError>
     requires masks { length masks.now ≡ length aces.now }
-    requires tidy { IsTidy (with_masks aces.now (bits_in masks.now)) }
-    requires rows { AreRowNumbers (with_masks aces.now (bits_in masks.now)) rows.now }
+    requires tidy { IsTidy (with_masks aces.now (mask_numbers masks.now)) }
+    requires rows { AreRowNumbers (with_masks aces.now (mask_numbers masks.now)) rows.now }
     ensures count { IfOk result (λ places. vec_len places ≡ length aces.now) }
-    ensures places { IfOk result (λ places. HasPlaces right.bit
-        (with_masks aces.now (bits_in masks.now)) places.items) }
+    ensures places { IfOk result (λ places. HasFirstPlaces right.bit
+        (with_masks aces.now (mask_numbers masks.now)) places.items) }
 {
     let mut places = vec![in alloc; 0; aces.len()]?;
     for place in 0..aces.len() {
@@ -252,7 +254,7 @@ fn rows_of<'a>(
     right: Bit,
 ) -> Result<Vec<BorrowedRow<'a>>, AllocError>
     requires { All (λ e. e.row < length places.now) form.now }
-    ensures { IfOk result (λ table. (list : List Ace) → HasPlaces right.bit list places.now
+    ensures { IfOk result (λ table. (list : List Ace) → HasFirstPlaces right.bit list places.now
         → StandInRows list form.now → All (λ e. HasKey right.bit list (emitted_ace e)) form.now
         → AreRows right.bit list (with_bit right.bit (emitted_aces form.now))
         (map of_borrowed table.items)) }

@@ -4,6 +4,7 @@ ghost use Rattle.acl_perm.specs.Bits.{all_rights, has_bit};
 ghost use Rattle.acl_perm.specs.Principal.{everyone};
 ghost use Rattle.acl_nfs4.specs.Ace.{ace};
 ghost use Rattle.acl_nfs4.specs.Who.{principal_of};
+ghost use Rattle.acl_normal.specs.internal.Places.{bit_count};
 ghost use Rattle.acl_normal.specs.Keys.{principal_eq};
 ghost use Rattle.acl_normal.specs.Normal.{counts};
 ghost use Rattle.acl_normal.specs.internal.NextRight.{IsNextRight, LacksFrom};
@@ -39,16 +40,16 @@ pub(crate) fn of_everyone(item: AceRef<'_>, mask: Mask) -> Mask
 
 /// Returns the first right of the mask at or above a bit.
 pub(crate) fn next_right(mask: Mask, from: usize) -> Option<Bit>
-    requires { from ≤ 21 }
+    requires { from ≤ bit_count }
     ensures some { IfSome result (λ right. IsNextRight mask.bits from right.bit) }
-    ensures none { IfNone result (LacksFrom mask.bits from 21) }
+    ensures none { IfNone result (LacksFrom mask.bits from bit_count) }
 {
     numbered(from + (mask.bits >> from).trailing_zeros() as usize)
 }
 
 // The bit of a number, or none for numbers above 20.
 fn numbered(bit: usize) -> Option<Bit>
-    ensures within { IsSome result ↔ (bit < 21) }
+    ensures within { IsSome result ↔ (bit < bit_count) }
     ensures value { IfSome result (λ right. right.bit ≡ bit) }
 {
     if bit < Bit::COUNT {

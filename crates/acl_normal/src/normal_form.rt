@@ -15,12 +15,12 @@ ghost use Rattle.acl_normal.specs.Left.{left};
 ghost use Rattle.acl_normal.specs.internal.Reduced.{IsReducedOf};
 ghost use Rattle.acl_normal.specs.internal.Remaining.{IsNumbered};
 ghost use Rattle.acl_normal.specs.internal.Rising.{IsRising};
-ghost use Rattle.acl_normal.specs.internal.Shown.{bits_in, with_masks};
+ghost use Rattle.acl_normal.specs.internal.Shown.{mask_numbers, with_masks};
 
 use crate::emit::emission::{Emitted, normalize_left};
 use crate::emit::rising::{cleared, rises};
-use crate::reduce::{Reduced, reduced_list};
-use crate::rows::remaining::Remaining;
+use crate::reduce::reduced_list;
+use crate::rows::remaining::{Reduced, Remaining};
 use acl_nfs4::{AceRef, Acl, AclView, Fault, Reason};
 use acl_perm::{Flags, Principal, Profile};
 use std::alloc::{AllocError, Global};
@@ -127,9 +127,9 @@ pub fn normalize_view(alloc: Global, list: &AclView<'_>) -> Result<Acl, AllocErr
 fn risen(alloc: Global, list: &AclView<'_>, reduced: &Reduced<'_>) -> Result<Acl, AllocError>
     requires places { vec_len reduced.now.masks ≡ vec_len reduced.now.aces }
     requires reduced { IsReducedOf list.now
-        (with_masks reduced.now.aces.items (bits_in reduced.now.masks.items)) }
+        (with_masks reduced.now.aces.items (mask_numbers reduced.now.masks.items)) }
     requires rising { IsRising
-        (left (with_masks reduced.now.aces.items (bits_in reduced.now.masks.items))) }
+        (left (with_masks reduced.now.aces.items (mask_numbers reduced.now.masks.items))) }
     ensures { IfOk result (λ form. IsNormalFormOf list.now form) }
 {
     // The call is made for its clause alone, which says that the list is accepted.
@@ -145,10 +145,10 @@ fn form_of<'a>(
 ) -> Result<Vec<Emitted<'a>>, AllocError>
     requires few { vec_len reduced.aces < 2 ^ 32 }
     requires places { vec_len reduced.masks ≡ vec_len reduced.aces }
-    requires rows { IsNumbered (with_masks reduced.aces.items (bits_in reduced.masks.items))
+    requires rows { IsNumbered (with_masks reduced.aces.items (mask_numbers reduced.masks.items))
         reduced.numbers.rows.items reduced.numbers.order.items }
     requires reduced { IsReducedOf list.now
-        (with_masks reduced.aces.items (bits_in reduced.masks.items)) }
+        (with_masks reduced.aces.items (mask_numbers reduced.masks.items)) }
     ensures { IfOk result (λ form. IsNormalFormOf list.now (emitted_aces form.items)) }
 {
     // The call is made for its clause alone, which says that the list is accepted.

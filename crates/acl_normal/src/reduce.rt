@@ -5,7 +5,7 @@ ghost use Rattle.acl_nfs4.specs.Spelling.{IsAccepted};
 ghost use Rattle.acl_normal.specs.internal.Reduced.{IsReducedOf};
 ghost use Rattle.acl_normal.specs.internal.Remaining.{IsNumbered};
 ghost use Rattle.acl_normal.specs.internal.Rows.{AreRowNumbers};
-ghost use Rattle.acl_normal.specs.internal.Shown.{aces_in, bits_in, with_masks};
+ghost use Rattle.acl_normal.specs.internal.Shown.{aces_in, mask_numbers, with_masks};
 
 pub(crate) mod collected;
 mod first;
@@ -15,7 +15,7 @@ use crate::reduce::collected::collect;
 use crate::reduce::first::first_masks;
 use crate::reduce::needless::drop_needless;
 use crate::rows::numbers::{RowNumbers, row_numbers};
-use crate::rows::remaining::Remaining;
+use crate::rows::remaining::{Reduced, Remaining};
 use acl_nfs4::{AceRef, AclView};
 use acl_perm::Mask;
 use std::alloc::{AllocError, Global};
@@ -27,22 +27,14 @@ pub(crate) fn remaining<'a>(alloc: Global, list: &AclView<'a>) -> Result<Remaini
     Remaining::of(alloc, reduced_list(alloc, list)?)
 }
 
-/// The ACEs of a list, the masks that are left of them, and the rows of their principals.
-#[derive(Drop)]
-pub(crate) struct Reduced<'a> {
-    pub(crate) aces: Vec<AceRef<'a>>,
-    pub(crate) masks: Vec<Mask>,
-    pub(crate) numbers: RowNumbers,
-}
-
 /// A list, without what no situation needs.
 pub(crate) fn reduced_list<'a>(alloc: Global, list: &AclView<'a>) -> Result<Reduced<'a>, AllocError>
     ensures few { IfOk result (λ r. vec_len r.aces < 2 ^ 32) }
     ensures places { IfOk result (λ r. vec_len r.masks ≡ vec_len r.aces) }
-    ensures rows { IfOk result (λ r. IsNumbered (with_masks r.aces.items (bits_in r.masks.items))
+    ensures rows { IfOk result (λ r. IsNumbered (with_masks r.aces.items (mask_numbers r.masks.items))
         r.numbers.rows.items r.numbers.order.items) }
     ensures left { IfOk result (λ r.
-        IsReducedOf list.now (with_masks r.aces.items (bits_in r.masks.items))) }
+        IsReducedOf list.now (with_masks r.aces.items (mask_numbers r.masks.items))) }
 {
     let aces = collect(alloc, list)?;
     let numbers = row_numbers(alloc, &aces)?;
@@ -65,7 +57,7 @@ fn reduced_masks(
     requires rows { AreRowNumbers (aces_in aces.now) numbers.now.rows.items }
     ensures places { IfOk result (λ masks. vec_len masks ≡ length aces.now) }
     ensures reduced { IfOk result (λ masks. IsReducedOf (aces_in aces.now)
-        (with_masks aces.now (bits_in masks.items))) }
+        (with_masks aces.now (mask_numbers masks.items))) }
 {
     let mut masks = first_masks(alloc, aces, &numbers.rows)?;
     drop_needless(aces, &mut masks);

@@ -1,7 +1,6 @@
-//! The rows of the principals of a list, by number, the places of its ACEs that wait, and what is left of it by both.
+//! The rows of the principals of a list, by number, the places of its ACEs that wait, and what is left of it.
 
 mod heads;
-pub(crate) mod merged;
 pub(crate) mod numbers;
 pub(crate) mod remaining;
 pub(crate) mod waiting;

@@ -1,14 +1,14 @@
--- What tests tell of the tests that they are made of, for all crates: std's lemmas, by the names that the proofs here
--- give them, and three of this library.
+-- Facts about tests that consist of other tests, for all crates: lemmas of std, under the names that the proofs here
+-- use, and three lemmas of this library.
 use Rattle.std.proofs.Common.{◌≡◌, Bool, true, false, cond, refl}
 use Rattle.std.specs.Prelude.{◌&&◌, T}
--- where two tests hold together each holds, and where one of two holds it is the first or the second
+-- if two tests hold together, each holds; if one of two tests holds, it is the first or the second
 pub use Rattle.std.proofs.lemmas.Bool.{and_parts as and_true, or_cases as or_true}
--- what a denied test tells
+-- what follows from a negated test
 pub use Rattle.std.proofs.lemmas.Bool.{not-true as not_true, not-false as not_false}
--- a test beside a constant
+-- a test together with a constant
 pub use Rattle.std.proofs.Math.Bool.{and-true as and_true_right, and-false as and_false_right, or-true as or_true_right, or-false as or_false_right}
--- a test beside itself
+-- a test together with itself
 pub use Rattle.std.proofs.Math.Bool.{and_self as and_twice, or_self as or_twice, and_self_left as and_twice_left, or_self_left as or_twice_left}
 -- two or three tests in another order
 pub use Rattle.std.proofs.Math.Bool.{and_comm as and_swap, or_comm as or_swap, and_assoc as and_regroup, or_assoc as or_regroup}
@@ -17,7 +17,7 @@ pub use Rattle.std.proofs.Math.Bool.{and-or_distrib_left as and_either, and-or_d
 -- two tests that imply each other give the same answer
 pub use Rattle.std.specs.Cmp.{both_ways as same_answers}
 
--- a choice among the same is the same
+-- a choice between equal values is that value
 pub cond_same : {X : Type 0} (b : Bool) (x y v w : X) → x ≡ v → y ≡ w → cond b x y ≡ cond b v w
 cond_same true x y v w d e = d
 cond_same false x y v w d e = e
@@ -27,7 +27,7 @@ pub cond_bool : (b : Bool) → cond b true false ≡ b
 cond_bool true = refl
 cond_bool false = refl
 
--- of two tests that hold together each holds
+-- if two tests hold together, each holds
 pub both_hold : (a b : Bool) → T (a && b) → T a × T b
 both_hold true b h = (tt, h)
 both_hold false b h = absurd h

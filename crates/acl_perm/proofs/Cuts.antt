@@ -9,12 +9,12 @@ use Rattle.std.proofs.lemmas.List.Splits.{slice_split_first}
 use Rattle.acl_perm.proofs.Bools.{and_true_right, and_false_right}
 use Rattle.acl_perm.specs.Lines.{Span, spans, cut_at, IsCutRest, is_blank, blanks_before, end_trimmed, trimmed}
 
--- where no element passes, and where one does
+-- the place of an element that passes the test, or that there is none
 pub record Found (p : ℕ → Bool) (xs : List ℕ) (i : ℕ) : Type 0 where
   pub in_range : i < length xs
   pub first : position_or_len p xs ≡ i
 
--- what `position` says of a list: the place of the first byte with a property, or that none has it
+-- the result of `position`: the place of the first byte with a property, or that no byte has it
 abbrev pub Says : (ℕ → Bool) → List ℕ → Option ℕ → Type 0
 Says p xs None = position_or_len p xs ≡ length xs
 Says p xs (Some i) = Found p xs i
@@ -67,7 +67,7 @@ cut_some separator s first rest i h f r =
     } in
     rw (f, r) made
 
--- where all bytes are blanks they are as many as the bytes
+-- if all bytes are blanks, there are as many blanks as bytes
 pub blanks_none : (bs : List ℕ) → Says (λ b. not (is_blank b)) bs None → length bs ≡ blanks_before bs
 blanks_none bs h = sym h
 
@@ -90,7 +90,7 @@ end_trimmed-push_blank (x ∷ bs) b h =
     ∙ ap (λ t. list_all is_blank (x ∷ bs) && t) h ∙ and_true_right _ in
     rw (all, end_trimmed-push_blank bs b h) refl
 
--- bytes that end with no blank stay
+-- bytes that do not end with a blank stay as they are
 pub end_trimmed-push_other : (bs : List ℕ) (b : ℕ) → is_blank b ≡ false → end_trimmed (bs ++ b ∷ []) ≡ bs ++ b ∷ []
 end_trimmed-push_other [] b h = rw h refl
 end_trimmed-push_other (x ∷ bs) b h =
@@ -105,17 +105,17 @@ last_apart bs h =
     sym (take_all (length bs) bs (omega arith)) ∙ ap (λ (k : ℕ). take k bs) (sym n)
     ∙ take_more bs (length bs - 1) 0 (omega arith)
 
--- a last byte that is a blank may be dropped
+-- a blank at the end can be dropped
 pub trim_step : (bs : List ℕ) → 1 ≤ length bs → is_blank (get_or bs (length bs - 1) 0) ≡ true
     → end_trimmed (take (length bs - 1) bs) ≡ end_trimmed bs
 trim_step bs h blank = sym (ap end_trimmed (last_apart bs h) ∙ end_trimmed-push_blank (take (length bs - 1) bs) _ blank)
 
--- with a last byte that is no blank the bytes are trimmed
+-- bytes whose last byte is not a blank are trimmed
 pub trim_stop : (bs : List ℕ) → 1 ≤ length bs → is_blank (get_or bs (length bs - 1) 0) ≡ false → end_trimmed bs ≡ bs
 trim_stop bs h other = ap end_trimmed (last_apart bs h) ∙ end_trimmed-push_other (take (length bs - 1) bs) _ other
     ∙ sym (last_apart bs h)
 
--- what is left behind the blanks at the start, trimmed at its end, is the trimmed whole
+-- the bytes after the blanks at the start, trimmed at their end, are the trimmed whole
 pub trim_start : (bs : List ℕ) (n : ℕ) → n ≡ blanks_before bs
     → end_trimmed (take (length bs - n) (drop n bs)) ≡ trimmed bs
 unfolding trimmed
@@ -127,7 +127,7 @@ trim_start bs n h = ap end_trimmed (take_rest bs n) ∙ ap (λ (k : ℕ). end_tr
 pub line_none : (bs : List ℕ) → Says (λ b. eqb b 10) bs None → slice_split (λ b. eqb b 10) bs ≡ bs ∷ []
 line_none bs h = split_none (λ b. eqb b 10) bs h
 
--- a text with a line feed is the line before it and the lines behind it, which are shorter
+-- a text with a line feed is the line before it and the lines after it, which are shorter
 pub line_some : (bs : List ℕ) (i : ℕ) → Says (λ b. eqb b 10) bs (Some i)
     → (slice_split (λ b. eqb b 10) bs ≡ take i bs ∷ slice_split (λ b. eqb b 10)
     (take (length bs - (i + 1)) (drop (i + 1) bs)))

@@ -7,7 +7,7 @@ abbrev pub lines_left : Option (Bor (List ℕ)) → List (List ℕ)
 lines_left None = []
 lines_left (Some t) = lines_of t.now
 
--- how many bytes of a text are left, and one more
+-- one more than the number of bytes of a text that are left
 abbrev pub text_left : Option (Bor (List ℕ)) → ℕ
 text_left None = 0
 text_left (Some t) = suc (length t.now)
@@ -17,7 +17,7 @@ abbrev pub NumberFits : ℕ → List ℕ → Option (Bor (List ℕ)) → Type 0
 NumberFits n text None = Unit {0}
 NumberFits n text (Some t) = n + length t.now ≤ length text + 1
 
--- a cut gives the first line and those left
+-- a cut gives the first line and the lines that are left
 pub lines_next : (t : List ℕ) (r : Bor (List ℕ) × Option (Bor (List ℕ))) → IsLineCut t r
     → lines_of t ≡ r.0.now ∷ lines_left r.1
 lines_next t (first, None) h = h
@@ -29,13 +29,13 @@ pub number_next : (n : ℕ) (text : List ℕ) (t : Bor (List ℕ)) (r : Bor (Lis
 number_next n text t (first, None) h fits = tt
 number_next n text t (first, Some rest) h fits = omega (arith, h.1, fits)
 
--- what is left behind a line is shorter
+-- the text after a line is shorter
 pub smaller_next : (t : Bor (List ℕ)) (r : Bor (List ℕ) × Option (Bor (List ℕ))) → IsLineCut t.now r
     → text_left r.1 < suc (length t.now)
 smaller_next t (first, None) h = omega arith
 smaller_next t (first, Some rest) h = omega (arith, h.1)
 
--- where no text is left there is no line
+-- if no text is left, there is no line
 pub no_lines : (r : Option (Bor (List ℕ))) → ((t : Bor (List ℕ)) → r ≡ Some t → ⊥) → lines_left r ≡ []
 no_lines None h = refl
 no_lines (Some t) h = absurd (h t refl)

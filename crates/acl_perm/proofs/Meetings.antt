@@ -1,4 +1,4 @@
--- The test by cases tells whether some situation matches two principals.
+-- The test by cases finds out whether some situation matches two principals.
 use Rattle.std.proofs.Common.{◌≡◌, ℕ, Bool, true, false, List, [], ◌∷◌, refl, sym, ◌∙◌}
 use Rattle.std.specs.Prelude.{◌↔◌, ◌||◌, IsTrue}
 use Rattle.std.specs.Str.{bytes_eq}
@@ -16,7 +16,7 @@ use Rattle.acl_perm.specs.Overlap.{Overlap, may_overlap}
 pub itself : (name : List ℕ) → bytes_eq name name ≡ true
 itself name = (bytes_eq-Decides name name).1 refl
 
--- the user's name, where one of the two is a user
+-- the user's name, if one of the two is a user
 common_user : Principal → Principal → List ℕ
 common_user owner q = principal_name q
 common_user (user name) q = name
@@ -24,7 +24,7 @@ common_user group q = principal_name q
 common_user (group_named name) q = principal_name q
 common_user everyone q = principal_name q
 
--- who may be meant by both: that user is the owner, in the owning group, and in each group that either names
+-- a requester whom both can match: the user is the owner, in the owning group, and in each group that either names
 meeting : Principal → Principal → Situation
 meeting p q = record {
   owner_name = common_user p q;
@@ -61,7 +61,7 @@ meets_second p (group_named b) h =
     third_of (bytes_eq b []) (bytes_eq b (principal_name p)) (bytes_eq b b) (itself b)
 meets_second p everyone h = refl
 
--- two users at once are one
+-- a requester that matches two users shows that they are the same
 one_user : (s : Situation) (p q : Principal) → matches s p ≡ true → matches s q ≡ true → may_overlap p q ≡ true
 one_user s owner q h k = refl
 one_user s (user a) owner h k = refl
@@ -74,23 +74,23 @@ one_user s group q h k = refl
 one_user s (group_named a) q h k = refl
 one_user s everyone q h k = refl
 
--- the test by cases holds exactly if some situation matches both
+-- the test by cases holds if and only if some situation matches both
 pub overlap_is : (p q : Principal) → IsTrue (may_overlap p q) ↔ Overlap p q
 overlap_is p q = (λ h. (meeting p q, meets_first p q, meets_second p q h), λ o. one_user o.0 p q o.1 o.2)
 
 -- ---- an answer by cases
 
--- an answer that is the test by cases tells of an overlap
+-- an answer that equals the test by cases says whether two principals overlap
 pub means : (p q : Principal) (answer : Bool) → answer ≡ may_overlap p q → IsTrue answer ↔ Overlap p q
 means p q answer e = rw e (overlap_is p q)
 
--- what the code answers of two users
+-- the answer of the code for two users
 pub two_users : (p q : PrincipalRef) (name other : Bor (List ℕ)) (answer : Bool) → p ≡ code.User name
     → q ≡ code.User other → answer ≡ bytes_eq name.now other.now
     → answer ≡ may_overlap (principal p) (principal q)
 two_users p q name other answer pe qe e = rw (pe, qe) e
 
--- two principals of which the first is no user overlap
+-- two principals overlap if the first is not a user
 pub first_no_user : (p q : PrincipalRef) → ((name : Bor (List ℕ)) → p ≡ code.User name → ⊥)
     → true ≡ may_overlap (principal p) (principal q)
 first_no_user code.Owner q none = refl
@@ -99,7 +99,7 @@ first_no_user code.Group q none = refl
 first_no_user (code.GroupNamed name) q none = refl
 first_no_user code.Everyone q none = refl
 
--- two principals of which the second is no user overlap
+-- two principals overlap if the second is not a user
 pub second_no_user : (p q : PrincipalRef) → ((name : Bor (List ℕ)) → q ≡ code.User name → ⊥)
     → true ≡ may_overlap (principal p) (principal q)
 second_no_user code.Owner q none = refl

@@ -1,4 +1,4 @@
--- The orders of principals and of keys are strict and total, and tell all of them apart.
+-- The orders of principals and of keys are strict and total, and distinguish all of them.
 use Rattle.std.proofs.Common.{◌≡◌, refl, sym, ap, ◌∙◌, arith}
 use Rattle.std.specs.Prelude.{Bool, true, ◌&&◌, ◌==◌, ◌↔◌, IsTrue}
 use Rattle.std.specs.declared.cmp.Ordering.{Ordering}
@@ -18,7 +18,7 @@ pub use Rattle.acl_perm.specs.internal.FedAlike.{principal_exact}
 use Rattle.acl_perm.specs.declared.kind.Kind.{Kind}
 use Rattle.acl_perm.specs.declared.kind.Kind.TheVariants.{Deny, Allow}
 
--- what counts as less in an order is less there
+-- a value that compares as less is less in the order
 pub is_less : (o : Ordering) → is_lt o ≡ true → o ≡ Less
 is_less Less h = refl
 is_less Equal h = absurd cc
@@ -37,7 +37,7 @@ key_exact k l h =
     let kinds = same_kind k.kind l.kind (exact_unsigned (kind_rank k.kind) (kind_rank l.kind) parts.1) in
     λ i. record { principal = principals i; kind = kinds i }
 
--- a total order is not strict at one value
+-- in a total order, no value is less than itself
 self_equal : {K : Type 0} (cmp : K → K → Ordering) → IsTotalOrder cmp → (x : K) → cmp x x ≡ Equal
 self_equal cmp total x = go (cmp x x) (total.antisymm x x)
   where
@@ -54,23 +54,23 @@ strict_from_total cmp total exact = record {
   transitive = total.trans;
 }
 
--- principals stand in a strict and total order
+-- the order of principals is strict and total
 pub principal_order : IsStrictTotalOrder principal_cmp
 principal_order = strict_from_total principal_cmp principal_total principal_exact
 
--- keys stand in a strict and total order
+-- the order of keys is strict and total
 pub key_order : IsStrictTotalOrder key_cmp
 key_order = strict_from_total key_cmp key_total key_exact
 
--- ---- what `==` tells
+-- ---- what `==` means
 
--- principals that compare equal are the same, and the other way round
+-- two principals compare equal if and only if they are the same
 pub principals_same : (p q : Principal) → IsTrue (eq_by_cmp principal_cmp p q) ↔ (p ≡ q)
 principals_same p q =
     let equal = principal_order.equal p q in
     (λ h. equal.0 (is_equal (principal_cmp p q) h), λ e. ap is_eq (equal.1 e))
 
--- of one rank and one name: the test that the code makes
+-- two principals are the same if they have the same rank and the same name: the test of the code
 pub principal_tied : (p q : Principal)
     → ((principal_rank p == principal_rank q) && bytes_eq (principal_name p) (principal_name q))
     ≡ eq_by_cmp principal_cmp p q
@@ -82,7 +82,7 @@ principal_tied p q =
     ∙ ap (λ (b : Bool). is_eq ranks && b) (sym (is_eq-slice_cmp (principal_name p) (principal_name q)))
     ∙ tied_then ranks names
 
--- of one rank, the names tell
+-- two principals with the same rank are the same if and only if their names are
 pub tied_names : (p q : Principal) (answer : Bool) → principal_rank p ≡ principal_rank q
     → answer ≡ bytes_eq (principal_name p) (principal_name q) → answer ≡ eq_by_cmp principal_cmp p q
 tied_names p q answer r e =

@@ -7,18 +7,18 @@ use Rattle.std.specs.Io.KnownBytes.{Appends}
 use Rattle.acl_perm.specs.Pieces.{WritesFrom}
 use Rattle.acl_perm.specs.declared.whole.WriteFault.{WriteFault}
 
--- where one more piece went out, the whole is what is out with that piece, and the rest
+-- if one more piece is out, the whole is what is out with that piece, followed by the rest
 pub moved_on : (p piece rest whole : List ℕ) → whole ≡ p ++ (piece ++ rest) → whole ≡ (p ++ piece) ++ rest
 moved_on p piece rest whole e = e ∙ sym (append_assoc p piece rest)
 
--- the next piece fits where the whole does
+-- if the whole fits, the next piece fits
 pub piece_fits : (p piece rest whole : List ℕ) (start done bound : ℕ) → done ≡ start + length p
     → whole ≡ p ++ (piece ++ rest) → start + length whole < bound → done + length piece < bound
 piece_fits p piece rest whole start done bound at e fits =
     let n = ap length e ∙ length-append p (piece ++ rest) in
     omega (arith, n, length-append piece rest)
 
--- k bytes are out, of which the last are of this piece
+-- k bytes are out, and the last of them are those of this piece
 pub cut_in : (a b c : Option (List ℕ)) (p piece rest whole : List ℕ) (start done k : ℕ) → done ≡ start + length p
     → whole ≡ p ++ (piece ++ rest)
     → done ≤ k → k < done + length piece → Appends a b p → Appends b c (take (k - done) piece)
@@ -83,7 +83,7 @@ out_more start done count a b c whole rest line more h e n put =
       order = moved_on h.front line more whole order;
     }
 
--- a line that was cut leaves a part of the whole out
+-- if a line was cut, a part of the whole is out
 pub out_cut : (start done written : ℕ) (a b c : Option (List ℕ)) (whole rest line more : List ℕ)
     → IsOut start done a b whole rest → rest ≡ line ++ more → done ≤ written → written < done + length line
     → Appends b c (take (written - done) line)
@@ -95,7 +95,7 @@ out_cut start done written a b c whole rest line more h e low high put =
       cut_in a b c h.front line more whole start done written h.count order low high h.known put,
     )
 
--- where no line is left the whole is out
+-- if no line is left, the whole is out
 pub out_all : (start done : ℕ) (a b : Option (List ℕ)) (whole rest : List ℕ) → IsOut start done a b whole rest
     → rest ≡ [] → (done ≡ start + length whole) × Appends a b whole
 out_all start done a b whole rest h e =
@@ -104,7 +104,7 @@ out_all start done a b whole rest h e =
       subst (λ (xs : List ℕ). Appends a b xs) (sym all) h.known,
     )
 
--- a text whose first part is out goes out with its second
+-- if the first part of a text is out, the text is out after its second part
 pub written_both : (a b c : Option (List ℕ)) (start done : ℕ) (one two : List ℕ) (r : Result ℕ WriteFault)
     → done ≡ start + length one → Appends a b one → WritesFrom b c done two r → WritesFrom a c start (one ++ two) r
 written_both a b c start done one two (Ok n) count known said =

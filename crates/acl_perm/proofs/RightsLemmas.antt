@@ -1,4 +1,4 @@
--- The rights of a mask that are left to give.
+-- The rights of a mask that an iterator has not given yet.
 use Rattle.std.proofs.Common.{◌≡◌, ◌∙◌, ℕ, ◌+◌, ◌-◌, ◌<◌, ◌≤◌, Bool, true, false, [], ◌∷◌, suc, cond, ap, arith}
 use Rattle.std.specs.Prelude.{filter}
 use Rattle.std.specs.List.{range_with_len}
@@ -22,7 +22,7 @@ pub left_passed : (m f : ℕ) → f < 21 → has_bit m f ≡ false → rights_fr
 left_passed m f lt h =
     split m f lt ∙ ap (λ (b : Bool). cond b (f ∷ rights_from m (f + 1)) (rights_from m (f + 1))) h
 
--- behind the highest bit nothing is left
+-- after the highest bit nothing is left
 pub left_none : (m f : ℕ) → 21 ≤ f → rights_from m f ≡ []
 left_none m f le =
     let none : 21 - f ≡ 0 = omega (arith, le) in

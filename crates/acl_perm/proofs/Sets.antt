@@ -24,7 +24,7 @@ either d e dl el = grind arith
 turned : (e : ℕ) → e < 2 → eqb (1 - e) 1 ≡ not (eqb e 1)
 turned e el = grind arith
 
--- the bits that two numbers have together
+-- the bits that both of two numbers have
 pub has_bit-and : (m n k : ℕ) → has_bit (bit_and m n) k ≡ (has_bit m k && has_bit n k)
 has_bit-and m n k =
     ap (λ (d : ℕ). eqb d 1) (bit_at_and m n k) ∙ both (bit_at m k) (bit_at n k) (bit_at-lt m k) (bit_at-lt n k)
@@ -38,7 +38,7 @@ has_bit-or m n k =
 pub has_bit-above : (w : Width) (n k : ℕ) → n < 2 ^ bits w → bits w ≤ k → has_bit n k ≡ false
 has_bit-above w n k lt le = ap (λ (d : ℕ). eqb d 1) (bit_at_above n (bits w) k lt le)
 
--- the bits that the first of two numbers has and the second has not
+-- the bits that the first of two numbers has and the second does not have
 pub has_bit-clear : (w : Width) (m n k : ℕ) → m < 2 ^ bits w → n < 2 ^ bits w
     → has_bit (bit_and m (bit_not w n)) k ≡ (has_bit m k && not (has_bit n k))
 has_bit-clear w m n k ml nl =
@@ -67,7 +67,7 @@ bits_from_mask n k is h =
     let same = sym (has_bit-and n all_rights k) ∙ ap (λ (m : ℕ). has_bit m k) is in
     (and_true (has_bit n k) (has_bit all_rights k) (same ∙ h)).1
 
--- what either of two sets of rights has is a set of rights
+-- the union of two sets of rights is a set of rights
 pub IsMask-union : (m n : ℕ) → IsMask m → IsMask n → IsMask (bit_or m n)
 IsMask-union m n p q = mask_from_bits (bit_or m n) (λ k h.
     elim (or_true (has_bit m k) (has_bit n k) (sym (has_bit-or m n k) ∙ h)) [
@@ -75,7 +75,7 @@ IsMask-union m n p q = mask_from_bits (bit_or m n) (λ k h.
       | inr of_n ↦ bits_from_mask n k q of_n
     ])
 
--- what a number has of a set of rights is a set of rights
+-- the intersection of a number with a set of rights is a set of rights
 pub IsMask-and : (m n : ℕ) → IsMask m → IsMask (bit_and m n)
 IsMask-and m n p = mask_from_bits (bit_and m n) (λ k h.
     bits_from_mask m k p (and_true (has_bit m k) (has_bit n k) (sym (has_bit-and m n k) ∙ h)).0)
@@ -145,7 +145,7 @@ narrower true y h = refl
 narrower false true h = absurd (false≢true (h refl))
 narrower false false h = refl
 
--- what two sets have together is the second exactly if that is a part of the first
+-- the intersection of two sets is the second set if and only if that is a part of the first
 pub subset : (m n : ℕ) → (bit_and m n ≡ n) ↔ IsSubset n m
 subset m n = (
   λ e k h.
@@ -162,7 +162,7 @@ subset_test m n = let s = subset m n in (λ t. s.0 (eqb-true _ _ t), λ h. eq-eq
 by_digit : (d p : ℕ) → d < 2 → 0 < p → not (eqb (d * p) 0) ≡ eqb d 1
 by_digit d p lt pos = grind arith
 
--- a number has something together with a power of two exactly if it has that bit
+-- a number has a bit in common with a power of two if and only if it has that bit
 pub bit_test : (n k p : ℕ) → p ≡ 2 ^ k → 0 < p → not (eqb (bit_and n p) 0) ≡ has_bit n k
 bit_test n k p e pos =
     ap (λ (m : ℕ). not (eqb m 0)) (ap (bit_and n) e ∙ and_pow n k)
@@ -180,31 +180,31 @@ pub ruleset flag_tests = (third, sixth)
 
 -- ---- what each type's operations need
 
--- the set of what either number has
+-- the union of two numbers as a set
 pub union_is : (m n : ℕ) → IsUnion m n (bit_or m n)
 union_is m n = has_bit-or m n
 
--- the set of what both numbers have
+-- the intersection of two numbers as a set
 pub intersection_is : (m n : ℕ) → IsIntersection m n (bit_and m n)
 intersection_is m n = has_bit-and m n
 
--- the set of what the first has and the second has not, at 8 bits
+-- the difference of two numbers as a set, for 8 bits
 pub w8_difference : (m n : ℕ) → m < 2 ^ 8 → n < 2 ^ 8 → IsDifference m n (bit_and m (bit_not w8 n))
 w8_difference m n ml nl k = has_bit-clear w8 m n k ml nl
 
--- the set of what the first has and the second has not, at 16 bits
+-- the difference of two numbers as a set, for 16 bits
 pub w16_difference : (m n : ℕ) → m < 2 ^ 16 → n < 2 ^ 16 → IsDifference m n (bit_and m (bit_not w16 n))
 w16_difference m n ml nl k = has_bit-clear w16 m n k ml nl
 
--- the set of what the first set of rights has and the second has not
+-- the difference of two sets of rights
 pub mask_difference : (m n : ℕ) → IsMask m → IsMask n → IsDifference m n (bit_and m (bit_not w32 n))
 mask_difference m n p q k = has_bit-clear w32 m n k (IsMask-lt m p) (IsMask-lt n q)
 
--- what either of two sets of permissions has is a set of permissions
+-- the union of two sets of permissions is a set of permissions
 pub perm_union : (m n : ℕ) → m < 8 → n < 8 → bit_or m n < 8
 perm_union m n p q = or_lt 3 m n p q
 
--- what either of two modes has is a mode
+-- the union of two modes is a mode
 pub mode_union : (m n : ℕ) → m < 512 → n < 512 → bit_or m n < 512
 mode_union m n p q = or_lt 9 m n p q
 

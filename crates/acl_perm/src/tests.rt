@@ -1,5 +1,5 @@
-//! Tests of sets, principals and devices, a file for each. Those of `ample` want memory to be there; each other test
-//! takes want of memory for an answer.
+//! Tests of sets, principals and devices, one file for each. The tests of `ample` need enough memory; every other test
+//! accepts an answer that says that memory ran out.
 
 mod ample;
 mod counted;

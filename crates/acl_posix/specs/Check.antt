@@ -38,22 +38,22 @@ abbrev pub is_member : ℕ → List ℕ → Bool
 is_member id groups = list_any (λ one. one == id) groups
 
 -- the entry matches: GROUP_OBJ if the owning group is a group of the requester, GROUP if its qualifier is
-abbrev pub matches : ℕ → List ℕ → Tag → Bool
-matches owning_group groups user_obj = false
-matches owning_group groups (user id) = false
-matches owning_group groups group_obj = is_member owning_group groups
-matches owning_group groups (group id) = is_member id groups
-matches owning_group groups mask = false
-matches owning_group groups other = false
+abbrev pub tag_matches : ℕ → List ℕ → Tag → Bool
+tag_matches owning_group groups user_obj = false
+tag_matches owning_group groups (user id) = false
+tag_matches owning_group groups group_obj = is_member owning_group groups
+tag_matches owning_group groups (group id) = is_member id groups
+tag_matches owning_group groups mask = false
+tag_matches owning_group groups other = false
 
 -- some GROUP_OBJ or GROUP entry matches
 abbrev pub any_matches : Entries → ℕ → List ℕ → Bool
-any_matches entries owning_group groups = list_any (λ entry. matches owning_group groups entry.0) (set.entries entries)
+any_matches entries owning_group groups = list_any (λ entry. tag_matches owning_group groups entry.0) (set.entries entries)
 
 -- some entry matches and contains all that is requested; two entries that contain it only together are not enough
 abbrev pub any_contains : Entries → ℕ → List ℕ → ℕ → Bool
 any_contains entries owning_group groups request =
-    list_any (λ entry. matches owning_group groups entry.0 && contains entry.1 request) (set.entries entries)
+    list_any (λ entry. tag_matches owning_group groups entry.0 && contains entry.1 request) (set.entries entries)
 
 -- with a MASK, the MASK and some matching entry contain all that is requested; without one, the GROUP_OBJ entry does
 abbrev pub class_contains : Entries → ℕ → List ℕ → ℕ → Bool

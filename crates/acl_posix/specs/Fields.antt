@@ -16,33 +16,33 @@ abbrev pub is_permission : ℕ → Bool
 is_permission b = (b == letter_r) || (b == letter_w) || (b == letter_x) || (b == hyphen)
 
 -- how often a letter occurs
-abbrev pub count_of : ℕ → List ℕ → ℕ
-count_of letter bytes = count_by (λ b. b == letter) bytes
+abbrev pub occurrences : ℕ → List ℕ → ℕ
+occurrences letter bytes = count_by (λ b. b == letter) bytes
 
 -- the permissions that a field spells: r, w, x and - in any order, and each letter at most once
 unfoldable pub permissions_of : List ℕ → Option ℕ
 permissions_of bytes =
-    if list_all is_permission bytes && nat_le (count_of letter_r bytes) 1 && nat_le (count_of letter_w bytes) 1
-    && nat_le (count_of letter_x bytes) 1
-    then Some (4 * count_of letter_r bytes + 2 * count_of letter_w bytes + count_of letter_x bytes)
+    if list_all is_permission bytes && nat_le (occurrences letter_r bytes) 1 && nat_le (occurrences letter_w bytes) 1
+    && nat_le (occurrences letter_x bytes) 1
+    then Some (4 * occurrences letter_r bytes + 2 * occurrences letter_w bytes + occurrences letter_x bytes)
     else None
 
 -- a word in full or its first letter
-abbrev pub is_one_of : List ℕ → List ℕ → List ℕ → Bool
-is_one_of bytes long short = bytes_eq bytes long || bytes_eq bytes short
+abbrev pub is_word_or_letter : List ℕ → List ℕ → List ℕ → Bool
+is_word_or_letter bytes long short = bytes_eq bytes long || bytes_eq bytes short
 
 -- the tag word that a field spells
 unfoldable pub word_of : List ℕ → Option TagWord
 word_of bytes =
-    if is_one_of bytes (codes "user") (codes "u") then Some User
-    else (if is_one_of bytes (codes "group") (codes "g") then Some Group
-    else (if is_one_of bytes (codes "mask") (codes "m") then Some Mask
-    else (if is_one_of bytes (codes "other") (codes "o") then Some Other
+    if is_word_or_letter bytes (codes "user") (codes "u") then Some User
+    else (if is_word_or_letter bytes (codes "group") (codes "g") then Some Group
+    else (if is_word_or_letter bytes (codes "mask") (codes "m") then Some Mask
+    else (if is_word_or_letter bytes (codes "other") (codes "o") then Some Other
     else None)))
 
 -- the field that marks an entry of the default ACL
 abbrev pub is_default : List ℕ → Bool
-is_default bytes = is_one_of bytes (codes "default") (codes "d")
+is_default bytes = is_word_or_letter bytes (codes "default") (codes "d")
 
 -- the id that digits spell: at most the greatest
 unfoldable pub id_of : List ℕ → Option ℕ

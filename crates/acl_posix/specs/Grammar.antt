@@ -60,7 +60,7 @@ fields_of (first ∷ more) =
     if is_default (trimmed first.bytes) then three_of Default more else three_of Access (first ∷ more)
 
 -- a piece that does not have blanks alone has these fields
-pub record HasFields (piece : Span) (fields : EntryFields) : Type 0 where
+pub record HasEntryFields (piece : Span) (fields : EntryFields) : Type 0 where
   pub filled : IsFalse (is_all_blank piece.bytes)
   pub cut : fields_of (cut_at colon piece) ≡ Some fields
 
@@ -86,7 +86,7 @@ PartEntry = Part × (Tag × ℕ)
 -- a piece spells an entry of this part, with this tag and these permissions
 pub record SpellsEntry (names : Table) (piece : Span) (part : Part) (tag : Tag) (perm : ℕ) : Type 0 where
   pub fields : EntryFields
-  pub has : HasFields piece fields
+  pub has : HasEntryFields piece fields
   pub is_part : fields.part ≡ part
   pub has_tag : HasTag names fields tag
   pub is_perm : permissions_of (trimmed fields.permissions.bytes) ≡ Some perm

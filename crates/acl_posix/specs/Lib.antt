@@ -14,4 +14,5 @@ pub mod Grammar
 pub mod TextFault
 pub mod Texts
 pub mod TextLaws
+pub mod Programs
 pub mod internal

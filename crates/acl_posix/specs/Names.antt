@@ -19,8 +19,8 @@ pub record Table : Type 0 where
   pub groups : Ids
 
 -- the table without names
-abbrev pub no_names : Table
-no_names = record { users = fin.empty; groups = fin.empty }
+abbrev pub empty_table : Table
+empty_table = record { users = fin.empty; groups = fin.empty }
 
 -- the table with one more user name
 abbrev pub with_user : Table → List ℕ → ℕ → Table
@@ -35,7 +35,7 @@ abbrev pub AreIds : Ids → Type 0
 AreIds ids = (name : List ℕ) → IfSome (fin.get ids name) IsId
 
 -- the number of each user name and of each group name is an id
-pub record IsTable (table : Table) : Type 0 where
+pub record IsNameTable (table : Table) : Type 0 where
   pub users : AreIds table.users
   pub groups : AreIds table.groups
 

@@ -19,7 +19,7 @@ pub data Tag : Type 0 where
 
 -- the facts about a tag: the place of its type in the canonical order, the name of the type in ASCII, its word in a
 -- text, its qualifier, and whether the mask limits its entry, which is then one of the file group class
-pub record Row : Type 0 where
+pub record TagRow : Type 0 where
   pub rank : ℕ
   pub name : List ℕ
   pub word : TagWord
@@ -27,13 +27,13 @@ pub record Row : Type 0 where
   pub masked : Bool
 
 -- the tag types in canonical order; USER and GROUP have a qualifier, and USER, GROUP_OBJ and GROUP are limited
-abbrev pub row : Tag → Row
-row user_obj = record { rank = 0; name = codes "USER_OBJ"; word = User; qualifier = None; masked = false }
-row (user id) = record { rank = 1; name = codes "USER"; word = User; qualifier = Some id; masked = true }
-row group_obj = record { rank = 2; name = codes "GROUP_OBJ"; word = Group; qualifier = None; masked = true }
-row (group id) = record { rank = 3; name = codes "GROUP"; word = Group; qualifier = Some id; masked = true }
-row mask = record { rank = 4; name = codes "MASK"; word = Mask; qualifier = None; masked = false }
-row other = record { rank = 5; name = codes "OTHER"; word = Other; qualifier = None; masked = false }
+abbrev pub tag_row : Tag → TagRow
+tag_row user_obj = record { rank = 0; name = codes "USER_OBJ"; word = User; qualifier = None; masked = false }
+tag_row (user id) = record { rank = 1; name = codes "USER"; word = User; qualifier = Some id; masked = true }
+tag_row group_obj = record { rank = 2; name = codes "GROUP_OBJ"; word = Group; qualifier = None; masked = true }
+tag_row (group id) = record { rank = 3; name = codes "GROUP"; word = Group; qualifier = Some id; masked = true }
+tag_row mask = record { rank = 4; name = codes "MASK"; word = Mask; qualifier = None; masked = false }
+tag_row other = record { rank = 5; name = codes "OTHER"; word = Other; qualifier = None; masked = false }
 
 -- the plain data of a tag of the code
 abbrev pub tag_of : TagOfCode → Tag
@@ -46,27 +46,27 @@ tag_of code.Other = other
 
 -- a qualifier is the id of a user or a group
 abbrev pub IsTag : Tag → Type 0
-IsTag tag = IfSome (row tag).qualifier IsId
+IsTag tag = IfSome (tag_row tag).qualifier IsId
 
 -- the name of the tag type, in ASCII
 abbrev pub name_of : Tag → List ℕ
-name_of tag = (row tag).name
+name_of tag = (tag_row tag).name
 
 -- the tag has a qualifier: USER or GROUP
 abbrev pub is_named : Tag → Bool
-is_named tag = is_some (row tag).qualifier
+is_named tag = is_some (tag_row tag).qualifier
 
 -- the entries of the file group class, which the mask limits: USER, GROUP_OBJ and GROUP
 abbrev pub is_masked : Tag → Bool
-is_masked tag = (row tag).masked
+is_masked tag = (tag_row tag).masked
 
 -- the place of a tag type in the canonical order: USER_OBJ, USER, GROUP_OBJ, GROUP, MASK, OTHER
 abbrev pub rank : Tag → ℕ
-rank tag = (row tag).rank
+rank tag = (tag_row tag).rank
 
 -- the qualifier, or 0 if there is none
 abbrev pub qualifier : Tag → ℕ
-qualifier tag = unwrap_or (row tag).qualifier 0
+qualifier tag = unwrap_or (tag_row tag).qualifier 0
 
 -- the canonical order: by tag type, then by qualifier
 abbrev pub tag_cmp : Tag → Tag → Ordering

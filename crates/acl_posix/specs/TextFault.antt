@@ -17,7 +17,7 @@ use Rattle.acl_posix.specs.Tag.{Tag as EntryTag}
 use Rattle.acl_posix.specs.Valid.{IsFaultOf, IsValidList}
 use Rattle.acl_posix.specs.Names.{Table, Ids, is_number}
 use Rattle.acl_posix.specs.Fields.{permissions_of, word_of, id_of}
-use Rattle.acl_posix.specs.Grammar.{TextPiece, EntryFields, fields_of, HasFields, HasTag, PartEntry, SpellAll, access_of, default_of, pieces_of, colon}
+use Rattle.acl_posix.specs.Grammar.{TextPiece, EntryFields, fields_of, HasEntryFields, HasTag, PartEntry, SpellAll, access_of, default_of, pieces_of, colon}
 
 -- the name of a part of a text
 abbrev pub part_name : Part → List ℕ
@@ -31,11 +31,11 @@ pub record IsPlace (line : ℕ) (span : Span) (at_line at_column : ℕ) : Type 0
   pub same_column : at_column ≡ start_of span
 
 -- the names that may be the qualifier of a tag word; none if the word has no qualifier
-abbrev pub names_of : Table → TagWord → Option Ids
-names_of names word.User = Some names.users
-names_of names word.Group = Some names.groups
-names_of names word.Mask = None
-names_of names word.Other = None
+abbrev pub qualifier_names : Table → TagWord → Option Ids
+qualifier_names names word.User = Some names.users
+qualifier_names names word.Group = Some names.groups
+qualifier_names names word.Mask = None
+qualifier_names names word.Other = None
 
 -- all bytes of the piece are blanks
 pub record IsEmptyEntry (piece : TextPiece) (line column : ℕ) : Type 0 where
@@ -51,26 +51,26 @@ pub record IsNotThree (piece : TextPiece) (line column : ℕ) : Type 0 where
 -- the first field is not a tag word
 pub record IsNoTag (piece : TextPiece) (line column : ℕ) : Type 0 where
   pub fields : EntryFields
-  pub has : HasFields piece.span fields
+  pub has : HasEntryFields piece.span fields
   pub no_word : word_of (trimmed fields.tag.bytes) ≡ None
   pub place : IsPlace piece.line fields.tag line column
 
 -- a tag word that has no qualifier is given one
 pub record IsQualified (names : Table) (piece : TextPiece) (line column : ℕ) : Type 0 where
   pub fields : EntryFields
-  pub has : HasFields piece.span fields
+  pub has : HasEntryFields piece.span fields
   pub word : TagWord
   pub is_word : word_of (trimmed fields.tag.bytes) ≡ Some word
-  pub no_names : names_of names word ≡ None
+  pub no_names : qualifier_names names word ≡ None
   pub qualifier : 0 < length (trimmed fields.qualifier.bytes)
   pub place : IsPlace piece.line fields.qualifier line column
 
 -- a piece has these fields, and the first is a tag word that may have one of these names as its qualifier
 pub record MayName (names : Table) (piece : Span) (fields : EntryFields) (ids : Ids) : Type 0 where
-  pub has : HasFields piece fields
+  pub has : HasEntryFields piece fields
   pub word : TagWord
   pub is_word : word_of (trimmed fields.tag.bytes) ≡ Some word
-  pub has_names : names_of names word ≡ Some ids
+  pub has_names : qualifier_names names word ≡ Some ids
 
 -- the qualifier has digits alone, and is not an id
 pub record IsNoId (names : Table) (piece : TextPiece) (line column : ℕ) : Type 0 where
@@ -94,7 +94,7 @@ pub record IsUnknownName (names : Table) (piece : TextPiece) (line column : ℕ)
 -- the first two fields are a tag, and the third is not a set of permissions
 pub record IsNoPermission (names : Table) (piece : TextPiece) (line column : ℕ) : Type 0 where
   pub fields : EntryFields
-  pub has : HasFields piece.span fields
+  pub has : HasEntryFields piece.span fields
   pub tag : EntryTag
   pub has_tag : HasTag names fields tag
   pub no_set : permissions_of (trimmed fields.permissions.bytes) ≡ None
@@ -113,7 +113,7 @@ IsPieceFault names piece (Invalid which why) = ⊥
 IsPieceFault names piece Memory = ⊥
 
 -- the first of these pieces that spells no entry has the fault
-pub record IsFirstFault (names : Table) (pieces : List TextPiece) (fault : TextFault) : Type 0 where
+pub record IsFirstTextFault (names : Table) (pieces : List TextPiece) (fault : TextFault) : Type 0 where
   pub before : List TextPiece
   pub piece : TextPiece
   pub after : List TextPiece
@@ -143,16 +143,16 @@ pub record IsInvalidText (text : List ℕ) (names : Table) (which : Part) (why :
 
 -- what each fault says about a text; `Memory` says nothing about it
 abbrev pub IsTextFault : List ℕ → Table → TextFault → Type 0
-IsTextFault text names (Fields line column) = IsFirstFault names (pieces_of text) (Fields line column)
-IsTextFault text names (Tag line column) = IsFirstFault names (pieces_of text) (Tag line column)
-IsTextFault text names (Qualifier line column) = IsFirstFault names (pieces_of text) (Qualifier line column)
-IsTextFault text names (Id line column) = IsFirstFault names (pieces_of text) (Id line column)
-IsTextFault text names (UnknownName line column) = IsFirstFault names (pieces_of text) (UnknownName line column)
-IsTextFault text names (Permission line column) = IsFirstFault names (pieces_of text) (Permission line column)
-IsTextFault text names (EmptyEntry line column) = IsFirstFault names (pieces_of text) (EmptyEntry line column)
+IsTextFault text names (Fields line column) = IsFirstTextFault names (pieces_of text) (Fields line column)
+IsTextFault text names (Tag line column) = IsFirstTextFault names (pieces_of text) (Tag line column)
+IsTextFault text names (Qualifier line column) = IsFirstTextFault names (pieces_of text) (Qualifier line column)
+IsTextFault text names (Id line column) = IsFirstTextFault names (pieces_of text) (Id line column)
+IsTextFault text names (UnknownName line column) = IsFirstTextFault names (pieces_of text) (UnknownName line column)
+IsTextFault text names (Permission line column) = IsFirstTextFault names (pieces_of text) (Permission line column)
+IsTextFault text names (EmptyEntry line column) = IsFirstTextFault names (pieces_of text) (EmptyEntry line column)
 IsTextFault text names (Invalid which why) = IsInvalidText text names which why
 IsTextFault text names Memory = ⊥
 
 -- a refusal reports the text's fault, or that memory ran out
-abbrev pub IsRefusal : List ℕ → Table → TextFault → Type 0
-IsRefusal text names fault = (fault ≡ Memory) ⊎ IsTextFault text names fault
+abbrev pub IsTextFaultOrMemory : List ℕ → Table → TextFault → Type 0
+IsTextFaultOrMemory text names fault = (fault ≡ Memory) ⊎ IsTextFault text names fault

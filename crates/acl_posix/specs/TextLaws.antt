@@ -12,7 +12,7 @@ ReadsBack text = (names : Table) (file other : PosixFile) → IsFile file
     → Reads (text file.access file.default) names other ↔ (other ≡ file)
 
 -- two files have the same text if and only if their sets of entries are equal
-abbrev pub TellsApart : (Entries → Option Entries → List ℕ) → Type 0
-TellsApart text = (one two : PosixFile) → IsFile one → IsFile two
+abbrev pub TextTellsApart : (Entries → Option Entries → List ℕ) → Type 0
+TextTellsApart text = (one two : PosixFile) → IsFile one → IsFile two
     → (text one.access one.default ≡ text two.access two.default) ↔ (one.access ≡ two.access)
     × (one.default ≡ two.default)

@@ -3,14 +3,14 @@
 use Rattle.std.specs.Prelude.{ℕ, ◌==◌, List, [], ◌∷◌, ◌++◌, codes, decimal, map, take, Option, Some, None, option_map, unwrap_or, if◌then◌else◌}
 use Rattle.std.specs.List.{flat_map, All}
 use Rattle.std.specs.FinMap as set
-use Rattle.acl_perm.specs.Ascii.{colon, comma, line_feed}
+use Rattle.acl_perm.specs.Ascii.{colon, comma, line_feed, tab}
 use Rattle.acl_perm.specs.Shown.{perm_text}
 use Rattle.acl_posix.specs.declared.file.PosixFile.{PosixFile}
 use Rattle.acl_posix.specs.declared.form.Form.{Form}
 use Rattle.acl_posix.specs.declared.form.Form.TheVariants.{Canonical, Shown, Short}
 use Rattle.acl_posix.specs.declared.field.TagWord.{TagWord}
 use Rattle.acl_posix.specs.declared.field.TagWord.TheVariants.{User, Group, Mask, Other}
-use Rattle.acl_posix.specs.Tag.{Tag, row}
+use Rattle.acl_posix.specs.Tag.{Tag, tag_row}
 use Rattle.acl_posix.specs.Entries.{Entries, IsEntry}
 use Rattle.acl_posix.specs.Valid.{IsValid}
 use Rattle.acl_posix.specs.Mask.{effective_of}
@@ -24,7 +24,7 @@ word_text Other = codes "other"
 
 -- the word of a tag, in full
 abbrev pub long_word : Tag → List ℕ
-long_word tag = word_text (row tag).word
+long_word tag = word_text (tag_row tag).word
 
 -- the first letter of the word of a tag
 abbrev pub short_word : Tag → List ℕ
@@ -32,7 +32,7 @@ short_word tag = take 1 (long_word tag)
 
 -- the id in decimal, or nothing
 abbrev pub qualifier_text : Tag → List ℕ
-qualifier_text tag = unwrap_or (option_map decimal (row tag).qualifier) []
+qualifier_text tag = unwrap_or (option_map decimal (tag_row tag).qualifier) []
 
 -- an entry with the word of its tag: word, qualifier and permissions with colons between them
 abbrev pub entry_text : List ℕ → Tag × ℕ → List ℕ
@@ -56,7 +56,7 @@ short_default entry = codes "d:" ++ short_entry entry
 
 -- what follows an entry whose permissions are not its effective ones: a comment with the effective ones
 abbrev pub mark_text : ℕ → ℕ → List ℕ
-mark_text effective perm = if effective == perm then [] else 9 ∷ (codes "#effective:" ++ perm_text effective)
+mark_text effective perm = if effective == perm then [] else tab ∷ (codes "#effective:" ++ perm_text effective)
 
 -- what follows an entry that has a permission outside the mask of its ACL
 unfoldable pub effective_mark : Entries → Tag × ℕ → List ℕ

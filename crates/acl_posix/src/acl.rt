@@ -43,6 +43,29 @@ impl Model for PosixAcl {
     ghost invariant = { λ acl. IsValid acl.entries };
 }
 
+impl PartialEq for PosixAcl {
+    ghost use Rattle.std.specs.Prelude.{◌≡◌, ◌↔◌, IsTrue};
+    ghost use Rattle.acl_posix.specs.Equal.{same_set, same_set_laws};
+
+    ghost eq = { same_set };
+
+    ghost laws = { same_set_laws };
+
+    /// Returns whether the two ACLs have the same entries. No memory; linear time.
+    fn eq(&self, other: &PosixAcl) -> bool
+        ensures value { result ≡ same_set self.now other.now }
+        ensures exact { IsTrue result ↔ (self.now ≡ other.now) }
+    {
+        are_same(self.entries(), other.entries())
+    }
+}
+
+impl Eq for PosixAcl {
+    ghost use Rattle.acl_posix.specs.Equal.{same_set_equiv};
+
+    ghost laws = { same_set_equiv };
+}
+
 impl PosixAcl {
     /// Makes the ACL of these entries, which may be in any order. Fails with `Multi` or `Duplicate` and a place if the
     /// entry there has the tag and qualifier of an earlier entry; the first such entry is reported. Otherwise fails
@@ -152,23 +175,13 @@ impl PosixAcl {
     /// assert!(rt; acl.check(owner, group, user, &[group], read));
     /// assert!(rt; !acl.check(owner, group, user, &[], read));
     /// ```
-    #[tactic(auto, unfolding(crate::specs::Check::grants))]
     pub fn check(&self, owner: Id, group: Id, user: Id, groups: &[Id], want: Perm) -> bool
         ensures { result ≡ grants self.now
             (record { user = owner.value; group = group.value })
             (record { user = user.value; groups = ids groups.now })
             want.bits }
     {
-        let entries = &self.entries;
-        if user.value == owner.value {
-            entries.entry_contains(Tag::UserObj, want)
-        } else if let Some(perm) = entries.get(Tag::User(user)) {
-            perm.contains(want) && entries.entry_contains(Tag::Mask, want)
-        } else if entries.any_matches(group, groups) {
-            entries.class_contains(group, groups, want)
-        } else {
-            entries.entry_contains(Tag::Other, want)
-        }
+        self.entries.grants(owner, group, user, groups, want)
     }
 
     /// Returns the file mode bits: USER_OBJ, then MASK or, if there is no MASK, GROUP_OBJ, then OTHER. No memory;
@@ -232,29 +245,6 @@ impl PosixAcl {
     {
         self.entries.set_mask()
     }
-}
-
-impl PartialEq for PosixAcl {
-    ghost use Rattle.std.specs.Prelude.{◌≡◌, ◌↔◌, IsTrue};
-    ghost use Rattle.acl_posix.specs.Equal.{same_set, same_set_laws};
-
-    ghost eq = { same_set };
-
-    ghost laws = { same_set_laws };
-
-    /// Returns whether the two ACLs have the same entries. No memory; linear time.
-    fn eq(&self, other: &PosixAcl) -> bool
-        ensures value { result ≡ same_set self.now other.now }
-        ensures exact { IsTrue result ↔ (self.now ≡ other.now) }
-    {
-        are_same(self.entries(), other.entries())
-    }
-}
-
-impl Eq for PosixAcl {
-    ghost use Rattle.acl_posix.specs.Equal.{same_set_equiv};
-
-    ghost laws = { same_set_equiv };
 }
 
 fn are_same(one: &[Entry], other: &[Entry]) -> bool

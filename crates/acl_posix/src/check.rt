@@ -1,7 +1,7 @@
-//! The group part of the access check.
+//! The access check (acl(5), "ACCESS CHECK ALGORITHM").
 ghost use Rattle.std.specs.Prelude.{◌≡◌};
 ghost use Rattle.acl_posix.specs.Tag.{tag_of};
-ghost use Rattle.acl_posix.specs.Check.{any_contains, any_matches, class_contains, entry_contains, ids};
+ghost use Rattle.acl_posix.specs.Check.{any_contains, any_matches, class_contains, entry_contains, grants, ids};
 ghost use Rattle.acl_posix.specs.internal.GroupSearch.{group_contains};
 
 use crate::id::Id;
@@ -10,19 +10,36 @@ use crate::tag::Tag;
 use acl_perm::Perm;
 
 impl SortedEntries {
-    /// Returns whether the tag has an entry that contains all that is requested.
-    pub(crate) fn entry_contains(&self, tag: Tag, request: Perm) -> bool
-        ensures { result ≡ entry_contains self.now (tag_of tag) request.bits }
+    /// Returns whether a user who is in these groups is granted all of the request on an object with this owner and
+    /// group.
+    #[tactic(auto, unfolding(crate::specs::Check::grants))]
+    pub(crate) fn grants(
+        &self,
+        owner: Id,
+        group: Id,
+        user: Id,
+        groups: &[Id],
+        request: Perm,
+    ) -> bool
+        ensures { result ≡ grants self.now
+            (record { user = owner.value; group = group.value })
+            (record { user = user.value; groups = ids groups.now })
+            request.bits }
     {
-        match self.get(tag) {
-            Some(perm) => perm.contains(request),
-            None => false,
+        if user.value == owner.value {
+            self.entry_contains(Tag::UserObj, request)
+        } else if let Some(perm) = self.get(Tag::User(user)) {
+            perm.contains(request) && self.entry_contains(Tag::Mask, request)
+        } else if self.any_matches(group, groups) {
+            self.class_contains(group, groups, request)
+        } else {
+            self.entry_contains(Tag::Other, request)
         }
     }
 
     /// Returns whether some entry matches by a group of the requester: whether some such entry contains the empty
     /// request.
-    pub(crate) fn any_matches(&self, owning_group: Id, groups: &[Id]) -> bool
+    fn any_matches(&self, owning_group: Id, groups: &[Id]) -> bool
         ensures { result ≡ any_matches self.now owning_group.value (ids groups.now) }
     {
         self.any_contains(owning_group, groups, Perm::NONE)
@@ -30,7 +47,7 @@ impl SortedEntries {
 
     /// Returns whether the entries that match by a group of the requester grant the request: with a MASK, if MASK and
     /// one of them contain it; without a MASK, if the entry of the owning group contains it.
-    pub(crate) fn class_contains(&self, owning_group: Id, groups: &[Id], request: Perm) -> bool
+    fn class_contains(&self, owning_group: Id, groups: &[Id], request: Perm) -> bool
         ensures { result
             ≡ class_contains self.now owning_group.value (ids groups.now) request.bits }
     {
@@ -59,5 +76,15 @@ impl SortedEntries {
     {
         (group.value == owning_group.value && self.entry_contains(Tag::GroupObj, request))
             || self.entry_contains(Tag::Group(group), request)
+    }
+
+    /// Returns whether the tag has an entry that contains all that is requested.
+    fn entry_contains(&self, tag: Tag, request: Perm) -> bool
+        ensures { result ≡ entry_contains self.now (tag_of tag) request.bits }
+    {
+        match self.get(tag) {
+            Some(perm) => perm.contains(request),
+            None => false,
+        }
     }
 }

@@ -1,4 +1,4 @@
-//! The mode and the mask of sorted entries.
+//! Changes of sorted entries: the mode, the mask, and one entry.
 ghost use Rattle.std.specs.Prelude.{◌≡◌, IsOk, IsSome, OnErr, OnOk};
 ghost use Rattle.std.specs.FinMap as set;
 ghost use Rattle.acl_posix.specs.Tag.{mask, tag_of};
@@ -14,21 +14,6 @@ use acl_perm::{Mode, Perm};
 use std::alloc::AllocError;
 
 impl SortedEntries {
-    /// Sets the permissions of a tag that has an entry.
-    pub(crate) fn set(&mut self, tag: Tag, perm: Perm)
-        requires { IsSome (set.get self.old (tag_of tag)) }
-        ensures set { self.new ≡ set.insert self.old (tag_of tag) perm.bits }
-        ensures tags { set.keys self.new ≡ set.keys self.old }
-    {
-        match self.place_of(tag) {
-            Ok(place) => {
-                let entry = &mut self.items[place];
-                entry.perm = perm;
-            }
-            Err(_) => {}
-        }
-    }
-
     /// Sets the three entries of the mode, and no others.
     pub(crate) fn set_mode(&mut self, mode: Mode)
         requires { IsValid self.old }
@@ -49,24 +34,42 @@ impl SortedEntries {
         ensures valid { IsValid self.old → IsValid self.new }
     {
         let perm = class_union(self.as_slice());
-        match self.place_of(Tag::Mask) {
+        self.insert(Tag::Mask, perm)
+    }
+
+    /// Sets the permissions of a tag, and adds an entry if it has none. Only adding an entry takes memory.
+    pub(crate) fn insert(&mut self, tag: Tag, perm: Perm) -> Result<(), AllocError>
+        ensures ok { OnOk result (self.new ≡ set.insert self.old (tag_of tag) perm.bits) }
+        ensures err { OnErr result (self.new ≡ self.old) }
+        ensures no_memory { IsSome (set.get self.old (tag_of tag)) → IsOk result }
+    {
+        match self.place_of(tag) {
             Ok(_) => {
-                self.set(Tag::Mask, perm);
+                self.set(tag, perm);
                 Ok(())
             }
-            Err(place) => {
-                let entry = Entry {
-                    tag: Tag::Mask,
-                    perm,
-                };
-                Ok(self.items.insert(place, entry)?)
+            Err(place) => Ok(self.items.insert(place, Entry { tag, perm })?),
+        }
+    }
+
+    /// Sets the permissions of a tag that has an entry.
+    fn set(&mut self, tag: Tag, perm: Perm)
+        requires { IsSome (set.get self.old (tag_of tag)) }
+        ensures set { self.new ≡ set.insert self.old (tag_of tag) perm.bits }
+        ensures tags { set.keys self.new ≡ set.keys self.old }
+    {
+        match self.place_of(tag) {
+            Ok(place) => {
+                let entry = &mut self.items[place];
+                entry.perm = perm;
             }
+            Err(_) => {}
         }
     }
 }
 
 /// Returns the union of the permissions of all entries that the mask limits.
-#[tactic(auto, using(crate::proofs::Masks::union_more, crate::proofs::Masks::union_done))]
+#[tactic(auto, using(crate::proofs::sorted::Masks::union_more, crate::proofs::sorted::Masks::union_done))]
 fn class_union(entries: &[Entry]) -> Perm
     ensures { result.bits ≡ class_union (pairs entries.now) }
 {

@@ -1,10 +1,11 @@
-//! The text of one entry. It is put together from its end: each part is put in front of the parts behind it.
+//! The text of one entry. It is put together from its end: each part is put in front of the parts after it.
 ghost use Rattle.std.specs.Prelude.{◌≡◌, ◌+◌, ◌≤◌, ◌++◌, ◌∷◌, [], ◌==◌, bit_and, drop, if◌then◌else◌};
+ghost use Rattle.acl_perm.specs.Ascii.{colon};
 ghost use Rattle.acl_perm.specs.Shown.{letter, perm_text};
 ghost use Rattle.acl_posix.specs.Entries.{pair_of};
 ghost use Rattle.acl_posix.specs.Tag.{tag_of};
 ghost use Rattle.acl_posix.specs.Texts.{entry_text, mark_text, qualifier_text};
-ghost use Rattle.acl_posix.specs.internal.Writing.{ending, entry_out, form_word, lead, IsPut};
+ghost use Rattle.acl_posix.specs.internal.Writing.{ending, ending_room, entry_out, fields_room, form_word, entry_lead, lead_room, line_room, mark_room, perm_room, qualifier_room, word_room, IsPut};
 
 use crate::entry::Entry;
 use crate::form::Form;
@@ -13,17 +14,20 @@ use crate::text_fault::Part;
 use acl_perm::Perm;
 use itoa::write_digits;
 
+/// The bytes of a line: room for the longest text of an entry.
+pub(crate) const LINE: usize = 64;
+
 /// Puts the text of an entry, with all that belongs to it, at the end of a line, and returns where the text begins.
 #[tactic(auto, unfolding(crate::specs::internal::Writing::entry_out))]
 pub(crate) fn put_entry(
-    line: &mut [u8; 64],
+    line: &mut [u8; LINE],
     form: Form,
     part: Part,
     is_first: bool,
     entry: Entry,
     effective: Perm,
 ) -> usize
-    ensures within { result ≤ 64 }
+    ensures within { result ≤ line_room }
     ensures text { drop result line.new
         ≡ entry_out form part is_first effective.bits (pair_of entry) }
 {
@@ -32,27 +36,27 @@ pub(crate) fn put_entry(
     put_lead(line, end, form, part, is_first)
 }
 
-// The bytes behind an entry.
-fn put_ending(line: &mut [u8; 64], form: Form, effective: Perm, perm: Perm) -> usize
-    ensures text { IsPut (ending form effective.bits perm.bits) line.old line.new 64 result }
-    ensures short { 64 ≤ result + 16 }
+// Puts the bytes after an entry.
+fn put_ending(line: &mut [u8; LINE], form: Form, effective: Perm, perm: Perm) -> usize
+    ensures text { IsPut (ending form effective.bits perm.bits) line.old line.new line_room result }
+    ensures short { line_room ≤ result + ending_room }
 {
     match form {
-        Form::Canonical => put(line, 64, *b"\n"),
+        Form::Canonical => put(line, LINE, *b"\n"),
         Form::Shown => {
-            let end = put(line, 64, *b"\n");
+            let end = put(line, LINE, *b"\n");
             put_mark(line, end, effective, perm)
         }
-        Form::Short => 64,
+        Form::Short => LINE,
     }
 }
 
-// The effective permissions as a comment, if they are not those of the entry.
-fn put_mark(line: &mut [u8; 64], end: usize, effective: Perm, perm: Perm) -> usize
-    requires room { 15 ≤ end }
-    requires inside { end ≤ 64 }
+// Puts the effective permissions as a comment, if they differ from those of the entry.
+fn put_mark(line: &mut [u8; LINE], end: usize, effective: Perm, perm: Perm) -> usize
+    requires room { mark_room ≤ end }
+    requires inside { end ≤ line_room }
     ensures text { IsPut (mark_text effective.bits perm.bits) line.old line.new end result }
-    ensures short { end ≤ result + 15 }
+    ensures short { end ≤ result + mark_room }
 {
     if effective.bits == perm.bits {
         return end;
@@ -61,24 +65,24 @@ fn put_mark(line: &mut [u8; 64], end: usize, effective: Perm, perm: Perm) -> usi
     put(line, end, *b"\t#effective")
 }
 
-// The word, the qualifier and the permissions, with colons between them.
-fn put_fields(line: &mut [u8; 64], end: usize, form: Form, entry: Entry) -> usize
-    requires room { 20 ≤ end }
-    requires inside { end ≤ 64 }
+// Puts the word, the qualifier and the permissions, with colons between them.
+fn put_fields(line: &mut [u8; LINE], end: usize, form: Form, entry: Entry) -> usize
+    requires room { fields_room ≤ end }
+    requires inside { end ≤ line_room }
     ensures text { IsPut (entry_text (form_word form (tag_of entry.tag)) (pair_of entry))
         line.old line.new end result }
-    ensures short { end ≤ result + 20 }
+    ensures short { end ≤ result + fields_room }
 {
     let end = put_perm(line, end, entry.perm);
     let end = put_qualifier(line, end, entry.tag);
     put_word(line, end, form, entry.tag)
 }
 
-// A colon, and the permissions.
-fn put_perm(line: &mut [u8; 64], end: usize, perm: Perm) -> usize
-    requires room { 4 ≤ end }
-    requires inside { end ≤ 64 }
-    ensures { IsPut (58 ∷ perm_text perm.bits) line.old line.new end result }
+// Puts a colon and the permissions.
+fn put_perm(line: &mut [u8; LINE], end: usize, perm: Perm) -> usize
+    requires room { perm_room ≤ end }
+    requires inside { end ≤ line_room }
+    ensures { IsPut (colon ∷ perm_text perm.bits) line.old line.new end result }
 {
     let read = letter(perm, 4, b'r');
     let write = letter(perm, 2, b'w');
@@ -86,17 +90,19 @@ fn put_perm(line: &mut [u8; 64], end: usize, perm: Perm) -> usize
     put(line, end, [b':', read, write, execute])
 }
 
+// Returns the letter of a permission if the set has it, and `-` otherwise.
 fn letter(perm: Perm, bit: u8, shown: u8) -> u8
     ensures { result ≡ letter perm.bits bit shown }
 {
     if perm.bits & bit == bit { shown } else { b'-' }
 }
 
-fn put_qualifier(line: &mut [u8; 64], end: usize, tag: Tag) -> usize
-    requires room { 10 ≤ end }
-    requires inside { end ≤ 64 }
+// Puts the id in decimal, if the tag has one.
+fn put_qualifier(line: &mut [u8; LINE], end: usize, tag: Tag) -> usize
+    requires room { qualifier_room ≤ end }
+    requires inside { end ≤ line_room }
     ensures text { IsPut (qualifier_text (tag_of tag)) line.old line.new end result }
-    ensures short { end ≤ result + 10 }
+    ensures short { end ≤ result + qualifier_room }
 {
     match tag {
         Tag::User(id) | Tag::Group(id) => write_digits(u64::from(id.value), line, end),
@@ -104,12 +110,12 @@ fn put_qualifier(line: &mut [u8; 64], end: usize, tag: Tag) -> usize
     }
 }
 
-// The word of a tag and a colon.
-fn put_word(line: &mut [u8; 64], end: usize, form: Form, tag: Tag) -> usize
-    requires room { 6 ≤ end }
-    requires inside { end ≤ 64 }
-    ensures text { IsPut (form_word form (tag_of tag) ++ 58 ∷ []) line.old line.new end result }
-    ensures short { end ≤ result + 6 }
+// Puts the word of a tag and a colon.
+fn put_word(line: &mut [u8; LINE], end: usize, form: Form, tag: Tag) -> usize
+    requires room { word_room ≤ end }
+    requires inside { end ≤ line_room }
+    ensures text { IsPut (form_word form (tag_of tag) ++ colon ∷ []) line.old line.new end result }
+    ensures short { end ≤ result + word_room }
 {
     match (form, tag) {
         (Form::Canonical | Form::Shown, Tag::UserObj | Tag::User(_)) => put(line, end, *b"user:"),
@@ -125,11 +131,11 @@ fn put_word(line: &mut [u8; 64], end: usize, form: Form, tag: Tag) -> usize
     }
 }
 
-// The bytes before an entry.
-fn put_lead(line: &mut [u8; 64], end: usize, form: Form, part: Part, is_first: bool) -> usize
-    requires room { 8 ≤ end }
-    requires inside { end ≤ 64 }
-    ensures { IsPut (lead form part is_first) line.old line.new end result }
+// Puts the bytes before an entry.
+fn put_lead(line: &mut [u8; LINE], end: usize, form: Form, part: Part, is_first: bool) -> usize
+    requires room { lead_room ≤ end }
+    requires inside { end ≤ line_room }
+    ensures { IsPut (entry_lead form part is_first) line.old line.new end result }
 {
     match (form, part, is_first) {
         (Form::Canonical | Form::Shown, Part::Access, _) => end,
@@ -143,9 +149,9 @@ fn put_lead(line: &mut [u8; 64], end: usize, form: Form, part: Part, is_first: b
 
 // Puts bytes in front of those from `end` on, and returns where they begin.
 #[inline(always)]
-fn put<const N: usize>(line: &mut [u8; 64], end: usize, bytes: [u8; N]) -> usize
+fn put<const N: usize>(line: &mut [u8; LINE], end: usize, bytes: [u8; N]) -> usize
     requires room { N ≤ end }
-    requires inside { end ≤ 64 }
+    requires inside { end ≤ line_room }
     ensures { IsPut bytes.entry line.old line.new end result }
 {
     let start = end - N;

@@ -3,7 +3,7 @@ ghost use Rattle.std.specs.Prelude.{◌≡◌, ◌==◌, ◌||◌, IsTrue, count
 ghost use Rattle.std.specs.List.{list_all};
 ghost use Rattle.std.specs.Str.{bytes_eq};
 ghost use Rattle.std.specs.Char.{is_ascii_digit};
-ghost use Rattle.acl_posix.specs.Fields.{count_of, id_of, is_default, is_permission, permissions_of, word_of};
+ghost use Rattle.acl_posix.specs.Fields.{occurrences, id_of, is_default, is_permission, permissions_of, word_of};
 ghost use Rattle.acl_posix.specs.Names.{is_number};
 
 use crate::id::{GREATEST, Id};

@@ -9,7 +9,7 @@ ghost use Rattle.acl_posix.specs.Laws.{MaskLeavesAll, MaskStays, ModeIsSet};
 ghost use Rattle.acl_posix.specs.Names.{Table};
 ghost use Rattle.acl_posix.specs.Tag.{Tag};
 ghost use Rattle.acl_posix.specs.TextFault.{IsTextFault};
-ghost use Rattle.acl_posix.specs.TextLaws.{ReadsBack, TellsApart};
+ghost use Rattle.acl_posix.specs.TextLaws.{ReadsBack, TextTellsApart};
 ghost use Rattle.acl_posix.specs.Texts.{canonical_text, short_text, shown_text};
 ghost use Rattle.acl_posix.specs.Valid.{IsFaultOf, IsValidList, is_refusal};
 
@@ -45,7 +45,7 @@ pub fn short_text_reads_back()
 
 /// Two files have the same canonical text if and only if their sets of entries are equal.
 pub fn canonical_text_tells_apart()
-    ensures { TellsApart canonical_text }
+    ensures { TextTellsApart canonical_text }
 {}
 
 /// A list of entries has at most one fault, and a valid list has none. `Memory` is not a fault of the list.

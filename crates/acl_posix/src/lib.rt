@@ -9,6 +9,7 @@ mod entry_writer;
 mod fault;
 mod field;
 mod file;
+mod file_text;
 mod form;
 mod id;
 pub mod laws;

@@ -10,29 +10,15 @@ use crate::tag::Tag;
 use acl_perm::Perm;
 
 impl SortedEntries {
-    /// Returns the place of the entry of a tag, or the place where it would be inserted.
-    pub(crate) fn place_of(&self, tag: Tag) -> Result<usize, usize>
-        ensures { IsPlaceOf (set.keys self.now) (tag_of tag) result }
+    /// Returns the tag of the entry that the group bits of the mode show.
+    pub(crate) fn group_class(&self) -> Tag
+        ensures { tag_of result ≡ group_class self.now }
     {
-        self.as_slice()
-            .binary_search_by_key(&tag, |entry| entry.tag)
-    }
-
-    /// Returns the permissions of a tag, if it has an entry.
-    pub(crate) fn get(&self, tag: Tag) -> Option<Perm>
-        ensures { option_map (λ perm. perm.bits) result ≡ set.get self.now (tag_of tag) }
-    {
-        match self.place_of(tag) {
-            Ok(place) => Some(self.as_slice()[place].perm),
-            Err(_) => None,
+        if self.has(Tag::Mask) {
+            Tag::Mask
+        } else {
+            Tag::GroupObj
         }
-    }
-
-    /// Returns whether a tag has an entry.
-    pub(crate) fn has(&self, tag: Tag) -> bool
-        ensures { result ≡ set.contains_key self.now (tag_of tag) }
-    {
-        self.get(tag).is_some()
     }
 
     /// Returns the permissions of a tag, or no permissions if it has no entry.
@@ -45,14 +31,28 @@ impl SortedEntries {
         }
     }
 
-    /// Returns the tag of the entry that the group bits of the mode show.
-    pub(crate) fn group_class(&self) -> Tag
-        ensures { tag_of result ≡ group_class self.now }
+    /// Returns whether a tag has an entry.
+    pub(crate) fn has(&self, tag: Tag) -> bool
+        ensures { result ≡ set.contains_key self.now (tag_of tag) }
     {
-        if self.has(Tag::Mask) {
-            Tag::Mask
-        } else {
-            Tag::GroupObj
+        self.get(tag).is_some()
+    }
+
+    /// Returns the permissions of a tag, if it has an entry.
+    pub(crate) fn get(&self, tag: Tag) -> Option<Perm>
+        ensures { option_map (λ perm. perm.bits) result ≡ set.get self.now (tag_of tag) }
+    {
+        match self.place_of(tag) {
+            Ok(place) => Some(self.as_slice()[place].perm),
+            Err(_) => None,
         }
+    }
+
+    /// Returns the place of the entry of a tag, or the place where it would be inserted.
+    pub(crate) fn place_of(&self, tag: Tag) -> Result<usize, usize>
+        ensures { IsPlaceOf (set.keys self.now) (tag_of tag) result }
+    {
+        self.as_slice()
+            .binary_search_by_key(&tag, |entry| entry.tag)
     }
 }

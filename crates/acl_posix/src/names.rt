@@ -2,7 +2,7 @@
 ghost use Rattle.std.specs.Prelude.{◌≡◌, IfErr, None, OnErr, OnOk, option_map};
 ghost use Rattle.std.specs.FinMap as fin;
 ghost use Rattle.acl_posix.specs.internal.NameMaps.{ids_of};
-ghost use Rattle.acl_posix.specs.Names.{name_fault, no_names, with_group, with_user, AddsName, IsNameFault, IsTable};
+ghost use Rattle.acl_posix.specs.Names.{name_fault, empty_table, with_group, with_user, AddsName, IsNameFault, IsNameTable};
 
 use crate::field::is_number;
 use crate::id::Id;
@@ -50,8 +50,8 @@ impl Model for Names {
 impl Names {
     /// Returns the table without names. No memory.
     pub fn new(alloc: Global) -> Names
-        ensures empty { result ≡ no_names }
-        ensures table { IsTable result }
+        ensures empty { result ≡ empty_table }
+        ensures table { IsNameTable result }
     {
         Names {
             users: BTreeMap::new(alloc),
@@ -73,7 +73,7 @@ impl Names {
     pub fn add_user(&mut self, name: &[u8], id: Id) -> Result<(), NameFault>
         ensures adds { AddsName self.old.users name.now self.old self.new
             (with_user self.old name.now id.value) result }
-        ensures table { IsTable self.new }
+        ensures table { IsNameTable self.new }
     {
         add(self.alloc, &mut self.users, name, id)
     }
@@ -83,7 +83,7 @@ impl Names {
     pub fn add_group(&mut self, name: &[u8], id: Id) -> Result<(), NameFault>
         ensures adds { AddsName self.old.groups name.now self.old self.new
             (with_group self.old name.now id.value) result }
-        ensures table { IsTable self.new }
+        ensures table { IsNameTable self.new }
     {
         add(self.alloc, &mut self.groups, name, id)
     }

@@ -4,7 +4,6 @@ ghost use Rattle.std.specs.FinMap as set;
 ghost use Rattle.acl_posix.specs.Tag.{tag_of};
 ghost use Rattle.acl_posix.specs.Valid.{is_refusal, IsFaultOfSet, IsValid};
 
-use crate::entry::Entry;
 use crate::fault::AclFault;
 use crate::sorted::SortedEntries;
 use crate::tag::Tag;
@@ -22,14 +21,11 @@ impl SortedEntries {
         ensures no_memory { IsSome (set.get self.old (tag_of tag)) → IsOk result }
         ensures valid { IsValid self.new }
     {
-        match self.place_of(tag) {
-            Ok(_) => {
-                self.set(tag, perm);
-                Ok(())
-            }
-            Err(_) if tag.is_named() && !self.has(Tag::Mask) => Err(AclFault::Miss(Tag::Mask)),
-            Err(place) => Ok(self.items.insert(place, Entry { tag, perm })?),
+        // A valid list without a MASK has no USER or GROUP entry, so this one would be added.
+        if tag.is_named() && !self.has(Tag::Mask) {
+            return Err(AclFault::Miss(Tag::Mask));
         }
+        Ok(self.insert(tag, perm)?)
     }
 
     /// Removes the entry of a tag, if it has one and the list without it is valid.

@@ -16,7 +16,7 @@ const PERMS: u64 = 8;
 // How many numbers can be a qualifier.
 const QUALIFIERS: u64 = 4294967296;
 
-/// The entries as numbers, which do not fall.
+/// Returns the entries as numbers, in rising order.
 pub(crate) fn sorted_keys(alloc: Global, entries: &[Entry]) -> Result<Vec<u64>, AllocError>
     ensures packed { IfOk result (λ keys. All IsPacked keys.items) }
     ensures permutation { IfOk result (λ keys.
@@ -28,7 +28,7 @@ pub(crate) fn sorted_keys(alloc: Global, entries: &[Entry]) -> Result<Vec<u64>, 
     Ok(keys)
 }
 
-/// The entries as numbers, in the order of the entries.
+/// Returns the entries as numbers, in the order of the entries.
 fn packed_entries(alloc: Global, entries: &[Entry]) -> Result<Vec<u64>, AllocError>
     ensures { IfOk result (λ keys. keys.items ≡ map packed (pairs entries.now)) }
 {
@@ -39,7 +39,7 @@ fn packed_entries(alloc: Global, entries: &[Entry]) -> Result<Vec<u64>, AllocErr
     Ok(keys)
 }
 
-/// Whether each tag of the entries is less than the next.
+/// Returns whether each tag of the entries is less than the next.
 pub(crate) fn rises(keys: &[u64]) -> bool
     requires { All IsPacked keys.now }
     ensures { IsTrue result ↔ IsSorted (map unpacked keys.now) }
@@ -66,7 +66,7 @@ pub(crate) fn put_keys(keys: &[u64], entries: &mut Vec<Entry>) -> Result<(), All
     Ok(())
 }
 
-/// The number of an entry.
+/// Returns the number of an entry.
 #[tactic(auto, unfolding(crate::specs::internal::Packed::packed))]
 fn packed(entry: Entry) -> u64
     ensures { result ≡ packed (pair_of entry) }
@@ -75,7 +75,7 @@ fn packed(entry: Entry) -> u64
     tag * PERMS + u64::from(entry.perm.bits)
 }
 
-/// The entry of a number.
+/// Returns the entry of a number.
 #[tactic(auto, unfolding(crate::specs::internal::Packed::unpacked))]
 fn unpacked(key: u64) -> Entry
     requires { IsPacked key }

@@ -6,7 +6,7 @@ ghost use Rattle.acl_posix.specs.declared.text_fault.TextFault.TheVariants.{Memo
 ghost use Rattle.acl_posix.specs.Entries.{pairs};
 ghost use Rattle.acl_posix.specs.Grammar.{IsAclOf, IsDefaultOf, Reads};
 ghost use Rattle.acl_posix.specs.internal.Reading.{IsDefaultFault, IsPartFault};
-ghost use Rattle.acl_posix.specs.TextFault.{IsRefusal, IsTextFault};
+ghost use Rattle.acl_posix.specs.TextFault.{IsTextFaultOrMemory, IsTextFault};
 
 use crate::acl::PosixAcl;
 use crate::entry::Entry;
@@ -35,7 +35,7 @@ pub fn parse(alloc: Global, text: &[u8], names: &Names) -> Result<PosixFile, Tex
     ensures only { (file : FileValue) → Reads text.now names.now file
         → MatchResult result (λ read. read ≡ file) (λ fault. fault ≡ Memory) }
     // A refusal is the fault of the text.
-    ensures fault { IfErr result (IsRefusal text.now names.now) }
+    ensures fault { IfErr result (IsTextFaultOrMemory text.now names.now) }
     // A text with a fault is refused with that fault.
     ensures refused { (wrong : FaultValue) → IsTextFault text.now names.now wrong
         → MatchResult result (λ _. ⊥) (λ fault. (fault ≡ wrong) ⊎ (fault ≡ Memory)) }
@@ -45,7 +45,7 @@ pub fn parse(alloc: Global, text: &[u8], names: &Names) -> Result<PosixFile, Tex
 
 fn read_file(alloc: Global, text: &[u8], names: &Names) -> Result<PosixFile, TextFault>
     ensures found { IfOk result (Reads text.now names.now) }
-    ensures fault { IfErr result (IsRefusal text.now names.now) }
+    ensures fault { IfErr result (IsTextFaultOrMemory text.now names.now) }
 {
     let lists = read_text(alloc, text, names)?;
     let access = part_of(alloc, Part::Access, lists.access)?;

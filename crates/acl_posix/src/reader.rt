@@ -3,7 +3,7 @@ ghost use Rattle.std.specs.Prelude.{◌≡◌, MatchResult, OnOk, Ok};
 ghost use Rattle.acl_perm.specs.Lines.{lines_of};
 ghost use Rattle.acl_posix.specs.Entries.{pair_of};
 ghost use Rattle.acl_posix.specs.Grammar.{pieces_from, pieces_of};
-ghost use Rattle.acl_posix.specs.internal.Reading.{added, lists_of, no_lists, read_entries, read_pieces, view_entry, Fails, ReadsOn};
+ghost use Rattle.acl_posix.specs.internal.Reading.{added, lists_of, no_lists, read_entries, read_pieces, view_entry, FailsWith, ReadsOn};
 
 use crate::entry::Entry;
 use crate::names::Names;
@@ -24,7 +24,7 @@ pub(crate) struct EntryLists {
 pub(crate) fn read_text(alloc: Global, text: &[u8], names: &Names) -> Result<EntryLists, TextFault>
     ensures { MatchResult result
         (λ lists. read_pieces names.now no_lists (pieces_of text.now) ≡ Ok (lists_of lists))
-        (λ fault. Fails fault (read_pieces names.now no_lists (pieces_of text.now))) }
+        (λ fault. FailsWith fault (read_pieces names.now no_lists (pieces_of text.now))) }
 {
     let mut lists = EntryLists {
         access: Vec::new(alloc),
@@ -48,7 +48,7 @@ fn read_first<'a>(
 ) -> Result<Option<&'a [u8]>, TextFault>
     ensures { MatchResult result
         (ReadsOn names.now number text.now (lists_of lists.old) (lists_of lists.new))
-        (λ fault. Fails fault
+        (λ fault. FailsWith fault
         (read_pieces names.now (lists_of lists.old) (pieces_from number (lines_of text.now)))) }
 {
     if let Some(line) = written_line(text) {
@@ -70,7 +70,7 @@ fn read_line(
     ensures { MatchResult result
         (λ _. read_entries names.now (lists_of lists.old) number line.now
         ≡ Ok (lists_of lists.new))
-        (λ fault. Fails fault (read_entries names.now (lists_of lists.old) number line.now)) }
+        (λ fault. FailsWith fault (read_entries names.now (lists_of lists.old) number line.now)) }
 {
     let content = before_mark(line, b'#');
     if is_all_blank(content) {

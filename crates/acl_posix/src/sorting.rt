@@ -42,7 +42,7 @@ impl SortedEntries {
 }
 
 /// Returns whether the entries are in canonical order, so that no tag and qualifier occur twice.
-#[tactic(auto, using(crate::proofs::Repeats::rising_start, crate::proofs::Repeats::rising_more))]
+#[tactic(auto, using(crate::proofs::sorting::Repeats::rising_start, crate::proofs::sorting::Repeats::rising_more))]
 fn is_in_order(entries: &[Entry]) -> bool
     ensures { IsTrue result ↔ IsSorted (pairs entries.now) }
 {
@@ -57,7 +57,7 @@ fn is_in_order(entries: &[Entry]) -> bool
 }
 
 /// Returns the fault of the first entry whose tag an earlier entry has too.
-#[tactic(auto, using(crate::proofs::Repeats::collected_none))]
+#[tactic(auto, using(crate::proofs::sorting::Repeats::collected_none))]
 fn first_repeat(alloc: Global, entries: &[Entry]) -> Result<AclFault, AllocError>
     requires { IsDistinct (pairs entries.now) → ⊥ }
     ensures fault { IfOk result (IsFaultOf (pairs entries.now)) }

@@ -15,7 +15,7 @@ fn push(entries: &mut Vec<Entry>, tag: Tag) -> Result<(), AllocError> {
     Ok(())
 }
 
-// Users or groups with the ids below a number, with a step between them.
+// Adds users or groups with all ids below a number, in steps of this size.
 fn push_each(
     entries: &mut Vec<Entry>,
     is_group: bool,
@@ -39,7 +39,7 @@ fn push_each(
     Ok(())
 }
 
-// The entries without qualifier, and `count` users and groups each.
+// Makes the entries without a qualifier, and `count` users and as many groups.
 fn many(alloc: Global, count: u32, step: u32) -> Result<Vec<Entry>, AllocError>
     requires { 0 < count }
 {
@@ -60,7 +60,8 @@ fn acl_of(alloc: Global, count: u32, step: u32) -> Result<PosixAcl, AclFault>
     PosixAcl::from_entries(alloc, entries)
 }
 
-// How often, of ten thousand times, a user in sixteen groups without an entry is granted anything.
+// Returns how often, out of ten thousand times, a user in sixteen groups is granted all permissions. Neither the user
+// nor the groups have an entry.
 fn granted(acl: &PosixAcl) -> usize {
     let (owner, group, user) = (
         Id { value: 4000000001 },
@@ -73,7 +74,7 @@ fn granted(acl: &PosixAcl) -> usize {
         .count()
 }
 
-// Whether an ACL has so many entries, if there is memory.
+// Returns whether an ACL has this number of entries, unless memory runs out.
 fn holds(alloc: Global, count: u32, step: u32, len: usize) -> bool
     requires { 0 < count }
 {
@@ -83,7 +84,7 @@ fn holds(alloc: Global, count: u32, step: u32, len: usize) -> bool
     }
 }
 
-// Whether each of the ten thousand checks of an ACL grants, if there is memory.
+// Returns whether all ten thousand checks of an ACL grant, unless memory runs out.
 fn grants_all(alloc: Global, count: u32) -> bool
     requires { 0 < count }
 {

@@ -28,6 +28,34 @@ pub enum Tag {
     Other,
 }
 
+impl PartialOrd for Tag {
+    ghost partial_cmp = { as_partial_cmp code_cmp };
+
+    ghost laws = { partial_order_from_agreeing_total code_cmp codes_total (λ x y. refl)
+        (Prim.search (comparing, rules)) };
+
+    fn partial_cmp(&self, other: &Tag) -> Option<Ordering> {
+        Some(self.cmp(other))
+    }
+}
+
+impl Ord for Tag {
+    ghost cmp = { code_cmp };
+
+    ghost total = { codes_total };
+
+    ghost matches_partial_cmp = { Prim.search (comparing, rules) };
+
+    ghost matches_eq = { Prim.search (comparing, rules) };
+
+    fn cmp(&self, other: &Tag) -> Ordering {
+        match self.rank().cmp(&other.rank()) {
+            Ordering::Equal => self.qualifier().cmp(&other.qualifier()),
+            order => order,
+        }
+    }
+}
+
 impl Tag {
     /// Returns the name of the tag type in the standard, without the qualifier. Constant time.
     pub fn name(&self) -> &'static str
@@ -57,7 +85,7 @@ impl Tag {
         matches!(self, Tag::User(_) | Tag::GroupObj | Tag::Group(_))
     }
 
-    /// The place of the tag type in the canonical order.
+    /// Returns the place of the tag type in the canonical order.
     pub(crate) fn rank(self) -> u8
         ensures { result ≡ rank (tag_of self) }
     {
@@ -71,7 +99,7 @@ impl Tag {
         }
     }
 
-    /// The qualifier, and 0 where there is none.
+    /// Returns the qualifier, or 0 if there is none.
     pub(crate) fn qualifier(self) -> u32
         ensures { result ≡ qualifier (tag_of self) }
     {
@@ -79,33 +107,5 @@ impl Tag {
             Tag::User(id) | Tag::Group(id) => id.value,
             Tag::UserObj | Tag::GroupObj | Tag::Mask | Tag::Other => 0,
         }
-    }
-}
-
-impl Ord for Tag {
-    ghost cmp = { code_cmp };
-
-    ghost total = { codes_total };
-
-    ghost matches_partial_cmp = { Prim.search (comparing, rules) };
-
-    ghost matches_eq = { Prim.search (comparing, rules) };
-
-    fn cmp(&self, other: &Tag) -> Ordering {
-        match self.rank().cmp(&other.rank()) {
-            Ordering::Equal => self.qualifier().cmp(&other.qualifier()),
-            order => order,
-        }
-    }
-}
-
-impl PartialOrd for Tag {
-    ghost partial_cmp = { as_partial_cmp code_cmp };
-
-    ghost laws = { partial_order_from_agreeing_total code_cmp codes_total (λ x y. refl)
-        (Prim.search (comparing, rules)) };
-
-    fn partial_cmp(&self, other: &Tag) -> Option<Ordering> {
-        Some(self.cmp(other))
     }
 }

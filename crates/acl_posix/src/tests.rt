@@ -1,5 +1,5 @@
-//! Worked examples by subject. Each table of entries runs twice: where memory may be wanting, which is then an answer
-//! too and leaves a value as it was, and in `ample`, where each answer is exact.
+//! Worked examples by subject. Each table of entries runs twice: with memory that may run out, which is then an
+//! accepted answer and leaves a value as it was, and in `ample` with enough memory, so that each answer is exact.
 
 mod ample;
 mod changes;

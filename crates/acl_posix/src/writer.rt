@@ -9,12 +9,97 @@ ghost use Rattle.acl_posix.specs.internal.Writing.{default_out, part_out};
 
 use crate::acl::PosixAcl;
 use crate::entry::Entry;
-use crate::entry_writer::put_entry;
+use crate::entry_writer::{LINE, put_entry};
 use crate::file::PosixFile;
 use crate::form::Form;
 use crate::text_fault::Part;
 use acl_perm::internal::put_next;
 use acl_perm::{Sink, WriteFault};
+
+impl PosixFile {
+    /// Writes the canonical text: one line per entry in canonical order, with the default ACL behind the access ACL. It
+    /// ends at the first put that fails, and tries nothing again. No memory; linear time.
+    pub fn write_canonical<S: Sink>(&self, sink: &mut S) -> Result<(), WriteFault>
+        ensures { Writes S.contents S.failure_count sink.old sink.new
+            (canonical_text self.now.access self.now.default) result }
+    {
+        self.write(sink, Form::Canonical)
+    }
+
+    /// Writes the canonical text with a comment behind each entry that the mask limits: its effective permissions. It
+    /// ends at the first put that fails, and tries nothing again. No memory; linear time.
+    pub fn write_shown<S: Sink>(&self, sink: &mut S) -> Result<(), WriteFault>
+        ensures { Writes S.contents S.failure_count sink.old sink.new
+            (shown_text self.now.access self.now.default) result }
+    {
+        self.write(sink, Form::Shown)
+    }
+
+    /// Writes the short text: the entries in canonical order with commas between them, and no line feed. It ends at the
+    /// first put that fails, and tries nothing again. No memory; linear time.
+    pub fn write_short<S: Sink>(&self, sink: &mut S) -> Result<(), WriteFault>
+        ensures { Writes S.contents S.failure_count sink.old sink.new
+            (short_text self.now.access self.now.default) result }
+    {
+        self.write(sink, Form::Short)
+    }
+
+    /// Writes the text in a form. It ends at the first put that fails, and tries nothing again. No memory; linear time.
+    pub fn write<S: Sink>(&self, sink: &mut S, form: Form) -> Result<(), WriteFault>
+        ensures { Writes S.contents S.failure_count sink.old sink.new
+            (form_text form self.now.access self.now.default) result }
+    {
+        put_file(sink, form, &self.access, self.default.as_ref())?;
+        Ok(())
+    }
+}
+
+impl PosixAcl {
+    /// Writes the canonical text: one line per entry in canonical order, with the default ACL behind the access ACL. It
+    /// ends at the first put that fails, and tries nothing again. No memory; linear time.
+    ///
+    /// ```rust
+    /// let acl = PosixAcl::of_mode(alloc, Mode { bits: 0o640 })?;
+    /// let mut sink = Counted::new(Vec::new(alloc));
+    /// acl.write_canonical(&mut sink)?;
+    /// let text = sink.into_inner();
+    /// let wanted = b"user::rw-\ngroup::r--\nother::---\n";
+    /// assert!(rt; text.as_slice() == wanted.as_slice());
+    /// ```
+    pub fn write_canonical<S: Sink>(&self, sink: &mut S) -> Result<(), WriteFault>
+        ensures { Writes S.contents S.failure_count sink.old sink.new
+            (canonical_text self.now None) result }
+    {
+        PosixAcl::write(self, sink, Form::Canonical)
+    }
+
+    /// Writes the canonical text with a comment behind each entry that the mask limits: its effective permissions. It
+    /// ends at the first put that fails, and tries nothing again. No memory; linear time.
+    pub fn write_shown<S: Sink>(&self, sink: &mut S) -> Result<(), WriteFault>
+        ensures { Writes S.contents S.failure_count sink.old sink.new
+            (shown_text self.now None) result }
+    {
+        PosixAcl::write(self, sink, Form::Shown)
+    }
+
+    /// Writes the short text: the entries in canonical order with commas between them, and no line feed. It ends at the
+    /// first put that fails, and tries nothing again. No memory; linear time.
+    pub fn write_short<S: Sink>(&self, sink: &mut S) -> Result<(), WriteFault>
+        ensures { Writes S.contents S.failure_count sink.old sink.new
+            (short_text self.now None) result }
+    {
+        PosixAcl::write(self, sink, Form::Short)
+    }
+
+    /// Writes the text in a form. It ends at the first put that fails, and tries nothing again. No memory; linear time.
+    pub fn write<S: Sink>(&self, sink: &mut S, form: Form) -> Result<(), WriteFault>
+        ensures { Writes S.contents S.failure_count sink.old sink.new
+            (form_text form self.now None) result }
+    {
+        put_file(sink, form, self, None)?;
+        Ok(())
+    }
+}
 
 /// Writes a text of the ACLs of a file, and returns how many bytes it has.
 fn put_file<S: Sink>(
@@ -78,7 +163,7 @@ fn put_part<S: Sink>(
     let mask = acl.mask();
     let mut done = done;
     let mut is_first = is_first;
-    let mut line = [0; 64];
+    let mut line = [0; LINE];
     for entry in entries {
         let start = put_entry(
             &mut line,
@@ -92,89 +177,4 @@ fn put_part<S: Sink>(
         is_first = false;
     }
     Ok(done)
-}
-
-impl PosixFile {
-    /// Writes the text in a form. It ends at the first put that fails, and tries nothing again. No memory; linear time.
-    pub fn write<S: Sink>(&self, sink: &mut S, form: Form) -> Result<(), WriteFault>
-        ensures { Writes S.contents S.failure_count sink.old sink.new
-            (form_text form self.now.access self.now.default) result }
-    {
-        put_file(sink, form, &self.access, self.default.as_ref())?;
-        Ok(())
-    }
-
-    /// Writes the canonical text: one line per entry in canonical order, with the default ACL behind the access ACL. It
-    /// ends at the first put that fails, and tries nothing again. No memory; linear time.
-    pub fn write_canonical<S: Sink>(&self, sink: &mut S) -> Result<(), WriteFault>
-        ensures { Writes S.contents S.failure_count sink.old sink.new
-            (canonical_text self.now.access self.now.default) result }
-    {
-        self.write(sink, Form::Canonical)
-    }
-
-    /// Writes the canonical text with a comment behind each entry that the mask limits: its effective permissions. It
-    /// ends at the first put that fails, and tries nothing again. No memory; linear time.
-    pub fn write_shown<S: Sink>(&self, sink: &mut S) -> Result<(), WriteFault>
-        ensures { Writes S.contents S.failure_count sink.old sink.new
-            (shown_text self.now.access self.now.default) result }
-    {
-        self.write(sink, Form::Shown)
-    }
-
-    /// Writes the short text: the entries in canonical order with commas between them, and no line feed. It ends at the
-    /// first put that fails, and tries nothing again. No memory; linear time.
-    pub fn write_short<S: Sink>(&self, sink: &mut S) -> Result<(), WriteFault>
-        ensures { Writes S.contents S.failure_count sink.old sink.new
-            (short_text self.now.access self.now.default) result }
-    {
-        self.write(sink, Form::Short)
-    }
-}
-
-impl PosixAcl {
-    /// Writes the text in a form. It ends at the first put that fails, and tries nothing again. No memory; linear time.
-    pub fn write<S: Sink>(&self, sink: &mut S, form: Form) -> Result<(), WriteFault>
-        ensures { Writes S.contents S.failure_count sink.old sink.new
-            (form_text form self.now None) result }
-    {
-        put_file(sink, form, self, None)?;
-        Ok(())
-    }
-
-    /// Writes the canonical text: one line per entry in canonical order, with the default ACL behind the access ACL. It
-    /// ends at the first put that fails, and tries nothing again. No memory; linear time.
-    ///
-    /// ```rust
-    /// let acl = PosixAcl::of_mode(alloc, Mode { bits: 0o640 })?;
-    /// let mut sink = Counted::new(Vec::new(alloc));
-    /// acl.write_canonical(&mut sink)?;
-    /// let text = sink.into_inner();
-    /// let wanted = b"user::rw-\ngroup::r--\nother::---\n";
-    /// assert!(rt; text.as_slice() == wanted.as_slice());
-    /// ```
-    pub fn write_canonical<S: Sink>(&self, sink: &mut S) -> Result<(), WriteFault>
-        ensures { Writes S.contents S.failure_count sink.old sink.new
-            (canonical_text self.now None) result }
-    {
-        PosixAcl::write(self, sink, Form::Canonical)
-    }
-
-    /// Writes the canonical text with a comment behind each entry that the mask limits: its effective permissions. It
-    /// ends at the first put that fails, and tries nothing again. No memory; linear time.
-    pub fn write_shown<S: Sink>(&self, sink: &mut S) -> Result<(), WriteFault>
-        ensures { Writes S.contents S.failure_count sink.old sink.new
-            (shown_text self.now None) result }
-    {
-        PosixAcl::write(self, sink, Form::Shown)
-    }
-
-    /// Writes the short text: the entries in canonical order with commas between them, and no line feed. It ends at the
-    /// first put that fails, and tries nothing again. No memory; linear time.
-    pub fn write_short<S: Sink>(&self, sink: &mut S) -> Result<(), WriteFault>
-        ensures { Writes S.contents S.failure_count sink.old sink.new
-            (short_text self.now None) result }
-    {
-        PosixAcl::write(self, sink, Form::Short)
-    }
 }

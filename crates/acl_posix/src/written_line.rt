@@ -1,15 +1,9 @@
 //! Lines in the form of the canonical text, which are read in one step. `reader` reads every other line field by field.
 ghost use Rattle.std.specs.Prelude.{◌≡◌, [], ◌∷◌, ◌++◌, IfSome};
 ghost use Rattle.acl_posix.specs.Entries.{pair_of};
+ghost use Rattle.acl_perm.specs.Ascii.{letter_r, letter_w, letter_x};
 ghost use Rattle.acl_perm.specs.Shown.{perm_text};
-ghost use Rattle.acl_posix.specs.internal.WrittenLine.{
-  letter_of,
-  AreFieldsBefore,
-  IsEntryBefore,
-  IsFirstLine,
-  IsIdBefore,
-  IsPermBefore,
-};
+ghost use Rattle.acl_posix.specs.internal.WrittenLine.{letter_of, AreFieldsBefore, IsEntryBefore, IsFirstLine, IsIdBefore, IsPermBefore};
 
 use crate::entry::Entry;
 use crate::id::{GREATEST, Id};
@@ -105,7 +99,7 @@ fn fields_before(bytes: &[u8]) -> Option<FieldsBefore<'_>>
     Some(FieldsBefore { id, perm, rest })
 }
 
-// The number of digits of the greatest id.
+// The number of digits of the greatest id. Ten digits fit in 64 bits.
 const MOST_DIGITS: usize = 10;
 
 fn id_before(bytes: &[u8]) -> Option<IdBefore<'_>>
@@ -148,7 +142,7 @@ fn perm_before(bytes: &[u8]) -> Option<PermBefore<'_>>
 
 fn perm_of(read: bool, write: bool, execute: bool) -> Perm
     ensures { perm_text result.bits
-        ≡ letter_of read 114 ∷ letter_of write 119 ∷ letter_of execute 120 ∷ [] }
+        ≡ letter_of read letter_r ∷ letter_of write letter_w ∷ letter_of execute letter_x ∷ [] }
 {
     let read = if read { 4 } else { 0 };
     let write = if write { 2 } else { 0 };

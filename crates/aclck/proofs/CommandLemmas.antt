@@ -1,12 +1,13 @@
--- What the exit status tells of a fault.
-use Rattle.std.proofs.Common.{◌≡◌, ℕ, Bool, true, false, List, Option, Some, None, Ok, Err, refl, sym, ap, ◌∙◌, arith, inl, inr}
+-- What the exit status says about the result of a run.
+use Rattle.std.proofs.Common.{◌≡◌, ℕ, Bool, true, false, List, Option, Some, None, Result, Ok, Err, refl, sym, ap, subst, ◌∙◌, arith, inl, inr}
 use Rattle.std.proofs.lemmas.Bool.{true≢false}
-use Rattle.std.specs.Prelude.{◌⊎◌, ◌<◌, IsSome}
+use Rattle.std.specs.Prelude.{◌⊎◌, ◌<◌, ◌≤◌, IsSome}
+use Rattle.clap.specs.Words.{Text}
 use Rattle.acl_perm.specs.Devices.{failures_after, one_more}
-use Rattle.aclck.specs.Answer.{Answer, Begins, FailsBy, Refuses, cause_of, is_input, is_refusal, is_sink, is_write}
-use Rattle.aclck.specs.Command.{IsBegun, IsRefused}
-use Rattle.aclck.specs.internal.Performing.{Performs, is_write_fault, status_of}
-use Rattle.aclck.specs.Task.{Answers, Task}
+use Rattle.aclck.specs.Answer.{Answer, Begins, FailsBy, Refuses, cause_of, is_input, is_read, is_input_fault, is_sink, is_source, is_write}
+use Rattle.aclck.specs.Command.{IsBegun, IsDone, IsRefused, IsStopped, RunsWords, outcome_at}
+use Rattle.aclck.specs.internal.Performing.{Performs, RunsTask, is_read_fault, is_write_fault, status_of}
+use Rattle.aclck.specs.Task.{Answers, Task, is_command, task_of}
 use Rattle.aclck.specs.declared.answer.Cause.{Cause}
 use Rattle.aclck.specs.declared.answer.Cause.TheVariants as cause
 use Rattle.aclck.specs.declared.answer.Outcome.{Outcome}
@@ -14,7 +15,7 @@ use Rattle.aclck.specs.declared.answer.RunFault.{RunFault}
 use Rattle.aclck.specs.declared.command.CommandFault.{CommandFault}
 use Rattle.aclck.specs.declared.command.CommandFault.TheVariants as command
 
--- a fault of the input is one that some input has
+-- a fault of the input is a fault that some input has
 refuses_by : (Means : List ℕ → Answer → Type 0) (known held holds : Option (List ℕ)) (f : RunFault) (c : Cause)
     → is_input c ≡ true → FailsBy Means known held holds f c → Refuses Means known f
 refuses_by Means known held holds f cause.Input is h = h
@@ -31,9 +32,9 @@ begins_by Means known held holds f (cause.Sink w) is h = (w.written, h)
 begins_by Means known held holds f cause.Memory is h = absurd cc
 
 -- a run that ends with a fault of the input has a task that refuses some input
-refused_run : (task : Option Task) (known held holds : Option (List ℕ)) (f : RunFault) → is_refusal f ≡ true
+refused_run : (task : Option Task) (known held holds : Option (List ℕ)) (f : RunFault) → is_input_fault f ≡ true
     → Performs task known held holds (Err (command.Run f)) → IsRefused task known
-refused_run task known held holds f is (inl memory) = absurd (true≢false (sym is ∙ ap is_refusal memory))
+refused_run task known held holds f is (inl memory) = absurd (true≢false (sym is ∙ ap is_input_fault memory))
 refused_run None known held holds f is (inr fails) = absurd fails
 refused_run (Some t) known held holds f is (inr fails) =
     (f, refuses_by (Answers t) known held holds f (cause_of f) is fails)
@@ -43,9 +44,9 @@ pub refused_told : (task : Option Task) (known held holds : Option (List ℕ)) (
     → Performs task known held holds (Err f) → status ≡ status_of f → status ≡ 2 → IsRefused task known
 refused_told task known held holds command.Usage status performs is two = absurd (omega (arith, is, two))
 refused_told task known held holds (command.Run f) status performs is two =
-    by (is_refusal f) refl
+    by (is_input_fault f) refl
   where
-    by : (b : Bool) → is_refusal f ≡ b → IsRefused task known
+    by : (b : Bool) → is_input_fault f ≡ b → IsRefused task known
     by true e = refused_run task known held holds f e performs
     by false e = let four : status ≡ 4 = is ∙ rw e refl in absurd (omega (arith, four, two))
 
@@ -64,7 +65,7 @@ below_named task known held holds (command.Run f) status (inl memory) is below =
 below_named None known held holds (command.Run f) status (inr fails) is below = absurd fails
 below_named (Some t) known held holds (command.Run f) status (inr fails) is below = refl
 
--- a failed write was the first of a text of the task
+-- after a failed write a beginning of a text of the task was written
 begun_at : (task : Option Task) (known held holds : Option (List ℕ)) (f : CommandFault)
     → Performs task known held holds (Err f) → is_write_fault f ≡ true → IsBegun task known held holds
 begun_at task known held holds command.Usage performs write = absurd cc
@@ -74,7 +75,7 @@ begun_at None known held holds (command.Run f) (inr fails) write = absurd fails
 begun_at (Some t) known held holds (command.Run f) (inr fails) write =
     begins_by (Answers t) known held holds f (cause_of f) write fails
 
--- nothing was written, or a write failed when a beginning was
+-- nothing was written, or a write failed after a beginning was written
 pub told_begun : (task : Option Task) (known held holds : Option (List ℕ)) (f : CommandFault) (Kept : Type 0)
     (old new : ℕ) → Performs task known held holds (Err f) → (is_write_fault f ≡ true) ⊎ Kept
     → new ≡ failures_after old (is_write_fault f)
@@ -82,3 +83,197 @@ pub told_begun : (task : Option Task) (known held holds : Option (List ℕ)) (f 
 told_begun task known held holds f Kept old new performs (inr kept) failed = inl kept
 told_begun task known held holds f Kept old new performs (inl write) failed =
     inr (failed ∙ ap (failures_after old) write, begun_at task known held holds f performs write)
+
+-- ---- one result after the other
+
+-- a number of failures after a call stays, or there is one more
+stays_or_more : (old new : ℕ) (failed : Bool) → new ≡ failures_after old failed → (new ≡ old) ⊎ (new ≡ one_more old)
+stays_or_more old new true is = inr is
+stays_or_more old new false is = inl is
+
+-- a fault of the input is no fault of the source and none of the sink
+input_alone : (c : Cause) → is_input c ≡ true → (is_source c ≡ false) × (is_sink c ≡ false)
+input_alone cause.Input is = (refl, refl)
+input_alone cause.Source is = absurd cc
+input_alone (cause.Sink w) is = absurd cc
+input_alone cause.Memory is = absurd cc
+
+-- a fault is one of the source, or none of it
+source_or_not : (c : Cause) → (is_source c ≡ true) ⊎ (is_source c ≡ false)
+source_or_not cause.Input = inr refl
+source_or_not cause.Source = inl refl
+source_or_not (cause.Sink w) = inr refl
+source_or_not cause.Memory = inr refl
+
+-- a fault of the source is none of the sink
+source_alone : (c : Cause) → is_source c ≡ true → is_sink c ≡ false
+source_alone cause.Input is = absurd cc
+source_alone cause.Source is = refl
+source_alone (cause.Sink w) is = absurd cc
+source_alone cause.Memory is = absurd cc
+
+-- a command that ran to its end
+pub ended_so : {S K E : Type 0} {words : List Text} {left : S → Option (List ℕ)} {reads_failed : S → ℕ}
+    {source source_after : S} {holds : K → Option (List ℕ)} {writes_failed : K → ℕ} {out out_after : K} {err : E}
+    (o : Outcome) (status : ℕ) → status < 2 → outcome_at status ≡ o
+    → RunsTask (task_of words) left reads_failed source source_after holds writes_failed out out_after (Ok o)
+    → (is_command words ≡ false → Ok o ≡ Err command.Usage)
+    → RunsWords words left reads_failed source source_after holds writes_failed out out_after err err status
+ended_so {words} {left} {source} {holds} {out} {out_after} o status below at runs unnamed = record {
+  known = omega (arith, below);
+  named = λ _. done_named _ _ _ _ _ runs.performs;
+  done = λ _. subst (λ q. IsDone (task_of words) (left source) (holds out) (holds out_after) q) (sym at) runs.performs;
+  whole = λ _. runs.whole;
+  refused = λ two. absurd (omega (arith, below, two));
+  usage = λ three. absurd (omega (arith, below, three));
+  unread = λ three. absurd (omega (arith, below, three));
+  unnamed = λ none. let e = unnamed none in absurd cc;
+  bound = runs.bound;
+  stopped = inl runs.reads;
+  ended = λ two. absurd (omega (arith, below, two));
+  unwritten = λ two _. absurd (omega (arith, below, two));
+  begun = λ four. absurd (omega (arith, below, four));
+  untold = λ _. refl;
+  none_failed = λ _. (runs.reads, runs.writes);
+  one_read = inl runs.reads;
+  one_write = inl runs.writes;
+  one_device = inl runs.reads;
+}
+
+-- a command line that asks for nothing
+bad_usage : {S K E : Type 0} {words : List Text} {left : S → Option (List ℕ)} {reads_failed : S → ℕ}
+    {source source_after : S} {holds : K → Option (List ℕ)} {writes_failed : K → ℕ} {out out_after : K}
+    {err err_after : E} (status : ℕ) → status ≡ 3
+    → RunsTask (task_of words) left reads_failed source source_after holds writes_failed out out_after
+    (Err command.Usage)
+    → RunsWords words left reads_failed source source_after holds writes_failed out out_after err err_after status
+bad_usage {out} {out_after} status is runs = record {
+  known = omega (arith, is);
+  named = λ below. absurd (omega (arith, is, below));
+  done = λ below. absurd (omega (arith, is, below));
+  whole = λ below. absurd (omega (arith, is, below));
+  refused = λ two. absurd (omega (arith, is, two));
+  usage = λ _. runs.performs;
+  unread = λ _. runs.unread refl;
+  unnamed = λ _. is;
+  bound = runs.bound;
+  stopped = inl runs.reads;
+  ended = λ two. absurd (omega (arith, is, two));
+  unwritten = λ _ _. kept runs.unwritten;
+  begun = λ four. absurd (omega (arith, is, four));
+  untold = λ below. absurd (omega (arith, is, below));
+  none_failed = λ _. (runs.reads, runs.writes);
+  one_read = inl runs.reads;
+  one_write = inl runs.writes;
+  one_device = inl runs.reads;
+}
+  where
+    kept : (false ≡ true) ⊎ (out_after ≡ out) → out_after ≡ out
+    kept (inl write) = absurd cc
+    kept (inr same) = same
+
+-- a refused input
+bad_input : {S K E : Type 0} {words : List Text} {left : S → Option (List ℕ)} {reads_failed : S → ℕ}
+    {source source_after : S} {holds : K → Option (List ℕ)} {writes_failed : K → ℕ} {out out_after : K}
+    {err err_after : E} (f : RunFault) (status : ℕ) → is_input_fault f ≡ true → status ≡ 2
+    → RunsTask (task_of words) left reads_failed source source_after holds writes_failed out out_after
+    (Err (command.Run f))
+    → (is_command words ≡ false → ◌≡◌ {A = Result Outcome CommandFault} (Err (command.Run f)) (Err command.Usage))
+    → RunsWords words left reads_failed source source_after holds writes_failed out out_after err err_after status
+bad_input {words} {left} {reads_failed} {source} {source_after} {holds} {writes_failed} {out} {out_after} f status
+    refused two runs unnamed = record {
+      known = omega (arith, two);
+      named = λ below. below_named _ _ _ _ (command.Run f) status runs.performs is below;
+      done = λ below. absurd (omega (arith, two, below));
+      whole = λ below. absurd (omega (arith, two, below));
+      refused = λ _. refused_told _ _ _ _ (command.Run f) status runs.performs is two;
+      usage = λ three. absurd (omega (arith, two, three));
+      unread = λ three. absurd (omega (arith, two, three));
+      unnamed = λ none. let e = unnamed none in absurd cc;
+      bound = runs.bound;
+      stopped = inl read;
+      ended = λ _. runs.ended (sym is ∙ two);
+      unwritten = λ _ _. kept runs.unwritten;
+      begun = λ four. absurd (omega (arith, two, four));
+      untold = λ below. absurd (omega (arith, two, below));
+      none_failed = λ _. (read, written);
+      one_read = inl read;
+      one_write = inl written;
+      one_device = inl read;
+    }
+  where
+    is : status ≡ status_of (command.Run f)
+    is = rw refused two
+
+    alone : (is_read f ≡ false) × (is_write f ≡ false)
+    alone = input_alone (cause_of f) refused
+
+    read : reads_failed source_after ≡ reads_failed source
+    read = runs.reads ∙ ap (failures_after (reads_failed source)) alone.0
+
+    written : writes_failed out_after ≡ writes_failed out
+    written = runs.writes ∙ ap (failures_after (writes_failed out)) alone.1
+
+    kept : (is_write f ≡ true) ⊎ (out_after ≡ out) → out_after ≡ out
+    kept (inl write) = absurd (true≢false (sym write ∙ alone.1))
+    kept (inr same) = same
+
+-- a device that failed, or memory that ran out
+bad_device : {S K E : Type 0} {words : List Text} {left : S → Option (List ℕ)} {reads_failed : S → ℕ}
+    {source source_after : S} {holds : K → Option (List ℕ)} {writes_failed : K → ℕ} {out out_after : K}
+    {err err_after : E} (f : RunFault) (status : ℕ) → status ≡ 4
+    → RunsTask (task_of words) left reads_failed source source_after holds writes_failed out out_after
+    (Err (command.Run f))
+    → (is_command words ≡ false → ◌≡◌ {A = Result Outcome CommandFault} (Err (command.Run f)) (Err command.Usage))
+    → RunsWords words left reads_failed source source_after holds writes_failed out out_after err err_after status
+bad_device {words} {left} {reads_failed} {source} {source_after} {holds} {writes_failed} {out} {out_after} f status
+    four runs unnamed = record {
+      known = omega (arith, four);
+      named = λ below. absurd (omega (arith, four, below));
+      done = λ below. absurd (omega (arith, four, below));
+      whole = λ below. absurd (omega (arith, four, below));
+      refused = λ two. absurd (omega (arith, four, two));
+      usage = λ three. absurd (omega (arith, four, three));
+      unread = λ three. absurd (omega (arith, four, three));
+      unnamed = λ none. let e = unnamed none in absurd cc;
+      bound = runs.bound;
+      stopped = stops (source_or_not (cause_of f));
+      ended = λ two. absurd (omega (arith, four, two));
+      unwritten = λ _ three. absurd (omega (arith, four, three));
+      begun = λ _. told_begun _ _ _ _ (command.Run f) _ _ _ runs.performs runs.unwritten runs.writes;
+      untold = λ below. absurd (omega (arith, four, below));
+      none_failed = λ below. absurd (omega (arith, four, below));
+      one_read = stays_or_more _ _ (is_read f) runs.reads;
+      one_write = stays_or_more _ _ (is_write f) runs.writes;
+      one_device = one (source_or_not (cause_of f));
+    }
+  where
+    no_read : is_read f ≡ false → reads_failed source_after ≡ reads_failed source
+    no_read not = runs.reads ∙ ap (failures_after (reads_failed source)) not
+
+    stops : (is_read f ≡ true) ⊎ (is_read f ≡ false) → (reads_failed source_after ≡ reads_failed source)
+        ⊎ IsStopped (task_of words) (left source) (left source_after)
+    stops (inl read) = inr (runs.stopped read)
+    stops (inr not) = inl (no_read not)
+
+    one : (is_read f ≡ true) ⊎ (is_read f ≡ false)
+        → (reads_failed source_after ≡ reads_failed source) ⊎ (writes_failed out_after ≡ writes_failed out)
+    one (inl read) =
+        inr (runs.writes ∙ ap (failures_after (writes_failed out)) (source_alone (cause_of f) read))
+    one (inr not) = inl (no_read not)
+
+-- a command that ended with a fault, with the status of that fault
+pub failed_so : {S K E : Type 0} {words : List Text} {left : S → Option (List ℕ)} {reads_failed : S → ℕ}
+    {source source_after : S} {holds : K → Option (List ℕ)} {writes_failed : K → ℕ} {out out_after : K}
+    {err err_after : E} (f : CommandFault) (status : ℕ) → status ≡ status_of f
+    → RunsTask (task_of words) left reads_failed source source_after holds writes_failed out out_after (Err f)
+    → (is_command words ≡ false → ◌≡◌ {A = Result Outcome CommandFault} (Err f) (Err command.Usage))
+    → RunsWords words left reads_failed source source_after holds writes_failed out out_after err err_after status
+failed_so command.Usage status is runs unnamed = bad_usage status is runs
+failed_so {words} {left} {reads_failed} {source} {source_after} {holds} {writes_failed} {out} {out_after} {err}
+    {err_after} (command.Run f) status is runs unnamed = by (is_input_fault f) refl
+  where
+    by : (b : Bool) → is_input_fault f ≡ b
+        → RunsWords words left reads_failed source source_after holds writes_failed out out_after err err_after status
+    by true e = bad_input f status e (is ∙ rw e refl) runs unnamed
+    by false e = bad_device f status (is ∙ rw e refl) runs unnamed

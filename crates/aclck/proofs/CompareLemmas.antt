@@ -1,4 +1,4 @@
--- What a comparison comes to, and its text.
+-- The outcome of a comparison, and its text.
 use Rattle.std.proofs.Common.{◌≡◌, ℕ, List, ◌++◌, Option, None, Some, refl, ap, ◌∙◌, append_assoc}
 use Rattle.std.specs.Prelude.{◌↔◌, IfSome, IsNone, [], ◌∷◌, Bool, codes, not, unwrap_or}
 use Rattle.std.specs.List.{flat_map}
@@ -12,7 +12,7 @@ use Rattle.acl_eval.specs.Grant.{SameGrants}
 use Rattle.acl_normal.specs.Difference.{situation_of}
 use Rattle.acl_normal.specs.SmallSets.{IsFirstDifference}
 use Rattle.acl_normal.specs.declared.comparison.Difference.{Difference}
-use Rattle.aclck.specs.Compare.{Compares, decision, difference_text, line}
+use Rattle.aclck.specs.Compare.{Compares, decision, difference_text, compare_line}
 use Rattle.aclck.specs.internal.Compared.{compared_outcome, compared_text}
 use Rattle.aclck.specs.declared.answer.Outcome.{Outcome}
 
@@ -26,18 +26,18 @@ parts_joined t0 t1 t2 t3 t4 t5 t6 t7 a b c d e f g h1 h2 h3 h4 h5 h6 h7 =
 
 -- the text of a difference, line by line
 pub text_is : (s : Situation) (mask : ℕ) (first : Bool) (t0 t1 t2 t3 t4 t5 t6 t7 : List ℕ)
-    → t0 ≡ codes "differ" ++ line_feed ∷ [] → t1 ≡ t0 ++ line (codes "owner") s.owner_name
-    → t2 ≡ t1 ++ line (codes "group") s.owning_group → t3 ≡ t2 ++ line (codes "user") s.user_name
-    → t4 ≡ t3 ++ flat_map (line (codes "member")) s.groups
-    → t5 ≡ t4 ++ line (codes "mask") (unwrap_or (first_name rights mask) [])
-    → t6 ≡ t5 ++ line (codes "first") (decision first) → t7 ≡ t6 ++ line (codes "second") (decision (not first))
+    → t0 ≡ codes "differ" ++ line_feed ∷ [] → t1 ≡ t0 ++ compare_line (codes "owner") s.owner_name
+    → t2 ≡ t1 ++ compare_line (codes "group") s.owning_group → t3 ≡ t2 ++ compare_line (codes "user") s.user_name
+    → t4 ≡ t3 ++ flat_map (compare_line (codes "member")) s.groups
+    → t5 ≡ t4 ++ compare_line (codes "mask") (unwrap_or (first_name rights mask) [])
+    → t6 ≡ t5 ++ compare_line (codes "first") (decision first) → t7 ≡ t6 ++ compare_line (codes "second") (decision (not first))
     → t7 ≡ difference_text s mask first
 text_is s mask first t0 t1 t2 t3 t4 t5 t6 t7 h0 h1 h2 h3 h4 h5 h6 h7 =
     parts_joined t0 t1 t2 t3 t4 t5 t6 t7 _ _ _ _ _ _ _ h1 h2 h3 h4 h5 h6 h7
-    ∙ ap (λ v. v ++ (line (codes "owner") s.owner_name ++ (line (codes "group") s.owning_group
-    ++ (line (codes "user") s.user_name ++ (flat_map (line (codes "member")) s.groups
-    ++ (line (codes "mask") (unwrap_or (first_name rights mask) []) ++ (line (codes "first") (decision first)
-    ++ line (codes "second") (decision (not first)))))))))
+    ∙ ap (λ v. v ++ (compare_line (codes "owner") s.owner_name ++ (compare_line (codes "group") s.owning_group
+    ++ (compare_line (codes "user") s.user_name ++ (flat_map (compare_line (codes "member")) s.groups
+    ++ (compare_line (codes "mask") (unwrap_or (first_name rights mask) []) ++ (compare_line (codes "first") (decision first)
+    ++ compare_line (codes "second") (decision (not first)))))))))
     h0
 
 -- what the library answers is the outcome and the text

@@ -11,19 +11,16 @@ use Rattle.acl_nfs4.specs.Ace.{Ace}
 use Rattle.acl_nfs4.specs.Spelling.{Xdr}
 use Rattle.acl_nfs4.specs.Fault.{Breaks, IsFault, IsFirstFault, IsWholeFault, refuses, size}
 use Rattle.acl_nfs4.specs.Fault.IsWholeFault.{behind, of_value}
-use Rattle.acl_nfs4.specs.Stream.{IsCut}
+use Rattle.acl_nfs4.specs.Stream.{IsCutShort}
 use Rattle.acl_nfs4.specs.declared.xdr.fault.Fault.{Fault}
 use Rattle.acl_nfs4.specs.declared.xdr.fault.Reason.{Reason}
 use Rattle.acl_nfs4.specs.declared.xdr.fault.Reason.TheVariants.{TrailingBytes, Truncated}
-use Rattle.acl_nfs4.proofs.Completion.{begins}
-use Rattle.acl_nfs4.proofs.Fields.{IsBytes-drop}
-use Rattle.acl_nfs4.proofs.OneFault.{never_truncated}
-use Rattle.acl_nfs4.proofs.Pieces.{fault_stays}
+use Rattle.acl_nfs4.proofs.Exports.{IsBytes-drop, begins, fault_stays, never_truncated}
 use Rattle.aclck.specs.Answer.{IsListFault, cause_of, is_read}
 use Rattle.aclck.specs.Compare.{IsFaultOfTwo}
 use Rattle.aclck.specs.Compare.IsFaultOfTwo.{of_first, of_second}
 use Rattle.aclck.specs.ListInput.{AreOpen, EndsBehind, IsOpen, ListEnds, RefusalEnds, TakesPart, TakesTo, TwoEnd, piece_len}
-use Rattle.aclck.specs.internal.Reading.{BytesEnd, EndsNot, HasInput, Kind, ReadsInput, ReadsNone, ReadsValue, StandsBelow, Unread, is_failed_pull, later, one_list, told, two_lists}
+use Rattle.aclck.specs.internal.Reading.{BytesEnd, EndsNot, HasInput, InputKind, ReadsInput, ReadsNone, ReadsValue, StandsBelow, Unread, is_failed_pull, later, one_list_input, told, two_list_input}
 use Rattle.aclck.specs.declared.answer.RunFault.{RunFault}
 use Rattle.aclck.specs.declared.answer.RunFault.TheVariants as fault
 use Rattle.aclck.specs.declared.input.xdr.ListFault.{ListFault}
@@ -32,7 +29,7 @@ use Rattle.aclck.proofs.ListInputLemmas.{end_kept, ends_somewhere, none_little, 
 
 -- ---- what was read so far
 
--- these bytes were read of what the source gave, and no call of it failed
+-- these bytes were read of what the source gave, and none of its calls failed
 pub record HasRead (text left : List ℕ) (known now_known : Option (List ℕ)) (failed now_failed : ℕ) : Type 0 where
   pub given : List ℕ
   pub taken : Consumes known now_known given
@@ -45,7 +42,7 @@ pub nothing : (left : List ℕ) (known : Option (List ℕ)) (failed : ℕ) → l
 nothing left known failed none =
     record { given = []; taken = Consumes-nil known; parts = sym none; none_failed = refl }
 
--- what was taken, by what was read of it and what was taken behind that
+-- what was taken is what was read, and what was taken behind it
 regroup : (given text after others : List ℕ) → given ≡ text ++ after → given ++ others ≡ text ++ (after ++ others)
 regroup given text after others e = ap (λ v. v ++ others) e ∙ append_assoc text after others
 
@@ -62,43 +59,43 @@ one_more p text mid_left left old mid new failed mid_failed new_failed list len 
   none_failed = same ∙ h.none_failed;
 }
 
--- ---- what is said of a kind of input
+-- ---- what holds for a kind of input
 
--- an input ends somewhere, and has few bytes behind that
-pub record EndsNear (k : Kind) (input : List ℕ) : Type 0 where
+-- an input ends somewhere, and has few bytes behind its end
+pub record EndsNear (k : InputKind) (input : List ℕ) : Type 0 where
   pub end : ℕ
   pub is_end : k.EndsAt input end
   pub near : length input ≤ end + piece_len
 
--- behind these bytes stands one more value: what is said of it is said of the input
-pub record Continues (k : Kind) (p : Profile) (before : List ℕ) : Type 0 where
+-- one more value is behind these bytes: what holds for it holds for the input
+pub record Continues (k : InputKind) (p : Profile) (before : List ℕ) : Type 0 where
   pub refused : (rest : List ℕ) (offset : ℕ) (r : Reason) → IsFault p rest offset r
       → k.HasFault (before ++ rest) (fault.Nfs (record { offset = offset + length before; reason = r }))
   pub ends : (rest : List ℕ) (end : ℕ) → BytesEnd p rest end ⊎ RefusalEnds p rest end
       → length rest ≤ end + piece_len → EndsNear k (before ++ rest)
-  pub goes_on : (rest : List ℕ) → IsCut p rest → k.MayGoOn (before ++ rest)
+  pub goes_on : (rest : List ℕ) → IsCutShort p rest → k.MayGoOn (before ++ rest)
 
--- some bytes are all that the input is to be
-pub record Completes (k : Kind) (text : List ℕ) : Type 0 where
+-- these bytes are the whole input
+pub record Completes (k : InputKind) (text : List ℕ) : Type 0 where
   pub refused : (rest : List ℕ) → 0 < length rest
       → k.HasFault (text ++ rest) (fault.Nfs (record { offset = length text; reason = TrailingBytes }))
   pub ends : (rest : List ℕ) → k.EndsAt (text ++ rest) (length text)
   pub goes_on : k.MayGoOn text
 
--- the end of a value, whose bytes are bytes
+-- the end of a value
 list_ends : (p : Profile) (text : List ℕ) (end : ℕ) → BytesEnd p text end ⊎ RefusalEnds p text end
     → ListEnds p text end
 list_ends p text end (inl v) = inl v.value
 list_ends p text end (inr r) = inr r
 
--- a fault is told where it stands
+-- a fault is reported at its place
 told_at : (Has : ℕ → Reason → Type 0) (n place : ℕ) (r : Reason) → n ≡ place → Has n r
     → IsListFault Has (fault.Nfs (record { offset = place; reason = r }))
 told_at Has n place r same has =
     record { found = record { offset = place; reason = r }; is = refl; has = subst (λ (k : ℕ). Has k r) same has }
 
--- one list stands behind nothing
-pub one_begins : (p : Profile) → Continues (one_list p) p []
+-- one list is behind no bytes
+pub one_begins : (p : Profile) → Continues (one_list_input p) p []
 one_begins p = record {
   refused = λ rest offset r has.
       told_at (IsWholeFault p rest) offset (offset + 0) r (omega arith) (of_value offset r has);
@@ -113,15 +110,15 @@ second_ends p list text first rest end far parts x is_end is =
     let ends : EndsBehind p end first rest = record { behind = far; is_end = is_end; is = is } in
     inl (record { list = list; first = first; rest = rest; parts = parts; spelled = x; holds = ends })
 
--- a second value may go on behind a first one
+-- a second value may continue behind a first one
 second_open : (p : Profile) (list : List Ace) (first rest : List ℕ) → Xdr p list first → IsOpen p rest
     → AreOpen p (first ++ rest)
 second_open p list first rest x is_open =
     inr (record { list = list; first = first; rest = rest; parts = refl; spelled = x; holds = is_open })
 
--- the first of two values ends near what was read: where it ends, the input goes on to an end behind it
+-- the first of two values ends near what was read, and the input ends behind it
 first_ends : (p : Profile) (rest : List ℕ) (end : ℕ) → BytesEnd p rest end ⊎ RefusalEnds p rest end
-    → length rest ≤ end + piece_len → EndsNear (two_lists p) rest
+    → length rest ≤ end + piece_len → EndsNear (two_list_input p) rest
 first_ends p rest end (inr r) near = record { end = end; is_end = inr r; near = near }
 first_ends p rest end (inl v) near =
     let ends = ends_somewhere p (drop end rest) (IsBytes-drop end rest v.bytes) in
@@ -132,8 +129,8 @@ first_ends p rest end (inl v) near =
       near = omega (arith, near, length-take end rest);
     }
 
--- what is said of the first of two lists
-pub two_begin : (p : Profile) → Continues (two_lists p) p []
+-- what holds for the first of two lists
+pub two_begin : (p : Profile) → Continues (two_list_input p) p []
 two_begin p = record {
   refused = λ rest offset r has.
       told_at (IsFaultOfTwo p rest) offset (offset + 0) r (omega arith) (of_first offset r has);
@@ -141,8 +138,8 @@ two_begin p = record {
   goes_on = λ rest cut. inl cut;
 }
 
--- the second of two stands behind the first
-pub two_go_on : (p : Profile) (list : List Ace) (first : List ℕ) → Xdr p list first → Continues (two_lists p) p first
+-- the second of two lists is behind the first
+pub two_go_on : (p : Profile) (list : List Ace) (first : List ℕ) → Xdr p list first → Continues (two_list_input p) p first
 two_go_on p list first x = record {
   refused = λ rest offset r has.
       told_at (IsFaultOfTwo p (first ++ rest)) (length first + offset) (offset + length first) r (omega arith)
@@ -156,8 +153,8 @@ two_go_on p list first x = record {
   goes_on = λ rest cut. second_open p list first rest x (inl cut);
 }
 
--- a list is all that one list is to be
-pub one_whole : (p : Profile) (list : List Ace) (text : List ℕ) → Xdr p list text → Completes (one_list p) text
+-- a list is a whole input of one list
+pub one_whole : (p : Profile) (list : List Ace) (text : List ℕ) → Xdr p list text → Completes (one_list_input p) text
 one_whole p list text x = record {
   refused = λ rest some. told_at (IsWholeFault p (text ++ rest)) (length text) (length text) TrailingBytes refl
       (behind list text rest x refl some);
@@ -169,9 +166,9 @@ one_whole p list text x = record {
   goes_on = inr (list, x);
 }
 
--- two lists are all that an input of two is to be
+-- two lists are a whole input of two lists
 pub two_whole : (p : Profile) (list other : List Ace) (first second : List ℕ) → Xdr p list first → Xdr p other second
-    → Completes (two_lists p) (first ++ second)
+    → Completes (two_list_input p) (first ++ second)
 two_whole p list other first second x y = record {
   refused = λ rest some.
       told_at (IsFaultOfTwo p ((first ++ second) ++ rest)) (length first + length second) (length (first ++ second))
@@ -186,7 +183,7 @@ two_whole p list other first second x y = record {
 
 -- ---- a value is not read
 
--- a fault stands where accepted fields end, which are few bytes
+-- a fault is where accepted fields end, and these have few bytes
 pub fault_below : (p : Profile) (left : List ℕ) (old mid : Option (List ℕ)) (e : ListFault) → ReadsNone p left old mid e
     → StandsBelow (2 ^ 32) e
 fault_below p left old mid (unread.Refused f) h =
@@ -195,7 +192,7 @@ fault_below p left old mid (unread.Refused f) h =
 fault_below p left old mid unread.Read h = tt
 fault_below p left old mid unread.Memory h = tt
 
--- what holds of the bytes that were taken, with those that are left, holds of an input
+-- what holds for the bytes that were taken, with those that are left, holds for an input
 input_found : (Holds : List ℕ → Type 0) (given : List ℕ) (old new : Option (List ℕ)) → Consumes old new given
     → ((left : List ℕ) → (IsAtEnd new → left ≡ []) → Holds (given ++ left)) → HasInput Holds old
 input_found Holds given None new c h = record { input = given ++ []; is_input = tt; holds = h [] (λ _. refl) }
@@ -215,13 +212,13 @@ still_has p given left f end h (inr b) all =
     fault_stays p given left f.offset f.reason (end, h)
     (λ e. never_truncated p h.stage _ (subst (λ (r : Reason). refuses p h.stage (take (size h.stage) h.rest) r) e b.2))
 
--- a fault that counts from an earlier byte is the source's or not as before
+-- a fault that counts from an earlier byte is a fault of the source if and only if it was one before
 later_read : (e : ListFault) (len : ℕ) → is_read (told (later e len)) ≡ is_failed_pull e
 later_read (unread.Refused f) len = refl
 later_read unread.Read len = refl
 later_read unread.Memory len = refl
 
--- a fault that is told is the source's exactly if a pull failed
+-- a fault that is reported is a fault of the source if and only if a pull failed
 told_read : (e : ListFault) → is_read (told e) ≡ is_failed_pull e
 told_read (unread.Refused f) = refl
 told_read unread.Read = refl
@@ -235,8 +232,8 @@ later_none (unread.Refused f) =
 later_none unread.Read = refl
 later_none unread.Memory = refl
 
--- where a value has a fault, the input has it
-value_refused : (k : Kind) (p : Profile) (before after given : List ℕ) (old mid new : Option (List ℕ)) (e : ListFault)
+-- if a value has a fault, the input has it
+value_refused : (k : InputKind) (p : Profile) (before after given : List ℕ) (old mid new : Option (List ℕ)) (e : ListFault)
     → Continues k p before → given ≡ before ++ after → Consumes old mid given → ReadsNone p after mid new e
     → Unread (HasInput (λ input. k.HasFault input (told (later e (length before)))) old)
     (cause_of (told (later e (length before))))
@@ -251,7 +248,7 @@ value_refused k p before after given old mid new unread.Read next parts c h = tt
 value_refused k p before after given old mid new unread.Memory next parts c h = tt
 
 -- little was taken
-value_near : (k : Kind) (p : Profile) (before after given : List ℕ) (old mid new : Option (List ℕ)) (e : ListFault)
+value_near : (k : InputKind) (p : Profile) (before after given : List ℕ) (old mid new : Option (List ℕ)) (e : ListFault)
     → Continues k p before → given ≡ before ++ after → Consumes old mid given → ReadsNone p after mid new e
     → TakesTo k.EndsAt old new
 value_near k p before after given old mid new e next parts c h =
@@ -266,8 +263,8 @@ value_near k p before after given old mid new e next parts c h =
       near = omega (arith, near.near, ap length all);
     }
 
--- where a read failed in a value, the input may go on
-value_open : (k : Kind) (p : Profile) (before after given : List ℕ) (old mid new : Option (List ℕ)) (e : ListFault)
+-- if a read failed in a value, the input may continue
+value_open : (k : InputKind) (p : Profile) (before after given : List ℕ) (old mid new : Option (List ℕ)) (e : ListFault)
     → Continues k p before → given ≡ before ++ after → Consumes old mid given → ReadsNone p after mid new e
     → is_failed_pull e ≡ true → TakesPart k.MayGoOn old new
 value_open k p before after given old mid new e next parts c h r =
@@ -279,8 +276,8 @@ value_open k p before after given old mid new e next parts c h r =
           (next.goes_on (after ++ part.given) part.cut);
     }
 
--- why a value was not read is why the input was not
-pub value_unread : {X : Type 0} (k : Kind) (p : Profile) (Is : X → List ℕ → Type 0) (before after : List ℕ)
+-- the reason why a value was not read is the reason why the input was not read
+pub value_unread : {X : Type 0} (k : InputKind) (p : Profile) (Is : X → List ℕ → Type 0) (before after : List ℕ)
     (old mid new : Option (List ℕ)) (failed mid_failed new_failed : ℕ) (e : ListFault) → Continues k p before
     → HasRead before after old mid failed mid_failed → ReadsNone p after mid new e
     → new_failed ≡ failures_after mid_failed (is_failed_pull e)
@@ -296,8 +293,8 @@ value_unread k p Is before after old mid new failed mid_failed new_failed e next
       ∙ ap (failures_after failed) (sym (later_read e (length before)));
 }
 
--- why the first value was not read is why the input was not, as a fault that goes up tells it
-pub first_unread : {X : Type 0} (k : Kind) (p : Profile) (Is : X → List ℕ → Type 0) (left : List ℕ)
+-- the reason why the first value was not read is the reason why the input was not read, after `?` has converted it
+pub first_unread : {X : Type 0} (k : InputKind) (p : Profile) (Is : X → List ℕ → Type 0) (left : List ℕ)
     (old new : Option (List ℕ)) (failed new_failed : ℕ) (e : ListFault) (r : Result X RunFault) → left ≡ []
     → IsErrAnd r (λ run. run ≡ told e) → Continues k p [] → ReadsNone p left old new e
     → new_failed ≡ failures_after failed (is_failed_pull e) → ReadsInput k Is old new failed new_failed r
@@ -308,8 +305,8 @@ first_unread k p Is left old new failed new_failed e (Err run) none goes_up next
 
 -- ---- all values are read
 
--- little was taken where an input goes on, or ends, behind them
-whole_near : (k : Kind) (text after given others : List ℕ) (old mid new : Option (List ℕ)) → Completes k text
+-- little was taken if an input continues, or ends, behind them
+whole_near : (k : InputKind) (text after given others : List ℕ) (old mid new : Option (List ℕ)) → Completes k text
     → given ≡ text ++ after → Consumes old mid given → Consumes mid new others
     → length (after ++ others) ≤ piece_len → TakesTo k.EndsAt old new
 whole_near k text after given others old mid new all parts c d near =
@@ -328,7 +325,7 @@ all_read text after given parts none =
     sym (append-nil given ∙ parts ∙ ap (λ (y : List ℕ). text ++ y) none ∙ append-nil text)
 
 -- a byte behind all values is a fault of the input
-end_refused : (k : Kind) (text after given : List ℕ) (old mid new : Option (List ℕ)) (len : ℕ) (e : ListFault)
+end_refused : (k : InputKind) (text after given : List ℕ) (old mid new : Option (List ℕ)) (len : ℕ) (e : ListFault)
     → Completes k text → given ≡ text ++ after → Consumes old mid given → len ≡ length text
     → EndsNot len after mid new e
     → Unread (HasInput (λ input. k.HasFault input (told e)) old) (cause_of (told e))
@@ -342,8 +339,8 @@ end_refused k text after given old mid new len (unread.Refused f) all parts c is
 end_refused k text after given old mid new len unread.Read all parts c is h = tt
 end_refused k text after given old mid new len unread.Memory all parts c is h = tt
 
--- where a read failed behind all values, the input may go on
-end_open : (k : Kind) (text after given : List ℕ) (old mid new : Option (List ℕ)) (len : ℕ) (e : ListFault)
+-- if a read failed behind all values, the input may continue
+end_open : (k : InputKind) (text after given : List ℕ) (old mid new : Option (List ℕ)) (len : ℕ) (e : ListFault)
     → Completes k text → given ≡ text ++ after → Consumes old mid given → EndsNot len after mid new e
     → is_failed_pull e ≡ true → TakesPart k.MayGoOn old new
 end_open k text after given old mid new len e all parts c h r =
@@ -354,8 +351,8 @@ end_open k text after given old mid new len e all parts c h r =
       is_open = subst (λ (y : List ℕ). k.MayGoOn y) (all_read text after given parts kept.0) all.goes_on;
     }
 
--- why an input does not end behind its values is why it was not read
-pub end_unread : {X : Type 0} (k : Kind) (Is : X → List ℕ → Type 0) (text after : List ℕ)
+-- the reason why an input does not end behind its values is the reason why it was not read
+pub end_unread : {X : Type 0} (k : InputKind) (Is : X → List ℕ → Type 0) (text after : List ℕ)
     (old mid new : Option (List ℕ)) (failed mid_failed new_failed len : ℕ) (e : ListFault) (r : Result X RunFault)
     → IsErrAnd r (λ run. run ≡ told e) → Completes k text → HasRead text after old mid failed mid_failed
     → len ≡ length text → EndsNot len after mid new e → new_failed ≡ failures_after mid_failed (is_failed_pull e)
@@ -376,7 +373,7 @@ end_unread k Is text after old mid new failed mid_failed new_failed len e (Err r
     })
 
 -- an input that is what was read and nothing more
-pub input_read : {X : Type 0} (k : Kind) (Is : X → List ℕ → Type 0) (x : X) (text after : List ℕ)
+pub input_read : {X : Type 0} (k : InputKind) (Is : X → List ℕ → Type 0) (x : X) (text after : List ℕ)
     (old mid new : Option (List ℕ)) (failed mid_failed new_failed : ℕ) → Completes k text → Is x text
     → HasRead text after old mid failed mid_failed → after ≡ [] → Consumes mid new [] → IsAtEnd new
     → new_failed ≡ mid_failed → ReadsInput k Is old new failed new_failed (Ok x)

@@ -5,6 +5,7 @@ pub mod ValueLemmas
 pub mod NameLemmas
 pub mod ShowLemmas
 pub mod ListInputLemmas
+pub mod FeedLemmas
 pub mod CommandLemmas
 mod Vectors
 pub mod ListTextLemmas

@@ -1,4 +1,4 @@
--- From what `clap` ensures of a parse to the words of `specs/Line.antt`.
+-- From what `clap` ensures about a parse to the words of `specs/Line.antt`.
 use Rattle.std.proofs.Common.{◌≡◌, ◌∙◌, true, false, List, [], ◌∷◌, ◌++◌, ◌+◌, ◌<◌, ℕ, ap, get_or, length, map, take, sym, refl, inl, inr}
 use Rattle.std.proofs.lemmas.List.{map-append, take_more}
 use Rattle.clap.specs.Words.{App, HasKind, HasMatchesOf, Kinds, Text, fault_of, found_of, is_simple, is_simple_and_free, kind_of, rows_of, with_rule}
@@ -24,13 +24,13 @@ pub taken_from : (app : App) (words : List Text) → is_simple_and_free app ≡ 
 unfolding is_taken
 taken_from app words free kinds = ap is_none_of (kinds free)
 
--- an error of another kind than want of memory has a kind among those that the words give
+-- an error that does not say that memory ran out has a kind that the words give
 some_kind : (kinds : Kinds) (e : Error) → HasKind kinds e → (kind_of e ≡ OutOfMemory → ⊥) → is_none_of kinds ≡ false
 some_kind [] e (inl memory) other = absurd (other memory)
 some_kind [] e (inr among) other = absurd among
 some_kind (k ∷ ks) e has other = refl
 
--- words that are refused for another reason than want of memory are not taken
+-- words that are refused although memory did not run out are not taken
 pub refused_from : (app : App) (words : List Text) (e : Error) → is_simple_and_free app ≡ true
     → (is_simple_and_free app ≡ true → HasKind (fault_of app words) e)
     → (kind_of e ≡ OutOfMemory → ⊥) → is_taken app words ≡ false
@@ -48,7 +48,7 @@ one_more_term : (name : Text) (terms : List Term) (t : Term)
 unfolding app_from
 one_more_term name terms t = rw (map-append rule_from terms (t ∷ [])) refl
 
--- a command is built an argument at a time: with the first i of a table and the next it has the first i + 1
+-- a command is built one argument after the other: the first i of a table and the next one are the first i + 1
 pub one_more_argument : (app next : App) (name : Text) (table : List Argument) (i : ℕ) (d : Argument)
     → app ≡ app_from name (map term (take i table)) → next ≡ with_rule app (rule_from (term (get_or table i d)))
     → i < length table → next ≡ app_from name (map term (take (i + 1) table))

@@ -14,19 +14,12 @@ use Rattle.acl_nfs4.specs.Fault.{Border, Breaks, IsFault, IsFirstFault, Stage, r
 use Rattle.acl_nfs4.specs.Fault.Stage.{count as at_count, kind as at_kind, flags as at_flags, mask as at_mask, len as at_len, who as at_who, padding as at_padding}
 use Rattle.acl_nfs4.specs.internal.Progress.{IsBytes}
 use Rattle.acl_nfs4.specs.internal.Reading.{Gives, value_at}
-use Rattle.acl_nfs4.specs.Stream.{Finishes, IsCut, Refuses, Standing}
-use Rattle.acl_nfs4.specs.Stream.Standing.{done, more}
+use Rattle.acl_nfs4.specs.Stream.{FinishesStream, IsCutShort, RefusesStream, StreamState}
+use Rattle.acl_nfs4.specs.Stream.StreamState.{done, more}
 use Rattle.acl_nfs4.specs.declared.xdr.fault.Fault.{Fault}
 use Rattle.acl_nfs4.specs.declared.xdr.fault.Reason.{Reason}
 use Rattle.acl_nfs4.specs.declared.xdr.fault.Reason.TheVariants.{Truncated}
-use Rattle.acl_nfs4.proofs.Completion.{begins, who_bounds as stage_bounds}
-use Rattle.acl_nfs4.proofs.Body.{is_found}
-use Rattle.acl_nfs4.proofs.Exactly.{one_reason}
-use Rattle.acl_nfs4.proofs.Faults.{is_fault}
-use Rattle.acl_nfs4.proofs.Held.{short_rest}
-use Rattle.acl_nfs4.proofs.Lengths.{spelling_short}
-use Rattle.acl_nfs4.proofs.OneFault.{never_truncated, value_or_fault}
-use Rattle.acl_nfs4.proofs.Pieces.{breaks_whole}
+use Rattle.acl_nfs4.proofs.Exports.{begins, breaks_whole, is_fault, is_found, never_truncated, one_reason, short_rest, spelling_short, stage_bounds, value_or_fault}
 use Rattle.aclck.specs.ListInput.{ListEnds, RefusalEnds, ValueEnds, piece_len}
 use Rattle.aclck.specs.internal.Reading.{EndsNot, IsTold, ReadsLittle, ReadsNone, ReadsPart, ReadsValue, is_failed_pull}
 use Rattle.aclck.specs.declared.input.xdr.ListFault.{ListFault}
@@ -39,7 +32,7 @@ use Rattle.aclck.specs.declared.input.xdr.Value.{Value}
 pub spelled_short : (p : Profile) (list : List Ace) (text : List ℕ) → Xdr p list text → length text < 2 ^ 31
 spelled_short p list text x = omega (arith, ap length x.spelled, spelling_short p list x.accepted)
 
--- a field
+-- a field has at most 1,024 bytes
 size_small : (p : Profile) (s : Stage) (t : List ℕ) → Border p s t → size s ≤ 1024
 size_small p at_count t b = omega arith
 size_small p (at_kind n list) t b = omega arith
@@ -50,7 +43,7 @@ size_small p (at_who n list k f m l) t b = (stage_bounds p (at_who n list k f m 
 size_small p (at_padding n list k f m w) t b = omega arith
 
 -- a text that is cut short has less than 2 ^ 32 bytes
-pub cut_short : (p : Profile) (text : List ℕ) → IsCut p text → length text < 2 ^ 32
+pub cut_short : (p : Profile) (text : List ℕ) → IsCutShort p text → length text < 2 ^ 32
 cut_short p text c =
     let f = c.1.1 in
     let b = begins p f.stage f.front f.border in
@@ -66,7 +59,7 @@ cut_short p text c =
 
 -- ---- where a text ends
 
--- what was found is given with its parts as they are
+-- what was found, with its two parts
 gives_itself : (r : Result (List Ace × ℕ) Fault) → Gives (λ x. (x.0, x.1)) r r
 gives_itself (Ok x) = refl
 gives_itself (Err f) = refl
@@ -75,7 +68,7 @@ gives_itself (Err f) = refl
 abbrev pub Ends : Profile → List ℕ → Type 0
 Ends p text = (end : ℕ) × ListEnds p text end
 
--- where what was found of a text is its value or its fault, it tells the end
+-- if a value or a fault was found of a text, there is such an end
 ends_as : (p : Profile) (text : List ℕ) (r : Result (List Ace × ℕ) Fault) → IsBytes text
     → Gives (λ x. (x.0, x.1)) r (value_at p text) → Ends p text
 ends_as p text (Ok x) b g = (x.1, inl (record { list = x.0; spelled = (is_found p text (Ok x) b g).1 }))
@@ -91,14 +84,14 @@ ends_somewhere p text b = ends_as p text (value_at p text) b (gives_itself (valu
 
 -- the value that a feed held
 pub done_reads : (p : Profile) (left given text pulled pull new_left : List ℕ) (old new : Option (List ℕ)) (fed t : ℕ)
-    (feed : Standing) (list : List Ace) (r : Result Value ListFault) → left ++ given ≡ text ++ pulled
+    (feed : StreamState) (list : List Ace) (r : Result Value ListFault) → left ++ given ≡ text ++ pulled
     → Consumes old new given → fed ≡ length text → pull ≡ pulled → new_left ≡ drop t pulled → t ≤ length pull
     → feed ≡ done list → Xdr p list (text ++ take t pull)
-    → IfOk r (λ v. (v.len ≡ fed + t) × Finishes feed (Ok v.list))
+    → IfOk r (λ v. (v.len ≡ fed + t) × FinishesStream feed (Ok v.list))
     → IfOk r (λ v. ReadsValue p left new_left old new v.list v.len)
 done_reads p left given text pulled pull new_left old new fed t feed list (Err e) parts c n same after le is x h = tt
 done_reads p left given text pulled pull new_left old new fed t feed list (Ok v) parts c n same after le is x h =
-    let found : Ok v.list ≡ Ok list = subst (λ (s : Standing). Finishes s (Ok v.list)) is h.1 in
+    let found : Ok v.list ≡ Ok list = subst (λ (s : StreamState). FinishesStream s (Ok v.list)) is h.1 in
     let same_list : v.list ≡ list = cc in
     record {
       given = given;
@@ -110,16 +103,16 @@ done_reads p left given text pulled pull new_left old new fed t feed list (Ok v)
       is_len = omega (arith, h.0, n, le, length-append text (take t pull), length-take t pull);
     }
 
--- the value that a feed held, which want of memory took
+-- a feed held a value, but memory ran out
 pub done_none : (p : Profile) (left given text pulled pull : List ℕ) (old new : Option (List ℕ)) (t : ℕ)
-    (feed : Standing) (list : List Ace) (r : Result Value ListFault) → left ++ given ≡ text ++ pulled
+    (feed : StreamState) (list : List Ace) (r : Result Value ListFault) → left ++ given ≡ text ++ pulled
     → Consumes old new given → pull ≡ pulled → length pulled ≤ piece_len → feed ≡ done list
     → Xdr p list (text ++ take t pull) → IsBytes (text ++ pull)
-    → IfErr r (λ e. (e ≡ unread.Memory) ⊎ ((f : Fault) × (e ≡ unread.Refused f) × Finishes feed (Err f)))
+    → IfErr r (λ e. (e ≡ unread.Memory) ⊎ ((f : Fault) × (e ≡ unread.Refused f) × FinishesStream feed (Err f)))
     → IfErr r (λ e. ReadsNone p left old new e)
 done_none p left given text pulled pull old new t feed list (Ok v) parts c same short is x bytes h = tt
 done_none p left given text pulled pull old new t feed list (Err e) parts c same short is x bytes (inr (f, at, h)) =
-    let none : Err f ≡ Ok list = subst (λ (s : Standing). Finishes s (Err f)) is h in absurd cc
+    let none : Err f ≡ Ok list = subst (λ (s : StreamState). FinishesStream s (Err f)) is h in absurd cc
 done_none p left given text pulled pull old new t feed list (Err e) parts c same short is x bytes (inl m) =
     rw m (record {
       given = given;
@@ -175,8 +168,8 @@ in_front p text pull o end r f not_cut le =
       },
     )
 
--- the fault of a text stands behind a beginning that is cut short
-behind_cut : (p : Profile) (text pull : List ℕ) (o end : ℕ) (r : Reason) → IsProfile p → IsCut p text
+-- the fault of a text is behind a beginning of it that is cut short
+behind_cut : (p : Profile) (text pull : List ℕ) (o end : ℕ) (r : Reason) → IsProfile p → IsCutShort p text
     → IsFirstFault p (text ++ pull) o end r → r ≢ Truncated → length text ≤ end
 behind_cut p text pull o end r ok cut f not_cut =
     elim (cases_lt end (length text)) [
@@ -193,13 +186,13 @@ next_parts left given text pulled pull new_pulled parts same =
     sym (append_assoc left given new_pulled)
     ∙ ap (λ (x : List ℕ). x ++ new_pulled) (parts ∙ ap (λ (x : List ℕ). text ++ x) (sym same))
 
--- all of a text that is cut short is taken
+-- the field in which a text is cut short ends with the text
 cut_end : (p : Profile) (text : List ℕ) (o end : ℕ) (f : IsFirstFault p text o end Truncated)
     → Breaks p f.stage f.rest f.more Truncated → end ≡ length text
 cut_end p text o end f (inl h) = omega (arith, f.ends, f.here, h.1, ap length f.parts, length-append f.front f.rest)
 cut_end p text o end f (inr h) = absurd (never_truncated p f.stage _ h.2)
 
--- all that the feed has taken, where nothing more comes
+-- what the feed has taken, if nothing more comes
 end_whole : (left given text pulled pull new_pulled : List ℕ) → left ++ given ≡ text ++ pulled → pull ≡ pulled
     → new_pulled ≡ [] → text ++ pull ≡ left ++ (given ++ new_pulled)
 end_whole left given text pulled pull new_pulled parts same none =
@@ -208,10 +201,10 @@ end_whole left given text pulled pull new_pulled parts same none =
 
 -- the source ends where the stream is cut short
 pub end_reads : (p : Profile) (left given text pulled pull new_pulled : List ℕ) (old mid new : Option (List ℕ))
-    (feed : Standing) (r : Result Value ListFault) → left ++ given ≡ text ++ pulled → pull ≡ pulled
+    (feed : StreamState) (r : Result Value ListFault) → left ++ given ≡ text ++ pulled → pull ≡ pulled
     → Consumes old mid given → Consumes mid new new_pulled → new_pulled ≡ [] → IsAtEnd new
-    → feed ≡ more p (text ++ pull) → IsCut p (text ++ pull) → IsBytes (text ++ pull)
-    → IfErr r (λ e. (e ≡ unread.Memory) ⊎ ((f : Fault) × (e ≡ unread.Refused f) × Finishes feed (Err f)))
+    → feed ≡ more p (text ++ pull) → IsCutShort p (text ++ pull) → IsBytes (text ++ pull)
+    → IfErr r (λ e. (e ≡ unread.Memory) ⊎ ((f : Fault) × (e ≡ unread.Refused f) × FinishesStream feed (Err f)))
     → IfErr r (λ e. ReadsNone p left old new e)
 end_reads p left given text pulled pull new_pulled old mid new feed (Ok v) parts same c d none end is cut bytes h = tt
 end_reads p left given text pulled pull new_pulled old mid new feed (Err e) parts same c d none end is cut bytes
@@ -230,7 +223,7 @@ end_reads p left given text pulled pull new_pulled old mid new feed (Err e) part
     })
 end_reads p left given text pulled pull new_pulled old mid new feed (Err e) parts same c d none end is still bytes
     (inr (f, at, h)) =
-    let cut : Finishes (more p (text ++ pull)) (Err f) = subst (λ (s : Standing). Finishes s (Err f)) is h in
+    let cut : FinishesStream (more p (text ++ pull)) (Err f) = subst (λ (s : StreamState). FinishesStream s (Err f)) is h in
     let all : IsFirstFault p (text ++ pull) f.offset cut.1.0 Truncated =
     subst (λ (r : Reason). IsFirstFault p (text ++ pull) f.offset cut.1.0 r) cut.0 cut.1.1 in
     let whole = end_whole left given text pulled pull new_pulled parts same none in
@@ -243,8 +236,8 @@ end_reads p left given text pulled pull new_pulled old mid new feed (Err e) part
       all = λ t. end;
     })
 
--- a text goes on behind a beginning that is cut short, to the end of a value
-value_behind_cut : (p : Profile) (text pull : List ℕ) (list : List Ace) (end : ℕ) → IsProfile p → IsCut p text
+-- the value of a text ends behind a beginning of the text that is cut short
+value_behind_cut : (p : Profile) (text pull : List ℕ) (list : List Ace) (end : ℕ) → IsProfile p → IsCutShort p text
     → Xdr p list (take end (text ++ pull)) → length text ≤ end
 value_behind_cut p text pull list end ok cut x =
     elim (cases_lt end (length text)) [
@@ -255,8 +248,8 @@ value_behind_cut p text pull list end ok cut x =
           (sym (take-append-drop end text)) cut.1)
     ]
 
--- or of a refused field
-refusal_behind_cut : (p : Profile) (text pull : List ℕ) (o end : ℕ) (r : Reason) → IsProfile p → IsCut p text
+-- a refused field of a text ends behind a beginning of the text that is cut short
+refusal_behind_cut : (p : Profile) (text pull : List ℕ) (o end : ℕ) (r : Reason) → IsProfile p → IsCutShort p text
     → (f : IsFirstFault p (text ++ pull) o end r) → Breaks p f.stage f.rest f.more r → length text ≤ end
 refusal_behind_cut p text pull o end r ok cut f (inl b) =
     omega (arith, f.ends, f.here, b.1, ap length f.parts, length-append f.front f.rest, length-append text pull)
@@ -264,10 +257,10 @@ refusal_behind_cut p text pull o end r ok cut f (inr b) =
     behind_cut p text pull o end r ok cut f
     (λ e. never_truncated p f.stage _ (subst (λ (q : Reason). refuses p f.stage (take (size f.stage) f.rest) q) e b.2))
 
--- a growth was refused: the text that came ends somewhere in what the last pull gave
+-- memory ran out: the value or the refused field ends in what the last pull gave
 memory_reads : (p : Profile) (left given text pulled pull : List ℕ) (old new : Option (List ℕ)) → IsProfile p
     → left ++ given ≡ text ++ pulled → Consumes old new given → pull ≡ pulled → length pulled ≤ piece_len
-    → IsCut p text → IsBytes (text ++ pull) → ReadsLittle p left old new
+    → IsCutShort p text → IsBytes (text ++ pull) → ReadsLittle p left old new
 memory_reads p left given text pulled pull old new ok parts c same short cut bytes =
     let whole : text ++ pull ≡ left ++ given = ap (λ (x : List ℕ). text ++ x) same ∙ sym parts in
     let ends = ends_somewhere p (text ++ pull) bytes in
@@ -292,7 +285,7 @@ memory_reads p left given text pulled pull old new ok parts c same short cut byt
 -- a stream is refused
 pub refused_reads : (p : Profile) (left given text pulled pull : List ℕ) (old new : Option (List ℕ)) (f : Fault)
     (e : ListFault) → IsProfile p → left ++ given ≡ text ++ pulled → Consumes old new given → pull ≡ pulled
-    → length pulled ≤ piece_len → IsCut p text → IsBytes (text ++ pull) → Refuses p (text ++ pull) f → IsTold e f
+    → length pulled ≤ piece_len → IsCutShort p text → IsBytes (text ++ pull) → RefusesStream p (text ++ pull) f → IsTold e f
     → ReadsNone p left old new e
 refused_reads p left given text pulled pull old new f e ok parts c same short cut bytes h (inl memory) =
     rw memory (memory_reads p left given text pulled pull old new ok parts c same short cut bytes)
@@ -331,20 +324,20 @@ none_little p left old new unread.Read h = record {
 }
 none_little p left old new unread.Memory h = h
 
--- where a read failed, what came is cut short
+-- if a read failed, what came is cut short
 pub none_part : (p : Profile) (left : List ℕ) (old new : Option (List ℕ)) (e : ListFault) → ReadsNone p left old new e
     → is_failed_pull e ≡ true → ReadsPart p left old new
 none_part p left old new (unread.Refused f) h r = absurd cc
 none_part p left old new unread.Read h r = h
 none_part p left old new unread.Memory h r = absurd cc
 
--- what an end or no end behind a value took of the source
+-- what was taken of the source behind a value
 pub record TakesPast (left : List ℕ) (mid new : Option (List ℕ)) : Type 0 where
   pub given : List ℕ
   pub taken : Consumes mid new given
   pub near : length (left ++ given) ≤ piece_len
 
--- little was taken where an input goes on
+-- little was taken if the input continues behind the value
 pub past_end : (len : ℕ) (left : List ℕ) (mid new : Option (List ℕ)) (e : ListFault) → EndsNot len left mid new e
     → TakesPast left mid new
 past_end len left mid new (unread.Refused f) h = record { given = h.1.given; taken = h.1.taken; near = h.1.near }
@@ -355,7 +348,7 @@ past_end len left mid new unread.Read h = record {
 }
 past_end len left mid new unread.Memory h = absurd h
 
--- where a read failed behind a value, nothing was left of the last pull and nothing more came
+-- if a read failed behind a value, nothing was left of the last pull and nothing more came
 pub end_kept : (len : ℕ) (left : List ℕ) (mid new : Option (List ℕ)) (e : ListFault) → EndsNot len left mid new e
     → is_failed_pull e ≡ true → (left ≡ []) × Consumes mid new []
 end_kept len left mid new (unread.Refused f) h r = absurd cc

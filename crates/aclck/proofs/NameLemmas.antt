@@ -10,13 +10,13 @@ use Rattle.clap.specs.Words.{Text}
 use Rattle.aclck.specs.NameWords.{last_cut}
 use Rattle.aclck.specs.internal.Adding.{cut_of}
 
--- a text is not cut at a byte that it has not
+-- a text is not cut at a byte that it does not have
 no_cut : (c : ℕ) (bs : Text) → ((i : ℕ) → i < length bs → get_or bs i 0 ≢ c) → last_cut c bs ≡ None
 no_cut c [] none = refl
 no_cut c (b ∷ bs) none =
     rw (no_cut c bs (λ i lt. none (suc i) (omega arith)), ne_eqb b c (none 0 (omega arith))) refl
 
--- a text is cut at the byte behind which none of its kind stands
+-- a text is cut at the last of equal bytes
 cut_there : (c : ℕ) (bs : Text) (k : ℕ) → k < length bs → get_or bs k 0 ≡ c
     → ((i : ℕ) → k < i → i < length bs → get_or bs i 0 ≢ c)
     → last_cut c bs ≡ Some (record { before = take k bs; behind = drop (suc k) bs })

@@ -7,8 +7,7 @@ use Rattle.acl_perm.specs.declared.profile.Profile.{Profile as CodeProfile}
 use Rattle.acl_nfs4.specs.Ace.{Ace}
 use Rattle.acl_nfs4.specs.Spelling.{IsAccepted, Xdr, spelling}
 use Rattle.acl_nfs4.specs.Within.{IsProfile}
-use Rattle.acl_nfs4.proofs.Body.{one}
-use Rattle.acl_nfs4.proofs.Within.{code_profile}
+use Rattle.acl_nfs4.proofs.Exports.{code_profile, one}
 use Rattle.acl_eval.specs.Grant.{SameGrants}
 use Rattle.acl_eval.proofs.Same.{equivalence}
 use Rattle.acl_normal.specs.Normal.{IsNormal}
@@ -31,11 +30,11 @@ form_is : (p : Profile) (list : List Ace) (x a : List ℕ) → IsProfile p → X
 form_is p list x a is read h = subst (λ source. IsForm p source h.form) (one_of p h.source list x is h.read read)
     (form_of p h.source h.form is h.read.accepted h.is_form)
 
--- what equal texts tell, other texts that are equal to these tell
+-- what holds if and only if two texts are equal also holds for two texts that are equal to these
 pub told_by : {Same : Type 0} (a b one two : List ℕ) → a ≡ one → b ≡ two → (one ≡ two) ↔ Same → (a ≡ b) ↔ Same
 told_by a b one two e f law = (λ equal. law.0 (sym e ∙ equal ∙ f), λ same. e ∙ law.1 same ∙ sym f)
 
--- two lists get equal bytes exactly if they grant the same
+-- two lists get equal bytes if and only if they grant the same
 pub bytes_tell : TellsListsApart Normalises SameGrants
 bytes_tell p list other x y a b is read read_other h k =
     told_by a b (spelling h.form) (spelling k.form) h.spelled.spelled k.spelled.spelled
@@ -70,14 +69,14 @@ normalises p source form x read is_form accepted = record {
   spelled = record { accepted = accepted; spelled = refl };
 }
 
--- an accepted normal form is what is written of its own bytes
+-- of the bytes of an accepted normal form, these bytes are written
 pub own_bytes : (p : Profile) (form : List Ace) → IsNormal form → IsAccepted full form → IsAccepted p form
     → Normalises p (spelling form) (spelling form)
 own_bytes p form normal accepted taken =
     normalises p form form (spelling form) (record { accepted = taken; spelled = refl }) (own_form form normal accepted)
     taken
 
--- the bytes that are written are written of themselves, and no others
+-- of bytes that were written, the same bytes are written, and no others
 pub twice : (p : Profile) (x a b : List ℕ) → IsProfile p → Normalises p x a → Normalises p a b ↔ (b ≡ a)
 twice p x a b is h = (
   λ k.

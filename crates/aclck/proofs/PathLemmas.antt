@@ -7,7 +7,7 @@ use Rattle.acl_perm.proofs.Sets.{bits_from_mask}
 use Rattle.acl_nfs4.specs.Ace.{Ace}
 use Rattle.acl_nfs4.specs.Spelling.{IsAccepted, Xdr, spelling}
 use Rattle.acl_nfs4.specs.Within.{IsProfile}
-use Rattle.acl_nfs4.proofs.Within.{code_profile}
+use Rattle.acl_nfs4.proofs.Exports.{code_profile}
 use Rattle.acl_eval.specs.Grant.{SameGrants}
 use Rattle.acl_normal.specs.FiveForms.{AreFormsOf, five_spellings}
 use Rattle.acl_normal.specs.NormalForm.{IsNormalFormOf, Normalises}
@@ -17,7 +17,8 @@ use Rattle.acl_normal.proofs.unique.FiveFormLemmas.{all_accepted, joined_tell}
 use Rattle.aclck.specs.Answer.{done}
 use Rattle.aclck.specs.Headline.{GrantAtPaths}
 use Rattle.aclck.specs.Laws.{IsFiveForms, TellsListsApart}
-use Rattle.aclck.specs.Normalize.{NormalisesAtPaths, NormalizeInheritAnswer}
+use Rattle.acl_normal.specs.Programs.{NormalisesAtPaths}
+use Rattle.aclck.specs.Normalize.{NormalizeInheritAnswer}
 use Rattle.aclck.specs.declared.answer.Outcome.TheVariants as outcome
 use Rattle.aclck.proofs.NormalFormLemmas.{one_of, own_bytes, told_by}
 
@@ -27,7 +28,7 @@ of_read : (p : Profile) (list : List Ace) (x a : List ℕ) → IsProfile p → X
 of_read p list x a is read h =
     subst (λ source. AreFormsOf source h.forms) (one_of p h.source list x is h.read read) h.are_forms
 
--- two lists get equal bytes exactly if they grant the same at every path
+-- two lists get equal bytes if and only if they grant the same at every path
 pub paths_tell : TellsListsApart NormalisesAtPaths SameAtEveryPath
 paths_tell p list other x y a b is read read_other h k =
     told_by a b (five_spellings h.forms) (five_spellings k.forms) h.spelled k.spelled
@@ -40,7 +41,7 @@ part_of_rights : (p : Profile) (list other : List Ace) → IsProfile p → SameG
 part_of_rights p list other is same s valid request within =
     same s valid request (λ k h. bits_from_mask p.masks k is.masks (within k h))
 
--- each of the five grants what stands at its path grants
+-- each of the five grants what the list at its path grants
 pub grants_at_paths : (p : Profile) (list : List Ace) (x a : List ℕ) → IsProfile p → Xdr p list x
     → (h : NormalisesAtPaths p x a) → GrantAtPaths p.masks list h.forms
 grants_at_paths p list x a is read h =

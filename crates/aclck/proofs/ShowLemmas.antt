@@ -4,9 +4,7 @@ use Rattle.acl_posix.specs.Grammar.{Reads}
 use Rattle.acl_posix.specs.Names.{Table}
 use Rattle.acl_posix.specs.Texts.{canonical_text}
 use Rattle.acl_posix.specs.declared.file.PosixFile.{PosixFile}
-use Rattle.acl_posix.proofs.Limits.{file_of_text}
-use Rattle.acl_posix.proofs.Settled.{one_file}
-use Rattle.acl_posix.proofs.Whole.{apart, canonical_reads}
+use Rattle.acl_posix.proofs.Exports.{apart, canonical_reads, file_of_text, one_file}
 use Rattle.aclck.specs.Laws.{ShowPosixTellsApart, ShowsCanonical}
 use Rattle.aclck.proofs.NormalFormLemmas.{told_by}
 
@@ -16,7 +14,7 @@ text_of_file : (t : Table) (x a : List ℕ) (f : PosixFile) → Reads x t f → 
 text_of_file t x a f h shows = shows.1.is ∙ ap (λ (k : PosixFile). canonical_text k.access k.default)
     (one_file x t shows.1.file f shows.1.read h)
 
--- two inputs get one text exactly if their sets of entries are equal
+-- two inputs get the same text if and only if their sets of entries are equal
 pub told_apart : ShowPosixTellsApart
 told_apart t u x y a b f g ht hu rf rg sa sb =
     told_by a b (canonical_text f.access f.default) (canonical_text g.access g.default) (text_of_file t x a f rf sa)

@@ -1,4 +1,4 @@
--- Any table with at most one argument that takes words makes a command of which `clap`'s exact clauses speak.
+-- The exact clauses of `clap` apply to the command of every table in which at most one argument takes words.
 use Rattle.std.proofs.Common.{◌≡◌, ◌∙◌, ◌+◌, ℕ, Bool, true, false, cond, not, List, [], ◌∷◌, ap, map, sym, refl, subst}
 use Rattle.std.specs.Prelude.{◌&&◌, count_by, is_some}
 use Rattle.std.specs.List.{list_all, list_any}
@@ -10,13 +10,13 @@ use Rattle.acl_perm.proofs.Bools.{not_true}
 use Rattle.aclck.specs.Line.{Term, any_words, app_from, default, flag, optional, required, rule_from}
 use Rattle.aclck.specs.internal.Held.{is_rest, is_sound}
 
--- all rules are simple, as they are and where they stand, and there they are free
+-- all rules are simple, also at their places, and they are free at their places
 abbrev ArePlain : List Rule → List Rule → Type 0
 ArePlain rules standing = (list_all (λ a. a.is_simple) rules ≡ true)
     × (list_all (λ a. a.is_simple) standing ≡ true)
     × (list_all (λ a. a.is_free) standing ≡ true)
 
--- the rules of every table are simple and free where they stand
+-- the rules of every table are simple, and free at their places
 all_plain : (terms : List Term) (i : ℕ) → ArePlain (map rule_from terms) (filled_from i (map rule_from terms))
 all_plain [] i = (refl, refl, refl)
 all_plain (required name ∷ ts) i = all_plain ts _
@@ -25,7 +25,7 @@ all_plain (default name value ∷ ts) i = all_plain ts _
 all_plain (flag name ∷ ts) i = all_plain ts _
 all_plain (any_words ∷ ts) i = all_plain ts _
 
--- where no argument takes words, no rule takes more than one of them before others
+-- if no argument takes words, no rule takes more than one word before other rules
 none_early : (terms : List Term) (i n : ℕ) → list_any is_rest terms ≡ false
     → list_any (is_early_multiple n) (filled_from i (map rule_from terms)) ≡ false
 none_early [] i n none = refl
@@ -39,7 +39,7 @@ none_early (any_words ∷ ts) i n none = absurd cc
 abbrev placed : List Rule → ℕ
 placed rules = count_by (λ a. is_some a.index) rules
 
--- where no argument takes words, no rule has a place among them
+-- if no argument takes words, no rule has a place among the words
 none_placed : (terms : List Term) (i : ℕ) → list_any is_rest terms ≡ false
     → placed (filled_from i (map rule_from terms)) ≡ 0
 none_placed [] i none = refl
@@ -49,7 +49,7 @@ none_placed (default name value ∷ ts) i none = none_placed ts _ none
 none_placed (flag name ∷ ts) i none = none_placed ts _ none
 none_placed (any_words ∷ ts) i none = absurd cc
 
--- where at most one argument takes words, its rule has no other behind it
+-- if at most one argument takes words, no rule with a place is behind its rule
 one_early : (terms : List Term) (n : ℕ) → is_sound terms ≡ true
     → n ≡ placed (filled_from 1 (map rule_from terms))
     → list_any (is_early_multiple n) (filled_from 1 (map rule_from terms)) ≡ false
@@ -67,12 +67,12 @@ one_early (any_words ∷ ts) n sound e =
     subst (λ (k : ℕ). list_any (is_early_multiple k) (filled_from 1 (map rule_from (any_words ∷ ts))) ≡ false)
     (sym one) (none_early ts (index_after 1 (filled (rule_from any_words))) 1 none)
 
--- the facts on a table are what `clap` asks of a command, as it puts them together
+-- four facts about a table are what `clap` requires of a command, in the form in which it joins them
 shape : (a b c d : Bool) → a ≡ true → b ≡ true → c ≡ false → d ≡ true
     → (((a && true) && ((b && not c) && true)) && (d && true)) ≡ true
 shape a b c d ea eb ec ed = rw (ea, eb, ec, ed) refl
 
--- each such table makes a command of which `clap`'s clauses say all
+-- the exact clauses of `clap` apply to the command of each such table
 pub is_free_from : (name : Text) (terms : List Term) → is_sound terms ≡ true
     → is_simple_and_free (app_from name terms) ≡ true
 unfolding app_from

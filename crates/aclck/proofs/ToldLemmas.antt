@@ -1,4 +1,4 @@
--- Runs that have read a text whole, and then tell an answer of it.
+-- Runs that have read a whole text, and then write an answer about it.
 use Rattle.std.proofs.Common.{◌≡◌, ◌∙◌, List, ℕ, Option, Result, Ok, Err, false, ap, inr, refl, subst, sym}
 use Rattle.std.specs.Prelude.{IfSome}
 use Rattle.std.specs.Io.KnownBytes.{IsAtEnd}
@@ -18,7 +18,7 @@ use Rattle.aclck.specs.declared.answer.Outcome.TheVariants as outcome
 use Rattle.aclck.specs.declared.answer.RunFault.{RunFault}
 use Rattle.aclck.specs.declared.answer.RunFault.TheVariants as fault
 
--- what was written of the input's text is what the fault says, whose ever it is
+-- what was written of the text is what the fault says, for each cause of a fault
 fails_so : (Means : List ℕ → Answer → Type 0) (known held holds : Option (List ℕ)) (o : Outcome) (text : List ℕ)
     (e : RunFault) (c : Cause) (input : List ℕ) → IfSome known (λ bytes. input ≡ bytes) → Means input (done o text)
     → TellsPart text held holds c → FailsBy Means known held holds e c
@@ -35,7 +35,7 @@ fails_so Means known held holds o text e (cause.Sink w) input is means part = re
 }
 fails_so Means known held holds o text e cause.Memory input is means part = tt
 
--- the fault is not the source's
+-- the fault is none of the source
 not_source : (text : List ℕ) (held holds : Option (List ℕ)) (c : Cause) → TellsPart text held holds c
     → is_source c ≡ false
 not_source text held holds cause.Input part = absurd part
@@ -43,7 +43,7 @@ not_source text held holds cause.Source part = absurd part
 not_source text held holds (cause.Sink w) part = refl
 not_source text held holds cause.Memory part = refl
 
--- a text was told that the input means, by what is known of it
+-- the text of the answer to the input was written
 pub told : {S K : Type 0} (Means : List ℕ → Answer → Type 0) {Holds : List ℕ → Type 0} {o : Outcome} {text : List ℕ}
     {left : S → Option (List ℕ)} {reads_failed : S → ℕ} {source source_after : S} {holds : K → Option (List ℕ)}
     {writes_failed : K → ℕ} {sink sink_after : K} (r : Result Outcome RunFault)
@@ -82,7 +82,7 @@ told Means {Holds} {o} {text} {left} {reads_failed} {source} {source_after} {hol
       writes = tells.writes;
     }
 
--- a text was told that is made of the file which the input spells
+-- a text was written that is made of the file which the input spells
 pub wrote : {S K : Type 0} {names : Table} (made : PosixFile → List ℕ) (file : PosixFile) {text : List ℕ}
     {left : S → Option (List ℕ)} {reads_failed : S → ℕ} {source source_after : S} {holds : K → Option (List ℕ)}
     {writes_failed : K → ℕ} {sink sink_after : K} (r : Result Outcome RunFault)
@@ -96,7 +96,7 @@ wrote {names} made file r tells found is end read =
       record { file = file; read = reads; is = is },
     )) end read
 
--- the input is refused, since what it means is past a limit
+-- the input is refused, because its list is above a limit
 pub past_limits : {S K : Type 0} (Means : List ℕ → Answer → Type 0) {Holds : List ℕ → Type 0}
     {left : S → Option (List ℕ)} {reads_failed : S → ℕ} {source source_after : S} {holds : K → Option (List ℕ)}
     {writes_failed : K → ℕ} {sink : K}

@@ -16,7 +16,7 @@ all_digits radix (b ∷ bs) h =
     let both = and_true (is_digit b radix) (list_all (λ d. is_digit d radix) bs) h in
     (ltb-true (digit_value b) radix both.0, all_digits radix bs both.1)
 
--- where a plus sign is a digit, the radix is above 36
+-- if a plus sign is a digit, the radix is above 36
 plus_is_none : (radix b : ℕ) → b ≡ 43 → digit_value b < radix → 36 < radix
 plus_is_none radix b e below = subst (λ n. digit_value n < radix) e below
 
@@ -25,22 +25,22 @@ no_plus : (radix : ℕ) (bs : List ℕ) → radix ≤ 10 → 0 < length bs → A
 no_plus radix [] low some h = absurd (omega (arith, some))
 no_plus radix (b ∷ bs) low some h = λ e. omega (arith, low, plus_is_none radix b e h.0)
 
--- a text that is not empty has a byte
+-- a text that is not empty has at least one byte
 some_byte : (bs : List ℕ) → not (length bs == 0) ≡ true → 0 < length bs
 some_byte [] h = absurd cc
 some_byte (b ∷ bs) h = omega arith
 
--- a text of digits, and of at least one, is a numeral
+-- a text of at least one digit, and of digits alone, is a numeral
 numeral : (radix : ℕ) (bs : List ℕ) → are_digits radix bs ≡ true → IsNumeral radix bs
 numeral radix bs h =
     let both = and_true (not (length bs == 0)) (list_all (λ b. is_digit b radix) bs) h in
     (some_byte bs both.0, all_digits radix bs both.1)
 
--- of digits no plus sign is taken away
+-- a text of digits has no plus sign that is removed
 plain : (radix : ℕ) (bs : List ℕ) → radix ≤ 10 → are_digits radix bs ≡ true → without_leading_plus bs ≡ bs
 plain radix bs low h = let all = numeral radix bs h in without_leading_plus_none bs (no_plus radix bs low all.0 all.1)
 
--- digits are read as their value, or it does not fit
+-- digits are read as their value, or the value does not fit
 pub parsed : {E : Type 0} (k radix : ℕ) (bs : List ℕ) (r : Result ℕ E) → radix ≤ 10 → are_digits radix bs ≡ true
     → ParsesUnsigned k radix bs r → MatchResult r (λ v. v ≡ digits_value radix bs) (λ _. 2 ^ k ≤ digits_value radix bs)
 parsed k radix bs (Ok v) low h read = read.1 ∙ ap (digits_value radix) (plain radix bs low h)

@@ -1,4 +1,4 @@
--- Command lines that are written out, as the definitions compute them.
+-- Command lines, with the values that the definitions compute from them.
 use Rattle.std.proofs.Common.{◌≡◌, ◌∷◌, [], ℕ, Bool, List, None, Some, false, true, refl, codes}
 use Rattle.std.specs.Prelude.{◌==◌}
 use Rattle.std.specs.List.{slice_split}
@@ -7,7 +7,7 @@ use Rattle.clap.specs.Words.{Row, Text, first_of}
 use Rattle.acl_perm.specs.Profile.{Profile, full, narrow}
 use Rattle.acl_nfs4.specs.AceText.{space}
 use Rattle.acl_nfs4.specs.BitNames.{set_named}
-use Rattle.acl_posix.specs.Names.{no_names}
+use Rattle.acl_posix.specs.Names.{empty_table}
 use Rattle.acl_eval.specs.declared.inherit.ChildKind.TheVariants as kind
 use Rattle.aclck.specs.Line.{Term, app_from, default, flag, is_given, is_taken, optional, rows_at}
 use Rattle.aclck.specs.BitTable.{right_named, table_in}
@@ -54,40 +54,40 @@ check_nfs_lines :
     -- an option and its value in two words
     Asks (codes "check-nfs --owner o --group g --user u --mask READ_DATA")
     name.CheckNfs (check (codes "o") (codes "u") [] 1 full)
-    -- in one word, cut at the first equals sign; groups may stand anywhere
+    -- an option and its value in one word, cut at the first equals sign; groups may be anywhere
     × Asks (codes "check-nfs a --owner=o=p b --group=g --user=u --mask=EXECUTE|ADD_FILE c")
     name.CheckNfs (check (codes "o=p") (codes "u") (codes "a" ∷ codes "b" ∷ codes "c" ∷ []) 34 full)
     -- `none` is the empty mask
     × Asks (codes "check-nfs --owner=o --group=g --user=u --mask=none")
     name.CheckNfs (check (codes "o") (codes "u") [] 0 full)
-    -- a dash alone is no mask here
+    -- a dash alone is no mask in a command line
     × AsksNothing (codes "check-nfs --owner=o --group=g --user=u --mask=-")
     -- a name that is no right
     × AsksNothing (codes "check-nfs --owner=o --group=g --user=u --mask=NOTHING")
     -- the narrow profile
     × Asks (codes "check-nfs --owner=o --group=g --user=u --mask=READ_DATA --profile narrow")
     name.CheckNfs (check (codes "o") (codes "u") [] 1 narrow)
-    -- the full profile, which is also the one where none is given; WRITE_RETENTION is one of its rights
+    -- the full profile, which is also the default; WRITE_RETENTION is one of its rights
     × Asks (codes "check-nfs --owner=o --group=g --user=u --profile=full --mask=WRITE_RETENTION")
     name.CheckNfs (check (codes "o") (codes "u") [] 512 full)
-    -- a right that the profile has not
+    -- a right that the profile does not have
     × AsksNothing (codes "check-nfs --owner=o --group=g --user=u --mask=WRITE_RETENTION|READ_DATA --profile=narrow")
     -- a word that names no profile
     × AsksNothing (codes "check-nfs --owner=o --group=g --user=u --mask=none --profile=wide")
-    -- an option that has to be there is missing
+    -- a required option is missing
     × AsksNothing (codes "check-nfs --group=g --user=u --mask=none")
     -- an empty name is no name
     × AsksNothing (codes "check-nfs --owner= --group=g --user=u --mask=none")
-    -- nor is an empty group
+    -- an empty group is no name either
     × AsksNothing (codes "check-nfs --owner=o --group=g --user=u --mask=none ")
-    -- a value that begins with a hyphen is none as a word of its own
+    -- a value that begins with a hyphen is no value if it is a word of its own
     × AsksNothing (codes "check-nfs --owner -x --group=g --user=u --mask=none")
-    -- and is one behind the equals sign; after two hyphens every word is a group
+    -- it is a value behind an equals sign; after two hyphens every word is a group
     × Asks (codes "check-nfs --owner=-x --group=g --user=u --mask=none -- --help -")
     name.CheckNfs (check (codes "-x") (codes "u") (codes "--help" ∷ codes "-" ∷ []) 0 full)
     -- a word that asks for help is an unknown argument
     × AsksNothing (codes "check-nfs --owner=o --group=g --user=u --mask=none --help")
-    -- a short one too
+    -- the short word for help is one too
     × AsksNothing (codes "check-nfs --owner=o --group=g --user=u --mask=none -h")
     -- an option that is given twice
     × AsksNothing (codes "check-nfs --owner=o --owner=o --group=g --user=u --mask=none")
@@ -98,19 +98,19 @@ check_nfs_lines = (refl, refl, refl, refl, refl, refl, refl, refl, refl, refl, r
 no_command :
     -- a first word that names no command
     AsksNothing (codes "help")
-    -- and no word at all
+    -- no word at all
     × (task_of [] ≡ None)
 no_command = (refl, refl)
 
 -- ---- `child` and `mode`
 
 child_lines :
-    -- what is created, where no profile is given
+    -- what is created, without a profile
     Asks (codes "child --kind file") name.Child (record { created = kind.File; profile = full })
     -- a directory, and the narrow profile
     × Asks (codes "child --profile=narrow --kind=dir")
     name.Child (record { created = kind.Directory; profile = narrow })
-    -- what is created has to be there
+    -- what is created is required
     × AsksNothing (codes "child --profile full")
     -- a word that names no kind
     × AsksNothing (codes "child --kind directory")
@@ -122,7 +122,7 @@ mode_lines :
     Asks (codes "mode") name.Mode full
     -- two hyphens with no word behind them
     × Asks (codes "mode --profile narrow --") name.Mode narrow
-    -- a word that is no option's
+    -- a word that belongs to no option
     × AsksNothing (codes "mode 660")
     -- a flag of `normalize`
     × AsksNothing (codes "mode --inherit")
@@ -132,15 +132,15 @@ mode_lines = (refl, refl, refl, refl)
 -- ---- `show-posix`
 
 show_posix_lines :
-    -- the canonical form is the one where none is given
-    Asks (codes "show-posix") name.ShowPosix (record { form = form.Canonical; names = no_names })
-    -- digits alone are no name
+    -- the canonical form is the default
+    Asks (codes "show-posix") name.ShowPosix (record { form = form.Canonical; names = empty_table })
+    -- a word of digits alone is no name
     × AsksNothing (codes "show-posix u:12=5")
-    -- nor is the empty word
+    -- the empty word is no name either
     × AsksNothing (codes "show-posix u:=5")
-    -- another form than the one where none is given
+    -- a form that is not the default
     × Asks (codes "show-posix --form=short")
-    name.ShowPosix (record { form = form.Short; names = no_names })
+    name.ShowPosix (record { form = form.Short; names = empty_table })
     -- a word that names no form
     × AsksNothing (codes "show-posix --form=long")
 unfolding clap_on_literals is_taken rows_at app_from task_named show_posix_in form_value names_value named_id id_value
@@ -162,14 +162,14 @@ check_ids groups want = record {
   object = record { user = 1; group = 2 };
   requester = record { user = 3; groups = groups };
   want = want;
-  names = no_names;
+  names = empty_table;
 }
 
 check_posix_lines :
-    -- groups stand with commas between them, and letters in any order
+    -- groups have commas between them, and letters are in any order
     Asks (codes "check-posix --owner=1 --group=2 --user=3 --groups=50,060 --want=xr")
     name.CheckPosix (check_ids (50 ∷ 60 ∷ []) 5)
-    -- without `--groups` there are none; `none` is the empty request
+    -- without `--groups` there are no groups; `none` is the empty request
     × Asks (codes "check-posix --owner=001 --group=2 --user=3 --want=none")
     name.CheckPosix (check_ids [] 0)
     -- an empty item is no id
@@ -186,7 +186,7 @@ check_posix_lines = (refl, refl, refl, refl, refl)
 
 calc_mask_lines :
     -- no name at all
-    Asks (codes "calc-mask") name.CalcMask no_names
+    Asks (codes "calc-mask") name.CalcMask empty_table
     -- no option at all is taken
     × AsksNothing (codes "calc-mask --mode=7")
     -- a word that is no name
@@ -196,8 +196,8 @@ calc_mask_lines = (refl, refl, refl)
 
 chmod_lines :
     -- a mode may begin with a zero
-    Asks (codes "chmod --mode=0660") name.Chmod (record { mode = 432; names = no_names })
-    -- but has at most four digits
+    Asks (codes "chmod --mode=0660") name.Chmod (record { mode = 432; names = empty_table })
+    -- a mode has at most four digits
     × AsksNothing (codes "chmod --mode=00660")
     -- 1000 is above 777
     × AsksNothing (codes "chmod --mode=1000")
@@ -207,11 +207,11 @@ chmod_lines = (refl, refl, refl)
 create_lines :
     -- a directory
     Asks (codes "create --mode=640 --umask=077 --dir")
-    name.Create (record { mode = 416; umask = 63; is_directory = true; names = no_names })
+    name.Create (record { mode = 416; umask = 63; is_directory = true; names = empty_table })
     -- a file
     × Asks (codes "create --umask 22 --mode 666")
-    name.Create (record { mode = 438; umask = 18; is_directory = false; names = no_names })
-    -- the umask has to be there
+    name.Create (record { mode = 438; umask = 18; is_directory = false; names = empty_table })
+    -- the umask is required
     × AsksNothing (codes "create --mode=640")
 unfolding clap_on_literals is_taken rows_at app_from task_named create_in mode_value names_value named_id id_value
 create_lines = (refl, refl, refl)
@@ -220,7 +220,7 @@ create_lines = (refl, refl, refl)
 
 bridge_lines :
     -- no name at all
-    Asks (codes "bridge") name.Bridge no_names
+    Asks (codes "bridge") name.Bridge empty_table
     -- there is no profile to choose
     × AsksNothing (codes "bridge --profile=full")
 unfolding clap_on_literals is_taken rows_at app_from task_named names_value named_id id_value
@@ -232,7 +232,7 @@ bridge_lines = (refl, refl)
 abbrev terms : List Term
 terms = flag (codes "quiet") ∷ optional (codes "name") ∷ default (codes "unit") (codes "ace") ∷ []
 
--- what the arguments are at a line
+-- the values of the arguments at a line
 abbrev rows_on : Text → List Row
 rows_on line = rows_at (app_from (codes "x") terms) (words_on line)
 
@@ -243,15 +243,15 @@ takes line = is_taken (app_from (codes "x") terms) (words_on line)
 given_arguments :
     -- a flag that is given
     (is_given (codes "quiet") (rows_on (codes "x --quiet")) ≡ true)
-    -- and one that is not
+    -- the same argument, which is not given
     × (is_given (codes "quiet") (rows_on (codes "x")) ≡ false)
     -- an option that is given
     × (first_of (codes "name") (rows_on (codes "x --name=n")) ≡ Some (codes "n"))
-    -- and one that is not
+    -- the same argument, which is not given
     × (first_of (codes "name") (rows_on (codes "x")) ≡ None)
     -- a default that is not used
     × (first_of (codes "unit") (rows_on (codes "x --unit bit")) ≡ Some (codes "bit"))
-    -- and one that is
+    -- a default that is used
     × (first_of (codes "unit") (rows_on (codes "x")) ≡ Some (codes "ace"))
     -- a flag takes no value
     × (takes (codes "x --quiet=true") ≡ false)
@@ -263,9 +263,9 @@ given_arguments = (refl, refl, refl, refl, refl, refl, refl, refl)
 -- ---- `show-nfs` and `encode`
 
 show_nfs_lines :
-    -- without a profile all rights and flags are meant
+    -- without a profile the full profile is meant
     Asks (codes "show-nfs") name.ShowNfs full
-    -- no word stands beside the profile
+    -- the command takes no word besides the profile
     × AsksNothing (codes "show-nfs bob")
 unfolding clap_on_literals is_taken rows_at app_from task_named profile_in profile_value
 show_nfs_lines = (refl, refl)
@@ -281,9 +281,9 @@ encode_lines = refl
 normalize_lines :
     -- without the flag one form is meant
     Asks (codes "normalize") name.Normalize (record { inherit = false; profile = full })
-    -- and with it five, whatever the profile
+    -- with the flag five forms are meant, whatever the profile
     × Asks (codes "normalize --inherit") name.Normalize (record { inherit = true; profile = full })
-    -- in whatever order
+    -- the options in another order
     × Asks (codes "normalize --profile=narrow --inherit")
     name.Normalize (record { inherit = true; profile = narrow })
     -- the flag takes no value
@@ -294,16 +294,16 @@ normalize_lines = (refl, refl, refl, refl)
 -- ---- `table` and `compare`
 
 table_lines :
-    -- a second name of a right, where no profile is given
+    -- a second name of a right, without a profile
     Asks (codes "table --bit ADD_SUBDIRECTORY") name.Table (record { bit = 4; profile = full })
-    -- and a first one within the narrow profile
+    -- a first name of a right, within the narrow profile
     × Asks (codes "table --profile narrow --bit=EXECUTE")
     name.Table (record { bit = 32; profile = narrow })
-    -- a right that the profile has not
+    -- a right that the profile does not have
     × AsksNothing (codes "table --bit=WRITE_RETENTION --profile=narrow")
     -- one right is asked for, and not two
     × AsksNothing (codes "table --bit=READ_DATA|EXECUTE")
-    -- the right has to be there
+    -- the right is required
     × AsksNothing (codes "table")
 unfolding clap_on_literals is_taken rows_at app_from task_named table_in right_named set_named profile_in profile_value
 table_lines = (refl, refl, refl, refl, refl)
@@ -313,7 +313,7 @@ compare_lines :
     Asks (codes "compare") name.Compare full
     -- the narrow profile
     × Asks (codes "compare --profile=narrow") name.Compare narrow
-    -- both lists stand in the input, and no word names one
+    -- both lists are in the input, and no word names a list
     × AsksNothing (codes "compare other.xdr")
 unfolding clap_on_literals is_taken rows_at app_from task_named profile_in profile_value
 compare_lines = (refl, refl, refl)

@@ -22,6 +22,11 @@ pub data Answer : Type 0 where
   done : Outcome → List ℕ → Answer
   refused : RunFault → Answer
 
+-- the outcome is Yes
+abbrev pub is_yes : Outcome → Bool
+is_yes outcome.Yes = true
+is_yes outcome.No = false
+
 -- the line that reports a decision
 abbrev pub decision_line : Outcome → List ℕ
 decision_line outcome.Yes = codes "granted" ++ line_feed ∷ []
@@ -69,8 +74,8 @@ abbrev pub is_sink : Cause → Bool
 is_sink = by_cause false false true false
 
 -- the fault is one of the input
-abbrev pub is_refusal : RunFault → Bool
-is_refusal e = is_input (cause_of e)
+abbrev pub is_input_fault : RunFault → Bool
+is_input_fault e = is_input (cause_of e)
 
 -- the fault is one of the source
 abbrev pub is_read : RunFault → Bool

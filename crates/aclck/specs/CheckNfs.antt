@@ -1,23 +1,18 @@
 -- `check-nfs`: its words, and what it makes of an input (this library's own, over RFC 8881, section 6.2.1).
-use Rattle.std.specs.Prelude.{◌≡◌, ◌∷◌, ◌&&◌, ◌↔◌, [], List, ℕ, Option, Some, None, codes, if◌then◌else◌}
+use Rattle.std.specs.Prelude.{◌≡◌, ◌∷◌, ◌&&◌, [], List, ℕ, Option, Some, None, codes, if◌then◌else◌}
 use Rattle.std.specs.Option.{option_and_then, option_map}
 use Rattle.clap.specs.Words.{Row, Text, first_of}
 use Rattle.acl_perm.specs.Profile.{Profile, profile_of}
 use Rattle.acl_perm.specs.Situation.{Situation}
-use Rattle.acl_perm.specs.declared.mask.Mask.{Mask}
-use Rattle.acl_perm.specs.declared.profile.Profile.{Profile as HeldProfile}
-use Rattle.acl_nfs4.specs.Ace.{Ace}
-use Rattle.acl_nfs4.specs.Spelling.{Xdr}
-use Rattle.acl_eval.specs.Grant.{Grant}
+use Rattle.acl_eval.specs.Programs.{Decides}
 use Rattle.acl_eval.specs.Situation.{groups_of, owner_of, owning_group_of, user_of}
 use Rattle.acl_eval.specs.declared.situation.Object.{Object}
 use Rattle.acl_eval.specs.declared.situation.Requester.{Requester}
-use Rattle.aclck.specs.Line.{Term, any_words, default, required}
-use Rattle.aclck.specs.ProfileArgument.{profile_in}
+use Rattle.aclck.specs.Line.{Term, any_words, required}
+use Rattle.aclck.specs.ProfileArgument.{profile_in, profile_term}
 use Rattle.aclck.specs.Values.{are_names, is_name, mask_within}
-use Rattle.aclck.specs.Answer.{Answer, IsXdrFault, decision_line, done, refused}
+use Rattle.aclck.specs.Answer.{Answer, IsXdrFault, decision_line, done, is_yes, refused}
 use Rattle.aclck.specs.declared.answer.Outcome.{Outcome}
-use Rattle.aclck.specs.declared.answer.Outcome.TheVariants as outcome
 use Rattle.aclck.specs.declared.task.check_nfs.CheckNfs.{CheckNfs}
 use Rattle.aclck.specs.Definition.{Definition}
 use Rattle.aclck.specs.Run.{of_list}
@@ -27,7 +22,7 @@ use Rattle.aclck.specs.Run.{of_list}
 -- `check-nfs --owner NAME --group NAME --user NAME --mask MASK [--profile full|narrow] [GROUPS..]`
 abbrev pub check_nfs_terms : List Term
 check_nfs_terms = required (codes "owner") ∷ required (codes "group") ∷ required (codes "user")
-    ∷ required (codes "mask") ∷ default (codes "profile") (codes "full") ∷ any_words ∷ []
+    ∷ required (codes "mask") ∷ profile_term ∷ any_words ∷ []
 
 -- the owner and the owning group of the object
 pub record ObjectNames : Type 0 where
@@ -82,24 +77,20 @@ object_names object = record { owner = owner_of object; group = owning_group_of 
 abbrev pub requester_names : Requester → RequesterNames
 requester_names requester = record { user = user_of requester; groups = groups_of requester }
 
--- the values with which a call is made
-abbrev pub values_of : Object → Requester → Mask → HeldProfile → CheckNfsValues
-values_of object requester mask profile = record {
-  object = object_names object;
-  requester = requester_names requester;
-  mask = mask.bits;
-  profile = profile_of profile;
-}
-
 -- the values that the program holds
 abbrev pub check_nfs_held : CheckNfs → CheckNfsValues
-check_nfs_held task = values_of task.object task.requester task.mask task.profile
+check_nfs_held task = record {
+  object = object_names task.object;
+  requester = requester_names task.requester;
+  mask = task.mask.bits;
+  profile = profile_of task.profile;
+}
 
 -- ---- the answer
 
 -- the situation in which the requester requests access to the object
-abbrev pub situation_of : CheckNfsValues → Situation
-situation_of values = record {
+abbrev pub check_nfs_situation : CheckNfsValues → Situation
+check_nfs_situation values = record {
   owner_name = values.object.owner;
   owning_group = values.object.group;
   user_name = values.requester.user;
@@ -108,14 +99,12 @@ situation_of values = record {
 
 -- the input is one accepted list of the profile and nothing more, and the outcome says whether that list grants the
 -- request
-pub record Decides (values : CheckNfsValues) (input : List ℕ) (o : Outcome) : Type 0 where
-  pub list : List Ace
-  pub spelled : Xdr values.profile list input
-  pub answer : (o ≡ outcome.Yes) ↔ Grant list (situation_of values) values.mask
+abbrev pub DecidesNfs : CheckNfsValues → List ℕ → Outcome → Type 0
+DecidesNfs values input o = Decides values.profile input (check_nfs_situation values) values.mask (is_yes o)
 
 -- the outcome with the line that reports it, or a fault that the input has
 abbrev pub CheckNfsAnswer : CheckNfsValues → List ℕ → Answer → Type 0
-CheckNfsAnswer values input (done o text) = Decides values input o × (text ≡ decision_line o)
+CheckNfsAnswer values input (done o text) = DecidesNfs values input o × (text ≡ decision_line o)
 CheckNfsAnswer values input (refused f) = IsXdrFault values.profile input f
 
 -- the command

@@ -1,20 +1,17 @@
 -- `check-posix`: its words, and what it makes of an input (this library's own, over acl(5), "ACCESS CHECK ALGORITHM").
-use Rattle.std.specs.Prelude.{◌≡◌, ◌∷◌, ◌↔◌, [], List, ℕ, Option, Some, None, codes, true}
+use Rattle.std.specs.Prelude.{◌≡◌, ◌∷◌, [], List, ℕ, Option, Some, None, codes}
 use Rattle.std.specs.Option.{option_and_then, option_map}
 use Rattle.clap.specs.Words.{Row, Text, first_of}
-use Rattle.acl_perm.specs.declared.perm.Perm.{Perm}
-use Rattle.acl_posix.specs.Check.{Object, Requester, grants, ids}
+use Rattle.acl_posix.specs.Check.{Object, Requester, ids}
 use Rattle.acl_posix.specs.Grammar.{Reads}
 use Rattle.acl_posix.specs.Names.{Table}
-use Rattle.acl_posix.specs.declared.file.PosixFile.{PosixFile}
-use Rattle.acl_posix.specs.declared.id.Id.{Id}
+use Rattle.acl_posix.specs.Programs.{Checks}
 use Rattle.aclck.specs.Line.{Term, any_words, optional, required, words_of}
 use Rattle.aclck.specs.NameWords.{names_value}
 use Rattle.aclck.specs.Values.{id_value, ids_value, want_value}
-use Rattle.aclck.specs.Answer.{Answer, decision_line, done, refused}
+use Rattle.aclck.specs.Answer.{Answer, decision_line, done, is_yes, refused}
 use Rattle.aclck.specs.PosixAnswer.{IsPosixFault}
 use Rattle.aclck.specs.declared.answer.Outcome.{Outcome}
-use Rattle.aclck.specs.declared.answer.Outcome.TheVariants as outcome
 use Rattle.aclck.specs.declared.task.check_posix.CheckPosix.{CheckPosix}
 use Rattle.aclck.specs.Definition.{Definition, on_text}
 
@@ -38,12 +35,12 @@ groups_value None = Some []
 groups_value (Some text) = ids_value text
 
 -- an object's owner and owning group, if both are there
-abbrev pub object_of : Option ℕ → Option ℕ → Option Object
-object_of owner group = option_and_then (λ o. option_map (λ g. record { user = o; group = g }) group) owner
+abbrev pub object_if_any : Option ℕ → Option ℕ → Option Object
+object_if_any owner group = option_and_then (λ o. option_map (λ g. record { user = o; group = g }) group) owner
 
 -- a user and the groups, if both are there
-abbrev pub requester_of : Option ℕ → Option (List ℕ) → Option Requester
-requester_of user groups = option_and_then (λ u. option_map (λ gs. record { user = u; groups = gs }) groups) user
+abbrev pub requester_if_any : Option ℕ → Option (List ℕ) → Option Requester
+requester_if_any user groups = option_and_then (λ u. option_map (λ gs. record { user = u; groups = gs }) groups) user
 
 -- the values, if all are there
 abbrev pub check_posix_values :
@@ -55,37 +52,31 @@ check_posix_values object requester want names =
 -- the values that the rows of a parse give
 unfoldable pub check_posix_in : List Row → Option CheckPosixValues
 check_posix_in rows = check_posix_values
-    (object_of (option_and_then id_value (first_of (codes "owner") rows))
+    (object_if_any (option_and_then id_value (first_of (codes "owner") rows))
     (option_and_then id_value (first_of (codes "group") rows)))
-    (requester_of (option_and_then id_value (first_of (codes "user") rows))
+    (requester_if_any (option_and_then id_value (first_of (codes "user") rows))
     (groups_value (first_of (codes "groups") rows)))
     (option_and_then want_value (first_of (codes "want") rows))
     (names_value (words_of rows))
 
--- the values with which a call is made
-abbrev pub values_of : Id → Id → Id → List Id → Perm → Table → CheckPosixValues
-values_of owner group user groups want names = record {
-  object = record { user = owner.value; group = group.value };
-  requester = record { user = user.value; groups = ids groups };
-  want = want.bits;
-  names = names;
-}
-
 -- the values that the program holds
 abbrev pub check_posix_held : CheckPosix → CheckPosixValues
-check_posix_held v = values_of v.owner v.group v.user v.groups.items v.want v.names
+check_posix_held v = record {
+  object = record { user = v.owner.value; group = v.group.value };
+  requester = record { user = v.user.value; groups = ids v.groups.items };
+  want = v.want.bits;
+  names = v.names;
+}
 
 -- ---- the answer
 
--- the input is the text of a file with these names, and the outcome says whether its access ACL grants the request
-pub record Checks (v : CheckPosixValues) (input : List ℕ) (o : Outcome) : Type 0 where
-  pub file : PosixFile
-  pub read : Reads input v.names file
-  pub answer : (o ≡ outcome.Yes) ↔ (grants file.access v.object v.requester v.want ≡ true)
+-- the input is the text of a file with the names, and the outcome says whether its access ACL grants the request
+abbrev pub ChecksPosix : CheckPosixValues → List ℕ → Outcome → Type 0
+ChecksPosix v input o = Checks (Reads input v.names) v.object v.requester v.want (is_yes o)
 
 -- the outcome with the line that reports it, or a fault that the input has
 abbrev pub CheckPosixAnswer : CheckPosixValues → List ℕ → Answer → Type 0
-CheckPosixAnswer v input (done o text) = Checks v input o × (text ≡ decision_line o)
+CheckPosixAnswer v input (done o text) = ChecksPosix v input o × (text ≡ decision_line o)
 CheckPosixAnswer v input (refused f) = IsPosixFault v.names input f
 
 -- the command

@@ -4,13 +4,11 @@ use Rattle.std.specs.Option.{option_and_then, option_map}
 use Rattle.std.specs.Str.{bytes_eq}
 use Rattle.clap.specs.Words.{Row, Text, first_of}
 use Rattle.acl_perm.specs.Profile.{Profile, profile_of}
-use Rattle.acl_nfs4.specs.Ace.{Ace}
-use Rattle.acl_nfs4.specs.Spelling.{spelling}
-use Rattle.acl_eval.specs.Inheritance.{children}
+use Rattle.acl_eval.specs.Programs.{child_bytes}
 use Rattle.acl_eval.specs.declared.inherit.ChildKind.{ChildKind}
 use Rattle.acl_eval.specs.declared.inherit.ChildKind.TheVariants as kind
-use Rattle.aclck.specs.Line.{Term, default, required}
-use Rattle.aclck.specs.ProfileArgument.{profile_in}
+use Rattle.aclck.specs.Line.{Term, required}
+use Rattle.aclck.specs.ProfileArgument.{profile_in, profile_term}
 use Rattle.aclck.specs.Answer.{Answer}
 use Rattle.aclck.specs.XdrAnswer.{MakesAnswer}
 use Rattle.aclck.specs.declared.task.child.Child.{Child}
@@ -20,7 +18,7 @@ use Rattle.aclck.specs.Definition.{Definition, on_list}
 
 -- `child --kind file|dir [--profile full|narrow]`
 abbrev pub child_terms : List Term
-child_terms = required (codes "kind") ∷ default (codes "profile") (codes "full") ∷ []
+child_terms = required (codes "kind") ∷ profile_term ∷ []
 
 -- what is created, and the profile
 pub record ChildValues : Type 0 where
@@ -48,13 +46,9 @@ child_held v = record { created = v.kind; profile = profile_of v.profile }
 
 -- ---- the answer
 
--- the one spelling of the list that the new object gets
-abbrev pub child_text : ChildKind → List Ace → List ℕ
-child_text created list = spelling (children created list)
-
 -- the spelling of the new object's list, or a fault that the input has
 abbrev pub ChildAnswer : ChildValues → List ℕ → Answer → Type 0
-ChildAnswer v = MakesAnswer v.profile (child_text v.created)
+ChildAnswer v = MakesAnswer v.profile (child_bytes v.created)
 
 -- the command
 abbrev pub child : Definition

@@ -3,10 +3,8 @@
 use Rattle.std.specs.Prelude.{◌∷◌, [], List, ℕ, Option, codes}
 use Rattle.std.specs.Option.{option_and_then, option_map}
 use Rattle.clap.specs.Words.{Row, first_of}
-use Rattle.acl_posix.specs.Mode.{chmoded}
 use Rattle.acl_posix.specs.Names.{Table}
-use Rattle.acl_posix.specs.Texts.{canonical_text}
-use Rattle.acl_posix.specs.declared.file.PosixFile.{PosixFile}
+use Rattle.acl_posix.specs.Programs.{chmod_text}
 use Rattle.aclck.specs.Line.{Term, any_words, required, words_of}
 use Rattle.aclck.specs.NameWords.{names_value}
 use Rattle.aclck.specs.Values.{mode_value}
@@ -40,10 +38,6 @@ abbrev pub chmod_held : Chmod → ChmodValues
 chmod_held v = record { mode = v.mode.bits; names = v.names }
 
 -- ---- the answer
-
--- the canonical text of the file with the mode of its access ACL set; the default ACL stays
-abbrev pub chmod_text : ℕ → PosixFile → List ℕ
-chmod_text mode file = canonical_text (chmoded file.access mode) file.default
 
 -- the text with the mode set, or a fault that the input has
 abbrev pub ChmodAnswer : ChmodValues → List ℕ → Answer → Type 0

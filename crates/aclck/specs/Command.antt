@@ -1,8 +1,11 @@
 -- What the exit status of the program says (this library's own).
-use Rattle.std.specs.Prelude.{◌==◌, List, ℕ, Option, if◌then◌else◌, IsSomeAnd}
+use Rattle.std.specs.Prelude.{◌≡◌, ◌⊎◌, ◌==◌, ◌<◌, ◌≤◌, List, ℕ, Option, None, false, if◌then◌else◌, IsSome, IsSomeAnd}
+use Rattle.std.specs.Io.KnownBytes.{IsAtEnd}
+use Rattle.clap.specs.Words.{Text}
+use Rattle.acl_perm.specs.Devices.{one_more}
 use Rattle.aclck.specs.Answer.{Begins, Finishes, Refuses}
 use Rattle.aclck.specs.Run.{Ends, Stops, Takes}
-use Rattle.aclck.specs.Task.{Answers, Task, shape_of}
+use Rattle.aclck.specs.Task.{Answers, Task, is_command, shape_of, task_of}
 use Rattle.aclck.specs.declared.answer.Outcome.{Outcome}
 use Rattle.aclck.specs.declared.answer.Outcome.TheVariants as outcome
 use Rattle.aclck.specs.declared.answer.RunFault.{RunFault}
@@ -34,3 +37,52 @@ IsStopped task known left = IsSomeAnd task (λ t. Stops (shape_of t) known left)
 -- the text was read to its end, if the task reads a text
 abbrev pub IsEnded : Option Task → Option (List ℕ) → Type 0
 IsEnded task left = IsSomeAnd task (λ t. Ends (shape_of t) left)
+
+-- the effect of a run of the program at these words on a source, on a sink and on the sink of its faults, before and
+-- after, with the exit status: what the source has left, what the sink holds, and how many of their calls failed
+pub record RunsWords {S K E : Type 0} (words : List Text)
+    (left : S → Option (List ℕ)) (reads_failed : S → ℕ) (source source_after : S)
+    (holds : K → Option (List ℕ)) (writes_failed : K → ℕ) (out out_after : K)
+    (err err_after : E) (status : ℕ) : Type 0 where
+  -- the status is at most 4
+  pub known : status ≤ 4
+  -- below 3 the words ask for a task
+  pub named : status < 3 → IsSome (task_of words)
+  -- at 0 and 1 the task ran to its end, and the text of its answer was written
+  pub done : status < 2 → IsDone (task_of words) (left source) (holds out) (holds out_after) (outcome_at status)
+  -- at 0 and 1 the input was read to its end
+  pub whole : status < 2 → IsAtEnd (left source_after)
+  -- at 2 the input has a fault
+  pub refused : status ≡ 2 → IsRefused (task_of words) (left source)
+  -- at 3 the words ask for nothing
+  pub usage : status ≡ 3 → task_of words ≡ None
+  -- at 3 no input was read
+  pub unread : status ≡ 3 → source_after ≡ source
+  -- if the first word names no command, or there is no word, the status is 3, also if memory runs out
+  pub unnamed : is_command words ≡ false → status ≡ 3
+  -- little of the input was taken, or nothing
+  pub bound : (source_after ≡ source) ⊎ IsTaken (task_of words) (left source) (left source_after)
+  -- if a read failed, what was taken does not refuse a list
+  pub stopped : (reads_failed source_after ≡ reads_failed source)
+      ⊎ IsStopped (task_of words) (left source) (left source_after)
+  -- a text that is refused was read to its end
+  pub ended : status ≡ 2 → IsEnded (task_of words) (left source_after)
+  -- at 2 and 3 nothing was written
+  pub unwritten : 2 ≤ status → status ≤ 3 → out_after ≡ out
+  -- at 4 nothing was written, or a proper beginning of the text of the task's answer, and then one write failed
+  pub begun : status ≡ 4 → (out_after ≡ out)
+      ⊎ ((writes_failed out_after ≡ one_more (writes_failed out))
+      × IsBegun (task_of words) (left source) (holds out) (holds out_after))
+  -- at 0 and 1 nothing was written to the sink of faults
+  pub untold : status < 2 → err_after ≡ err
+  -- below 4 no read and no write failed
+  pub none_failed : status < 4
+      → (reads_failed source_after ≡ reads_failed source) × (writes_failed out_after ≡ writes_failed out)
+  -- at most one read failed
+  pub one_read : (reads_failed source_after ≡ reads_failed source)
+      ⊎ (reads_failed source_after ≡ one_more (reads_failed source))
+  -- at most one write failed
+  pub one_write : (writes_failed out_after ≡ writes_failed out)
+      ⊎ (writes_failed out_after ≡ one_more (writes_failed out))
+  -- not both a read and a write failed
+  pub one_device : (reads_failed source_after ≡ reads_failed source) ⊎ (writes_failed out_after ≡ writes_failed out)

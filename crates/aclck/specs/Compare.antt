@@ -46,8 +46,8 @@ IsRefusedTwo p input = IsListFault (IsFaultOfTwo p input)
 -- ---- the text
 
 -- a line of a word and what follows it
-abbrev pub line : List ℕ → List ℕ → List ℕ
-line word value = word ++ space ∷ (value ++ line_feed ∷ [])
+abbrev pub compare_line : List ℕ → List ℕ → List ℕ
+compare_line word value = word ++ space ∷ (value ++ line_feed ∷ [])
 
 -- the line which says that two lists grant the same
 abbrev pub same_text : List ℕ
@@ -62,13 +62,13 @@ decision false = codes "denied"
 abbrev pub difference_text : Situation → ℕ → Bool → List ℕ
 difference_text s mask first_grants =
     (codes "differ" ++ line_feed ∷ [])
-    ++ (line (codes "owner") s.owner_name
-    ++ (line (codes "group") s.owning_group
-    ++ (line (codes "user") s.user_name
-    ++ (flat_map (line (codes "member")) s.groups
-    ++ (line (codes "mask") (unwrap_or (first_name rights mask) [])
-    ++ (line (codes "first") (decision first_grants)
-    ++ line (codes "second") (decision (not first_grants))))))))
+    ++ (compare_line (codes "owner") s.owner_name
+    ++ (compare_line (codes "group") s.owning_group
+    ++ (compare_line (codes "user") s.user_name
+    ++ (flat_map (compare_line (codes "member")) s.groups
+    ++ (compare_line (codes "mask") (unwrap_or (first_name rights mask) [])
+    ++ (compare_line (codes "first") (decision first_grants)
+    ++ compare_line (codes "second") (decision (not first_grants))))))))
 
 -- ---- the answer
 

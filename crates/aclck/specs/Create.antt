@@ -3,10 +3,8 @@
 use Rattle.std.specs.Prelude.{◌∷◌, [], Bool, List, ℕ, Option, codes}
 use Rattle.std.specs.Option.{option_and_then, option_map}
 use Rattle.clap.specs.Words.{Row, first_of}
-use Rattle.acl_posix.specs.Create.{created_access, created_default}
 use Rattle.acl_posix.specs.Names.{Table}
-use Rattle.acl_posix.specs.Texts.{canonical_text}
-use Rattle.acl_posix.specs.declared.file.PosixFile.{PosixFile}
+use Rattle.acl_posix.specs.Programs.{created_text}
 use Rattle.aclck.specs.Line.{Term, any_words, flag, is_given, required, words_of}
 use Rattle.aclck.specs.NameWords.{names_value}
 use Rattle.aclck.specs.Values.{mode_value}
@@ -44,11 +42,6 @@ abbrev pub create_held : Create → CreateValues
 create_held v = record { mode = v.mode.bits; umask = v.umask.bits; is_directory = v.dir; names = v.names }
 
 -- ---- the answer
-
--- the canonical text of the new object, in a directory with the ACLs of this file
-abbrev pub created_text : ℕ → ℕ → Bool → PosixFile → List ℕ
-created_text mode umask is_directory file =
-    canonical_text (created_access file.default mode umask) (created_default file.default is_directory)
 
 -- the text of the new object, or a fault that the input has
 abbrev pub CreateAnswer : CreateValues → List ℕ → Answer → Type 0

@@ -1,10 +1,8 @@
 -- What `encode [--profile full|narrow]` makes of an input (this library's own, over RFC 8881, section 6.2.1).
 use Rattle.std.specs.Prelude.{◌≡◌, List, ℕ, codes}
 use Rattle.acl_perm.specs.Profile.{Profile}
-use Rattle.acl_nfs4.specs.Ace.{Ace}
-use Rattle.acl_nfs4.specs.AceText.{IsAceText}
 use Rattle.acl_nfs4.specs.AceTextFault.{IsAceTextFault}
-use Rattle.acl_nfs4.specs.Spelling.{spelling}
+use Rattle.acl_nfs4.specs.Programs.{Encodes}
 use Rattle.acl_nfs4.specs.declared.text.fault.AceTextFault.{AceTextFault}
 use Rattle.aclck.specs.Answer.{Answer, done, refused}
 use Rattle.aclck.specs.declared.answer.Outcome.TheVariants as outcome
@@ -19,13 +17,7 @@ pub record IsNfsTextFault (p : Profile) (input : List ℕ) (f : RunFault) : Type
   pub is : f ≡ fault.NfsText found
   pub has : IsAceTextFault p input found
 
--- the input is the text of a list of the profile, and these are the bytes that spell that list
-pub record Encodes (p : Profile) (input bytes : List ℕ) : Type 0 where
-  pub list : List Ace
-  pub spelled : IsAceText p list input
-  pub is : bytes ≡ spelling list
-
--- those bytes, with an outcome that is never No, or a fault that the input has
+-- the bytes that spell the list of the text, with an outcome that is never No, or a fault that the input has
 abbrev pub EncodeAnswer : Profile → List ℕ → Answer → Type 0
 EncodeAnswer p input (done o bytes) = (o ≡ outcome.Yes) × Encodes p input bytes
 EncodeAnswer p input (refused f) = IsNfsTextFault p input f

@@ -9,11 +9,11 @@ use Rattle.acl_eval.specs.Grant.{SameGrants}
 use Rattle.acl_eval.specs.declared.inherit.ChildKind.TheVariants.{Directory, File}
 use Rattle.acl_normal.specs.NormalForm.{Normalises}
 use Rattle.acl_normal.specs.Paths.{SameAtEveryPath, at, below, here}
+use Rattle.acl_normal.specs.Programs.{NormalisesAtPaths}
 use Rattle.acl_normal.specs.declared.five_forms.FiveForms.{FiveForms}
-use Rattle.acl_posix.specs.TextLaws.{ReadsBack, TellsApart}
+use Rattle.acl_posix.specs.TextLaws.{ReadsBack, TextTellsApart}
 use Rattle.acl_posix.specs.Texts.{canonical_text}
 use Rattle.aclck.specs.Laws.{IsFiveForms, TellsListsApart}
-use Rattle.aclck.specs.Normalize.{NormalisesAtPaths}
 
 -- the headline, part by part
 pub record Headline : Type 0 where
@@ -27,7 +27,7 @@ pub record Headline : Type 0 where
   pub twice_is_once : (p : Profile) (input once twice : List ℕ) → IsProfile p → Normalises p input once
       → Normalises p once twice ↔ (twice ≡ once)
   -- two POSIX files have the same canonical text if and only if they have the same entries
-  pub one_text : TellsApart canonical_text
+  pub one_text : TextTellsApart canonical_text
   -- the canonical text reads back as the same file
   pub reads_back : ReadsBack canonical_text
 

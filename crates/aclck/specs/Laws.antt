@@ -12,7 +12,7 @@ use Rattle.acl_normal.specs.NormalForm.{Normalises}
 use Rattle.acl_normal.specs.Paths.{SameAtEveryPath}
 use Rattle.acl_normal.specs.declared.five_forms.FiveForms.{FiveForms}
 use Rattle.acl_posix.specs.Grammar.{Reads}
-use Rattle.acl_posix.specs.Names.{Table, IsTable}
+use Rattle.acl_posix.specs.Names.{Table, IsNameTable}
 use Rattle.acl_posix.specs.declared.file.PosixFile.{PosixFile}
 use Rattle.aclck.specs.Answer.{done}
 use Rattle.aclck.specs.Encode.{EncodeAnswer}
@@ -32,7 +32,7 @@ ShowsCanonical names input text =
 abbrev pub ShowPosixTellsApart : Type 0
 ShowPosixTellsApart =
     (names other_names : Table) (input other_input text other_text : List ℕ) (file other : PosixFile)
-    → IsTable names → IsTable other_names → Reads input names file → Reads other_input other_names other
+    → IsNameTable names → IsNameTable other_names → Reads input names file → Reads other_input other_names other
     → ShowsCanonical names input text → ShowsCanonical other_names other_input other_text
     → (text ≡ other_text) ↔ (file.access ≡ other.access) × (file.default ≡ other.default)
 

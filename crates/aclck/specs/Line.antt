@@ -69,10 +69,10 @@ abbrev pub rows_in : ArgMatches → List Row
 rows_in matches = rows_of (found_of matches)
 
 -- the result of a call that reads values: the expected values, or usage if there are none
-abbrev pub Reads : {X V : Type 0} → (X → V) → Option V → Result X LineFault → Type 0
-Reads held expected (Ok x) = expected ≡ Some (held x)
-Reads held expected (Err line.Usage) = expected ≡ None
-Reads held expected (Err line.Memory) = Unit {0}
+abbrev pub ReadsValues : {X V : Type 0} → (X → V) → Option V → Result X LineFault → Type 0
+ReadsValues held expected (Ok x) = expected ≡ Some (held x)
+ReadsValues held expected (Err line.Usage) = expected ≡ None
+ReadsValues held expected (Err line.Memory) = Unit {0}
 
 -- the words that are no option
 abbrev pub words_of : List Row → List Text

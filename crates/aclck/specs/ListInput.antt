@@ -6,7 +6,7 @@ use Rattle.acl_perm.specs.Profile.{Profile}
 use Rattle.acl_nfs4.specs.Ace.{Ace}
 use Rattle.acl_nfs4.specs.Fault.{IsFirstFault}
 use Rattle.acl_nfs4.specs.Spelling.{Xdr}
-use Rattle.acl_nfs4.specs.Stream.{IsCut}
+use Rattle.acl_nfs4.specs.Stream.{IsCutShort}
 use Rattle.acl_nfs4.specs.declared.xdr.fault.Reason.{Reason}
 
 -- the greatest number of bytes that a pull asks for
@@ -50,7 +50,7 @@ TakesLittle p = TakesTo (ListEnds p)
 
 -- a text that may continue: it is cut short, or it is a whole value with nothing behind it
 abbrev pub IsOpen : Profile → List ℕ → Type 0
-IsOpen p text = IsCut p text ⊎ ((list : List Ace) × Xdr p list text)
+IsOpen p text = IsCutShort p text ⊎ ((list : List Ace) × Xdr p list text)
 
 -- what was taken of a source has no fault, except that it may continue
 abbrev pub TakesOpen : Profile → Option (List ℕ) → Option (List ℕ) → Type 0
@@ -91,7 +91,7 @@ SecondIsOpen p = ValueFirst p (λ first. IsOpen p)
 
 -- a text of two values that may continue: it is cut short in the first, or the second may continue
 abbrev pub AreOpen : Profile → List ℕ → Type 0
-AreOpen p text = IsCut p text ⊎ SecondIsOpen p text
+AreOpen p text = IsCutShort p text ⊎ SecondIsOpen p text
 
 -- what was taken of a source has no fault, except that it may continue
 abbrev pub TakesOpenOfTwo : Profile → Option (List ℕ) → Option (List ℕ) → Type 0

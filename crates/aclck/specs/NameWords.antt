@@ -5,7 +5,7 @@ use Rattle.std.specs.Option.{is_none, option_and_then, option_map}
 use Rattle.std.specs.Str.{bytes_eq}
 use Rattle.clap.specs.Words.{Row, Text}
 use Rattle.acl_posix.specs.Grammar.{colon}
-use Rattle.acl_posix.specs.Names.{Table, name_fault, no_names, with_group, with_user}
+use Rattle.acl_posix.specs.Names.{Table, name_fault, empty_table, with_group, with_user}
 use Rattle.aclck.specs.Line.{Term, any_words, words_of}
 use Rattle.aclck.specs.Values.{id_value}
 
@@ -81,7 +81,7 @@ with_words table (word ∷ words) =
 
 -- the table of some words
 unfoldable pub names_value : List Text → Option Table
-names_value words = with_words no_names words
+names_value words = with_words empty_table words
 
 -- ---- the words of a line
 

@@ -3,13 +3,10 @@ use Rattle.std.specs.Prelude.{◌≡◌, ◌∷◌, [], Bool, false, true, List,
 use Rattle.std.specs.Option.{option_map}
 use Rattle.clap.specs.Words.{Row}
 use Rattle.acl_perm.specs.Profile.{Profile, profile_of}
-use Rattle.acl_nfs4.specs.Ace.{Ace}
-use Rattle.acl_nfs4.specs.Spelling.{Xdr}
-use Rattle.acl_normal.specs.FiveForms.{AreAccepted, AreFormsOf, five_spellings}
 use Rattle.acl_normal.specs.NormalForm.{Normalises}
-use Rattle.acl_normal.specs.declared.five_forms.FiveForms.{FiveForms}
-use Rattle.aclck.specs.Line.{Term, default, flag, is_given}
-use Rattle.aclck.specs.ProfileArgument.{profile_in}
+use Rattle.acl_normal.specs.Programs.{NormalisesAtPaths}
+use Rattle.aclck.specs.Line.{Term, flag, is_given}
+use Rattle.aclck.specs.ProfileArgument.{profile_in, profile_term}
 use Rattle.aclck.specs.Answer.{Answer, IsXdrFault, done, refused}
 use Rattle.aclck.specs.declared.answer.Outcome.TheVariants as outcome
 use Rattle.aclck.specs.declared.task.normalize.Normalize.{Normalize}
@@ -19,7 +16,7 @@ use Rattle.aclck.specs.Definition.{Definition, on_list}
 
 -- `normalize [--inherit] [--profile full|narrow]`
 abbrev pub normalize_terms : List Term
-normalize_terms = flag (codes "inherit") ∷ default (codes "profile") (codes "full") ∷ []
+normalize_terms = flag (codes "inherit") ∷ profile_term ∷ []
 
 -- whether inheritance counts, and the profile
 pub record NormalizeValues : Type 0 where
@@ -41,15 +38,6 @@ normalize_held v = record { inherit = v.inherit; profile = profile_of v.profile 
 abbrev pub NormalizeAnswer : Profile → List ℕ → Answer → Type 0
 NormalizeAnswer p input (done o bytes) = (o ≡ outcome.Yes) × Normalises p input bytes
 NormalizeAnswer p input (refused f) = IsXdrFault p input f
-
--- the bytes spell a list, and the text its five normal forms, one behind the other (RFC 4506)
-pub record NormalisesAtPaths (p : Profile) (bytes text : List ℕ) : Type 0 where
-  pub source : List Ace
-  pub forms : FiveForms
-  pub read : Xdr p source bytes
-  pub are_forms : AreFormsOf source forms
-  pub accepted : AreAccepted p forms
-  pub spelled : text ≡ five_spellings forms
 
 -- the bytes that spell the five normal forms of the list, with an outcome that is never No, or a fault that the input
 -- has

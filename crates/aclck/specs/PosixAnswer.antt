@@ -4,6 +4,7 @@ use Rattle.aclck.specs.Answer.{Answer, done, refused}
 use Rattle.aclck.specs.declared.answer.Outcome.TheVariants as outcome
 use Rattle.acl_posix.specs.Grammar.{Reads}
 use Rattle.acl_posix.specs.Names.{Table}
+use Rattle.acl_posix.specs.Programs.{MakesOfFile}
 use Rattle.acl_posix.specs.TextFault.{IsTextFault}
 use Rattle.acl_posix.specs.declared.file.PosixFile.{PosixFile}
 use Rattle.acl_posix.specs.declared.text_fault.TextFault.{TextFault}
@@ -16,13 +17,7 @@ pub record IsPosixFault (names : Table) (input : List ℕ) (f : RunFault) : Type
   pub is : f ≡ fault.Posix found
   pub has : IsTextFault input names found
 
--- the input is the text of a file with these names, and this text is made of that file
-pub record Writes (names : Table) (made : PosixFile → List ℕ) (input text : List ℕ) : Type 0 where
-  pub file : PosixFile
-  pub read : Reads input names file
-  pub is : text ≡ made file
-
 -- the text that is made of the file, with an outcome that is never No, or a fault that the input has
 abbrev pub WritesAnswer : Table → (PosixFile → List ℕ) → List ℕ → Answer → Type 0
-WritesAnswer names made input (done o text) = (o ≡ outcome.Yes) × Writes names made input text
+WritesAnswer names made input (done o text) = (o ≡ outcome.Yes) × MakesOfFile (Reads input names) made text
 WritesAnswer names made input (refused f) = IsPosixFault names input f

@@ -1,4 +1,4 @@
--- `--profile`, and the words of the commands that take it and no other word (this library's own).
+-- `--profile`, and the arguments of the commands that take it and no other word (this library's own).
 use Rattle.std.specs.Prelude.{◌∷◌, [], List, Option, Some, None, codes, if◌then◌else◌}
 use Rattle.std.specs.Option.{option_and_then}
 use Rattle.std.specs.Str.{bytes_eq}
@@ -6,9 +6,13 @@ use Rattle.clap.specs.Words.{Row, Text, first_of}
 use Rattle.acl_perm.specs.Profile.{Profile, full, narrow}
 use Rattle.aclck.specs.Line.{Term, default}
 
--- `[--profile full|narrow]`
+-- `[--profile full|narrow]`, as an argument of several commands
+abbrev pub profile_term : Term
+profile_term = default (codes "profile") (codes "full")
+
+-- `[--profile full|narrow]`, and no other argument
 abbrev pub profile_terms : List Term
-profile_terms = default (codes "profile") (codes "full") ∷ []
+profile_terms = profile_term ∷ []
 
 -- the profile that a value of `--profile` names
 unfoldable pub profile_value : Text → Option Profile

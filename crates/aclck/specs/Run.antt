@@ -3,7 +3,7 @@ use Rattle.std.specs.Prelude.{◌≡◌, ◌⊎◌, List, ℕ, Option, true, IfE
 use Rattle.std.specs.Io.KnownBytes.{IsAtEnd}
 use Rattle.acl_perm.specs.Devices.{failures_after}
 use Rattle.acl_perm.specs.Profile.{Profile}
-use Rattle.aclck.specs.Answer.{Answer, Ran, has_read_failed, has_write_failed, is_read, is_refusal, is_write}
+use Rattle.aclck.specs.Answer.{Answer, Ran, has_read_failed, has_write_failed, is_read, is_input_fault, is_write}
 use Rattle.aclck.specs.ListInput.{TakesLittle, TakesLittleOfTwo, TakesOpen, TakesOpenOfTwo}
 use Rattle.aclck.specs.declared.answer.Outcome.{Outcome}
 use Rattle.aclck.specs.declared.answer.RunFault.{RunFault}
@@ -48,7 +48,7 @@ pub record Runs {S K : Type 0} (Means : List ℕ → Answer → Type 0) (shape :
   -- if a read failed, what was taken is not refused
   pub stopped : IfErr r (λ e. is_read e ≡ true → Stops shape (left source) (left source_after))
   -- a text that is refused was read to its end
-  pub ended : IfErr r (λ e. is_refusal e ≡ true → Ends shape (left source_after))
+  pub ended : IfErr r (λ e. is_input_fault e ≡ true → Ends shape (left source_after))
   -- nothing was written, unless a write failed
   pub unwritten : IfErr r (λ e. (is_write e ≡ true) ⊎ (sink_after ≡ sink))
   -- one read failed if the result says so, and otherwise none

@@ -1,12 +1,10 @@
 -- `show-posix`: its words, and what it makes of an input (this library's own, over acl(5), "ACL TEXT FORMS").
-use Rattle.std.specs.Prelude.{◌∷◌, ◌++◌, [], List, ℕ, Option, Some, None, codes, if◌then◌else◌}
+use Rattle.std.specs.Prelude.{◌∷◌, [], List, ℕ, Option, Some, None, codes, if◌then◌else◌}
 use Rattle.std.specs.Option.{option_and_then, option_map}
 use Rattle.std.specs.Str.{bytes_eq}
 use Rattle.clap.specs.Words.{Row, Text, first_of}
-use Rattle.acl_perm.specs.Lines.{line_feed}
 use Rattle.acl_posix.specs.Names.{Table}
-use Rattle.acl_posix.specs.Texts.{canonical_text, short_text, shown_text}
-use Rattle.acl_posix.specs.declared.file.PosixFile.{PosixFile}
+use Rattle.acl_posix.specs.Programs.{file_text}
 use Rattle.aclck.specs.Line.{Term, any_words, default, words_of}
 use Rattle.aclck.specs.NameWords.{names_value}
 use Rattle.aclck.specs.Answer.{Answer}
@@ -49,15 +47,9 @@ show_posix_held v = record { form = v.form; names = v.names }
 
 -- ---- the answer
 
--- the text of a file in a form; the short one has a line feed after it
-abbrev pub form_text : Form → PosixFile → List ℕ
-form_text form.Canonical file = canonical_text file.access file.default
-form_text form.Shown file = shown_text file.access file.default
-form_text form.Short file = short_text file.access file.default ++ line_feed ∷ []
-
 -- the text in the form, or a fault that the input has
 abbrev pub ShowPosixAnswer : ShowPosixValues → List ℕ → Answer → Type 0
-ShowPosixAnswer v = WritesAnswer v.names (form_text v.form)
+ShowPosixAnswer v = WritesAnswer v.names (file_text v.form)
 
 -- the command
 abbrev pub show_posix : Definition

@@ -93,8 +93,8 @@ task_held (held.Compare p) = task_at name.Compare (profile_of p)
 -- ---- what they say of a task
 
 -- the word that names a command
-abbrev pub word_of : Name → Text
-word_of n = (definition_of n).word
+abbrev pub command_word : Name → Text
+command_word n = (definition_of n).word
 
 -- the answers of a task to an input
 unfoldable pub Answers : Task → List ℕ → Answer → Type 0
@@ -108,11 +108,11 @@ shape_of (task_at n v) = (definition_of n).shape v
 
 -- the command that a first word names
 abbrev pub command_named : Text → Option Name
-command_named word = find (λ n. bytes_eq (word_of n) word) names
+command_named word = find (λ n. bytes_eq (command_word n) word) names
 
 -- the definition of a command's words
 abbrev pub app_named : Name → App
-app_named n = app_from (word_of n) (definition_of n).terms
+app_named n = app_from (command_word n) (definition_of n).terms
 
 -- what the words of this command ask for, or nothing if it does not take them, or a value is bad
 unfoldable pub task_named : Name → List Text → Option Task

@@ -1,5 +1,5 @@
 -- What single words of the command line spell (this library's own).
-use Rattle.std.specs.Prelude.{ℕ, ◌+◌, ◌*◌, ◌==◌, ◌&&◌, ◌||◌, not, Bool, Option, Some, None, List, [], ◌∷◌, bit_and, codes, length, nat_le, nat_lt, if◌then◌else◌}
+use Rattle.std.specs.Prelude.{ℕ, ◌≤◌, ◌+◌, ◌*◌, ◌==◌, ◌&&◌, ◌||◌, not, Bool, Option, Some, None, List, [], ◌∷◌, bit_and, codes, length, nat_le, nat_lt, if◌then◌else◌}
 use Rattle.std.specs.Char.{is_digit}
 use Rattle.std.specs.List.{list_all, slice_split}
 use Rattle.std.specs.Option.{option_and_then, option_map}
@@ -9,7 +9,7 @@ use Rattle.clap.specs.Words.{Text}
 use Rattle.acl_perm.specs.Ascii.{letter_r, letter_w, letter_x}
 use Rattle.acl_nfs4.specs.Rights.{mask_named, no_rights}
 use Rattle.acl_posix.specs.Grammar.{comma}
-use Rattle.acl_posix.specs.Fields.{count_of}
+use Rattle.acl_posix.specs.Fields.{occurrences}
 use Rattle.acl_posix.specs.Id.{greatest_id}
 
 -- a name has at least one byte
@@ -31,6 +31,14 @@ mask_within rights text =
     option_and_then (λ mask. if bit_and rights mask == mask then Some mask else None) (mask_value text)
 
 -- ---- values of the POSIX commands
+
+-- a radix of numbers whose digits are decimal digits and letters
+abbrev pub IsRadix : ℕ → Type 0
+IsRadix radix = (2 ≤ radix) × (radix ≤ 36)
+
+-- a radix of numbers whose digits are decimal digits alone
+abbrev pub IsDigitRadix : ℕ → Type 0
+IsDigitRadix radix = (2 ≤ radix) × (radix ≤ 10)
 
 -- digits alone, and at least one
 abbrev pub are_digits : ℕ → Text → Bool
@@ -67,9 +75,9 @@ is_letter b = (b == letter_r) || (b == letter_w) || (b == letter_x)
 -- the permissions that letters spell: r, w and x in any order, at least one of them and each at most once
 abbrev pub letters_value : Text → Option ℕ
 letters_value text =
-    if not (length text == 0) && list_all is_letter text && nat_le (count_of letter_r text) 1
-    && nat_le (count_of letter_w text) 1 && nat_le (count_of letter_x text) 1
-    then Some (4 * count_of letter_r text + 2 * count_of letter_w text + count_of letter_x text) else None
+    if not (length text == 0) && list_all is_letter text && nat_le (occurrences letter_r text) 1
+    && nat_le (occurrences letter_w text) 1 && nat_le (occurrences letter_x text) 1
+    then Some (4 * occurrences letter_r text + 2 * occurrences letter_w text + occurrences letter_x text) else None
 
 -- the request: letters, or `none`
 unfoldable pub want_value : Text → Option ℕ

@@ -2,15 +2,9 @@
 use Rattle.std.specs.Prelude.{◌≡◌, List, ℕ}
 use Rattle.acl_perm.specs.Profile.{Profile}
 use Rattle.acl_nfs4.specs.Ace.{Ace}
-use Rattle.acl_nfs4.specs.Spelling.{Xdr}
+use Rattle.acl_nfs4.specs.Programs.{MakesText}
 use Rattle.aclck.specs.Answer.{Answer, IsXdrFault, done, refused}
 use Rattle.aclck.specs.declared.answer.Outcome.TheVariants as outcome
-
--- the input is one accepted list of the profile and nothing more, and this text is made of that list
-pub record MakesText (p : Profile) (made : List Ace → List ℕ) (input text : List ℕ) : Type 0 where
-  pub list : List Ace
-  pub spelled : Xdr p list input
-  pub is : text ≡ made list
 
 -- the text that is made of the list, with an outcome that is never No, or a fault that the input has
 abbrev pub MakesAnswer : Profile → (List Ace → List ℕ) → List ℕ → Answer → Type 0

@@ -3,7 +3,7 @@
 -- Files: why the file of a text was not read
 -- Telling: how much of a text was written
 -- Compared: the text and the outcome of what `acl_normal` answers
--- Held: a command's word and arguments in the program
+-- Held: a command's arguments in the program
 -- Adding: names that are cut out of words and added to a table
 -- Performing: the result of a command line, from which the status is made
 pub mod Reading

@@ -1,7 +1,7 @@
 //! The result of an engine.
-ghost use Rattle.std.specs.Prelude.{◌≡◌, ◌↔◌, true};
+ghost use Rattle.std.specs.Prelude.{◌≡◌};
 ghost use Rattle.acl_nfs4.specs.Spelling.{spelling};
-ghost use Rattle.aclck.specs.Answer.{cause_of, decision_line, is_refusal};
+ghost use Rattle.aclck.specs.Answer.{cause_of, decision_line, is_input_fault, is_yes};
 ghost use Rattle.aclck.specs.internal.Telling.{Tells};
 
 use acl_nfs4::{AceTextFault, Acl, Fault, ReadFault, WriteFault};
@@ -22,7 +22,7 @@ pub enum Outcome {
 impl Outcome {
     /// Returns the outcome for something that is granted, or is not.
     pub(crate) fn of(is_granted: bool) -> Outcome
-        ensures { (result ≡ Outcome.Yes) ↔ (is_granted ≡ true) }
+        ensures { is_yes result ≡ is_granted }
     {
         if is_granted {
             Outcome::Yes
@@ -94,6 +94,16 @@ pub enum Cause {
 }
 
 impl RunFault {
+    /// Returns whether the fault is one of the input.
+    pub(crate) fn is_input_fault(self) -> bool
+        ensures { result ≡ is_input_fault self }
+    {
+        match self.cause() {
+            Cause::Input => true,
+            Cause::Source | Cause::Sink(_) | Cause::Memory => false,
+        }
+    }
+
     /// Returns the cause of the fault: the one table of all faults.
     fn cause(self) -> Cause
         ensures { result ≡ cause_of self }
@@ -104,16 +114,6 @@ impl RunFault {
             RunFault::Read => Cause::Source,
             RunFault::Write(fault) => Cause::Sink(fault),
             RunFault::Memory => Cause::Memory,
-        }
-    }
-
-    /// Returns whether the fault is one of the input.
-    pub(crate) fn is_refusal(self) -> bool
-        ensures { result ≡ is_refusal self }
-    {
-        match self.cause() {
-            Cause::Input => true,
-            Cause::Source | Cause::Sink(_) | Cause::Memory => false,
         }
     }
 }

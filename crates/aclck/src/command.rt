@@ -1,10 +1,8 @@
 //! The program over a source and sinks.
-ghost use Rattle.std.specs.Prelude.{◌≡◌, ◌⊎◌, ◌<◌, ◌≤◌, IfOk, IsSome, None, Err, false};
-ghost use Rattle.std.specs.Io.KnownBytes.{IsAtEnd};
-ghost use Rattle.acl_perm.specs.Devices.{one_more};
+ghost use Rattle.std.specs.Prelude.{◌≡◌, IfOk, Err, false};
 ghost use Rattle.aclck.specs.Line.{rows_in, texts, words_of};
 ghost use Rattle.aclck.specs.Task.{is_command, task_in, task_of};
-ghost use Rattle.aclck.specs.Command.{IsBegun, IsDone, IsEnded, IsRefused, IsStopped, IsTaken, outcome_at};
+ghost use Rattle.aclck.specs.Command.{RunsWords};
 ghost use Rattle.aclck.specs.internal.Performing.{RunsTask, status_of};
 
 use crate::answer::{Outcome, RunFault};
@@ -67,7 +65,7 @@ impl CommandFault {
     {
         match self {
             CommandFault::Usage => 3,
-            CommandFault::Run(fault) => { if fault.is_refusal() { 2 } else { 4 } }
+            CommandFault::Run(fault) => { if fault.is_input_fault() { 2 } else { 4 } }
         }
     }
 }
@@ -82,50 +80,9 @@ pub fn command<S: Source, K: Sink, E: Sink>(
     out: &mut K,
     err: &mut E,
 ) -> u8
-    // Below 3 the words ask for a task.
-    ensures named { result < 3 → IsSome (task_of (texts words.entry.now)) }
-    // At 0 and 1 the task ran to its end, and the text of its answer was written.
-    ensures done { result < 2 → IsDone (task_of (texts words.entry.now))
-        (S.remaining source.old) (K.contents out.old) (K.contents out.new) (outcome_at result) }
-    ensures whole { result < 2 → IsAtEnd (S.remaining source.new) }
-    // At 2 the input has a fault.
-    ensures refused { result ≡ 2 → IsRefused (task_of (texts words.entry.now))
-        (S.remaining source.old) }
-    // At 3 the words ask for nothing, and no input was read.
-    ensures usage { result ≡ 3 → task_of (texts words.entry.now) ≡ None }
-    ensures unread { result ≡ 3 → source.new ≡ source.old }
-    // If the first word names no command, or there is no word, no memory is requested.
-    ensures unnamed { is_command (texts words.entry.now) ≡ false → result ≡ 3 }
-
-    // Little of the input is taken, if any. What was taken when a read failed does not refuse a list. A text that is
-    // refused was read to its end.
-    ensures bound { (source.new ≡ source.old) ⊎ IsTaken (task_of (texts words.entry.now))
-        (S.remaining source.old) (S.remaining source.new) }
-    ensures stopped { (S.failure_count source.new ≡ S.failure_count source.old)
-        ⊎ IsStopped (task_of (texts words.entry.now))
-        (S.remaining source.old) (S.remaining source.new) }
-    ensures ended { result ≡ 2 → IsEnded
-        (task_of (texts words.entry.now)) (S.remaining source.new) }
-
-    // At 2 and 3 nothing was written.
-    ensures unwritten { 2 ≤ result → result ≤ 3 → out.new ≡ out.old }
-    // At 4 nothing was written, or a proper beginning of the text of the task's answer, and then one write failed.
-    ensures begun { result ≡ 4 → (out.new ≡ out.old)
-        ⊎ ((K.failure_count out.new ≡ one_more (K.failure_count out.old))
-        × IsBegun (task_of (texts words.entry.now)) (S.remaining source.old)
-        (K.contents out.old) (K.contents out.new)) }
-    // Below 4 no read and no write failed. At 4 at most one read or one write failed, and not both.
-    ensures none_failed { result < 4 → (S.failure_count source.new ≡ S.failure_count source.old)
-        × (K.failure_count out.new ≡ K.failure_count out.old) }
-    ensures one_read { (S.failure_count source.new ≡ S.failure_count source.old)
-        ⊎ (S.failure_count source.new ≡ one_more (S.failure_count source.old)) }
-    ensures one_write { (K.failure_count out.new ≡ K.failure_count out.old)
-        ⊎ (K.failure_count out.new ≡ one_more (K.failure_count out.old)) }
-    ensures one_device { (S.failure_count source.new ≡ S.failure_count source.old)
-        ⊎ (K.failure_count out.new ≡ K.failure_count out.old) }
-    // At 0 and 1 nothing is written to `err`.
-    ensures untold { result < 2 → err.new ≡ err.old }
-    ensures known { result ≤ 4 }
+    ensures { RunsWords (texts words.entry.now)
+        S.remaining S.failure_count source.old source.new
+        K.contents K.failure_count out.old out.new err.old err.new result }
 {
     match perform(alloc, words, source, out) {
         Ok(Outcome::Yes) => 0,

@@ -30,7 +30,7 @@ fn main(rt: HostRuntime) -> ExitCode {
     ExitCode::from(status)
 }
 
-// The words of the command line without the program's name.
+// Returns the words of the command line without the program's name.
 fn collect_words(rt: &HostRuntime) -> Result<Vec<String>, LineFault> {
     match env::args(rt) {
         Ok(args) => Ok(args.skip(1).collect::<Vec<String>>(rt.alloc())?),
@@ -39,6 +39,7 @@ fn collect_words(rt: &HostRuntime) -> Result<Vec<String>, LineFault> {
     }
 }
 
+// Passes the words, which the system gives as strings, and the devices on to `command`.
 fn run_words<S: Source, K: Sink, E: Sink>(
     alloc: Global,
     words: &[String],

@@ -1,12 +1,11 @@
 //! The commands: one row per command in each table, and one file per command.
-ghost use Rattle.std.specs.Prelude.{◌≡◌, IfErr, IfOk, OnOk, false, find, true};
+ghost use Rattle.std.specs.Prelude.{◌≡◌, IfErr, IfOk, OnOk, false, find, map, true};
 ghost use Rattle.std.specs.Str.{bytes_eq};
 ghost use Rattle.clap.specs.Words.{app_of};
-ghost use Rattle.aclck.specs.internal.Held.{Defines};
 ghost use Rattle.aclck.specs.Run.{Runs};
-ghost use Rattle.aclck.specs.Line.{Reads, is_taken, rows_at, rows_in, texts};
-ghost use Rattle.aclck.specs.internal.Held.{is_sound};
-ghost use Rattle.aclck.specs.Task.{Answers, app_named, command_named, definition_of, shape_of, task_held, task_in, word_of};
+ghost use Rattle.aclck.specs.Line.{ReadsValues, is_taken, rows_at, rows_in, texts};
+ghost use Rattle.aclck.specs.internal.Held.{is_sound, term};
+ghost use Rattle.aclck.specs.Task.{Answers, app_named, command_named, definition_of, shape_of, task_held, task_in, command_word};
 
 pub mod bridge;
 pub mod calc_mask;
@@ -111,48 +110,64 @@ impl Name {
         ensures app { IfOk result (λ c. app_of c ≡ app_named self) }
         ensures sound { is_sound (definition_of self).terms ≡ true }
     {
-        command_from(alloc, self.word(), self.definition().arguments)
+        command_from(alloc, self.word(), self.arguments())
     }
 
     fn is_named(self, word: &str) -> bool
-        ensures { result ≡ bytes_eq (word_of self) word.now }
+        ensures { result ≡ bytes_eq (command_word self) word.now }
     {
         self.word() == word
     }
 
     // The word that names the command.
     fn word<'a>(self) -> &'a str
-        ensures { result.now ≡ word_of self }
-    {
-        self.definition().word
-    }
-
-    // The word and the arguments of the command.
-    fn definition(self) -> Definition
-        ensures { Defines (definition_of self) result }
+        ensures { result.now ≡ command_word self }
     {
         match self {
-            Name::ShowPosix => Definition::new(show_posix::WORD, &show_posix::ARGUMENTS),
-            Name::CheckPosix => Definition::new(check_posix::WORD, &check_posix::ARGUMENTS),
-            Name::CalcMask => Definition::new(calc_mask::WORD, &names::ARGUMENTS),
-            Name::Chmod => Definition::new(chmod::WORD, &chmod::ARGUMENTS),
-            Name::Create => Definition::new(create::WORD, &create::ARGUMENTS),
-            Name::ShowNfs => Definition::new(show_nfs::WORD, &profile::ARGUMENTS),
-            Name::Encode => Definition::new(encode::WORD, &profile::ARGUMENTS),
-            Name::CheckNfs => Definition::new(check_nfs::WORD, &check_nfs::ARGUMENTS),
-            Name::Child => Definition::new(child::WORD, &child::ARGUMENTS),
-            Name::Mode => Definition::new(mode::WORD, &profile::ARGUMENTS),
-            Name::Bridge => Definition::new(bridge::WORD, &names::ARGUMENTS),
-            Name::Table => Definition::new(table::WORD, &table::ARGUMENTS),
-            Name::Normalize => Definition::new(normalize::WORD, &normalize::ARGUMENTS),
-            Name::Compare => Definition::new(compare::WORD, &profile::ARGUMENTS),
+            Name::ShowPosix => show_posix::WORD,
+            Name::CheckPosix => check_posix::WORD,
+            Name::CalcMask => calc_mask::WORD,
+            Name::Chmod => chmod::WORD,
+            Name::Create => create::WORD,
+            Name::ShowNfs => show_nfs::WORD,
+            Name::Encode => encode::WORD,
+            Name::CheckNfs => check_nfs::WORD,
+            Name::Child => child::WORD,
+            Name::Mode => mode::WORD,
+            Name::Bridge => bridge::WORD,
+            Name::Table => table::WORD,
+            Name::Normalize => normalize::WORD,
+            Name::Compare => compare::WORD,
+        }
+    }
+
+    // The arguments of the command, of which at most one takes words.
+    fn arguments(self) -> &'static [Argument]
+        ensures terms { map term result.now ≡ (definition_of self).terms }
+        ensures sound { is_sound (definition_of self).terms ≡ true }
+    {
+        match self {
+            Name::ShowPosix => &show_posix::ARGUMENTS,
+            Name::CheckPosix => &check_posix::ARGUMENTS,
+            Name::CalcMask => &names::ARGUMENTS,
+            Name::Chmod => &chmod::ARGUMENTS,
+            Name::Create => &create::ARGUMENTS,
+            Name::ShowNfs => &profile::ARGUMENTS,
+            Name::Encode => &profile::ARGUMENTS,
+            Name::CheckNfs => &check_nfs::ARGUMENTS,
+            Name::Child => &child::ARGUMENTS,
+            Name::Mode => &profile::ARGUMENTS,
+            Name::Bridge => &names::ARGUMENTS,
+            Name::Table => &table::ARGUMENTS,
+            Name::Normalize => &normalize::ARGUMENTS,
+            Name::Compare => &profile::ARGUMENTS,
         }
     }
 }
 
 // The first of some commands that the word names.
 fn find_name(names: &[Name], word: &str) -> Option<Name>
-    ensures { result ≡ find (λ n. bytes_eq (word_of n) word.now) names.now }
+    ensures { result ≡ find (λ n. bytes_eq (command_word n) word.now) names.now }
 {
     for name in names {
         if name.is_named(word) {
@@ -160,22 +175,6 @@ fn find_name(names: &[Name], word: &str) -> Option<Name>
         }
     }
     None
-}
-
-/// The word that names a command, and its arguments.
-#[derive(Clone, Copy, Debug)]
-pub struct Definition {
-    pub word: &'static str,
-    pub arguments: &'static [Argument],
-}
-
-impl Definition {
-    fn new(word: &'static str, arguments: &'static [Argument]) -> Definition
-        ensures named { result.word.now ≡ word.now }
-        ensures takes { result.arguments.now ≡ arguments.now }
-    {
-        Definition { word, arguments }
-    }
 }
 
 /// A command with its values.
@@ -205,7 +204,7 @@ impl<'a> Task<'a> {
         matches: &ArgMatches<'w>,
         words: &'a [&'a [u8]],
     ) -> Result<Task<'a>, LineFault>
-        ensures { Reads task_held (task_in name (rows_in matches.now)
+        ensures { ReadsValues task_held (task_in name (rows_in matches.now)
             (texts words.entry.now)) result }
     {
         match name {
@@ -240,25 +239,13 @@ impl<'a> Task<'a> {
     {
         match self {
             Task::ShowPosix(v) => run_show_posix(alloc, source, sink, v.form, &v.names),
-            Task::CheckPosix(v) => run_check_posix(
-                alloc, source, sink, v.owner, v.group, v.user, &v.groups, v.want, &v.names,
-            ),
+            Task::CheckPosix(v) => run_check_posix(alloc, source, sink, v),
             Task::CalcMask(names) => run_calc_mask(alloc, source, sink, names),
             Task::Chmod(v) => run_chmod(alloc, source, sink, v.mode, &v.names),
-            Task::Create(v) => { run_create(alloc, source, sink, v.mode, v.umask, v.dir, &v.names) }
+            Task::Create(v) => run_create(alloc, source, sink, v),
             Task::ShowNfs(profile) => run_show_nfs(alloc, source, sink, *profile),
             Task::Encode(profile) => run_encode(alloc, source, sink, *profile),
-            Task::CheckNfs(v) => {
-                run_check_nfs(
-                    alloc,
-                    source,
-                    sink,
-                    &v.object,
-                    &v.requester,
-                    v.mask,
-                    v.profile,
-                )
-            }
+            Task::CheckNfs(v) => run_check_nfs(alloc, source, sink, v),
             Task::Child(v) => run_child(alloc, source, sink, v.kind, v.profile),
             Task::Mode(profile) => run_mode(alloc, source, sink, *profile),
             Task::Bridge(names) => run_bridge(alloc, source, sink, names),

@@ -1,5 +1,5 @@
-//! Tests of the commands over devices in memory, a file a command. Those of a module `ample` want memory to be there;
-//! each other takes want of memory for an answer.
+//! Tests of the commands over devices in memory, one file per command. The tests of the modules `ample` need enough
+//! memory; every other test accepts that memory runs out.
 
 mod ample;
 mod bridge;

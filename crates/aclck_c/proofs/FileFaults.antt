@@ -1,17 +1,17 @@
 -- Faults of names and of texts are faults of a call over both.
 use Rattle.std.proofs.Common.{ℕ, List, Err}
 use Rattle.acl_posix.specs.Grammar.{Reads}
-use Rattle.acl_posix.specs.Names.{Table, no_names}
+use Rattle.acl_posix.specs.Names.{Table, empty_table}
 use Rattle.acl_posix.specs.declared.file.PosixFile.{PosixFile}
 use Rattle.aclck_c.specs.Names.{AreNames, names_added}
-use Rattle.aclck_c.specs.Posix.{Spells}
-use Rattle.aclck_c.specs.declared.file_fault.FileFault.{FileFault}
-use Rattle.aclck_c.specs.declared.file_fault.FileFault.TheVariants as file
-use Rattle.aclck_c.specs.declared.names.Name.{Name}
+use Rattle.aclck_c.specs.Posix.{SpellsFile}
+use Rattle.aclck_c.specs.declared.posix.file_fault.FileFault.{FileFault}
+use Rattle.aclck_c.specs.declared.posix.file_fault.FileFault.TheVariants as file
+use Rattle.aclck_c.specs.declared.posix.names.Name.{Name}
 use Rattle.aclck_c.specs.internal.Files.{IsFileFault, IsReadFault, ReadsTable}
 
 -- what is refused of the names
-pub of_names : (given : List Name) (bytes : List ℕ) (f : FileFault) → ReadsTable (names_added no_names given) (Err f)
+pub of_names : (given : List Name) (bytes : List ℕ) (f : FileFault) → ReadsTable (names_added empty_table given) (Err f)
     → IsFileFault given bytes f
 of_names given bytes file.Names h = h
 of_names given bytes (file.Refused t) h = absurd h
@@ -26,5 +26,5 @@ of_text given bytes table file.Memory named h = h
 
 -- what is read of the text, with the table of the names
 pub spells : (given : List Name) (bytes : List ℕ) (table : Table) (found : PosixFile) → AreNames given table
-    → Reads bytes table found → Spells given bytes found
+    → Reads bytes table found → SpellsFile given bytes found
 spells given bytes table found named h = record { table = table; named = named; reads = h }

@@ -1,10 +1,7 @@
--- What a call from C asks of the text of POSIX ACLs, and what its answer means (this library's own, over acl(5)).
-use Rattle.std.specs.Prelude.{◌≡◌, ◌≤◌, ℕ, All, Bool, List}
-use Rattle.acl_posix.specs.Check.{Object, Requester, grants}
+-- What a call from C asks of the text of POSIX ACLs (this library's own, over acl(5)).
+use Rattle.std.specs.Prelude.{◌≤◌, ℕ, All, List}
+use Rattle.acl_posix.specs.Check.{Object, Requester}
 use Rattle.acl_posix.specs.Id.{IsId}
-use Rattle.acl_posix.specs.declared.file.PosixFile.{PosixFile}
-use Rattle.aclck_c.specs.Posix.{Spells}
-use Rattle.aclck_c.specs.declared.names.Name.{Name}
 
 -- the owner and the owning group of the object
 abbrev pub object_of : ℕ → ℕ → Object
@@ -25,10 +22,3 @@ pub record AreNumbers (owner group user want : ℕ) : Type 0 where
 pub record AreGoodIds (owner group user : ℕ) (groups : List ℕ) (want : ℕ) : Type 0 where
   pub numbers : AreNumbers owner group user want
   pub are_groups : All IsId groups
-
--- with these names the text spells a file, and this is whether its access ACL grants the request
-pub record Checks (names : List Name) (text : List ℕ) (object : Object) (requester : Requester) (want : ℕ)
-    (granted : Bool) : Type 0 where
-  pub file : PosixFile
-  pub spells : Spells names text file
-  pub answer : granted ≡ grants file.access object requester want

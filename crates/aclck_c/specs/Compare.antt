@@ -10,7 +10,7 @@ use Rattle.acl_nfs4.specs.Spelling.{Xdr}
 use Rattle.acl_eval.specs.Grant.{SameGrants}
 use Rattle.acl_normal.specs.SmallSets.{IsFirstDifference}
 use Rattle.aclck_c.specs.Lists.{AreList, IsRefusedList}
-use Rattle.aclck_c.specs.declared.compare.Distinction.{Distinction}
+use Rattle.aclck_c.specs.declared.nfs4.compare.Distinction.{Distinction}
 use Rattle.aclck_c.specs.declared.refusal.Refusal.{Refusal}
 
 -- both spell lists, which grant everybody the same

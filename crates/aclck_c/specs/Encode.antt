@@ -1,20 +1,11 @@
--- What calls from C make of the text of a list (this library's own).
+-- Why the text of a list is refused, as a caller from C sees it (this library's own).
 use Rattle.std.specs.Prelude.{◌≡◌, ℕ, List, None, Option, Some}
 use Rattle.acl_perm.specs.Profile.{Profile}
-use Rattle.acl_nfs4.specs.Ace.{Ace}
-use Rattle.acl_nfs4.specs.AceText.{IsAceText}
 use Rattle.acl_nfs4.specs.AceTextFault.{IsAceTextFault}
-use Rattle.acl_nfs4.specs.Spelling.{spelling}
 use Rattle.acl_nfs4.specs.declared.text.fault.AceTextFault.{AceTextFault}
 use Rattle.acl_nfs4.specs.declared.text.fault.AceTextFault.TheVariants as text
 use Rattle.aclck_c.specs.Refusal.{at_place}
 use Rattle.aclck_c.specs.declared.refusal.Refusal.{Refusal}
-
--- the text is that of a list, and these bytes spell it
-pub record Encodes (p : Profile) (text bytes : List ℕ) : Type 0 where
-  pub list : List Ace
-  pub read : IsAceText p list text
-  pub spelled : bytes ≡ spelling list
 
 -- the fault of a text, by numbers; none if memory ran out
 abbrev pub ace_text_refusal : AceTextFault → Option Refusal

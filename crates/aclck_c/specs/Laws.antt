@@ -4,7 +4,7 @@ use Rattle.acl_nfs4.specs.Ace.{Ace}
 use Rattle.acl_nfs4.specs.Spelling.{Xdr}
 use Rattle.acl_eval.specs.Grant.{SameGrants}
 use Rattle.acl_normal.specs.NormalForm.{Normalises}
-use Rattle.aclck_c.specs.Options.{profile_in}
+use Rattle.aclck_c.specs.Options.{profile_from}
 use Rattle.aclck_c.specs.Out.{HandsOut}
 
 -- two inputs that spell lists, and for which `aclck_normalize` returned 0 with these options, got equal bytes in their
@@ -13,8 +13,8 @@ abbrev pub NormalizedBytesTellApart : Type 0
 NormalizedBytesTellApart =
     (options needed other_needed : ℕ) (list other : List Ace)
     (input other_input buffer filled other_buffer other_filled : List ℕ)
-    → Xdr (profile_in options) list input
-    → Xdr (profile_in options) other other_input
-    → HandsOut (Normalises (profile_in options) input) buffer filled needed
-    → HandsOut (Normalises (profile_in options) other_input) other_buffer other_filled other_needed
-    → (take needed filled ≡ take other_needed other_filled) ↔ SameGrants (profile_in options).masks list other
+    → Xdr (profile_from options) list input
+    → Xdr (profile_from options) other other_input
+    → HandsOut (Normalises (profile_from options) input) buffer filled needed
+    → HandsOut (Normalises (profile_from options) other_input) other_buffer other_filled other_needed
+    → (take needed filled ≡ take other_needed other_filled) ↔ SameGrants (profile_from options).masks list other

@@ -7,7 +7,6 @@ pub mod Lists
 pub mod Many
 pub mod Mode
 pub mod Names
-pub mod Normalize
 pub mod Options
 pub mod Out
 pub mod Posix

@@ -3,10 +3,8 @@ use Rattle.std.specs.Prelude.{◌≡◌, ℕ, List}
 use Rattle.acl_perm.specs.Profile.{Profile}
 use Rattle.acl_nfs4.specs.Ace.{Ace}
 use Rattle.acl_nfs4.specs.Fault.{IsWholeFault}
-use Rattle.acl_nfs4.specs.Spelling.{Xdr, spelling}
+use Rattle.acl_nfs4.specs.Spelling.{Xdr}
 use Rattle.acl_nfs4.specs.declared.xdr.fault.Reason.{Reason}
-use Rattle.acl_eval.specs.Inheritance.{children}
-use Rattle.acl_eval.specs.declared.inherit.ChildKind.{ChildKind}
 use Rattle.aclck_c.specs.Refusal.{in_list}
 use Rattle.aclck_c.specs.declared.refusal.Refusal.{Refusal}
 
@@ -20,13 +18,3 @@ pub record IsRefusedList (p : Profile) (bytes : List ℕ) (which : ℕ) (shown :
   pub reason : Reason
   pub has : IsWholeFault p bytes offset reason
   pub is : shown ≡ in_list offset reason which
-
--- the bytes spell a list of the profile and nothing more, and this text is made of that list
-pub record MakesText (p : Profile) (made : List Ace → List ℕ) (bytes text : List ℕ) : Type 0 where
-  pub list : List Ace
-  pub spelled : Xdr p list bytes
-  pub is : text ≡ made list
-
--- the one spelling of the list that a new object gets
-abbrev pub child_bytes : ChildKind → List Ace → List ℕ
-child_bytes kind list = spelling (children kind list)

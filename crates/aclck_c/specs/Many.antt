@@ -6,7 +6,7 @@ use Rattle.acl_perm.specs.Situation.{Situation}
 use Rattle.acl_nfs4.specs.Ace.{Ace}
 use Rattle.acl_nfs4.specs.Spelling.{Xdr}
 use Rattle.aclck_c.specs.Requests.{AreGranted, asked}
-use Rattle.aclck_c.specs.declared.check_many.Asker.{Asker}
+use Rattle.aclck_c.specs.declared.nfs4.check_many.Asker.{Asker}
 
 -- the situation in which a requester requests access
 abbrev pub asked_by : List ℕ → List ℕ → Asker → Situation

@@ -1,8 +1,8 @@
 -- The table of names that a call from C is given (this library's own).
 use Rattle.std.specs.Prelude.{◌≡◌, ◌==◌, ℕ, [], ◌∷◌, IsSome, List, None, Option, Some, if◌then◌else◌, nat_lt}
 use Rattle.std.specs.Option.{is_none, option_and_then}
-use Rattle.acl_posix.specs.Names.{Table, name_fault, no_names, with_group, with_user}
-use Rattle.aclck_c.specs.declared.names.Name.{Name}
+use Rattle.acl_posix.specs.Names.{Table, name_fault, empty_table, with_group, with_user}
+use Rattle.aclck_c.specs.declared.posix.names.Name.{Name}
 
 -- the table with one more user name, if the name may be added
 abbrev pub user_added : Table → List ℕ → ℕ → Option Table
@@ -30,8 +30,8 @@ names_added table (n ∷ more) = option_and_then (λ t. names_added t more) (nam
 
 -- the names make this table
 abbrev pub AreNames : List Name → Table → Type 0
-AreNames names table = names_added no_names names ≡ Some table
+AreNames names table = names_added empty_table names ≡ Some table
 
 -- the names make a table
 abbrev pub AreGoodNames : List Name → Type 0
-AreGoodNames names = IsSome (names_added no_names names)
+AreGoodNames names = IsSome (names_added empty_table names)

@@ -1,14 +1,9 @@
 -- What calls from C make of the text of POSIX ACLs (this library's own, over acl(5)).
-use Rattle.std.specs.Prelude.{◌≡◌, ◌==◌, ◌++◌, ◌∷◌, [], ℕ, Bool, List, None, Option, Some, if◌then◌else◌}
-use Rattle.acl_perm.specs.Lines.{line_feed}
-use Rattle.acl_perm.specs.Profile.{full}
-use Rattle.acl_posix.specs.Create.{created_access, created_default}
+use Rattle.std.specs.Prelude.{◌≡◌, ◌==◌, ℕ, Bool, List, None, Option, Some, if◌then◌else◌}
 use Rattle.acl_posix.specs.Grammar.{Reads}
-use Rattle.acl_posix.specs.Mask.{with_mask}
-use Rattle.acl_posix.specs.Mode.{chmoded}
 use Rattle.acl_posix.specs.Names.{Table}
 use Rattle.acl_posix.specs.TextFault.{IsTextFault}
-use Rattle.acl_posix.specs.Texts.{canonical_text, short_text, shown_text}
+use Rattle.acl_posix.specs.Programs.{MakesOfFile, file_text}
 use Rattle.acl_posix.specs.declared.file.PosixFile.{PosixFile}
 use Rattle.acl_posix.specs.declared.form.Form.{Form}
 use Rattle.acl_posix.specs.declared.form.Form.TheVariants as form
@@ -19,17 +14,15 @@ use Rattle.acl_posix.specs.declared.text_fault.Part.{Part}
 use Rattle.acl_posix.specs.declared.text_fault.Part.TheVariants as part
 use Rattle.acl_posix.specs.declared.text_fault.TextFault.{TextFault}
 use Rattle.acl_posix.specs.declared.text_fault.TextFault.TheVariants as fault
-use Rattle.acl_nfs4.specs.Spelling.{IsAccepted, Xdr}
-use Rattle.acl_eval.specs.Bridge.{bridge_list}
 use Rattle.aclck_c.specs.Names.{AreNames}
 use Rattle.aclck_c.specs.Refusal.{at_place, in_part}
-use Rattle.aclck_c.specs.declared.names.Name.{Name}
+use Rattle.aclck_c.specs.declared.posix.names.Name.{Name}
 use Rattle.aclck_c.specs.declared.refusal.Refusal.{Refusal}
 
 -- ---- what is read
 
 -- the names make a table, with which the text spells this file
-pub record Spells (names : List Name) (text : List ℕ) (file : PosixFile) : Type 0 where
+pub record SpellsFile (names : List Name) (text : List ℕ) (file : PosixFile) : Type 0 where
   pub table : Table
   pub named : AreNames names table
   pub reads : Reads text table file
@@ -42,55 +35,22 @@ pub record HasFault (names : List Name) (text : List ℕ) (f : TextFault) : Type
 
 -- ---- what is made
 
--- with these names the text spells a file, and this result is made of that file
-pub record MakesOfFile (made : PosixFile → List ℕ) (names : List Name) (text result : List ℕ) : Type 0 where
-  pub file : PosixFile
-  pub spells : Spells names text file
-  pub is : result ≡ made file
-
 -- the form that options mean
-abbrev pub form_in : ℕ → Option Form
-form_in options =
+abbrev pub form_from : ℕ → Option Form
+form_from options =
     if options == 0 then Some form.Canonical
     else (if options == 4 then Some form.Shown
     else (if options == 8 then Some form.Short else None))
 
--- the text of a file in a form; the short text has a line feed after it
-abbrev pub form_text : Form → PosixFile → List ℕ
-form_text form.Canonical file = canonical_text file.access file.default
-form_text form.Shown file = shown_text file.access file.default
-form_text form.Short file = short_text file.access file.default ++ line_feed ∷ []
-
 -- options mean a form, and the result is the text of the file in that form
 pub record IsShown (names : List Name) (options : ℕ) (text result : List ℕ) : Type 0 where
   pub form : Form
-  pub is_form : form_in options ≡ Some form
-  pub makes : MakesOfFile (form_text form) names text result
-
--- the canonical text with the mask of the access ACL calculated (POSIX.1e draft 17, section 23.4)
-abbrev pub masked_text : PosixFile → List ℕ
-masked_text file = canonical_text (with_mask file.access) file.default
-
--- the canonical text with the mode of the access ACL set (acl(5), "CORRESPONDENCE BETWEEN ACL ENTRIES AND FILE
--- PERMISSION BITS")
-abbrev pub chmod_text : ℕ → PosixFile → List ℕ
-chmod_text mode file = canonical_text (chmoded file.access mode) file.default
+  pub is_form : form_from options ≡ Some form
+  pub makes : MakesOfFile (SpellsFile names text) (file_text form) result
 
 -- the options mean a directory
 abbrev pub is_directory : ℕ → Bool
 is_directory options = options == 2
-
--- the canonical text of a new object in a directory with the ACLs of this file (acl(5), "OBJECT CREATION AND DEFAULT
--- ACLs")
-abbrev pub created_text : ℕ → ℕ → Bool → PosixFile → List ℕ
-created_text mode umask directory file =
-    canonical_text (created_access file.default mode umask) (created_default file.default directory)
-
--- with these names the text spells a file, and these bytes spell the list of its access ACL
-pub record Bridges (names : List Name) (text bytes : List ℕ) : Type 0 where
-  pub file : PosixFile
-  pub spells : Spells names text file
-  pub spelled : Xdr full (bridge_list file.access) bytes
 
 -- ---- what is refused
 
@@ -127,9 +87,3 @@ pub record IsRefusedPosix (names : List Name) (text : List ℕ) (shown : Refusal
   pub fault : TextFault
   pub has : HasFault names text fault
   pub is : Some shown ≡ posix_refusal fault
-
--- the text spells a file, and the list of its access ACL is above a limit
-pub record IsPastLimits (names : List Name) (text : List ℕ) : Type 0 where
-  pub file : PosixFile
-  pub spells : Spells names text file
-  pub past : IsAccepted full (bridge_list file.access) → ⊥

@@ -1,15 +1,14 @@
 -- What a call from C asks of a list, and what its answer means (this library's own, over RFC 8881, section 6.2.1).
-use Rattle.std.specs.Prelude.{◌≡◌, ◌<◌, ◌^◌, ◌↔◌, ◌&&◌, ℕ, All, Bool, IsTrue, List, None, Some, length, map}
+use Rattle.std.specs.Prelude.{◌≡◌, ◌<◌, ◌^◌, ◌&&◌, ℕ, All, List, None, Some, length, map}
 use Rattle.std.specs.Borrow.{Bor}
 use Rattle.acl_perm.specs.Bits.{IsMask, has_bit}
 use Rattle.acl_perm.specs.Profile.{Profile}
 use Rattle.acl_perm.specs.Situation.{Situation}
 use Rattle.acl_perm.specs.declared.kind.Kind.{Kind}
-use Rattle.acl_perm.specs.declared.kind.Kind.TheVariants as kind
 use Rattle.acl_nfs4.specs.Ace.{Ace}
-use Rattle.acl_nfs4.specs.Spelling.{Xdr}
+use Rattle.acl_nfs4.specs.Spelling.{Xdr, kind_number}
 use Rattle.acl_eval.specs.Deciding.{deciding_kind, deciding_place}
-use Rattle.acl_eval.specs.Grant.{Grant, grants_bit}
+use Rattle.acl_eval.specs.Grant.{grants_bit}
 
 -- the situation of these names; the names of groups are behind references
 abbrev pub asked : List ℕ → List ℕ → List ℕ → List (Bor (List ℕ)) → Situation
@@ -29,24 +28,13 @@ pub record AreGood (owner group user : List ℕ) (groups : List (Bor (List ℕ))
   pub is_mask : IsMask mask
   pub is_profile : options < 2
 
--- the bytes spell a list, and this is whether it grants the request
-pub record Decides (p : Profile) (bytes : List ℕ) (s : Situation) (mask : ℕ) (granted : Bool) : Type 0 where
-  pub list : List Ace
-  pub spelled : Xdr p list bytes
-  pub answer : IsTrue granted ↔ Grant list s mask
-
 -- the mask has this bit and no other
 abbrev pub IsRight : ℕ → ℕ → Type 0
 IsRight mask bit = (bit < 21) × (mask ≡ 2 ^ bit)
 
 -- the mask has exactly one bit
-abbrev pub IsOneRight : ℕ → Type 0
-IsOneRight mask = (bit : ℕ) × IsRight mask bit
-
--- the number of a type (RFC 8881, section 6.2.1.1)
-abbrev pub kind_number : Kind → ℕ
-kind_number kind.Allow = 0
-kind_number kind.Deny = 1
+abbrev pub IsSomeRight : ℕ → Type 0
+IsSomeRight mask = (bit : ℕ) × IsRight mask bit
 
 -- the bytes spell a list, and the ACE at this place, which has this type, decides the right
 pub record IsDecidedAt (p : Profile) (bytes : List ℕ) (s : Situation) (right place number : ℕ) : Type 0 where

@@ -1,13 +1,12 @@
 -- Names of rights and of reasons in calls from C (this library's own).
 use Rattle.std.specs.Prelude.{◌==◌, ℕ, List, None, Option, Some, codes, if◌then◌else◌}
-use Rattle.std.specs.List.{join_with_byte}
-use Rattle.acl_nfs4.specs.BitNames.{bar, names_of}
-use Rattle.acl_nfs4.specs.Rights.{no_rights, rights}
+use Rattle.acl_nfs4.specs.BitNames.{set_text}
+use Rattle.acl_nfs4.specs.Rights.{rights}
 
 -- the names of the rights of a mask (RFC 8881, section 6.2.1.3.1), in ascending order of their bits, with `|` between
 -- them; `-` for none
 abbrev pub rights_text : ℕ → List ℕ
-rights_text mask = if mask == 0 then no_rights else join_with_byte bar (names_of rights mask)
+rights_text mask = set_text rights mask
 
 -- the name of the reason of a number, as the program prints it
 abbrev pub reason_name : ℕ → Option (List ℕ)

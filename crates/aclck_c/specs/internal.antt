@@ -4,8 +4,6 @@
 pub mod Bridging
 -- why a call over the text of POSIX ACLs fails
 pub mod Files
--- the table of rights as the code holds it
-pub mod NameTable
 -- why a call over a list fails, and what it then returns
 pub mod Stops
 -- the first difference of two lists

@@ -1,7 +1,7 @@
 //! What the bits of `options` mean.
 ghost use Rattle.std.specs.Prelude.{◌≡◌, ◌<◌, ◌↔◌, IfSome, IsSome};
 ghost use Rattle.acl_perm.specs.Profile.{profile_of};
-ghost use Rattle.aclck_c.specs.Options.{kind_in, profile_in};
+ghost use Rattle.aclck_c.specs.Options.{IsMode, child_kind_from, profile_from};
 
 use acl_eval::ChildKind;
 use acl_perm::{Mode, Profile};
@@ -13,9 +13,9 @@ const DIRECTORY: u32 = 2;
 const NARROW_DIRECTORY: u32 = 3;
 
 /// Returns the profile of options, if they have no other bit.
-pub(crate) fn profile_in(options: u32) -> Option<Profile>
+pub(crate) fn profile_from(options: u32) -> Option<Profile>
     ensures known { IsSome result ↔ (options < 2) }
-    ensures value { IfSome result (λ profile. profile_of profile ≡ profile_in options) }
+    ensures value { IfSome result (λ profile. profile_of profile ≡ profile_from options) }
 {
     match options {
         0 => Some(Profile::FULL),
@@ -32,10 +32,10 @@ pub(crate) struct Creation {
 }
 
 /// Returns the profile and the kind of options, if they have no other bit.
-pub(crate) fn creation_in(options: u32) -> Option<Creation>
+pub(crate) fn creation_from(options: u32) -> Option<Creation>
     ensures known { IsSome result ↔ (options < 4) }
-    ensures profile { IfSome result (λ c. profile_of c.profile ≡ profile_in options) }
-    ensures kind { IfSome result (λ c. c.kind ≡ kind_in options) }
+    ensures profile { IfSome result (λ c. profile_of c.profile ≡ profile_from options) }
+    ensures kind { IfSome result (λ c. c.kind ≡ child_kind_from options) }
 {
     let (profile, kind) = match options {
         0 => (Profile::FULL, ChildKind::File),
@@ -48,8 +48,8 @@ pub(crate) fn creation_in(options: u32) -> Option<Creation>
 }
 
 /// Returns the mode of a number.
-pub(crate) fn mode_in(number: u32) -> Option<Mode>
-    ensures known { IsSome result ↔ (number < 512) }
+pub(crate) fn mode_from(number: u32) -> Option<Mode>
+    ensures known { IsSome result ↔ IsMode number }
     ensures value { IfSome result (λ mode. mode.bits ≡ number) }
 {
     if number > 0o777 {

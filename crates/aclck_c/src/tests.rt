@@ -1,4 +1,4 @@
-//! Exports, called as any function.
+//! Exports, called as ordinary functions.
 mod ample;
 
 use crate::{Refusal, aclck_check_nfs, aclck_normalize};

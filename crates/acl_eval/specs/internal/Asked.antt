@@ -4,5 +4,5 @@ use Rattle.acl_eval.specs.Situation.{situation}
 use Rattle.acl_eval.specs.declared.standing.Standing.{Standing}
 
 -- the situation in which the requester requests access to the object
-abbrev pub asked : Standing → Situation
-asked standing = situation standing.object standing.requester
+abbrev pub asked_situation : Standing → Situation
+asked_situation standing = situation standing.object standing.requester

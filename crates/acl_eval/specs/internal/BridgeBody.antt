@@ -8,11 +8,11 @@ use Rattle.acl_eval.specs.declared.bridging.Part.TheVariants.{Users, GroupAllows
 use Rattle.acl_eval.specs.Bridge.{image, each, is_user_tag, is_group_tag, is_other_tag, allow_of, deny_of, decide_of}
 
 -- the four parts of the list
-abbrev pub part_of : Entries → Part → List (Tag × ℕ) → List Ace
-part_of entries Users = each is_user_tag (decide_of entries)
-part_of entries GroupAllows = each is_group_tag (allow_of entries)
-part_of entries GroupDenies = each is_group_tag (deny_of entries)
-part_of entries Others = each is_other_tag (allow_of entries)
+abbrev pub bridged_part : Entries → Part → List (Tag × ℕ) → List Ace
+bridged_part entries Users = each is_user_tag (decide_of entries)
+bridged_part entries GroupAllows = each is_group_tag (allow_of entries)
+bridged_part entries GroupDenies = each is_group_tag (deny_of entries)
+bridged_part entries Others = each is_other_tag (allow_of entries)
 
 -- the number of mask bits of an entry, over all its ACEs: the rights of read, write and execute are allowed or denied,
 -- except that OTHER denies nothing and MASK has no ACE
@@ -23,3 +23,7 @@ cost_of group_obj perm = 4
 cost_of (group id) perm = 4
 cost_of mask perm = 0
 cost_of other perm = count_ones (image perm)
+
+-- the number of bits of the word that holds a mask; no mask has more
+abbrev pub word_bits : ℕ
+word_bits = 32

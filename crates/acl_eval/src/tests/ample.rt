@@ -1,4 +1,4 @@
-//! What each table answers where memory is ample. What one file alone is asked stands there.
+//! The answer of each table with ample memory. Questions of a single file are in that file.
 
 use super::{bridging, creation, modes, naming};
 

@@ -1,4 +1,4 @@
-//! Bridged lists, row by row, and how many entries a list takes.
+//! Bridged lists, row by row, and how many entries a list can have.
 
 use super::harness::{kept, passes};
 use crate::*;
@@ -41,7 +41,7 @@ DENY - WRITE_DATA|APPEND_DATA|EXECUTE GROUP@
 ALLOW - EXECUTE EVERYONE@
 ";
 
-// An ACL, its list as a text, and the mode of that, whose group digit is what MASK leaves of GROUP_OBJ.
+// An ACL, the text of its list, and the mode of the list. The group digit of the mode is GROUP_OBJ limited by MASK.
 static LISTS: [(&[u8], &[u8], u16); 3] = [
     (TWO_GROUPS, TWO_GROUPS_LIST, 0o700),
     (b"u::rw-,g::r--,o::r--", PLAIN_LIST, 0o644),
@@ -58,7 +58,7 @@ fn has_list(alloc: Global, acl: &PosixAcl, text: &[u8], mode: u16) -> Result<boo
     Ok(list == wanted && mode_of(list.aces()).bits() == mode)
 }
 
-/// Each ACL has the list of its row, and that its mode.
+/// Each ACL has the list of its row, and the list has the mode of the row.
 pub fn lists(rt: &impl Abort, alloc: Global) -> Result<(), PushFault> {
     for (text, list, mode) in LISTS {
         let acl = acl_of(alloc, text)?;
@@ -72,14 +72,14 @@ fn each_acl_has_its_list(rt: HostRuntime) {
     assert!(rt; passes(lists(&rt, rt.alloc())));
 }
 
-// Whether user 3, in the groups 50 and 60, passes the check of an object of user 1 and group 2.
+// Returns whether the check of an object of user 1 and group 2 grants user 3, who is in the groups 50 and 60.
 fn is_checked(acl: &PosixAcl, want: u8) -> Option<bool> {
     let groups = [Id::new(50)?, Id::new(60)?];
     let (owner, group, user) = (Id::new(1)?, Id::new(2)?, Id::new(3)?);
     Some(acl.check(owner, group, user, &groups, Perm::new(want)?))
 }
 
-// Whether the list grants it.
+// Returns whether the list grants the same.
 fn is_listed(list: &Acl, mask: u32) -> Option<bool> {
     let object = Object::new(b"1", b"2")?;
     let requester = Requester::new(b"3", &[b"50", b"60"])?;
@@ -100,7 +100,7 @@ fn push_row(entries: &mut Vec<Entry>, tag: Tag, bits: u8) -> Result<(), Fail> {
     Ok(())
 }
 
-// So many users, and the four entries without a qualifier, with these permissions of OTHER.
+// Makes an ACL of this many users and the four entries without a qualifier, with these permissions of OTHER.
 fn crowd(alloc: Global, users: u32, other: u8) -> Result<Vec<Entry>, Fail> {
     let mut entries = Vec::new(alloc);
     for (tag, bits) in [
@@ -128,7 +128,7 @@ fn judge_limit(rt: &impl Abort, alloc: Global, acl: &PosixAcl, is_within: bool) 
 mod ample {
     use super::*;
 
-    // Two groups that have read and write apart are denied both at once by the check, and granted them by the list.
+    // One group has read, and another has write. For both at once, the check denies and the list grants.
     #[test]
     fn a_list_grants_at_once_what_two_groups_have(rt: HostRuntime) -> Result<(), Fail> {
         let acl = acl_of(rt.alloc(), TWO_GROUPS)?;

@@ -75,7 +75,7 @@ fn a_child_inherits_by_its_kind(rt: HostRuntime) {
     assert!(rt; passes(created(&rt, rt.alloc())));
 }
 
-// Whether an ACE of a directory is one of what is created in it.
+// Returns whether the new object has an ACE of the directory.
 fn is_taken(kind: ChildKind, parent: Flags) -> bool {
     let for_files = parent.contains(Flags::FILE_INHERIT);
     match kind {
@@ -87,20 +87,21 @@ fn is_taken(kind: ChildKind, parent: Flags) -> bool {
     }
 }
 
-// Whether it is handed on further below what is created.
+// Returns whether the new object passes the ACE on.
 fn is_handed_on(kind: ChildKind, parent: Flags) -> bool {
     kind == Directory && !parent.contains(Flags::NO_PROPAGATE_INHERIT)
 }
 
-// The flags that say nothing of inheritance.
+// The flags that are not about inheritance.
 const LASTING: [Flags; 3] = [
     Flags::SUCCESSFUL_ACCESS,
     Flags::FAILED_ACCESS,
     Flags::IDENTIFIER_GROUP,
 ];
 
-// Whether these are its flags there: those of inheritance where it is handed on, with INHERIT_ONLY exactly where it is
-// for files alone; those that say nothing of inheritance as they were; and never INHERITED.
+// Returns whether these are the flags of the ACE in the new object: those of inheritance if the object passes the ACE
+// on, with INHERIT_ONLY if and only if the ACE is for files alone; those that are not about inheritance as they were;
+// and never INHERITED.
 fn are_flags(kind: ChildKind, parent: Flags, new: Flags) -> bool {
     let on = is_handed_on(kind, parent);
     let for_directories = parent.contains(Flags::DIRECTORY_INHERIT);
@@ -114,7 +115,7 @@ fn are_flags(kind: ChildKind, parent: Flags, new: Flags) -> bool {
             .all(|flag| new.contains(*flag) == parent.contains(*flag))
 }
 
-// Whether what is created has of an ACE with these flags what the rules give it.
+// Returns whether the new object has what the rules say for an ACE with these flags.
 fn is_by_the_rules(list: &Acl, kind: ChildKind, parent: Flags) -> bool {
     match list.aces().next() {
         Some(ace) => is_taken(kind, parent) && are_flags(kind, parent, ace.flags),
@@ -128,7 +129,7 @@ fn creates_by_the_rules(alloc: Global, kind: ChildKind, bits: u8) -> Result<bool
     Ok(list.len() < 2 && is_by_the_rules(&list, kind, Flags { bits }))
 }
 
-// Whether what is created has each of so many ACEs.
+// Returns whether the new object has each of this many ACEs.
 fn creates_many(alloc: Global, count: usize, kind: ChildKind) -> Result<bool, PushFault> {
     let mut parent = Acl::new(alloc);
     for _ in 0..count {

@@ -21,11 +21,11 @@ fn decisions_of(
     Some([alone, among_all])
 }
 
-// A list of an object of bob's, the requester and its groups, the bit of a right, and the place and the type of the ACE
-// that decides it by RFC 8881, section 6.2.1.
+// A list of an object of bob's, the requester and the requester's groups, the bit of a right, and the place and type of
+// the ACE that decides it by RFC 8881, section 6.2.1.
 static DECISIONS: [(&[u8], &str, &[&[u8]], usize, Option<(usize, Kind)>); 11] = [
     (THREE, "bob", &[], 0, Some((0, Kind::Allow))),
-    // The first of two that speak of the requester.
+    // The first of two ACEs that match the requester.
     (THREE, "bob", &[], 1, Some((1, Kind::Deny))),
     // A right that no ACE has, and one that only others have.
     (THREE, "bob", &[], 2, None),

@@ -1,4 +1,4 @@
-//! What the tests of this crate share: lists by rows, and how a table takes want of memory.
+//! What the tests of this crate share: lists from rows, and what a table answers if memory runs out.
 
 use acl_nfs4::{AceRef, Acl, PushFault};
 use acl_perm::{Flags, Kind, Mask};
@@ -27,13 +27,13 @@ pub fn built(alloc: Global, rows: &[AceRow]) -> Result<Acl, PushFault> {
     Ok(list)
 }
 
-/// Want of memory as a list tells it, which is all that a test of its own rows is refused. Tables answer it where they
-/// meet it; `ample` asks the same without.
+/// The fault of a list if memory runs out, the only fault that the rows of a table can have. Tables return it if they
+/// get it; the tests of `ample` run the tables with enough memory.
 pub fn kept<T, E: Drop>(answer: Result<T, E>) -> Result<T, PushFault> {
     answer.map_err(|_| PushFault::Memory)
 }
 
-/// Whether a table holds, as far as memory went.
+/// Returns whether a table holds, or memory ran out.
 pub fn passes(answer: Result<(), PushFault>) -> bool {
     matches!(answer, Ok(()) | Err(PushFault::Memory))
 }

@@ -1,4 +1,4 @@
-//! Lists as the bytes that spell them, and what is asked of them.
+//! Lists, as the bytes that spell them, and the questions that the tests ask.
 
 use crate::*;
 use acl_nfs4::AclView;
@@ -31,7 +31,7 @@ pub const LONG_NAMES: &[u8; 68] = b"\0\0\0\x02\
     \0\0\0\x01\0\0\0\0\0\0\0\x01\0\0\0\x0dx-long-name@a\0\0\0\
     \0\0\0\0\0\0\0\0\0\0\0\x01\0\0\0\x0dy-long-name@a\0\0\0";
 
-/// Whether a list of an object of this owner and of the group staff grants the requester the rights.
+/// Returns whether a list of an object of this owner and of the group staff grants the requester the rights.
 pub fn is_granted(
     bytes: &[u8],
     owner: &str,
@@ -45,7 +45,7 @@ pub fn is_granted(
     Some(grants(list.aces(), &object, &requester, Mask::new(bits)?))
 }
 
-/// The rights of a mask that a list of an object of this owner and of the group staff grants the requester.
+/// Returns the rights of a mask that a list of an object of this owner and of the group staff grants the requester.
 pub fn granted_of(
     bytes: &[u8],
     owner: &str,

@@ -42,18 +42,18 @@ last_fields kind flags parts =
     option_map (λ p. record { kind = kind; flags = flags; mask = p.0; who = p.1 }) parts
 
 -- the fields of a line, if it has four
-unfoldable pub fields_of : List ℕ → Option LineFields
-fields_of line = option_and_then (λ kind.
+unfoldable pub line_fields : List ℕ → Option LineFields
+line_fields line = option_and_then (λ kind.
     option_and_then (λ flags. last_fields kind.0 flags.0 (cut_space flags.1)) (cut_space kind.1)) (cut_space line)
 
 -- the fields of code
-abbrev pub view_fields : HeldFields → LineFields
-view_fields fields =
+abbrev pub viewed_fields : HeldFields → LineFields
+viewed_fields fields =
     record { kind = fields.kind.now; flags = fields.flags.now; mask = fields.mask.now; who = fields.who.now }
 
 -- the fields of a line are not longer than the line
-abbrev pub FieldsFit : LineFields → List ℕ → Type 0
-FieldsFit fields line =
+abbrev pub LineFieldsFit : LineFields → List ℕ → Type 0
+LineFieldsFit fields line =
     length fields.kind + length fields.flags + length fields.mask + length fields.who + 3 ≤ length line
 
 -- ---- what a field holds
@@ -111,14 +111,14 @@ after_kind p heavy line fields kind = read_flags p line (flags_column fields) fi
     >>= λ flags. after_flags p heavy line fields kind flags
 
 -- the ACE of these fields
-abbrev pub read_fields : Profile → ℕ → ℕ → LineFields → Result Ace AceTextFault
-read_fields p heavy line fields =
+abbrev pub read_ace_fields : Profile → ℕ → ℕ → LineFields → Result Ace AceTextFault
+read_ace_fields p heavy line fields =
     ok_or (kind_named fields.kind) (faults.AceType line 1) >>= λ kind. after_kind p heavy line fields kind
 
 -- the ACE of a line, as the next ACE of a list of so many ACEs of this weight
 unfoldable pub read_ace : Profile → ℕ → ℕ → ℕ → List ℕ → Result Ace AceTextFault
 read_ace p count heavy line bytes = if nat_le most_aces count then Err (faults.TooManyAces line 1)
-    else (ok_or (fields_of bytes) (faults.Fields line 1) >>= λ fields. read_fields p heavy line fields)
+    else (ok_or (line_fields bytes) (faults.Fields line 1) >>= λ fields. read_ace_fields p heavy line fields)
 
 -- the ACEs of lines behind a list, or the first fault
 unfoldable pub read_lines : Profile → List Ace → List TextLine → Result (List Ace) AceTextFault
@@ -128,6 +128,6 @@ read_lines p list (line ∷ lines) = do
   read_lines p (list ++ a ∷ []) lines
 
 -- the fault of the code is the fault that is reported, unless memory ran out
-abbrev pub Fails : {Y : Type 0} → AceTextFault → Result Y AceTextFault → Type 0
-Fails faults.Memory read = Unit {0}
-Fails fault read = read ≡ Err fault
+abbrev pub FailsAs : {Y : Type 0} → AceTextFault → Result Y AceTextFault → Type 0
+FailsAs faults.Memory read = Unit {0}
+FailsAs fault read = read ≡ Err fault

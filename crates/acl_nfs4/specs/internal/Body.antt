@@ -19,14 +19,14 @@ unfoldable pub aces_of : ℕ → List ℕ → List Ace
 aces_of count bytes = listed (aces_at full count 0 (record { at = 0; rest = bytes }))
 
 -- the bytes spell this list of ACEs and nothing more
-pub record Spells (list : List Ace) (bytes : List ℕ) : Type 0 where
+pub record SpellsBody (list : List Ace) (bytes : List ℕ) : Type 0 where
   pub spelled : bytes ≡ flat_map piece list
   pub weight : weight list ≤ most_weight
   pub each : AllByRecursion (IsAce full) list
 
 -- the bytes are the pieces of so many ACEs
 pub record IsBody (count : ℕ) (bytes : List ℕ) : Type 0 where
-  pub spells : Spells (aces_of count bytes) bytes
+  pub spells : SpellsBody (aces_of count bytes) bytes
   pub whole : length (aces_of count bytes) ≡ count
 
 -- the bytes are the pieces of so many ACEs, and these are no more than a list may have

@@ -6,16 +6,28 @@ use Rattle.acl_nfs4.specs.Within.{is_within}
 use Rattle.acl_nfs4.specs.declared.names.bit_names.BitName.{BitName as Row}
 
 -- a row of it
-abbrev pub row_of : Row → BitName
-row_of r = record { bit = r.bit; name = r.name.now; second = option_map (λ s. s.now) r.second }
+abbrev pub bit_name_of : Row → BitName
+bit_name_of r = record { bit = r.bit; name = r.name.now; second = option_map (λ s. s.now) r.second }
 
 -- the table
-abbrev pub table_of : List Row → List BitName
-table_of rows = map row_of rows
+abbrev pub bit_names_of : List Row → List BitName
+bit_names_of rows = map bit_name_of rows
 
--- a row whose first name has at most 20 bytes
-abbrev pub is_short : Row → Bool
-is_short r = nat_le (length r.name.now) 20
+-- the greatest number of bytes in a first name
+abbrev pub longest_bit_name : ℕ
+longest_bit_name = 20
+
+-- a row whose first name has at most so many bytes
+abbrev pub is_short_row : Row → Bool
+is_short_row r = nat_le (length r.name.now) longest_bit_name
+
+-- the greatest number of bytes that a row adds to a line: a `|` and the name
+abbrev pub row_room : ℕ
+row_room = 21
+
+-- the room for a line: a type, all flags, all rights, the longest who, and the bytes between them
+abbrev pub ace_line_room : ℕ
+ace_line_room = 1600
 
 -- the bits of the rows are in ascending order
 abbrev pub is_rising : List Row → Bool
@@ -23,13 +35,13 @@ is_rising [] = true
 is_rising (r ∷ rows) = list_all (λ next. nat_lt r.bit next.bit) rows && is_rising rows
 
 -- the bytes before a name of a field that is written
-abbrev pub lead : Bool → List ℕ
-lead first = if first then [] else bar ∷ []
+abbrev pub bar_before : Bool → List ℕ
+bar_before first = if first then [] else bar ∷ []
 
 -- names of a field behind others, or at its front
-abbrev pub joined : Bool → List (List ℕ) → List ℕ
-joined first [] = []
-joined first (word ∷ words) = lead first ++ join_with_byte bar (word ∷ words)
+abbrev pub joined_names : Bool → List (List ℕ) → List ℕ
+joined_names first [] = []
+joined_names first (word ∷ words) = bar_before first ++ join_with_byte bar (word ∷ words)
 
 -- the parts of the rest of a field
 abbrev pub parts_after : Option (List ℕ) → List (List ℕ)
@@ -42,15 +54,15 @@ size_after None = 0
 size_after (Some field) = length field + 1
 
 -- a field is cut at its first `|`: the part before it, and the part after it if there is one
-pub record IsCut (field word : List ℕ) (after : Option (List ℕ)) : Type 0 where
+pub record IsFieldCut (field word : List ℕ) (after : Option (List ℕ)) : Type 0 where
   pub parts : slice_split (λ b. b == bar) field ≡ word ∷ parts_after after
   pub shorter : size_after after < length field + 1
 
 -- a set, if this one has all of it
-abbrev pub part_of : ℕ → Option ℕ → Option ℕ
-part_of whole None = None
-part_of whole (Some set) = if is_within whole set then Some set else None
+abbrev pub set_if_within : ℕ → Option ℕ → Option ℕ
+set_if_within whole None = None
+set_if_within whole (Some set) = if is_within whole set then Some set else None
 
 -- the set that a field names, if this one has all of it
 unfoldable pub set_within : List BitName → ℕ → List ℕ → Option ℕ
-set_within table whole field = part_of whole (set_named table field)
+set_within table whole field = set_if_within whole (set_named table field)

@@ -9,9 +9,9 @@ use Rattle.acl_nfs4.specs.Within.{IsProfile}
 use Rattle.acl_nfs4.specs.Fault.{IsFault}
 use Rattle.acl_nfs4.specs.Fields.{number}
 use Rattle.acl_nfs4.specs.internal.Reading.{Place, ace_at}
-use Rattle.acl_nfs4.specs.internal.Body.{Spells, aces_of}
+use Rattle.acl_nfs4.specs.internal.Body.{SpellsBody, aces_of}
 use Rattle.acl_nfs4.specs.Owned.{IsOwned}
-use Rattle.acl_nfs4.specs.Stream.{Standing, more, done, refused}
+use Rattle.acl_nfs4.specs.Stream.{StreamState, more, done, refused}
 use Rattle.acl_nfs4.specs.declared.xdr.fault.Fault.{Fault}
 use Rattle.acl_nfs4.specs.declared.xdr.fault.Reason.TheVariants.{Truncated}
 use Rattle.acl_nfs4.specs.declared.feed.scan.Progress.{Progress}
@@ -32,7 +32,7 @@ pub record IsText (head : List ℕ) (filled : ℕ) (body : List ℕ) : Type 0 wh
 -- the first bytes of a body are the pieces of so many ACEs of that weight
 pub record IsScanned (p : Profile) (body : List ℕ) (at : Progress) : Type 0 where
   pub list : List Ace
-  pub spells : Spells list (take at.used body)
+  pub spells : SpellsBody list (take at.used body)
   pub each : AllByRecursion (IsAce p) list
   pub long : length list ≡ at.seen
   pub total : weight list ≡ at.weight
@@ -43,9 +43,9 @@ abbrev pub behind_scanned : List ℕ → Progress → Place
 behind_scanned body at = record { at = 4 + at.used; rest = drop at.used body }
 
 -- all ACEs are whole, or the next one has this fault
-abbrev pub Ends : Profile → ℕ → List ℕ → Progress → Option Fault → Type 0
-Ends p count body at None = at.seen ≡ count
-Ends p count body at (Some f) = (at.seen < count) × (ace_at p at.weight (behind_scanned body at) ≡ Err f)
+abbrev pub EndsPart : Profile → ℕ → List ℕ → Progress → Option Fault → Type 0
+EndsPart p count body at None = at.seen ≡ count
+EndsPart p count body at (Some f) = (at.seen < count) × (ace_at p at.weight (behind_scanned body at) ≡ Err f)
 
 -- up to which place a text is judged: the first bytes of its body, and no more ACEs than its count says
 pub record IsProgress (p : Profile) (text : List ℕ) (at : Progress) : Type 0 where
@@ -69,26 +69,26 @@ Judged p text at None = IsWhole p text at
 Judged p text at (Some f) = IsFault p text f.offset f.reason
 
 -- the fields of a feed that answers More
-pub record IsOpen (p : Profile) (f : Fault) (at : Progress) (text : List ℕ) : Type 0 where
+pub record IsUnfinished (p : Profile) (f : Fault) (at : Progress) (text : List ℕ) : Type 0 where
   pub profile : IsProfile p
   pub cut : IsFault p text f.offset f.reason
   pub why : f.reason ≡ Truncated
   pub progress : IsProgress p text at
 
 -- what the fields of a feed represent
-abbrev pub standing : Profile → Stage → Progress → List ℕ → Standing
+abbrev pub standing : Profile → Stage → Progress → List ℕ → StreamState
 standing p (Open f) at text = more p text
 standing p Done at text = done (aces_of at.seen (drop 4 text))
 standing p (Refused f) at text = refused f
 
 -- the fields of a feed
 abbrev pub IsFeed : Profile → Stage → Progress → List ℕ → Type 0
-IsFeed p (Open f) at text = IsOpen p f at text
+IsFeed p (Open f) at text = IsUnfinished p f at text
 IsFeed p Done at text = IsOwned at.seen at.weight (drop 4 text)
 IsFeed p (Refused f) at text = Unit {0}
 
 -- a feed that has taken exactly this front of a piece so far, and answers More
-abbrev pub HasTaken : Standing → List ℕ → Standing → Type 0
+abbrev pub HasTaken : StreamState → List ℕ → StreamState → Type 0
 HasTaken (more p s) front new = new ≡ more p (s ++ front)
 HasTaken (done list) front new = (new ≡ done list) × (front ≡ [])
 HasTaken (refused f) front new = (new ≡ refused f) × (front ≡ [])

@@ -6,10 +6,11 @@ use Rattle.acl_perm.specs.Devices.{one_more}
 use Rattle.acl_perm.specs.Profile.{Profile, profile_of}
 use Rattle.acl_perm.specs.declared.kind.Kind.{Kind}
 use Rattle.acl_nfs4.specs.Ace.{Ace}
+use Rattle.acl_nfs4.specs.Limits.{most_aces, most_weight}
 use Rattle.acl_nfs4.specs.Spelling.{word, weight}
 use Rattle.acl_nfs4.specs.Fields.{number}
 use Rattle.acl_nfs4.specs.Fault.{Border, IsFault, IsFirstFault, Stage}
-use Rattle.acl_nfs4.specs.Fault.Stage.{kind as at_kind, who as at_who}
+use Rattle.acl_nfs4.specs.Fault.Stage.{kind as at_kind, mask as at_mask, who as at_who}
 use Rattle.acl_nfs4.specs.internal.Progress.{IsBytes}
 use Rattle.acl_nfs4.specs.declared.xdr.fault.Fault.{Fault}
 use Rattle.acl_nfs4.specs.declared.xdr.fault.Reason.TheVariants.{Truncated, Read}
@@ -17,6 +18,10 @@ use Rattle.acl_nfs4.specs.declared.xdr.pulling.NextAce.{NextAce}
 use Rattle.acl_nfs4.specs.declared.xdr.pulling.Pulled.{Pulled}
 use Rattle.acl_nfs4.specs.declared.xdr.pulling.Words.{Words}
 use Rattle.acl_nfs4.specs.Who.{is_no_who_len}
+
+-- the greatest number of bytes in an ACE: four words, and a who of the greatest length, which has no padding
+abbrev pub longest_ace : ℕ
+longest_ace = 1040
 
 -- a source ended here, or failed, after it gave fewer bytes than these; its failures are counted before and after
 pub record IsLacking (offset size : ℕ) (piece : List ℕ) (left : Option (List ℕ)) (before after : ℕ) (f : Fault)
@@ -52,8 +57,8 @@ FillsWord offset held room new piece left before after (Ok n) = IsWord held room
 FillsWord offset held room new piece left before after (Err f) = IsLacking offset 4 piece left before after f
 
 -- a decoder that took exactly this text stops: the input ends there, or a read failed, or the last field is refused
-abbrev pub Stops : Profile → List ℕ → Option (List ℕ) → ℕ → ℕ → Fault → Type 0
-Stops p text left before after f =
+abbrev pub PullStops : Profile → List ℕ → Option (List ℕ) → ℕ → ℕ → Fault → Type 0
+PullStops p text left before after f =
     ((f.reason ≡ Truncated) × IsFault p text f.offset Truncated × IsAtEnd left × (after ≡ before))
     ⊎ (((f.reason ≡ Read) × IsFault p text f.offset Truncated × (after ≡ one_more before))
     ⊎ (IsFirstFault p text f.offset (length text) f.reason × (f.reason ≢ Truncated) × (f.reason ≢ Read)
@@ -82,7 +87,15 @@ pub record IsHalted (p : Profile) (offset total : ℕ) (old left : Option (List 
   pub given : List ℕ
   pub taken : Consumes old left given
   pub stops : (n : ℕ) (list : List Ace) (text : List ℕ) → IsNext p offset total n list text
-      → Stops p (text ++ given) left before after f
+      → PullStops p (text ++ given) left before after f
+
+-- a source gave the type and the flags of an ACE
+pub record HasKindAndFlags (p : Profile) (offset total : ℕ) (old left : Option (List ℕ)) (before after : ℕ) (room : List ℕ)
+    : Type 0 where
+  pub kind : Kind
+  pub flags : ℕ
+  pub given : List ℕ
+  pub drawn : IsDrawn p offset total (λ n list. at_mask n list kind flags) 8 old left before after room given
 
 -- a source gave the four words of an ACE
 pub record HasWords (p : Profile) (offset total : ℕ) (old left : Option (List ℕ)) (before after : ℕ) (room : List ℕ)
@@ -94,6 +107,7 @@ pub record HasWords (p : Profile) (offset total : ℕ) (old left : Option (List 
   pub drawn : IsDrawn p offset total (λ n list. at_who n list kind flags mask x.len) 16 old left before after room given
   pub some : is_no_who_len x.len ≡ false
   pub bits : count_ones mask ≡ x.bits
+  pub light : total + x.bits ≤ most_weight
 
 -- a source gave a whole ACE
 pub record HasAce (p : Profile) (offset total : ℕ) (old left : Option (List ℕ)) (before after : ℕ) (room : List ℕ)
@@ -102,7 +116,20 @@ pub record HasAce (p : Profile) (offset total : ℕ) (old left : Option (List �
   pub given : List ℕ
   pub drawn : IsDrawn p offset total (λ n list. at_kind n (list ++ ace ∷ [])) x.len old left before after room given
   pub bits : count_ones ace.mask ≡ x.bits
+  pub light : total + x.bits ≤ most_weight
   pub inside : x.len ≤ length room
+
+-- the result of asking for the word of the count
+abbrev pub DrawsCount : List ℕ → Option (List ℕ) → ℕ → ℕ → Result ℕ Fault → Type 0
+DrawsCount piece left before after (Ok n) = (n ≤ most_aces) × (word n ≡ piece) × (after ≡ before)
+DrawsCount piece left before after (Err f) = (p : Profile) → PullStops p piece left before after f
+
+-- the result of asking for the type and the flags of an ACE
+abbrev pub DrawsHead : NextAce → Option (List ℕ) → Option (List ℕ) → ℕ → ℕ → List ℕ → Result (Unit {0}) Fault → Type 0
+DrawsHead next old left before after room (Ok _) =
+    HasKindAndFlags (profile_of next.profile) next.offset next.weight old left before after room
+DrawsHead next old left before after room (Err f) =
+    IsHalted (profile_of next.profile) next.offset next.weight old left before after f
 
 -- the result of asking for the four words of an ACE
 abbrev pub DrawsWords : NextAce → Option (List ℕ) → Option (List ℕ) → ℕ → ℕ → List ℕ → Result Words Fault → Type 0
@@ -120,7 +147,7 @@ DrawsAce next old left before after room (Err f) =
 
 -- a decoder has taken exactly this text: the word of the count, and so many whole ACEs of that weight, which its body
 -- holds
-pub record IsTaken (p : Profile) (n seen total : ℕ) (body text : List ℕ) : Type 0 where
+pub record IsPulled (p : Profile) (n seen total : ℕ) (body text : List ℕ) : Type 0 where
   pub list : List Ace
   pub border : Border p (at_kind n list) text
   pub long : length list ≡ seen

@@ -27,6 +27,14 @@ abbrev pub Judges : {E : Type 0} → Result (Unit {0}) E → Option E → Type 0
 Judges (Ok _) fault = fault ≡ None
 Judges (Err e) fault = fault ≡ Some e
 
+-- how many bytes one load of the test of plain ASCII takes
+abbrev pub load : ℕ
+load = 16
+
+-- the greatest number of lanes whose tests fit into a mask of 64 bits
+abbrev pub most_lanes : ℕ
+most_lanes = 64
+
 -- an ASCII byte that is not a control byte
 abbrev pub is_plain_ascii : ℕ → Bool
 is_plain_ascii b = nat_le space b && nat_lt b delete
@@ -97,15 +105,15 @@ aces_at p (suc n) weight at = do
   Ok (first.0 ∷ others.0, others.1)
 
 -- the value at the front, and the place behind it
-unfoldable pub read : Profile → List ℕ → Result (List Ace × Place) Fault
-read p bytes = do
+unfoldable pub read_list : Profile → List ℕ → Result (List Ace × Place) Fault
+read_list p bytes = do
   count ← word_field count_of (record { at = 0; rest = bytes })
   aces_at p count.0 0 count.1
 
 -- where reading ended, without the value
-abbrev pub ending : {A : Type 0} → Result (A × Place) Fault → Result Place Fault
-ending read = read >>= λ x. Ok x.1
+abbrev pub place_read : {A : Type 0} → Result (A × Place) Fault → Result Place Fault
+place_read read = read >>= λ x. Ok x.1
 
 -- the value at the front, and the number of its bytes
 abbrev pub value_at : Profile → List ℕ → Result (List Ace × ℕ) Fault
-value_at p bytes = read p bytes >>= λ x. Ok (x.0, x.1.at)
+value_at p bytes = read_list p bytes >>= λ x. Ok (x.0, x.1.at)

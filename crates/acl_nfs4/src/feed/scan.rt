@@ -1,7 +1,7 @@
 //! Judges a body from the place to which it was judged before, so that each whole ACE is judged once.
 ghost use Rattle.std.specs.Prelude.{◌≡◌, ◌+◌, ◌<◌, ◌≤◌, ◌^◌, Some, length};
 ghost use Rattle.acl_perm.specs.Profile.{profile_of};
-ghost use Rattle.acl_nfs4.specs.internal.Progress.{Ends, IsScanned};
+ghost use Rattle.acl_nfs4.specs.internal.Progress.{EndsPart, IsScanned};
 
 use crate::xdr::cursor::Cursor;
 use crate::xdr::fault::Fault;
@@ -41,7 +41,7 @@ pub(crate) fn scan(body: &[u8], count: u32, from: Progress, profile: Profile) ->
     requires seen { from.seen ≤ count }
     requires fits { 4 + length body.now < 2 ^ 64 }
     ensures scanned { IsScanned (profile_of profile) body.now result.progress }
-    ensures ends { Ends (profile_of profile) count body.now result.progress result.fault }
+    ensures ends { EndsPart (profile_of profile) count body.now result.progress result.fault }
 {
     let (_, rest) = body.split_at(from.used);
     let mut cursor = Cursor {

@@ -1,7 +1,7 @@
 //! What one more piece makes of bytes that are cut short: the list, a fault, or bytes that are still cut short.
 ghost use Rattle.std.specs.Prelude.{◌≡◌, ◌+◌, ◌≤◌, ◌<◌, ◌^◌, ◌++◌, length, take, drop};
 ghost use Rattle.acl_perm.specs.Profile.{profile_of};
-ghost use Rattle.acl_nfs4.specs.Stream.{Feeds, IsCut, more};
+ghost use Rattle.acl_nfs4.specs.Stream.{Feeds, IsCutShort, more};
 ghost use Rattle.acl_nfs4.specs.declared.feed.step.Stage.TheVariants.{Done, Open, Refused};
 ghost use Rattle.acl_nfs4.specs.declared.feed.fed.Fed.TheVariants as fed;
 ghost use Rattle.acl_nfs4.specs.internal.Progress.{IsFeed, IsProgress, Judged, standing};
@@ -72,7 +72,7 @@ impl Step {
 /// holds the list alone.
 pub(crate) fn advance(text: &mut Text, piece: &[u8], from: Progress, profile: Profile) -> Step
     requires progress { IsProgress (profile_of profile) text.old from }
-    requires cut { IsCut (profile_of profile) text.old }
+    requires cut { IsCutShort (profile_of profile) text.old }
     ensures feed { IsFeed (profile_of profile) result.stage result.progress text.new }
     ensures feeds { Feeds (more (profile_of profile) text.old) piece.now result.fed
         (standing (profile_of profile) result.stage result.progress text.new) }

@@ -16,52 +16,6 @@ use byteorder::{BigEndian, ByteOrder};
 use std::alloc::AllocError;
 use std::marker::Model;
 
-// The ACE at the front of bytes that are already judged. It judges nothing again.
-fn first_ace(bytes: &[u8]) -> FirstAce<'_>
-    requires { BeginsWithAce bytes.now }
-    ensures { (a : Ace) (more : List ℕ) → IsAce full a → bytes.now ≡ piece a ++ more
-        → (ace result.ace ≡ a) × (result.rest.now ≡ more) }
-{
-    let kind = kind_named(word_in(bytes, 0));
-    let flags = Flags {
-        bits: word_in(bytes, 4) as u8,
-    };
-    let mask = Mask {
-        bits: word_in(bytes, 8),
-    };
-    let len = word_in(bytes, 12) as usize;
-    let (_, after) = bytes.split_at(16);
-    let (who, _) = after.split_at(len);
-    let (_, rest) = bytes.split_at((len + 19) / 4 * 4);
-    let ace = AceRef {
-        kind,
-        flags,
-        mask,
-        who,
-    };
-    FirstAce { ace, rest }
-}
-
-fn kind_named(number: u32) -> Kind
-    ensures { result ≡ kind_from number }
-{
-    if number == 0 { Kind::Allow } else { Kind::Deny }
-}
-
-// An ACE, and the bytes behind it.
-#[derive(Drop)]
-struct FirstAce<'a> {
-    ace: AceRef<'a>,
-    rest: &'a [u8],
-}
-
-pub(crate) fn word_in(bytes: &[u8], at: usize) -> u32
-    requires { at + 4 ≤ length bytes.now }
-    ensures { result ≡ number (take 4 (drop at bytes.now)) }
-{
-    BigEndian::read_u32(&bytes[at..])
-}
-
 /// The ACEs of a list in order.
 #[derive(Drop)]
 pub struct Aces<'a> {
@@ -127,6 +81,52 @@ impl<'a> Clone for Aces<'a> {
     }
 }
 
+// The ACE at the front of bytes that are already judged. It judges nothing again.
+fn first_ace(bytes: &[u8]) -> FirstAce<'_>
+    requires { BeginsWithAce bytes.now }
+    ensures { (a : Ace) (more : List ℕ) → IsAce full a → bytes.now ≡ piece a ++ more
+        → (ace result.ace ≡ a) × (result.rest.now ≡ more) }
+{
+    let kind = kind_named(word_in(bytes, 0));
+    let flags = Flags {
+        bits: word_in(bytes, 4) as u8,
+    };
+    let mask = Mask {
+        bits: word_in(bytes, 8),
+    };
+    let len = word_in(bytes, 12) as usize;
+    let (_, after) = bytes.split_at(16);
+    let (who, _) = after.split_at(len);
+    let (_, rest) = bytes.split_at((len + 19) / 4 * 4);
+    let ace = AceRef {
+        kind,
+        flags,
+        mask,
+        who,
+    };
+    FirstAce { ace, rest }
+}
+
+fn kind_named(number: u32) -> Kind
+    ensures { result ≡ kind_from number }
+{
+    if number == 0 { Kind::Allow } else { Kind::Deny }
+}
+
+// An ACE, and the bytes behind it.
+#[derive(Drop)]
+struct FirstAce<'a> {
+    ace: AceRef<'a>,
+    rest: &'a [u8],
+}
+
+pub(crate) fn word_in(bytes: &[u8], at: usize) -> u32
+    requires { at + 4 ≤ length bytes.now }
+    ensures { result ≡ number (take 4 (drop at bytes.now)) }
+{
+    BigEndian::read_u32(&bytes[at..])
+}
+
 // Returns whether the profile has every flag and every right of every ACE.
 pub(crate) fn fit(aces: Aces<'_>, profile: Profile) -> bool
     ensures { IsTrue result ↔ Fits (profile_of profile) aces.entry }
@@ -139,7 +139,7 @@ pub(crate) fn fit(aces: Aces<'_>, profile: Profile) -> bool
     true
 }
 
-#[tactic(auto, using(crate::proofs::Within::tests))]
+#[tactic(auto, using(crate::proofs::list::Within::tests))]
 fn fits_ace(ace: &AceRef<'_>, profile: Profile) -> bool
     ensures { IsTrue result
         ↔ (IsWithin profile.flags.bits ace.now.flags.bits

@@ -18,6 +18,7 @@ use crate::list::aces::Aces;
 use crate::list::push_fault::PushFault;
 use crate::who::judge;
 use crate::xdr::encode::count_word;
+use crate::xdr::judges::pad_len;
 use crate::xdr::view::AclView;
 use acl_perm::{Kind, Profile};
 use byteorder::{BigEndian, ByteOrder};
@@ -184,6 +185,7 @@ impl Acl {
 
     /// Adds an ACE at the end of a list that stays accepted with it. Fails only if memory runs out. It judges nothing:
     /// the caller must have a proof that the list stays accepted. Every other caller uses `push`.
+    #[inline(always)]
     pub fn push_accepted(&mut self, item: AceRef<'_>) -> Result<(), AllocError>
         requires { IsAccepted full (self.old ++ ace item ∷ []) }
         // At `Ok` the ACE is at the end.
@@ -194,7 +196,8 @@ impl Acl {
         self.append(item)
     }
 
-    // Adds an ACE at the end of a list that can take it.
+    // Adds an ACE at the end of a list that can take it. It is inlined, because its callers append many ACEs in a loop.
+    #[inline(always)]
     pub(crate) fn append(&mut self, item: AceRef<'_>) -> Result<(), AllocError>
         requires room { length self.old < most_aces }
         requires light { spelled.weight self.old + count_ones item.mask.bits ≤ most_weight }
@@ -211,6 +214,7 @@ impl Acl {
 }
 
 // Adds the bytes of an ACE at the end, or nothing.
+#[inline(always)]
 fn append_piece(body: &mut Vec<u8>, item: &AceRef<'_>) -> Result<(), AllocError>
     requires { length item.now.who.now ≤ longest_who }
     ensures { Extended body.old.items body.new.items (piece (ace item.now)) result }
@@ -221,13 +225,14 @@ fn append_piece(body: &mut Vec<u8>, item: &AceRef<'_>) -> Result<(), AllocError>
     body.extend_from_slice(&head(item))?;
     body.extend_from_slice(item.who)?;
     // Three bytes and a cut take less time than a copy of the bytes that are needed.
-    let end = body.len() + (4 - len % 4) % 4;
+    let end = body.len() + pad_len(len);
     body.extend_from_slice(&[0; 3])?;
     body.truncate(end);
     Ok(())
 }
 
-// The four words that an ACE begins with.
+// Returns the four words that an ACE begins with.
+#[inline(always)]
 fn head(item: &AceRef<'_>) -> [u8; 16]
     requires { length item.now.who.now ≤ longest_who }
     ensures { result ≡ word (kind_number item.now.kind) ++ word item.now.flags.bits
@@ -241,6 +246,7 @@ fn head(item: &AceRef<'_>) -> [u8; 16]
     bytes
 }
 
+#[inline(always)]
 fn kind_word(kind: Kind) -> u32
     ensures { result ≡ kind_number kind }
 {
@@ -300,7 +306,7 @@ impl Ord for Acl {
 
     ghost matches_eq = { list_ties };
 
-    #[tactic(auto, using(crate::proofs::Ordered::ordered))]
+    #[tactic(auto, using(crate::proofs::list::Ordered::ordered))]
     fn cmp(&self, other: &Acl) -> Ordering
         ensures { result ≡ list_cmp self.now other.now }
     {

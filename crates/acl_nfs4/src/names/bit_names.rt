@@ -1,8 +1,8 @@
 //! Tables of names, and the sets that fields name by them.
 ghost use Rattle.std.specs.Prelude.{◌≡◌, ◌==◌, IfSome, find, option_copied, option_map, position};
 ghost use Rattle.std.specs.List.{slice_split};
-ghost use Rattle.acl_nfs4.specs.BitNames.{bit_in, bits_in, first_name, is_name_of, set_named};
-ghost use Rattle.acl_nfs4.specs.internal.NameTable.{IsCut, row_of, set_within, table_of};
+ghost use Rattle.acl_nfs4.specs.BitNames.{bar, bit_in, bits_in, first_name, is_name_of, set_named};
+ghost use Rattle.acl_nfs4.specs.internal.NameTable.{IsFieldCut, bit_name_of, set_within, bit_names_of};
 ghost use Rattle.acl_nfs4.specs.Within.{IsWithin};
 
 use acl_perm::internal::place_of;
@@ -17,7 +17,7 @@ pub(crate) struct BitName {
 impl BitName {
     // Returns whether the word is one of its names.
     fn is_named(&self, word: &[u8]) -> bool
-        ensures { result ≡ is_name_of word.now (row_of self.now) }
+        ensures { result ≡ is_name_of word.now (bit_name_of self.now) }
     {
         word == self.name.as_bytes()
             || match self.second {
@@ -30,7 +30,7 @@ impl BitName {
 /// Returns the set that a field names, if this set has all of it.
 #[tactic(auto, unfolding(crate::specs::internal::NameTable::set_within))]
 pub(crate) fn set_within(table: &[BitName], field: &[u8], whole: u32) -> Option<u32>
-    ensures exact { result ≡ set_within (table_of table.now) whole field.now }
+    ensures exact { result ≡ set_within (bit_names_of table.now) whole field.now }
     ensures within { IfSome result (λ set. IsWithin whole set) }
 {
     let set = set_in(table, field)?;
@@ -40,7 +40,7 @@ pub(crate) fn set_within(table: &[BitName], field: &[u8], whole: u32) -> Option<
 /// Returns the set that a field names: the empty set for `-`, or the union of the bits of names with `|` between them.
 #[tactic(auto, unfolding(crate::specs::BitNames::set_named))]
 pub(crate) fn set_in(table: &[BitName], field: &[u8]) -> Option<u32>
-    ensures { result ≡ set_named (table_of table.now) field.now }
+    ensures { result ≡ set_named (bit_names_of table.now) field.now }
 {
     if field == b"-".as_slice() {
         return Some(0);
@@ -56,7 +56,7 @@ struct FirstWord<'a> {
 }
 
 fn bits_in(table: &[BitName], field: &[u8]) -> Option<u32>
-    ensures { result ≡ bits_in (table_of table.now) (slice_split (λ b. b == 0x7c) field.now) }
+    ensures { result ≡ bits_in (bit_names_of table.now) (slice_split (λ b. b == bar) field.now) }
 {
     let mut bits = 0;
     let mut rest = Some(field);
@@ -69,7 +69,7 @@ fn bits_in(table: &[BitName], field: &[u8]) -> Option<u32>
 }
 
 fn cut(field: &[u8]) -> FirstWord<'_>
-    ensures { IsCut field.now result.word.now (option_copied result.after) }
+    ensures { IsFieldCut field.now result.word.now (option_copied result.after) }
 {
     match bar_in(field) {
         Some(place) => FirstWord {
@@ -84,14 +84,14 @@ fn cut(field: &[u8]) -> FirstWord<'_>
 }
 
 fn bar_in(field: &[u8]) -> Option<usize>
-    ensures { result ≡ position (λ b. b == 0x7c) field.now }
+    ensures { result ≡ position (λ b. b == bar) field.now }
 {
     place_of(field, b'|')
 }
 
 // Returns the bit that a word names.
 fn bit_in(table: &[BitName], word: &[u8]) -> Option<u32>
-    ensures { result ≡ bit_in (table_of table.now) word.now }
+    ensures { result ≡ bit_in (bit_names_of table.now) word.now }
 {
     match row_named(table, word) {
         Some(row) => Some(row.bit),
@@ -101,14 +101,14 @@ fn bit_in(table: &[BitName], word: &[u8]) -> Option<u32>
 
 // Returns the row that a word names.
 fn row_named<'a>(table: &'a [BitName], word: &[u8]) -> Option<&'a BitName>
-    ensures { option_copied result ≡ find (λ r. is_name_of word.now (row_of r)) table.now }
+    ensures { option_copied result ≡ find (λ r. is_name_of word.now (bit_name_of r)) table.now }
 {
     table.iter().find(|row| row.is_named(word))
 }
 
 /// Returns the first name of a bit.
 pub(crate) fn first_name(table: &[BitName], bit: u32) -> Option<&'static str>
-    ensures { option_map (λ name. name.now) result ≡ first_name (table_of table.now) bit }
+    ensures { option_map (λ name. name.now) result ≡ first_name (bit_names_of table.now) bit }
 {
     match row_of_bit(table, bit) {
         Some(row) => Some(row.name),

@@ -1,4 +1,4 @@
-//! A list is told alike, or refused alike, however it is read.
+//! Every reader returns the same list or the same fault, however the bytes arrive.
 
 use super::readers::{ALICE, ONE, THREE, decoded, fault, fed, parsed};
 use crate::*;
@@ -10,7 +10,7 @@ fn same(alloc: Global, bytes: &[u8], first: usize) -> bool {
     decoded(alloc, bytes, u64::MAX, 7).err() == fault && fed(alloc, bytes, first).err() == fault
 }
 
-// Three lists cut short are told alike, the first as one that ends too early.
+// Three lists that are cut short. Each reader returns the same fault, and for the first list it is Truncated.
 fn is_cut_alike(alloc: Global, len: usize) -> bool {
     let (front, _) = THREE.split_at(len.min(72));
     let (one, _) = ONE.split_at(len.min(31));
@@ -22,7 +22,7 @@ fn is_cut_alike(alloc: Global, len: usize) -> bool {
         && same(alloc, alice, 3)
 }
 
-// A place, the bytes from there on, and the fault of the list with them.
+// A place, the bytes from there on, and the fault of the list with these bytes.
 static REFUSED: [(usize, &[u8], u64, Reason); 9] = [
     (0, &[0xff; 4], 0, Reason::TooManyAces),
     (4, &[0xff; 4], 4, Reason::AceType),
@@ -44,7 +44,7 @@ fn told_alike(rt: &impl Abort, alloc: Global, at: usize, bytes: &[u8], told: Fau
     assert!(rt; same(alloc, &whole, 18), "{told:?}");
 }
 
-// One ACE whose who has 1024 bytes.
+// A list of one ACE whose who has 1,024 bytes.
 fn longest(alloc: Global) -> Result<Vec<u8>, AllocError> {
     let (front, _) = ONE.split_at(18);
     let mut longest = Vec::from_slice(alloc, front)?;
@@ -56,7 +56,7 @@ fn longest(alloc: Global) -> Result<Vec<u8>, AllocError> {
 mod ample {
     use super::*;
 
-    // Each beginning of a list, and a list with each byte damaged in each way.
+    // Every beginning of a list, and the list with each of its bytes damaged in several ways.
     #[test]
     fn reading_decoding_and_feeding_agree(rt: HostRuntime) {
         for len in 0..72usize {
@@ -73,7 +73,7 @@ mod ample {
         }
     }
 
-    // Words and names that are refused, by each reader at the same place, and the longest name.
+    // Words and names that every reader refuses at the same place, and the longest name.
     #[test]
     fn refusals_are_told_alike(rt: HostRuntime) -> Result<(), AllocError> {
         for (at, bytes, offset, reason) in REFUSED {

@@ -1,11 +1,11 @@
-//! Sources and sinks, of which some fail.
+//! Sources and sinks, some of which fail.
 
 use super::readers::{ONE, THREE, decoded, fault, parsed, same_list};
 use crate::*;
 use std::alloc::{AllocError, Global};
 use std::process::Abort;
 
-// Two lists in one source, by reads of at most so many bytes: each is taken, and no byte of what follows it.
+// Reads two lists from one source, by reads of at most `step` bytes. Each list is read, and no byte behind it is taken.
 fn read_both(rt: &impl Abort, alloc: Global, both: &[u8], step: usize) {
     let mut source = Counted::new(Fused::new(both, u64::MAX, step));
     assert!(rt; same_list(decode(alloc, &mut source), parsed(alloc, &ONE)));
@@ -14,7 +14,7 @@ fn read_both(rt: &impl Abort, alloc: Global, both: &[u8], step: usize) {
     assert!(rt; told == Some(fault(0, Reason::Truncated)));
 }
 
-// A sink that takes so many bytes and then fails holds just these.
+// A sink that fails after some calls holds exactly the bytes that it took before.
 fn written_so_far(rt: &impl Abort, list: &Acl, calls: u64) {
     let mut room = [0xffu8; 72];
     let mut sink = Counted::new(Fused::new(room.as_mut_slice(), calls, 1));
@@ -24,7 +24,7 @@ fn written_so_far(rt: &impl Abort, list: &Acl, calls: u64) {
     assert!(rt; THREE.starts_with(front) && back.iter().all(|byte| *byte == 0xff));
 }
 
-// No count makes a call ask for memory: with the first request refused, this is still answered by what the bytes are.
+// A count alone requests no memory: the fault of the bytes is returned even if the first request would be refused.
 #[test]
 fn a_count_alone_takes_no_memory(rt: HostRuntime) {
     let told = decoded(rt.alloc(), &[0, 1, 0, 0], u64::MAX, 4).err();
@@ -47,7 +47,7 @@ mod ample {
         Ok(())
     }
 
-    // A read that fails is told at the field that was being read, as the end of the input there would be.
+    // A read that fails is reported at the field that was being read, at the same place as the end of the input.
     #[test]
     fn failed_reads_are_told_where_they_came(rt: HostRuntime) {
         for calls in 0..72usize {

@@ -1,4 +1,4 @@
-//! The examples of doc comments: the lines of each stand in the test of its call, in their order.
+//! The examples of the doc comments. The test of each call has the lines of its example, in the same order.
 
 use crate::*;
 use std::test::Fail;

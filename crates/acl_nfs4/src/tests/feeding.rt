@@ -1,4 +1,4 @@
-//! Lists that come in pieces.
+//! Lists that arrive in pieces.
 
 use super::readers::{ONE, THREE, fault, parsed, same_list};
 use crate::*;
@@ -33,7 +33,7 @@ fn done_within_a_piece(rt: &impl Abort, alloc: Global) {
     assert!(rt; feed.feed(&[1, 2]) == Fed::Done { taken: 0 });
 }
 
-// A feed of all but the padding and one byte of that.
+// Returns a feed that has taken everything up to the padding, and one byte of the padding.
 fn fed_to_padding(rt: &impl Abort, alloc: Global) -> Feed {
     let mut feed = Feed::new(alloc);
     let (front, _) = ONE.split_at(29);
@@ -42,7 +42,7 @@ fn fed_to_padding(rt: &impl Abort, alloc: Global) -> Feed {
     feed
 }
 
-// In two pieces under the narrow profile, of which the first is so long.
+// Feeds two pieces under the narrow profile. The first piece has `first` bytes.
 fn fed_narrowly(alloc: Global, bytes: &[u8], first: usize) -> Result<Acl, Fault> {
     let mut feed = Feed::with_profile(alloc, Profile::NARROW);
     let (front, back) = bytes.split_at(first.min(bytes.len()));
@@ -51,7 +51,7 @@ fn fed_narrowly(alloc: Global, bytes: &[u8], first: usize) -> Result<Acl, Fault>
     feed.finish()
 }
 
-// So many times ALLOW READ_DATA for alice, as a list, and zeros behind it.
+// Returns a list that has ALLOW READ_DATA for alice this many times, and zero bytes behind the list.
 fn many(alloc: Global, count: u32, zeros: u32) -> Result<Vec<u8>, AllocError> {
     let mut bytes = Vec::new(alloc);
     bytes.extend_from_slice(&count.to_be_bytes())?;
@@ -64,7 +64,7 @@ fn many(alloc: Global, count: u32, zeros: u32) -> Result<Vec<u8>, AllocError> {
     Ok(bytes)
 }
 
-// In pieces of so many bytes.
+// Feeds pieces of `size` bytes.
 fn fed_in_pieces(alloc: Global, bytes: &[u8], size: usize) -> Result<Acl, Fault> {
     let mut feed = Feed::new(alloc);
     for piece in bytes.chunks(size.max(1)) {
@@ -73,7 +73,7 @@ fn fed_in_pieces(alloc: Global, bytes: &[u8], size: usize) -> Result<Acl, Fault>
     feed.finish()
 }
 
-// Where memory is refused, a feed says so for good.
+// After a request for memory was refused, the feed returns Memory from then on.
 #[test]
 fn a_feed_keeps_its_want_of_memory(rt: HostRuntime) {
     let mut feed = Feed::new(rt.alloc());
@@ -91,7 +91,7 @@ fn a_feed_keeps_its_want_of_memory(rt: HostRuntime) {
 mod ample {
     use super::*;
 
-    // However a list is cut, the bytes that belong to it are told, and later pieces change nothing.
+    // However a list is cut, the feed returns how many bytes belong to it, and later pieces change nothing.
     #[test]
     fn lists_are_fed_in_any_two_pieces(rt: HostRuntime) -> Result<(), Fault> {
         let list = parsed(rt.alloc(), &THREE)?;
@@ -124,7 +124,7 @@ mod ample {
         }
     }
 
-    // Pieces about as long as what is taken at once.
+    // Pieces that are about as long as the chunk that a feed takes at once.
     #[test]
     fn lists_are_fed_in_large_pieces(rt: HostRuntime) -> Result<(), AllocError> {
         let bytes = many(rt.alloc(), 600, 0)?;
@@ -135,7 +135,7 @@ mod ample {
         Ok(())
     }
 
-    // Of a piece that goes on behind the list little more than the list is kept: what this asks for is counted.
+    // If a piece goes on behind the list, the feed keeps little more than the list. The requested memory is counted.
     #[test]
     fn large_pieces_are_not_kept(rt: HostRuntime) -> Result<(), AllocError> {
         let bytes = many(rt.alloc(), 200, 1_000)?;

@@ -1,10 +1,10 @@
-//! What the tests of this crate share: how a table takes want of memory, and lines that tell faults.
+//! What the tests of this crate share: failed allocations as a fault, and the lines of faults.
 
 use crate::PushFault;
 use std::alloc::{AllocError, Global};
 use std::fmt::Display;
 
-/// Want of memory as a list tells it.
+/// Returns the answer with a failed allocation as `PushFault::Memory`.
 pub fn kept<T>(answer: Result<T, AllocError>) -> Result<T, PushFault> {
     match answer {
         Ok(value) => Ok(value),
@@ -12,7 +12,7 @@ pub fn kept<T>(answer: Result<T, AllocError>) -> Result<T, PushFault> {
     }
 }
 
-/// Whether a fault is told by this line.
+/// Returns whether the message of a fault is this line.
 pub fn is_told<F: Display>(alloc: Global, fault: &F, line: &str) -> Result<bool, PushFault> {
     let told = kept(fault.to_string(alloc))?;
     Ok(told.as_str() == line)

@@ -1,4 +1,4 @@
-//! Owned lists: copies of others, of views, and the profiles that they fit.
+//! Owned lists: copies of lists and of views, their order, and the profiles that they fit.
 
 use super::harness::{is_told, kept};
 use super::rows::{Row, append_ace, append_word, built, copied, item, repeated, shows, spelled};
@@ -7,7 +7,7 @@ use std::alloc::{AllocError, Global};
 use std::process::Abort;
 use std::test::*;
 
-// Lists of the worked examples.
+// The lists of the worked examples.
 static LISTS: [&[Row]; 14] = [
     &[],
     &[(Kind::Allow, 0, 1, b"EVERYONE@")],
@@ -32,14 +32,14 @@ static LISTS: [&[Row]; 14] = [
     &[(Kind::Allow, 0x0e, 1, b"alice")],
 ];
 
-// Whether each way through a list shows these rows, and tells how many there are.
+// Returns whether every way through a list gives these rows, and their number.
 fn is_gone_through(list: &Acl, rows: &[Row]) -> bool {
     let aces = list.into_iter();
     let again: Result<_, _> = aces.clone();
     aces.len() == rows.len() && shows(aces, rows) && again.is_ok_and(|again| shows(again, rows))
 }
 
-/// A copy is the same list.
+/// Checks that a copy is the same list.
 pub fn a_copy_is_the_same_list(rt: &impl Abort, alloc: Global) -> Result<(), PushFault> {
     for rows in LISTS {
         let list = built(alloc, rows)?;
@@ -51,7 +51,7 @@ pub fn a_copy_is_the_same_list(rt: &impl Abort, alloc: Global) -> Result<(), Pus
     Ok(())
 }
 
-// Whether a view tells of its list what the list tells of itself.
+// Returns whether the calls of a view return the same as the calls of its list.
 fn is_alike(view: &AclView<'_>, list: &Acl) -> bool {
     view.len() == list.len()
         && view.is_empty() == list.is_empty()
@@ -60,7 +60,7 @@ fn is_alike(view: &AclView<'_>, list: &Acl) -> bool {
         && view.fits(Profile::NARROW) == list.fits(Profile::NARROW)
 }
 
-// Whether both are written as these bytes.
+// Returns whether the list and its view are written as these bytes.
 fn are_spelled(
     alloc: Global,
     view: &AclView<'_>,
@@ -95,7 +95,7 @@ fn viewed(
     Ok(())
 }
 
-/// A list from a view is what the view shows.
+/// Checks that the list of a view has the ACEs of the view.
 pub fn a_list_from_a_view_is_what_the_view_shows(
     rt: &impl Abort,
     alloc: Global,
@@ -108,7 +108,7 @@ pub fn a_list_from_a_view_is_what_the_view_shows(
     Ok(())
 }
 
-// Lists in rising order: by their numbers of ACEs, and then by the words of their ACEs.
+// Lists in ascending order: by their numbers of ACEs, and then by the words of their ACEs.
 static RISING: [&[Row]; 7] = [
     &[],
     &[(Kind::Allow, 0, 1, b"a")],
@@ -119,7 +119,7 @@ static RISING: [&[Row]; 7] = [
     &[(Kind::Allow, 0, 0, b"a"), (Kind::Allow, 0, 0, b"a")],
 ];
 
-/// Lists are ordered by their bytes, and a clone stands where its list does.
+/// Checks that lists are ordered by their bytes, and that a clone is equal to its list.
 pub fn lists_are_ordered_by_their_bytes(rt: &impl Abort, alloc: Global) -> Result<(), PushFault> {
     for (place, rows) in RISING.iter().enumerate() {
         let list = built(alloc, rows)?;
@@ -134,7 +134,7 @@ pub fn lists_are_ordered_by_their_bytes(rt: &impl Abort, alloc: Global) -> Resul
     Ok(())
 }
 
-// ACEs, and the lines that show them.
+// ACEs, and the lines that display them.
 static SHOWN: [(Row, &str); 4] = [
     (
         (Kind::Allow, 0, 1, b"EVERYONE@"),
@@ -148,7 +148,7 @@ static SHOWN: [(Row, &str); 4] = [
     ((Kind::Allow, 0, 0, b"\xff"), "ALLOW - - \u{fffd}"),
 ];
 
-/// An ACE is shown as its line.
+/// Checks that an ACE is displayed as its line.
 pub fn an_ace_is_shown_as_its_line(rt: &impl Abort, alloc: Global) -> Result<(), PushFault> {
     for (row, line) in SHOWN {
         let Some(ace) = item(row) else {
@@ -160,7 +160,7 @@ pub fn an_ace_is_shown_as_its_line(rt: &impl Abort, alloc: Global) -> Result<(),
     Ok(())
 }
 
-// Principals, and the whos that show them (RFC 8881, section 6.2.1.5): the flag IDENTIFIER_GROUP is not shown.
+// Principals, and the whos that display them (RFC 8881, section 6.2.1.5). The flag IDENTIFIER_GROUP is not displayed.
 static PRINCIPALS: [(Principal<'static>, &str); 6] = [
     (Principal::Owner, "OWNER@"),
     (Principal::Group, "GROUP@"),
@@ -170,7 +170,7 @@ static PRINCIPALS: [(Principal<'static>, &str); 6] = [
     (Principal::GroupNamed(b"\xff"), "\u{fffd}"),
 ];
 
-/// A principal is shown as its who.
+/// Checks that a principal is displayed as its who.
 pub fn a_principal_is_shown_as_its_who(rt: &impl Abort, alloc: Global) -> Result<(), PushFault> {
     for (principal, who) in PRINCIPALS {
         let name = PrincipalName { principal };
@@ -187,8 +187,8 @@ fn a_name_that_begins_like_the_owner_is_a_user(rt: HostRuntime) {
     assert!(rt; ace.principal() == Principal::User(b"OWNER@x"));
 }
 
-// Flags and a mask, and which profiles a list with them fits: the full one, the narrow one, and one of no right and no
-// flag.
+// Flags and a mask, and whether a list with them fits three profiles: the full one, the narrow one, and one without any
+// right or flag.
 static PROFILES: [(u32, u32, [bool; 3]); 8] = [
     (0, 0, [true, true, true]),
     (0, 1, [true, true, false]),
@@ -208,7 +208,7 @@ fn fitted(list: &Acl) -> [bool; 3] {
     ]
 }
 
-/// A list fits the profiles that its bits are within.
+/// Checks that a list fits exactly the profiles that have all of its bits.
 pub fn a_list_fits_the_profile_of_its_bits(
     rt: &impl Abort,
     alloc: Global,

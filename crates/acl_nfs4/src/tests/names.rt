@@ -24,7 +24,7 @@ static RIGHTS: [(u32, &str); 16] = [
     (0x0010_0000, "SYNCHRONIZE"),
 ];
 
-// The three that are called otherwise at directories.
+// The three rights that have another name for directories.
 static AT_DIRECTORIES: [(u32, &str); 3] = [
     (0x0000_0001, "LIST_DIRECTORY"),
     (0x0000_0002, "ADD_FILE"),
@@ -56,7 +56,7 @@ fn each_right_has_its_name_and_number(rt: HostRuntime) {
     }
 }
 
-// The flags of RFC 8881, section 6.2.1.4.1, and a line that names each as texts do.
+// The flags of RFC 8881, section 6.2.1.4.1, and a line of a text that names each of them.
 static FLAGS: [(u8, &str); 9] = [
     (0x01, "ALLOW FILE - a"),
     (0x02, "ALLOW DIR - a"),
@@ -83,7 +83,7 @@ fn is_line_of_flags(alloc: Global, line: &str, flags: u8) -> Result<bool, AceTex
     }
 }
 
-// A who with no flag and with IDENTIFIER_GROUP, and whom it names (RFC 8881, section 6.2.1.5).
+// A who, and whom it names without a flag and with IDENTIFIER_GROUP (RFC 8881, section 6.2.1.5).
 static WHOS: [(&[u8], Principal<'static>, Principal<'static>); 6] = [
     (b"OWNER@", Principal::Owner, Principal::Owner),
     (b"GROUP@", Principal::Group, Principal::Group),
@@ -105,7 +105,7 @@ static WHOS: [(&[u8], Principal<'static>, Principal<'static>); 6] = [
     ),
 ];
 
-// Whether a who with these flags names this principal.
+// Returns whether a who with these flags names this principal.
 fn is_principal(who: &[u8], flags: u32, principal: Principal<'_>) -> bool {
     let Some(flags) = Flags::new(flags) else {
         return false;
@@ -119,7 +119,7 @@ fn is_principal(who: &[u8], flags: u32, principal: Principal<'_>) -> bool {
     ace.principal() == principal
 }
 
-// Flags, and whether an ACE with them takes part in its own object (RFC 8881, section 6.2.1.4.1).
+// Flags, and whether an ACE with them applies to the object itself (RFC 8881, section 6.2.1.4.1).
 static TAKING_PART: [(u32, bool); 6] = [
     (0, true),
     (0x08, false),
@@ -156,7 +156,7 @@ fn special_whos_name_the_same_with_each_flag(rt: HostRuntime) {
     }
 }
 
-// A who, and what a list with it is refused for. The special identifiers are those of RFC 8881, section 6.2.1.5.
+// A who, and the reason for which a list with it is refused. RFC 8881, section 6.2.1.5, has the special identifiers.
 static JUDGED: [(&[u8], Option<Reason>); 14] = [
     (b"\x1f", Some(Reason::WhoControl)),
     (b"\x7f", Some(Reason::WhoControl)),
@@ -174,7 +174,7 @@ static JUDGED: [(&[u8], Option<Reason>); 14] = [
     (b"BATCH@", Some(Reason::SpecialWho)),
 ];
 
-// The list of ALLOW READ_DATA for a who of up to 16 bytes, and behind it zeros.
+// Returns the list of ALLOW READ_DATA for a who of up to 16 bytes, and zero bytes behind it.
 fn list_with(who: &[u8]) -> [u8; 36] {
     let mut bytes = [0u8; 36];
     bytes[3] = 1;
@@ -186,8 +186,8 @@ fn list_with(who: &[u8]) -> [u8; 36] {
     bytes
 }
 
-// What a list with this who is refused for, at the who's first byte, or none; and where it is a list, that it ends
-// behind the padding.
+// Checks that a list with this who is refused for this reason, at the first byte of the who. If there is no reason, it
+// checks that the list ends behind the padding.
 fn is_judged(who: &[u8], reason: Option<Reason>) -> bool {
     match AclView::parse(&list_with(who)) {
         Ok((_, len)) => reason.is_none() && len == 24,

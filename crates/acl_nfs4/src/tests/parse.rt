@@ -5,7 +5,7 @@ use crate::*;
 use std::alloc::{AllocError, Global};
 use std::process::Abort;
 
-// One ACE: ALLOW, no flag, READ_DATA, EVERYONE@.
+// A list of one ACE: ALLOW, no flag, READ_DATA, EVERYONE@.
 const ONE: [u8; 32] = [
     0, 0, 0, 1, 0, 0, 0, 0, 0, 0, 0, 0, 0, 0, 0, 1, 0, 0, 0, 9, 0x45, 0x56, 0x45, 0x52, 0x59, 0x4f,
     0x4e, 0x45, 0x40, 0, 0, 0,
@@ -15,7 +15,7 @@ fn fault(offset: u64, reason: Reason) -> Option<Fault> {
     Some(Fault { offset, reason })
 }
 
-// The list with its words of type, flag, mask and length, and the bytes of its who, replaced from a place on.
+// Returns the list with its bytes replaced from a place on.
 fn with(at: usize, bytes: &[u8]) -> [u8; 44] {
     let mut whole = [0u8; 44];
     for (to, from) in whole.iter_mut().zip(ONE) {
@@ -50,7 +50,7 @@ fn lists_are_found(rt: HostRuntime) -> Result<(), Fault> {
     Ok(())
 }
 
-// A place, the bytes from there on, and the fault of the list with them.
+// A place, the bytes from there on, and the fault of the list with these bytes.
 static DAMAGED: [(usize, &[u8], u64, Reason); 12] = [
     (4, &[0, 0, 0, 2], 4, Reason::AuditOrAlarm),
     (4, &[0, 0, 0, 3], 4, Reason::AuditOrAlarm),
@@ -66,7 +66,7 @@ static DAMAGED: [(usize, &[u8], u64, Reason); 12] = [
     (29, &[0, 0, 1], 29, Reason::Padding),
 ];
 
-// Each refusal of a field, at the field's first byte.
+// Each reason for which a field is refused, at the first byte of the field.
 #[test]
 fn faults_stand_where_they_should(rt: HostRuntime) {
     for (at, bytes, offset, reason) in DAMAGED {
@@ -76,7 +76,7 @@ fn faults_stand_where_they_should(rt: HostRuntime) {
     assert!(rt; AclView::parse(&[0, 1, 0, 1]).err() == fault(0, Reason::TooManyAces));
 }
 
-// Where the field begins at which a list of so many bytes is cut short.
+// Returns where the field begins in which a list of this many bytes is cut short.
 fn cut_at(length: usize) -> u64 {
     match length {
         0..=3 => 0,
@@ -89,7 +89,7 @@ fn cut_at(length: usize) -> u64 {
     }
 }
 
-// The list cut short at each length, and with a byte more.
+// The list is cut short at each length, and has one byte more.
 #[test]
 fn a_list_that_is_cut_is_truncated(rt: HostRuntime) {
     for length in 0..32usize {
@@ -105,7 +105,7 @@ fn a_list_that_is_cut_is_truncated(rt: HostRuntime) {
     assert!(rt; AclView::parse_whole(&ONE).is_ok());
 }
 
-// So many times ALLOW with the same mask for EVERYONE@.
+// Returns a list that has ALLOW with this mask for EVERYONE@ this many times.
 fn repeated(alloc: Global, count: u32, mask: u32) -> Result<Vec<u8>, AllocError> {
     let mut bytes = Vec::new(alloc);
     bytes.extend_from_slice(&count.to_be_bytes())?;
@@ -117,7 +117,7 @@ fn repeated(alloc: Global, count: u32, mask: u32) -> Result<Vec<u8>, AllocError>
     Ok(bytes)
 }
 
-// What is found in a list of so many ACEs with this mask.
+// Checks the answer for a list that has this many ACEs with one mask.
 fn weighed(rt: &impl Abort, bytes: &[u8], profile: Profile, count: u32, expected: Option<Fault>) {
     let found = AclView::parse_whole_with(bytes, profile);
     assert!(rt;
@@ -127,7 +127,7 @@ fn weighed(rt: &impl Abort, bytes: &[u8], profile: Profile, count: u32, expected
     assert!(rt; found == expected, "{count}");
 }
 
-/// The weight of a list is limited, after the bits of its masks.
+/// Checks that the weight of a list is limited, and that the bits of a mask are judged before the weight.
 pub fn the_weight_of_a_list_is_limited(rt: &impl Abort, alloc: Global) -> Result<(), PushFault> {
     for (profile, count, mask, expected) in [
         (Profile::FULL, 4_096, 0x001f_07ff, None),
@@ -157,7 +157,7 @@ pub fn the_weight_of_a_list_is_limited(rt: &impl Abort, alloc: Global) -> Result
     Ok(())
 }
 
-// Whether a list is judged so under the narrow profile, and is one under the full one.
+// Checks the answer for a list under the narrow profile, and that it is a list under the full profile.
 fn is_narrowed(whole: &[u8], narrow: Option<Fault>) -> bool {
     AclView::parse_with(whole, Profile::NARROW).err() == narrow
         && AclView::parse_whole_with(whole, Profile::NARROW).err() == narrow
@@ -165,7 +165,7 @@ fn is_narrowed(whole: &[u8], narrow: Option<Fault>) -> bool {
         && AclView::parse_whole(whole).is_ok()
 }
 
-// The one ACE with words replaced, under the narrow profile and under the full one.
+// The list of one ACE with words replaced, under the narrow profile and under the full profile.
 #[test]
 fn a_profile_refuses_the_bits_that_it_lacks(rt: HostRuntime) {
     let rows: [(usize, &[u8], Option<Fault>); 6] = [

@@ -1,4 +1,4 @@
-//! What is answered where an ACE is pushed.
+//! The answers when an ACE is pushed.
 
 use super::harness::is_told;
 use super::rows::{EVERYONE, built, copied, item, repeated, shows};
@@ -7,7 +7,7 @@ use crate::*;
 use std::alloc::Global;
 use std::process::Abort;
 
-// What is answered where an ACE with this mask and who is pushed, and what the list then shows.
+// Pushes an ACE with this mask and who, and checks the answer and the list after it.
 fn pushed(
     rt: &impl Abort,
     alloc: Global,
@@ -30,7 +30,7 @@ fn pushed(
     Ok(())
 }
 
-/// A push is judged by its who.
+/// Checks that a push is refused or not as its who says.
 pub fn a_push_is_judged_by_its_who(rt: &impl Abort, alloc: Global) -> Result<(), PushFault> {
     let rows: [(&'static [u8], Result<(), PushFault>); 9] = [
         (b"", Err(WhoLength)),
@@ -49,7 +49,7 @@ pub fn a_push_is_judged_by_its_who(rt: &impl Abort, alloc: Global) -> Result<(),
     Ok(())
 }
 
-// What a list answers to an ACE of this mask whose who is empty.
+// Returns the answer of a list to an ACE with this mask and an empty who.
 fn pushed_nameless(list: &mut Acl, mask: u32) -> Option<Result<(), PushFault>> {
     let ace = item((Kind::Allow, 0, mask, b""))?;
     Some(list.push(ace))
@@ -77,7 +77,7 @@ static LINES: [(PushFault, &str); 7] = [
 mod ample {
     use super::*;
 
-    // What is judged before the who: the number of ACEs, and then the weight.
+    // The number of ACEs and then the weight are judged before the who.
     #[test]
     fn a_full_list_takes_no_more(rt: HostRuntime) -> Result<(), PushFault> {
         let mut list = repeated(rt.alloc(), 65_536, (Kind::Allow, 0, 0, b"a"))?;

@@ -1,33 +1,33 @@
-//! The bytes of three lists, and the three ways to read one: at one go, from a source, and in pieces.
+//! The bytes of three lists, and the three ways to read a list: whole, from a source, and in pieces.
 
 use crate::*;
 use std::alloc::Global;
 
-/// One ACE: ALLOW, no flag, READ_DATA, EVERYONE@.
+/// A list of one ACE: ALLOW, no flag, READ_DATA, EVERYONE@.
 pub const ONE: [u8; 32] = [
     0, 0, 0, 1, 0, 0, 0, 0, 0, 0, 0, 0, 0, 0, 0, 1, 0, 0, 0, 9, 0x45, 0x56, 0x45, 0x52, 0x59, 0x4f,
     0x4e, 0x45, 0x40, 0, 0, 0,
 ];
 
-/// Three ACEs: ALLOW READ_DATA of OWNER@, DENY WRITE_DATA of bob, ALLOW WRITE_DATA of OWNER@.
+/// A list of three ACEs: ALLOW READ_DATA for OWNER@, DENY WRITE_DATA for bob, ALLOW WRITE_DATA for OWNER@.
 pub const THREE: [u8; 72] = [
     0, 0, 0, 3, 0, 0, 0, 0, 0, 0, 0, 0, 0, 0, 0, 1, 0, 0, 0, 6, 0x4f, 0x57, 0x4e, 0x45, 0x52, 0x40,
     0, 0, 0, 0, 0, 1, 0, 0, 0, 0, 0, 0, 0, 2, 0, 0, 0, 3, 0x62, 0x6f, 0x62, 0, 0, 0, 0, 0, 0, 0, 0,
     0, 0, 0, 0, 2, 0, 0, 0, 6, 0x4f, 0x57, 0x4e, 0x45, 0x52, 0x40, 0, 0,
 ];
 
-/// One ACE: ALLOW READ_DATA of alice.
+/// A list of one ACE: ALLOW READ_DATA for alice.
 pub const ALICE: [u8; 28] = [
     0, 0, 0, 1, 0, 0, 0, 0, 0, 0, 0, 0, 0, 0, 0, 1, 0, 0, 0, 5, 0x61, 0x6c, 0x69, 0x63, 0x65, 0, 0,
     0,
 ];
 
-/// The fault at a place.
+/// Returns the fault with this reason at this place.
 pub fn fault(offset: u64, reason: Reason) -> Fault {
     Fault { offset, reason }
 }
 
-/// The list at the front of bytes.
+/// Returns the list at the front of bytes.
 pub fn parsed(alloc: Global, bytes: &[u8]) -> Result<Acl, Fault> {
     let (view, _) = AclView::parse(bytes)?;
     match Acl::from_view(alloc, &view) {
@@ -36,12 +36,12 @@ pub fn parsed(alloc: Global, bytes: &[u8]) -> Result<Acl, Fault> {
     }
 }
 
-/// The list, from reads of at most so many bytes each, of which so many don't fail.
+/// Returns the list of a source whose reads give at most `step` bytes and fail after `reads` of them.
 pub fn decoded(alloc: Global, bytes: &[u8], calls: u64, step: usize) -> Result<Acl, Fault> {
     decode(alloc, &mut Counted::new(Fused::new(bytes, calls, step)))
 }
 
-/// The list, in two pieces, of which the first is so long.
+/// Returns the list of a feed that takes two pieces. The first piece has `first` bytes.
 pub fn fed(alloc: Global, bytes: &[u8], first: usize) -> Result<Acl, Fault> {
     let mut feed = Feed::new(alloc);
     let (front, back) = bytes.split_at(first.min(bytes.len()));
@@ -50,7 +50,7 @@ pub fn fed(alloc: Global, bytes: &[u8], first: usize) -> Result<Acl, Fault> {
     feed.finish()
 }
 
-/// Whether both ways give the same list.
+/// Returns whether both answers are the same list.
 pub fn same_list(decoded: Result<Acl, Fault>, parsed: Result<Acl, Fault>) -> bool {
     match (decoded, parsed) {
         (Ok(decoded), Ok(parsed)) => decoded == parsed,

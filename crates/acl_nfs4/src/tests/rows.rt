@@ -4,13 +4,13 @@ use crate::*;
 use std::alloc::{AllocError, Global};
 use std::process::Abort;
 
-/// An ACE as its type, flags, mask and who.
+/// An ACE as a row: its type, flags, mask and who.
 pub type Row = (Kind, u32, u32, &'static [u8]);
 
-/// ALLOW READ_DATA EVERYONE@.
+/// The row ALLOW READ_DATA EVERYONE@.
 pub const EVERYONE: Row = (Kind::Allow, 0, 1, b"EVERYONE@");
 
-/// The ACE of a row whose bits are flags and rights.
+/// Returns the ACE of a row, if its bits are flags and rights.
 pub fn item((kind, flags, mask, who): Row) -> Option<AceRef<'static>> {
     Some(AceRef {
         kind,
@@ -20,7 +20,7 @@ pub fn item((kind, flags, mask, who): Row) -> Option<AceRef<'static>> {
     })
 }
 
-/// The list of some rows.
+/// Returns the list of these rows.
 pub fn built(alloc: Global, rows: &[Row]) -> Result<Acl, PushFault> {
     let mut list = Acl::new(alloc);
     for row in rows {
@@ -53,7 +53,7 @@ pub fn append_ace(bytes: &mut Vec<u8>, (kind, flags, mask, who): Row) -> Result<
     Ok(())
 }
 
-/// The bytes that spell it.
+/// Returns the bytes that spell the list of these rows.
 pub fn spelled(alloc: Global, rows: &[Row]) -> Result<Vec<u8>, AllocError> {
     let mut bytes = Vec::new(alloc);
     append_word(&mut bytes, word_of(rows.len()))?;
@@ -70,7 +70,7 @@ fn is_row(ace: &AceRef<'_>, (kind, flags, mask, who): Row) -> bool {
         && ace.who == who
 }
 
-/// Whether ACEs are those of the rows, in order.
+/// Returns whether the ACEs are those of the rows, in order.
 pub fn shows(aces: Aces<'_>, rows: &[Row]) -> bool {
     let mut at = 0usize;
     for ace in aces {
@@ -85,7 +85,7 @@ pub fn shows(aces: Aces<'_>, rows: &[Row]) -> bool {
     at == rows.len()
 }
 
-/// A list with so many of the same ACE.
+/// Returns a list that has the same ACE this many times.
 pub fn repeated(alloc: Global, count: u32, row: Row) -> Result<Acl, PushFault> {
     let mut list = Acl::new(alloc);
     if let Some(ace) = item(row) {
@@ -96,7 +96,7 @@ pub fn repeated(alloc: Global, count: u32, row: Row) -> Result<Acl, PushFault> {
     Ok(list)
 }
 
-/// A copy of a list is the same.
+/// Checks that a copy of a list is the same list.
 pub fn copied(rt: &impl Abort, alloc: Global, list: &Acl) -> Result<(), AllocError> {
     let copy = list.copy(alloc)?;
     assert!(rt; copy == *list);

@@ -1,5 +1,5 @@
-//! Tables that want memory for what they hold: one that is refused it answers so where it meets it. Each is held with
-//! ample memory too.
+//! Tables whose rows need memory. If an allocation fails, the table stops with `Memory`. A second test holds each table
+//! with ample memory.
 
 use super::{list, parse, push, text};
 use crate::PushFault;

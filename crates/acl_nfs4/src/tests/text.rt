@@ -5,7 +5,7 @@ use crate::*;
 use std::alloc::{AllocError, Global};
 use std::process::Abort;
 
-// A text, and the text that is written of the list that it spells.
+// A text, and the text that is written for the list that it spells.
 const SPELLED: [(&[u8], &[u8]); 10] = [
     (b"", b""),
     (b"\n \t\n# x\n#\n", b""),
@@ -40,7 +40,7 @@ const SPELLED: [(&[u8], &[u8]); 10] = [
     ),
 ];
 
-// A text that spells no list, and the line that tells why.
+// A text that spells no list, and the message that says why.
 const REFUSED: [(&[u8], &str); 22] = [
     (b"ALLOW READ_DATA bob", "Fields at line 1 column 1"),
     (b" # x", "Fields at line 1 column 1"),
@@ -84,7 +84,7 @@ const REFUSED: [(&[u8], &str); 22] = [
     (b"DENY X X \xff", "Flag at line 1 column 6"),
 ];
 
-// Writes a list into a room, and answers how many bytes went out and how the writing ended.
+// Writes a list into a buffer, and returns how many bytes went out and how the call ended.
 fn write(list: &Acl, room: &mut [u8]) -> (usize, Option<u64>) {
     let size = room.len();
     let mut sink = Counted::new(room);
@@ -95,14 +95,14 @@ fn write(list: &Acl, room: &mut [u8]) -> (usize, Option<u64>) {
     (size.saturating_sub(sink.into_inner().len()), fault)
 }
 
-// Whether a list is written as this text.
+// Returns whether a list is written as this text.
 fn is_written(list: &Acl, text: &[u8]) -> bool {
     let mut room = [0u8; 256];
     let (size, fault) = write(list, &mut room);
     fault.is_none() && size == text.len() && room.starts_with(text)
 }
 
-// Whether a text spells the list that is written so, or memory is wanted.
+// Returns whether a text spells the list with this written text, or memory ran out.
 fn spells(alloc: Global, text: &[u8], written: &[u8]) -> Result<bool, PushFault> {
     match parse_text(alloc, text) {
         Ok(list) => Ok(is_written(&list, written)),
@@ -111,7 +111,7 @@ fn spells(alloc: Global, text: &[u8], written: &[u8]) -> Result<bool, PushFault>
     }
 }
 
-// Whether a text is refused with this line, or for want of memory.
+// Returns whether a text is refused with this message, or because memory ran out.
 fn is_refused(alloc: Global, text: &[u8], line: &str) -> Result<bool, PushFault> {
     match parse_text(alloc, text) {
         Ok(_) => Ok(false),
@@ -120,7 +120,7 @@ fn is_refused(alloc: Global, text: &[u8], line: &str) -> Result<bool, PushFault>
     }
 }
 
-/// Texts spell their lists.
+/// Checks that texts spell their lists.
 pub fn texts_spell_their_lists(rt: &impl Abort, alloc: Global) -> Result<(), PushFault> {
     for (text, written) in &SPELLED {
         assert!(rt; spells(alloc, text, written)?);
@@ -128,7 +128,7 @@ pub fn texts_spell_their_lists(rt: &impl Abort, alloc: Global) -> Result<(), Pus
     Ok(())
 }
 
-/// Texts that spell no list are refused.
+/// Checks that texts that spell no list are refused.
 pub fn texts_that_spell_no_list_are_refused(
     rt: &impl Abort,
     alloc: Global,
@@ -139,12 +139,12 @@ pub fn texts_that_spell_no_list_are_refused(
     Ok(())
 }
 
-// How many ACEs a text spells within a profile.
+// Returns how many ACEs a text spells within a profile.
 fn spelled_within(alloc: Global, text: &[u8], profile: Profile) -> Result<usize, AceTextFault> {
     Ok(parse_text_with(alloc, text, profile)?.len())
 }
 
-// A room of n bytes: the fault tells n, and the room holds the first n bytes of the text.
+// In a buffer of n bytes the fault has n, and the buffer holds the first n bytes of the text.
 #[test]
 fn each_write_of_a_text_fails_in_turn(rt: HostRuntime) {
     let text = b"ALLOW DIR|GROUP READ_DATA|WRITE_DATA  two words \nDENY - - a\n".as_slice();
@@ -158,14 +158,14 @@ fn each_write_of_a_text_fails_in_turn(rt: HostRuntime) {
     }
 }
 
-// How many ACEs a text spells, and their weight.
+// Returns how many ACEs a text spells, and their weight.
 fn size_of(alloc: Global, text: &[u8]) -> Result<(usize, u32), AceTextFault> {
     let list = parse_text(alloc, text)?;
     Ok((list.len(), list.weight()))
 }
 
-// Parts of a text, each so many times over, the size of the list that it spells, what is added to it, and the fault
-// that it has then.
+// The parts of a text and how often each is repeated; the size of the list that the text spells; a line that is added;
+// and the fault of the text with that line.
 type Long = (
     &'static [(usize, &'static [u8])],
     (usize, u32),
@@ -173,7 +173,7 @@ type Long = (
     AceTextFault,
 );
 
-// The limits of a list, at the line that passes them.
+// The limits of a list, and the fault at the line that exceeds them.
 static PAST_LIMITS: [Long; 2] = [
     (
         &[(65_536, b"ALLOW - READ_DATA a\n")],
@@ -218,7 +218,7 @@ fn text_of(alloc: Global, parts: &[(usize, &[u8])]) -> Result<Vec<u8>, AllocErro
     Ok(text)
 }
 
-// Whether a text spells a list of its size, and has its fault once more is added.
+// Returns whether a text spells a list of this size, and has this fault with one more line.
 fn is_long(alloc: Global, (parts, size, added, fault): Long) -> Result<bool, AllocError> {
     let mut text = text_of(alloc, parts)?;
     let is_list = size_of(alloc, &text) == Ok(size);
@@ -248,7 +248,7 @@ fn the_name_of_a_bit_is_its_first(rt: HostRuntime) {
 mod ample {
     use super::*;
 
-    // A name outside the profile is no name there.
+    // A name of a right outside the profile is refused as no name.
     #[test]
     fn a_profile_refuses_the_names_that_it_lacks(rt: HostRuntime) {
         let inherited = b"ALLOW INHERITED READ_DATA bob".as_slice();

@@ -1,9 +1,10 @@
 //! The ACE that a line of a text spells, or what is wrong with the line.
 ghost use Rattle.std.specs.Prelude.{◌≡◌, ◌==◌, ◌+◌, ◌<◌, ◌≤◌, count_ones, option_map, position, IfOk, IfSome};
+ghost use Rattle.acl_perm.specs.Ascii.{space};
 ghost use Rattle.acl_perm.specs.Profile.{profile_of};
 ghost use Rattle.acl_nfs4.specs.Ace.{ace};
 ghost use Rattle.acl_nfs4.specs.AceText.{is_skipped};
-ghost use Rattle.acl_nfs4.specs.internal.AceReading.{cut_space, fields_of, kind_named, read_ace, read_flags, read_mask_field, read_who, view_fields, view_first, who_fault_at, FieldsFit};
+ghost use Rattle.acl_nfs4.specs.internal.AceReading.{cut_space, line_fields, kind_named, read_ace, read_flags, read_mask_field, read_who, viewed_fields, view_first, who_fault_at, LineFieldsFit};
 ghost use Rattle.acl_nfs4.specs.Limits.{most_aces, most_weight};
 ghost use Rattle.acl_nfs4.specs.internal.Reading.{Gives};
 ghost use Rattle.acl_nfs4.specs.Who.{IsWho};
@@ -92,10 +93,10 @@ pub(crate) struct FirstField<'a> {
 }
 
 // Returns the fields of a line, if it has four.
-#[tactic(auto, unfolding(crate::specs::internal::AceReading::fields_of))]
+#[tactic(auto, unfolding(crate::specs::internal::AceReading::line_fields))]
 fn fields(line: &[u8]) -> Option<LineFields<'_>>
-    ensures value { option_map view_fields result ≡ fields_of line.now }
-    ensures fits { IfSome result (λ f. FieldsFit (view_fields f) line.now) }
+    ensures value { option_map viewed_fields result ≡ line_fields line.now }
+    ensures fits { IfSome result (λ f. LineFieldsFit (viewed_fields f) line.now) }
 {
     let kind = cut(line)?;
     let flags = cut(kind.rest)?;
@@ -119,7 +120,7 @@ fn cut(bytes: &[u8]) -> Option<FirstField<'_>>
 }
 
 fn space_in(bytes: &[u8]) -> Option<usize>
-    ensures { result ≡ position (λ b. b == 0x20) bytes.now }
+    ensures { result ≡ position (λ b. b == space) bytes.now }
 {
     place_of(bytes, b' ')
 }
@@ -138,7 +139,7 @@ fn kind_named(word: &[u8]) -> Option<Kind>
 }
 
 // Returns the flags of a field, which must be flags of the profile.
-#[tactic(auto, using(crate::proofs::Within::within))]
+#[tactic(auto, using(crate::proofs::list::Within::within))]
 fn flags_at(
     field: &[u8],
     line: usize,
@@ -154,7 +155,7 @@ fn flags_at(
 }
 
 // Returns the mask of a field, which must have rights of the profile alone, after ACEs of this weight.
-#[tactic(auto, using(crate::proofs::Within::within))]
+#[tactic(auto, using(crate::proofs::list::Within::within))]
 fn mask_at(
     field: &[u8],
     line: usize,

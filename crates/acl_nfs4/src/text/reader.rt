@@ -2,7 +2,7 @@
 ghost use Rattle.std.specs.Prelude.{◌≡◌, ◌⊎◌, ◌∷◌, [], IfErr, IfOk, List, MatchResult, Ok};
 ghost use Rattle.acl_perm.specs.Profile.{full, profile_of};
 ghost use Rattle.acl_nfs4.specs.Ace.{Ace};
-ghost use Rattle.acl_nfs4.specs.internal.AceReading.{read_lines, Fails};
+ghost use Rattle.acl_nfs4.specs.internal.AceReading.{read_lines, FailsAs};
 ghost use Rattle.acl_nfs4.specs.AceText.{IsAceText, ace_lines, ace_lines_from};
 ghost use Rattle.acl_nfs4.specs.AceTextFault.{IsAceTextFault, IsTextRefusal};
 ghost use Rattle.acl_nfs4.specs.declared.text.fault.AceTextFault.{AceTextFault as FaultValue};
@@ -61,7 +61,7 @@ pub fn parse_text_with(alloc: Global, text: &[u8], profile: Profile) -> Result<A
 fn read_text(alloc: Global, text: &[u8], profile: Profile) -> Result<Acl, AceTextFault>
     ensures { MatchResult result
         (λ acl. read_lines (profile_of profile) [] (ace_lines text.now) ≡ Ok acl)
-        (λ fault. Fails fault (read_lines (profile_of profile) [] (ace_lines text.now))) }
+        (λ fault. FailsAs fault (read_lines (profile_of profile) [] (ace_lines text.now))) }
 {
     let mut acl = Acl::new(alloc);
     let mut number = 1;
@@ -80,7 +80,7 @@ fn add_line(acl: &mut Acl, line: &[u8], number: usize, profile: Profile) -> Resu
     ensures { MatchResult result
         (λ _. read_lines (profile_of profile) acl.old (ace_lines_from number (line.now ∷ []))
         ≡ Ok acl.new)
-        (λ fault. Fails fault
+        (λ fault. FailsAs fault
         (read_lines (profile_of profile) acl.old (ace_lines_from number (line.now ∷ [])))) }
 {
     if is_skipped(line) {

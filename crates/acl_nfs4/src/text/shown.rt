@@ -26,7 +26,7 @@ pub struct FlagNames {
 impl fmt::Display for FlagNames {
     ghost output = { λ shown. Some (set_text flag_names shown.flags.bits) };
 
-    #[tactic(auto, using(crate::proofs::Shown::flags_shown))]
+    #[tactic(auto, using(crate::proofs::names::Shown::flags_shown))]
     fn fmt<W: fmt::Write>(&self, f: &mut fmt::Formatter<W>) -> fmt::Result {
         let mut line = Line::new();
         add_set(&mut line, &FLAGS, self.flags.bits() as u32);
@@ -45,12 +45,19 @@ pub struct RightNames {
 impl fmt::Display for RightNames {
     ghost output = { λ shown. Some (set_text rights shown.mask.bits) };
 
-    #[tactic(auto, using(crate::proofs::Shown::rights_shown))]
+    #[tactic(auto, using(crate::proofs::names::Shown::rights_shown))]
     fn fmt<W: fmt::Write>(&self, f: &mut fmt::Formatter<W>) -> fmt::Result {
-        let mut line = Line::new();
-        add_set(&mut line, &RIGHTS, self.mask.bits());
-        f.write_str(as_text(&line))
+        f.write_str(as_text(&rights_text(self.mask)))
     }
+}
+
+/// Returns the names of the rights of a mask, as `RightNames` shows them. It takes no memory.
+pub fn rights_text(mask: Mask) -> Line
+    ensures { result.items ≡ set_text rights mask.bits }
+{
+    let mut line = Line::new();
+    add_set(&mut line, &RIGHTS, mask.bits());
+    line
 }
 
 /// Shows a principal by the who that names it: `OWNER@`, `GROUP@`, `EVERYONE@`, or the name of the user or of the
@@ -89,7 +96,7 @@ impl<'a> fmt::Display for AceRef<'a> {
 }
 
 // Returns bytes as text, if they are UTF-8.
-#[tactic(auto, using(crate::proofs::PlainText::text_tests))]
+#[tactic(auto, using(crate::proofs::plain_ascii::PlainText::text_tests))]
 fn as_text(bytes: &[u8]) -> &str
     ensures { result.now ≡ as_text bytes.now }
 {

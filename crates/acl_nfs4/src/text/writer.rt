@@ -9,7 +9,7 @@ ghost use Rattle.acl_nfs4.specs.Ace.{Ace, ace};
 ghost use Rattle.acl_nfs4.specs.AceText.{IsAceText, ace_line, ace_text, kind_name};
 ghost use Rattle.acl_nfs4.specs.BitNames.{bar, names_of, set_text};
 ghost use Rattle.acl_nfs4.specs.Limits.{longest_who, most_aces};
-ghost use Rattle.acl_nfs4.specs.internal.NameTable.{is_rising, is_short, lead, table_of};
+ghost use Rattle.acl_nfs4.specs.internal.NameTable.{bar_before, bit_names_of, is_rising, is_short_row, ace_line_room, row_room};
 
 use crate::ace::AceRef;
 use crate::list::aces::Aces;
@@ -23,113 +23,9 @@ use acl_perm::{Kind, Sink, WriteFault};
 use arrayvec::ArrayVec;
 
 /// Room for a line: a type, all flags, all rights, the longest who, and the bytes between them.
-pub(crate) type Line = ArrayVec<u8, 1600>;
+pub type Line = ArrayVec<u8, LINE_ROOM>;
 
-// Writes the lines of the ACEs, and returns how many bytes are out then.
-fn put_lines<S: Sink>(sink: &mut S, aces: Aces<'_>) -> Result<u64, WriteFault>
-    requires { length aces ≤ most_aces }
-    ensures written { WritesFrom (S.contents sink.old) (S.contents sink.new) 0
-        (ace_text aces.entry) result }
-    ensures none_failed { OnOk result (S.failure_count sink.new ≡ S.failure_count sink.old) }
-    ensures failed { OnErr result (S.failure_count sink.new ≡ one_more (S.failure_count sink.old)) }
-{
-    let mut line = ArrayVec::new();
-    let mut done = 0;
-    for ace in aces {
-        fill(&mut line, ace);
-        match put_next(sink, done, &line) {
-            Ok(count) => done = count,
-            Err(fault) => return Err(fault),
-        }
-    }
-    Ok(done)
-}
-
-// The line of an ACE.
-#[tactic(auto, unfolding(crate::specs::AceText::ace_line))]
-fn fill(line: &mut Line, item: AceRef<'_>)
-    requires { length item.who.now ≤ longest_who }
-    ensures text { line.new.items ≡ ace_line (ace item.entry) }
-    ensures short { array_vec_len line.new ≤ 1600 }
-{
-    line.clear();
-    add(line, kind_name(item.kind));
-    line.push(b' ');
-    add_set(line, &FLAGS, item.flags.bits() as u32);
-    line.push(b' ');
-    add_set(line, &RIGHTS, item.mask.bits());
-    line.push(b' ');
-    add(line, item.who);
-    line.push(b'\n');
-}
-
-fn kind_name(kind: Kind) -> &'static [u8]
-    ensures name { result.now ≡ kind_name kind }
-    ensures short { length result.now ≤ 5 }
-{
-    match kind {
-        Kind::Allow => b"ALLOW",
-        Kind::Deny => b"DENY",
-    }
-}
-
-/// Adds the field of a set.
-#[tactic(auto, unfolding(crate::specs::BitNames::set_text))]
-pub(crate) fn add_set(line: &mut Line, table: &[BitName], set: u32)
-    requires short { list_all is_short table.now ≡ true }
-    requires rising { is_rising table.now ≡ true }
-    requires room { array_vec_len line.old + 21 * length table.now + 1 ≤ 1600 }
-    ensures text { line.new.items ≡ line.old.items ++ set_text (table_of table.now) set }
-    ensures len { array_vec_len line.new ≤ array_vec_len line.old + 21 * length table.now + 1 }
-{
-    if set == 0 {
-        line.push(b'-');
-    } else {
-        add_names(line, table, set);
-    }
-}
-
-// Adds the names of a set that is not empty, with `|` between them.
-fn add_names(line: &mut Line, table: &[BitName], set: u32)
-    requires short { list_all is_short table.now ≡ true }
-    requires rising { is_rising table.now ≡ true }
-    requires room { array_vec_len line.old + 21 * length table.now ≤ 1600 }
-    ensures text { line.new.items ≡ line.old.items ++ join_with_byte bar
-        (names_of (table_of table.now) set) }
-    ensures len { array_vec_len line.new ≤ array_vec_len line.old + 21 * length table.now }
-{
-    let mut is_first = true;
-    for row in table {
-        // The bits of the later rows are greater.
-        if row.bit > set {
-            break;
-        }
-        if set & row.bit == row.bit {
-            add_name(line, row.name.as_bytes(), is_first);
-            is_first = false;
-        }
-    }
-}
-
-// Adds a name, with a `|` before it unless it is the first.
-fn add_name(line: &mut Line, name: &[u8], is_first: bool)
-    requires { array_vec_len line.old + length name.now + 1 ≤ 1600 }
-    ensures text { line.new.items ≡ line.old.items ++ lead is_first ++ name.now }
-    ensures len { array_vec_len line.new ≤ array_vec_len line.old + length name.now + 1 }
-{
-    if !is_first {
-        line.push(b'|');
-    }
-    add(line, name);
-}
-
-fn add(line: &mut Line, bytes: &[u8])
-    requires { array_vec_len line.old + length bytes.now ≤ 1600 }
-    ensures { line.new.items ≡ line.old.items ++ bytes.now }
-{
-    // The line has room for the bytes, so none are refused.
-    let _ = line.try_extend_from_slice(bytes);
-}
+pub const LINE_ROOM: usize = 1600;
 
 impl Acl {
     /// Writes the text of the list: one line per ACE, with the names of its flags and rights in ascending order of
@@ -162,4 +58,110 @@ impl<'a> AclView<'a> {
             Err(fault) => Err(fault),
         }
     }
+}
+
+// Writes the lines of the ACEs, and returns how many bytes are out then.
+fn put_lines<S: Sink>(sink: &mut S, aces: Aces<'_>) -> Result<u64, WriteFault>
+    requires { length aces ≤ most_aces }
+    ensures written { WritesFrom (S.contents sink.old) (S.contents sink.new) 0
+        (ace_text aces.entry) result }
+    ensures none_failed { OnOk result (S.failure_count sink.new ≡ S.failure_count sink.old) }
+    ensures failed { OnErr result (S.failure_count sink.new ≡ one_more (S.failure_count sink.old)) }
+{
+    let mut line = ArrayVec::new();
+    let mut done = 0;
+    for ace in aces {
+        fill(&mut line, ace);
+        match put_next(sink, done, &line) {
+            Ok(count) => done = count,
+            Err(fault) => return Err(fault),
+        }
+    }
+    Ok(done)
+}
+
+// The line of an ACE.
+#[tactic(auto, unfolding(crate::specs::AceText::ace_line))]
+fn fill(line: &mut Line, item: AceRef<'_>)
+    requires { length item.who.now ≤ longest_who }
+    ensures text { line.new.items ≡ ace_line (ace item.entry) }
+    ensures short { array_vec_len line.new ≤ ace_line_room }
+{
+    line.clear();
+    add(line, kind_name(item.kind));
+    line.push(b' ');
+    add_set(line, &FLAGS, item.flags.bits() as u32);
+    line.push(b' ');
+    add_set(line, &RIGHTS, item.mask.bits());
+    line.push(b' ');
+    add(line, item.who);
+    line.push(b'\n');
+}
+
+fn kind_name(kind: Kind) -> &'static [u8]
+    ensures name { result.now ≡ kind_name kind }
+    ensures short { length result.now ≤ 5 }
+{
+    match kind {
+        Kind::Allow => b"ALLOW",
+        Kind::Deny => b"DENY",
+    }
+}
+
+/// Adds the field of a set.
+#[tactic(auto, unfolding(crate::specs::BitNames::set_text))]
+pub(crate) fn add_set(line: &mut Line, table: &[BitName], set: u32)
+    requires short { list_all is_short_row table.now ≡ true }
+    requires rising { is_rising table.now ≡ true }
+    requires room { array_vec_len line.old + row_room * length table.now + 1 ≤ ace_line_room }
+    ensures text { line.new.items ≡ line.old.items ++ set_text (bit_names_of table.now) set }
+    ensures len { array_vec_len line.new ≤ array_vec_len line.old + row_room * length table.now + 1 }
+{
+    if set == 0 {
+        line.push(b'-');
+    } else {
+        add_names(line, table, set);
+    }
+}
+
+// Adds the names of a set that is not empty, with `|` between them.
+fn add_names(line: &mut Line, table: &[BitName], set: u32)
+    requires short { list_all is_short_row table.now ≡ true }
+    requires rising { is_rising table.now ≡ true }
+    requires room { array_vec_len line.old + row_room * length table.now ≤ ace_line_room }
+    ensures text { line.new.items ≡ line.old.items ++ join_with_byte bar
+        (names_of (bit_names_of table.now) set) }
+    ensures len { array_vec_len line.new ≤ array_vec_len line.old + row_room * length table.now }
+{
+    let mut is_first = true;
+    for row in table {
+        // The bits of the later rows are greater.
+        if row.bit > set {
+            break;
+        }
+        if set & row.bit == row.bit {
+            add_name(line, row.name.as_bytes(), is_first);
+            is_first = false;
+        }
+    }
+}
+
+// Adds a name, with a `|` before it unless it is the first.
+fn add_name(line: &mut Line, name: &[u8], is_first: bool)
+    requires { array_vec_len line.old + length name.now + 1 ≤ ace_line_room }
+    ensures text { line.new.items ≡ line.old.items ++ bar_before is_first ++ name.now }
+    ensures len { array_vec_len line.new ≤ array_vec_len line.old + length name.now + 1 }
+{
+    if !is_first {
+        line.push(b'|');
+    }
+    add(line, name);
+}
+
+fn add(line: &mut Line, bytes: &[u8])
+    requires { array_vec_len line.old + length bytes.now ≤ ace_line_room }
+    ensures { line.new.items ≡ line.old.items ++ bytes.now }
+{
+    // The line has room for the bytes, so none are refused.
+    let _ = line.try_extend_from_slice(bytes);
 }

@@ -1,11 +1,13 @@
 //! Reads a list from a source and takes no byte behind the list.
-ghost use Rattle.std.specs.Prelude.{◌≡◌, ◌⊎◌, ◌++◌, ℕ, List, Some, IfErr, OnOk};
+ghost use Rattle.std.specs.Prelude.{◌≡◌, ◌≤◌, ◌⊎◌, ◌++◌, ℕ, List, Some, IfErr, IfOk, OnOk, length};
 ghost use Rattle.std.specs.Io.KnownBytes.{Consumes, IsAtEnd};
 ghost use Rattle.acl_perm.specs.Devices.{one_more};
 ghost use Rattle.acl_perm.specs.Profile.{full, profile_of};
 ghost use Rattle.acl_nfs4.specs.Ace.{Ace};
 ghost use Rattle.acl_nfs4.specs.Spelling.{IsAccepted, Xdr, spelling};
 ghost use Rattle.acl_nfs4.specs.Fault.{IsFault};
+ghost use Rattle.acl_nfs4.specs.Limits.{most_aces};
+ghost use Rattle.acl_nfs4.specs.internal.Pulling.{DrawsCount};
 ghost use Rattle.acl_nfs4.specs.declared.xdr.fault.Reason.{Reason};
 ghost use Rattle.acl_nfs4.specs.declared.xdr.fault.Reason.TheVariants.{Read};
 ghost use Rattle.acl_nfs4.specs.Stream.{Decodes, FaultsOrFails, IsOrFails};
@@ -13,7 +15,7 @@ ghost use Rattle.acl_nfs4.specs.Stream.{Decodes, FaultsOrFails, IsOrFails};
 use crate::list::acl::Acl;
 use crate::xdr::fault::{Fault, Reason};
 use crate::xdr::judges;
-use crate::xdr::pulling::{NextAce, ROOM, pull_ace, word};
+use crate::xdr::pulling::{LONGEST_ACE, NextAce, pull_ace, word};
 use crate::xdr::reading::placed;
 use acl_perm::{Profile, Source};
 use std::alloc::Global;
@@ -89,9 +91,8 @@ fn read_value<S: Source>(alloc: Global, source: &mut S, profile: Profile) -> Res
     ensures unread { IfErr result (λ f. (f.reason ≡ Read)
         ⊎ (S.failure_count source.new ≡ S.failure_count source.old)) }
 {
-    let mut room = [0u8; ROOM];
-    let number = word(source, &mut room, 0, 0)?;
-    let count = placed(0, judges::count_of(number))?;
+    let mut room = [0u8; LONGEST_ACE];
+    let count = pull_count(source, &mut room)?;
     let mut body = Vec::new(alloc);
     let mut weight = 0;
     for _ in 0..count {
@@ -111,4 +112,22 @@ fn read_value<S: Source>(alloc: Global, source: &mut S, profile: Profile) -> Res
         weight,
         body,
     })
+}
+
+// Reads the number of ACEs.
+fn pull_count<S: Source>(source: &mut S, room: &mut [u8]) -> Result<u32, Fault>
+    requires { 4 ≤ length room.old }
+    ensures drawn { (piece : List ℕ)
+        × Consumes (S.remaining source.old) (S.remaining source.new) piece
+        × DrawsCount piece (S.remaining source.new) (S.failure_count source.old)
+        (S.failure_count source.new) result }
+    ensures small { IfOk result (λ n. n ≤ most_aces) }
+    ensures none_failed { OnOk result (S.failure_count source.new ≡ S.failure_count source.old) }
+    ensures read { IfErr result (λ f. f.reason ≡ Read
+        → S.failure_count source.new ≡ one_more (S.failure_count source.old)) }
+    ensures unread { IfErr result (λ f. (f.reason ≡ Read)
+        ⊎ (S.failure_count source.new ≡ S.failure_count source.old)) }
+{
+    let number = word(source, room, 0, 0)?;
+    placed(0, judges::count_of(number))
 }

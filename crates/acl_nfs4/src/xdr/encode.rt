@@ -52,7 +52,7 @@ impl Acl {
 
 impl<'a> AclView<'a> {
     /// Returns the number of bytes that spell the list, which `encode` writes, in constant time.
-    #[tactic(auto, using(crate::proofs::Lengths::list_len, crate::proofs::Lengths::spelling_short))]
+    #[tactic(auto, using(crate::proofs::xdr::Lengths::list_len, crate::proofs::xdr::Lengths::spelling_short))]
     pub fn encoded_len(&self) -> u64
         ensures value { result ≡ length (spelling self.now) }
         ensures small { result < 2 ^ 31 }

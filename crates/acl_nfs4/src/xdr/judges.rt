@@ -5,6 +5,7 @@ ghost use Rattle.acl_perm.specs.Profile.{profile_of};
 ghost use Rattle.acl_nfs4.specs.Fields.{count_of, kind_of, flags_of, mask_of, who_len_of, who_of, who_reason, padding_of};
 ghost use Rattle.acl_nfs4.specs.Limits.{most_aces, most_weight};
 ghost use Rattle.acl_nfs4.specs.internal.Reading.{Gives};
+ghost use Rattle.acl_nfs4.specs.Spelling.{pad_len};
 ghost use Rattle.acl_nfs4.specs.Who.{is_no_who_len};
 
 use crate::limits::{MOST_ACES, MOST_WEIGHT};
@@ -39,7 +40,7 @@ pub(crate) fn kind_of(number: u32) -> Result<Kind, Reason>
 }
 
 /// The flags.
-#[tactic(auto, using(crate::proofs::Within::within))]
+#[tactic(auto, using(crate::proofs::list::Within::within))]
 #[inline(always)]
 pub(crate) fn flags_of(number: u32, profile: Profile) -> Result<Flags, Reason>
     ensures { Gives (λ x. x.bits) result (flags_of (profile_of profile) number) }
@@ -51,7 +52,7 @@ pub(crate) fn flags_of(number: u32, profile: Profile) -> Result<Flags, Reason>
 }
 
 /// The mask, after ACEs of this weight.
-#[tactic(auto, using(crate::proofs::Within::within))]
+#[tactic(auto, using(crate::proofs::list::Within::within))]
 #[inline(always)]
 pub(crate) fn mask_of(number: u32, weight: u32, profile: Profile) -> Result<Mask, Reason>
     requires { weight ≤ most_weight }
@@ -102,6 +103,14 @@ fn who_reason(fault: WhoFault) -> Reason
         WhoFault::Control => Reason::WhoControl,
         WhoFault::Special => Reason::SpecialWho,
     }
+}
+
+/// Returns how many zero bytes pad a who of this length, to a multiple of four (RFC 4506, section 4.9).
+#[inline(always)]
+pub(crate) fn pad_len(len: usize) -> usize
+    ensures { result ≡ pad_len len }
+{
+    (4 - len % 4) % 4
 }
 
 /// The padding.

@@ -2,7 +2,7 @@
 ghost use Rattle.std.specs.Prelude.{◌≡◌, ◌+◌, ◌-◌, ◌<◌, ◌≤◌, ◌^◌, ℕ, List, length};
 ghost use Rattle.std.specs.Io.KnownBytes.{Consumes};
 ghost use Rattle.acl_nfs4.specs.Limits.{most_weight};
-ghost use Rattle.acl_nfs4.specs.internal.Pulling.{DrawsAce, DrawsWords, Fills, FillsWord};
+ghost use Rattle.acl_nfs4.specs.internal.Pulling.{longest_ace, DrawsAce, DrawsHead, DrawsWords, Fills, FillsWord};
 
 use crate::limits::LONGEST_WHO;
 use crate::list::aces::word_in;
@@ -11,8 +11,8 @@ use crate::xdr::judges;
 use crate::xdr::reading::placed;
 use acl_perm::{Profile, Source};
 
-/// The greatest number of bytes that an ACE has. A who of the greatest length has no padding.
-pub(crate) const ROOM: usize = 16 + LONGEST_WHO;
+/// The greatest number of bytes in an ACE. A who of the greatest length has no padding.
+pub(crate) const LONGEST_ACE: usize = 16 + LONGEST_WHO;
 
 /// An ACE at the front of a buffer: how many bytes it has there, and how many bits its mask has.
 #[derive(Clone, Copy)]
@@ -29,8 +29,8 @@ pub(crate) fn pull_ace<S: Source>(
     room: &mut [u8],
     next: NextAce,
 ) -> Result<Pulled, Fault>
-    requires room { length room.old ≡ 1040 }
-    requires fits { next.offset + 1040 < 2 ^ 64 }
+    requires room { length room.old ≡ longest_ace }
+    requires fits { next.offset + longest_ace < 2 ^ 64 }
     requires light { next.weight ≤ most_weight }
     ensures { DrawsAce next (S.remaining source.old) (S.remaining source.new)
         (S.failure_count source.old) (S.failure_count source.new) room.new result }
@@ -42,7 +42,7 @@ pub(crate) fn pull_ace<S: Source>(
         (next.offset + 16) as u64,
         judges::who_of(&room[16..who_end]),
     )?;
-    let end = who_end + (4 - words.len % 4) % 4;
+    let end = who_end + judges::pad_len(words.len);
     fill(source, room, who_end, end, next.offset + who_end)?;
     placed(
         (next.offset + who_end) as u64,
@@ -57,19 +57,13 @@ pub(crate) fn pull_ace<S: Source>(
 // Reads the four words of an ACE. Each is judged before the next is asked for.
 #[inline(always)]
 fn pull_words<S: Source>(source: &mut S, room: &mut [u8], next: NextAce) -> Result<Words, Fault>
-    requires room { length room.old ≡ 1040 }
-    requires fits { next.offset + 1040 < 2 ^ 64 }
+    requires room { length room.old ≡ longest_ace }
+    requires fits { next.offset + longest_ace < 2 ^ 64 }
     requires light { next.weight ≤ most_weight }
     ensures { DrawsWords next (S.remaining source.old) (S.remaining source.new)
         (S.failure_count source.old) (S.failure_count source.new) room.new result }
 {
-    let kind = word(source, room, 0, next.offset)?;
-    placed(next.offset as u64, judges::kind_of(kind))?;
-    let flags = word(source, room, 4, next.offset + 4)?;
-    placed(
-        (next.offset + 4) as u64,
-        judges::flags_of(flags, next.profile),
-    )?;
+    pull_head(source, room, next)?;
     let rights = word(source, room, 8, next.offset + 8)?;
     let mask = placed(
         (next.offset + 8) as u64,
@@ -81,6 +75,24 @@ fn pull_words<S: Source>(source: &mut S, room: &mut [u8], next: NextAce) -> Resu
         len,
         bits: mask.bits().count_ones(),
     })
+}
+
+// Reads the type and the flags of an ACE. The type is judged before the flags are asked for.
+#[inline(always)]
+fn pull_head<S: Source>(source: &mut S, room: &mut [u8], next: NextAce) -> Result<(), Fault>
+    requires room { length room.old ≡ longest_ace }
+    requires fits { next.offset + longest_ace < 2 ^ 64 }
+    ensures { DrawsHead next (S.remaining source.old) (S.remaining source.new)
+        (S.failure_count source.old) (S.failure_count source.new) room.new result }
+{
+    let kind = word(source, room, 0, next.offset)?;
+    placed(next.offset as u64, judges::kind_of(kind))?;
+    let flags = word(source, room, 4, next.offset + 4)?;
+    placed(
+        (next.offset + 4) as u64,
+        judges::flags_of(flags, next.profile),
+    )?;
+    Ok(())
 }
 
 /// Where the next ACE begins, how many bits the masks of the earlier ACEs have, and which flags and rights it may have.

@@ -3,7 +3,7 @@ ghost use Rattle.std.specs.Prelude.{◌≡◌, ℕ, ◌+◌, ◌-◌, ◌<◌, �
 ghost use Rattle.acl_perm.specs.Profile.{profile_of};
 ghost use Rattle.acl_nfs4.specs.Fields.{count_of, kind_of, flags_of, mask_of, who_len_of, who_of, padding_of};
 ghost use Rattle.acl_nfs4.specs.Limits.{most_aces, most_weight};
-ghost use Rattle.acl_nfs4.specs.internal.Reading.{Gives, Place, Placed, field, word_field, ace_at, aces_at, ending};
+ghost use Rattle.acl_nfs4.specs.internal.Reading.{Gives, Place, Placed, field, word_field, ace_at, aces_at, place_read};
 ghost use Rattle.acl_nfs4.specs.Spelling.{pad_len};
 ghost use Rattle.acl_nfs4.specs.Who.{is_no_who_len};
 ghost use Rattle.acl_nfs4.specs.internal.Cursor.{place};
@@ -13,7 +13,7 @@ use crate::ace::AceRef;
 use crate::who::begins_plain_who;
 use crate::xdr::cursor::Cursor;
 use crate::xdr::fault::{Fault, Reason};
-use crate::xdr::judges::{self, begins_zero};
+use crate::xdr::judges::{self, begins_zero, pad_len};
 use acl_perm::{Flags, Kind, Mask, Profile};
 use byteorder::{BigEndian, ByteOrder};
 
@@ -29,7 +29,7 @@ pub(crate) fn count(cursor: &mut Cursor<'_>) -> Result<u32, Fault>
 #[inline(always)]
 pub(crate) fn skip_aces(cursor: &mut Cursor<'_>, count: u32, profile: Profile) -> Result<(), Fault>
     ensures { Gives (λ _. place cursor.new) result
-        (ending (aces_at (profile_of profile) count 0 (place cursor.old))) }
+        (place_read (aces_at (profile_of profile) count 0 (place cursor.old))) }
 {
     let mut weight = 0;
     for _ in 0..count {
@@ -114,7 +114,7 @@ fn plain_padding(cursor: &mut Cursor<'_>, len: usize) -> Option<()>
         ≡ Ok (tt, place cursor.new)) }
 {
     let rest = cursor.rest;
-    let pad = (4 - len % 4) % 4;
+    let pad = pad_len(len);
     if rest.len() < 4 || !begins_zero(rest, pad) {
         return None;
     }
@@ -206,10 +206,7 @@ fn padding(cursor: &mut Cursor<'_>, len: usize) -> Result<(), Fault>
         (field (pad_len len) padding_of (place cursor.old)) }
 {
     let offset = offset_of(cursor);
-    placed(
-        offset,
-        judges::padding_of(bytes(cursor, (4 - len % 4) % 4)?),
-    )
+    placed(offset, judges::padding_of(bytes(cursor, pad_len(len))?))
 }
 
 // Returns the value of a field, or its fault at its first byte.

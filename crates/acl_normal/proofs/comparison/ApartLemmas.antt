@@ -1,26 +1,13 @@
 -- The rights on which two lists may differ, by a walk over both.
-use Rattle.acl_normal.proofs.Common.{Ace, ace, AceRef, aces_in, and_parts, ap, AreWhoms, arith, at_drop_more, Bool, column, cond, differ, drop, eq-eqb, eqb-true, Everyone, everyone, false, false≢true, get_or-map, has_bit, IsUnion, IsWhom, length, length-map, List, no_ace, no_bit, Nobody, not, One, or_parts, Principal, principal_eq, principal_of, refl, slice_index_or, subst, sym, takes_part, true, Whom, ℕ, ◌&&◌, ◌+◌, ◌<◌, ◌==◌, ◌∙◌, ◌∷◌, ◌≡◌}
+use Rattle.acl_normal.proofs.Common.{Ace, ace, AceRef, aces_in, and_parts, ap, AreWhoms, arith, at_drop_more, Bool, column, cond, drop, eq-eqb, eqb-true, Everyone, everyone, false, false≢true, get_or-map, has_bit, IsUnion, IsWhom, length, length-map, List, no_ace, no_bit, Nobody, not, One, or_parts, Principal, principal_eq, principal_of, refl, slice_index_or, subst, sym, takes_part, true, Whom, ℕ, ◌&&◌, ◌+◌, ◌<◌, ◌∙◌, ◌∷◌, ◌≡◌}
 use Rattle.acl_normal.proofs.comparison.FirstPlaceLemmas.{whom_at}
 use Rattle.acl_normal.proofs.comparison.Numbers.{is_of_own}
-use Rattle.acl_normal.proofs.comparison.TableFacts.{same_kind}
+use Rattle.acl_normal.proofs.unique.Columns.{column_first}
 use Rattle.acl_normal.proofs.unique.Names.{principal_eq_same}
 use Rattle.acl_normal.specs.internal.FirstPlaces.{names_any, same_whom}
 use Rattle.acl_normal.specs.internal.RightsApart.{AreApart, HasOpenBits, say_the_same}
 use Rattle.acl_normal.specs.internal.SetSearch.{AreRightsOf}
 use Rattle.acl_normal.specs.declared.comparison.apart.Statement.{Statement}
-use Rattle.acl_perm.specs.Kind.{is_allow}
-
--- an ACE that has the bit and takes part stands first in its column
-column_cons : (a : Ace) (rest : List Ace) (bit : ℕ)
-    → column (a ∷ rest) bit
-    ≡ cond (has_bit a.mask bit && takes_part a) ((principal_of a, a.kind) ∷ column rest bit) (column rest bit)
-column_cons a rest bit = go (has_bit a.mask bit && takes_part a) refl
-  where
-    go : (t : Bool) → (has_bit a.mask bit && takes_part a) ≡ t
-        → column (a ∷ rest) bit
-        ≡ cond (has_bit a.mask bit && takes_part a) ((principal_of a, a.kind) ∷ column rest bit) (column rest bit)
-    go true h = rw h refl
-    go false h = rw h refl
 
 -- whom the ACE at a place names
 pub named_at : (whole : List Principal) (refs : List AceRef) (ws : List Whom) (x : AceRef) (w : Whom) (i : ℕ)
@@ -49,8 +36,7 @@ open_is whole a w apart mask bit i h e =
     ∙ and_true (has_bit a.mask bit && names_any w) ∙ ap (λ t. has_bit a.mask bit && t) (sym i.part)
   where
     and_true : (t : Bool) → (t && true) ≡ t
-    and_true true = refl
-    and_true false = refl
+    and_true t = grind arith
 
 -- an ACE without the bit is passed over
 passed : (whole : List Principal) (refs : List AceRef) (ws : List Whom) (x : AceRef) (w : Whom)
@@ -60,7 +46,7 @@ passed : (whole : List Principal) (refs : List AceRef) (ws : List Whom) (x : Ace
     → column (aces_in (drop i refs)) bit ≡ column (aces_in (drop (i + 1) refs)) bit
 passed whole refs ws x w i apart mask bit lt at wi all h e f =
     let test = sym (open_is whole (ace x) w apart mask bit (named_at whole refs ws x w i lt at wi all) h e) ∙ f in
-    column_at refs x i bit lt at ∙ column_cons (ace x) (aces_in (drop (i + 1) refs)) bit
+    column_at refs x i bit lt at ∙ column_first bit (ace x) (aces_in (drop (i + 1) refs))
     ∙ ap (λ t. cond t ((principal_of (ace x), x.kind) ∷ column (aces_in (drop (i + 1) refs)) bit)
     (column (aces_in (drop (i + 1) refs)) bit)) test
 
@@ -84,8 +70,8 @@ same_principal whole a b w h i t = own a w h t ∙ sym (own b w i (i.part ∙ sy
         principal_eq_same (principal_of c) (slice_index_or whole k everyone)
         (sym (is_of_own c (slice_index_or whole k everyone) u other) ∙ j.hit k j.within ∙ eq-eqb k k refl)
 
--- at the places here and there of two lists, the columns of what is left decide whether those of the lists are the same,
--- but for the rights apart
+-- at the places here and there of two lists, the columns of what is left decide whether those of the lists are the
+-- same, except at the rights apart
 pub record AreWalked (refs others : List AceRef) (here there apart : ℕ) : Type 0 where
   pub same : (bit : ℕ) → has_bit apart bit ≡ false
       → column (aces_in (drop here refs)) bit ≡ column (aces_in (drop there others)) bit
@@ -108,8 +94,8 @@ walk_here whole refs others ws x w here there apart own lt at wi all h none inv 
 -- past one of the second
 pub walk_there : (whole : List Principal) (refs others : List AceRef) (ws : List Whom) (x : AceRef) (w : Whom)
     (here there apart own : ℕ) → there < length others → x ≡ slice_index_or others there x
-    → w ≡ slice_index_or ws there Nobody → AreWhoms whole (aces_in others) ws → HasOpenBits (ace x) w apart own → own ≡ 0
-    → AreWalked refs others here there apart → AreWalked refs others here (there + 1) apart
+    → w ≡ slice_index_or ws there Nobody → AreWhoms whole (aces_in others) ws → HasOpenBits (ace x) w apart own
+    → own ≡ 0 → AreWalked refs others here there apart → AreWalked refs others here (there + 1) apart
 walk_there whole refs others ws x w here there apart own lt at wi all h none inv = record {
   same = λ bit e rest. inv.same bit e (rest
       ∙ sym (passed whole others ws x w there apart own bit lt at wi all h e
@@ -164,14 +150,14 @@ walk_both whole refs others ws vs x y w v here there apart own theirs lh lt xa y
         → column (aces_in (drop (here + 1) refs)) bit ≡ column (aces_in (drop (there + 1) others)) bit
         → column (aces_in (drop here refs)) bit ≡ column (aces_in (drop there others)) bit
     heads bit e rest =
-        column_at refs x here bit lh xa ∙ column_cons (ace x) (aces_in (drop (here + 1) refs)) bit
+        column_at refs x here bit lh xa ∙ column_first bit (ace x) (aces_in (drop (here + 1) refs))
         ∙ joined (has_bit x.mask.bits bit && takes_part (ace x)) (has_bit y.mask.bits bit && takes_part (ace y)) bit
         (sym (open_is whole (ace x) w apart own bit named ho e) ∙ ap (λ m. has_bit m bit) oe
         ∙ open_is whole (ace y) v apart theirs bit also ht e)
         (λ t. same_principal whole (ace x) (ace y) w named (subst (λ k. IsWhom whole (ace y) k) (sym we) also)
         (and_parts (has_bit x.mask.bits bit) (takes_part (ace x)) t).1)
         rest
-        ∙ sym (column_at others y there bit lt ya ∙ column_cons (ace y) (aces_in (drop (there + 1) others)) bit)
+        ∙ sym (column_at others y there bit lt ya ∙ column_first bit (ace y) (aces_in (drop (there + 1) others)))
 
 -- with the rights of what is left, the lists are told apart
 pub walk_ends : (refs others left right : List AceRef) (here there apart own theirs more new : ℕ)
@@ -188,15 +174,7 @@ walk_ends refs others left right here there apart own theirs more new le re ho h
 
 -- whom two ACEs name alike
 named_alike : (v w : Whom) → same_whom v w ≡ true → v ≡ w
-named_alike Nobody Nobody h = refl
-named_alike (One i) (One k) h = ap One (eqb-true i k h)
-named_alike Everyone Everyone h = refl
-named_alike Nobody (One k) h = cc
-named_alike Nobody Everyone h = cc
-named_alike (One i) Nobody h = cc
-named_alike (One i) Everyone h = cc
-named_alike Everyone Nobody h = cc
-named_alike Everyone (One k) h = cc
+named_alike v w h = grind (arith, eqb-true)
 
 -- what two ACEs say that say the same
 pub record AreAlike (s t : Statement) : Type 0 where
@@ -206,12 +184,8 @@ pub record AreAlike (s t : Statement) : Type 0 where
 
 -- the test tells it
 pub alike_is : (s t : Statement) → say_the_same s t ≡ true → AreAlike s t
-alike_is s t h =
-    let outer = and_parts ((s.rights.bits == t.rights.bits) && not (differ (is_allow t.kind) (is_allow s.kind)))
-    (same_whom s.whom t.whom) h in
-    let inner = and_parts (s.rights.bits == t.rights.bits) (not (differ (is_allow t.kind) (is_allow s.kind))) outer.0 in
-    record {
-      rights = eqb-true s.rights.bits t.rights.bits inner.0;
-      whom = named_alike s.whom t.whom outer.1;
-      kind = sym (same_kind t.kind s.kind inner.1);
-    }
+alike_is s t h = record {
+  rights = eqb-true s.rights.bits t.rights.bits (grind arith);
+  whom = named_alike s.whom t.whom (grind arith);
+  kind = grind arith;
+}

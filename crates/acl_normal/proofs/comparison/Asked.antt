@@ -1,6 +1,6 @@
 -- What a difference has to have, so that an object, a requester and a right can be made of it.
-use Rattle.std.proofs.Common.{◌≡◌, ℕ, ◌^◌, ◌<◌, ◌≤◌, Bool, true, false, List, [], ◌∷◌, length, map}
-use Rattle.acl_normal.proofs.Common.{All, all_rights, ap, arith, bits_from_mask, everyone, group, group_named, has_bit, if◌then◌else◌, is_among, IsMask, IsName, length-map, owner, Principal, set_of, small_situation, SmallSet, subst, sym, trailing_zeros, user, w32, ◌∙◌}
+use Rattle.std.proofs.Common.{◌≡◌, ℕ, ◌^◌, ◌<◌, ◌≤◌, Bool, true, List, [], ◌∷◌, length, map}
+use Rattle.acl_normal.proofs.Common.{All, all_rights, ap, arith, bits_from_mask, group, has_bit, if◌then◌else◌, is_among, IsMask, IsName, length-map, Principal, set_of, small_situation, SmallSet, subst, sym, trailing_zeros, w32, ◌∙◌}
 use Rattle.std.specs.Borrow.{Bor}
 use Rattle.std.proofs.lemmas.List.Elements.{All-cons, All-head, All-map, All-nil, All-tail}
 use Rattle.std.proofs.lemmas.Nat.{pow_pos}
@@ -8,7 +8,6 @@ use Rattle.acl_normal.proofs.comparison.SetEvaluation.{lowest_is}
 use Rattle.acl_normal.proofs.unique.Bits.{has_power, power_has}
 use Rattle.acl_normal.specs.OneRight.{IsOneRight}
 use Rattle.acl_normal.specs.SmallSituations.{group_names, names_or}
-use Rattle.acl_normal.specs.declared.comparison.small_set.SmallSet.TheVariants as code
 
 -- the bit of a set of one right is that of a right
 pub right_bit : (mask : ℕ) → IsMask mask → IsOneRight mask → has_bit all_rights (trailing_zeros w32 mask) ≡ true
@@ -28,27 +27,19 @@ one_alone mask k is within =
 -- there are no more group names than principals
 few_names : (ps : List Principal) → length (group_names ps) ≤ length ps
 few_names [] = omega arith
-few_names (owner ∷ ps) = let rest = few_names ps in omega (arith, rest)
-few_names (user name ∷ ps) = let rest = few_names ps in omega (arith, rest)
-few_names (group ∷ ps) = let rest = few_names ps in omega (arith, rest)
-few_names (group_named name ∷ ps) = let rest = few_names ps in omega (arith, rest)
-few_names (everyone ∷ ps) = let rest = few_names ps in omega (arith, rest)
+few_names (p ∷ ps) = grind (arith, few_names ps)
 
 -- also with one name where there is none
 names_or_few : (names : List (List ℕ)) (x : List ℕ) → length names ≤ 2 → length (names_or names x) ≤ 2
-names_or_few [] x l = omega arith
-names_or_few (y ∷ names) x l = l
+names_or_few names x l = grind arith
 
 either_few : (b : Bool) (xs ys : List (List ℕ)) → length xs ≤ 2 → length ys ≤ 2
     → length (if b then xs else ys) ≤ 2
-either_few true xs ys h k = h
-either_few false xs ys h k = k
+either_few b xs ys h k = grind arith
 
 -- a small set has at most two principals
 two_of : (set : SmallSet) → length (set_of set) ≤ 2
-two_of code.Empty = omega arith
-two_of (code.One p) = omega arith
-two_of (code.Two p q) = omega arith
+two_of set = grind arith
 
 -- so the requester of its small situation is in at most two groups
 pub few_groups : {X : Type 0} (f : X → List ℕ) (xs : List X) (n : ℕ) (set : SmallSet)
@@ -65,7 +56,8 @@ few_groups f xs n set is =
 pub some_bytes : {X : Type 0} (f : X → List ℕ) (xs : List X) → All IsName (map f xs) → All (λ x. 0 < length (f x)) xs
 some_bytes f [] h = All-nil (λ v. 0 < length (f v))
 some_bytes f (x ∷ xs) h =
-    All-cons (λ v. 0 < length (f v)) x xs (All-head IsName (f x) (map f xs) h).0 (some_bytes f xs (All-tail IsName (f x) (map f xs) h))
+    All-cons (λ v. 0 < length (f v)) x xs (All-head IsName (f x) (map f xs) h).0
+    (some_bytes f xs (All-tail IsName (f x) (map f xs) h))
 
 -- no name is empty, said of what the references point to
 pub named_groups : (names : List (Bor (List ℕ))) → All (λ g. 0 < length g.now) names

@@ -1,28 +1,16 @@
 -- The first small set, by least numbers.
-use Rattle.acl_normal.proofs.Common.{[], Ace, AgreesAt, all_mentioned, all_rights, AllByRecursion, ap, arith, Bool, cases_lt, cond, drop, drop_more, everyone, false, FindSet, FindsFirst, first_place, GrantAlikeTo, has_bit, inl, inr, is_allow, is_granted_to, length, List, may_overlap, nat_lt, None, pairs, partners, Principal, principal_eq, principal_of, refl, singles, slice_index_or, small_sets, Some, subst, sym, take, takes_part, true, TwoLists, ℕ, ◌&&◌, ◌++◌, ◌+◌, ◌-◌, ◌<◌, ◌||◌, ◌∙◌, ◌∷◌, ◌≡◌, ◌≤◌, ◌⊎◌}
+use Rattle.acl_normal.proofs.Common.{[], Ace, AgreesAt, all_mentioned, all_rights, AllByRecursion, ap, arith, Bool, cases_lt, cond, drop, drop_more, everyone, false, false≢true, FindSet, FindsFirst, first_place, GrantAlikeTo, has_bit, inl, inr, is_allow, is_granted_to, length, List, may_overlap, nat_lt, None, principal_pairs, partners, Principal, principal_eq, principal_of, refl, singles, slice_index_or, small_sets, Some, subst, sym, take, takes_part, true, TwoLists, ℕ, ◌&&◌, ◌++◌, ◌+◌, ◌-◌, ◌<◌, ◌||◌, ◌∙◌, ◌∷◌, ◌≡◌, ◌≤◌, ◌⊎◌}
 use Rattle.std.proofs.Common.{suc, zero}
 use Rattle.std.proofs.lemmas.List.{take-append-drop, get_or-take, get_or-drop, length-take, length-drop}
-use Rattle.std.proofs.lemmas.Bool.{cases_order}
+use Rattle.std.proofs.lemmas.Bool.{cases_order, cond_both}
+use Rattle.acl_normal.proofs.Each.{all_at, all_from}
 use Rattle.acl_normal.proofs.unique.Names.{overlaps_back}
 use Rattle.acl_normal.proofs.comparison.PairGrants.{no_pairs, pair_granted, pairs_after}
 use Rattle.acl_normal.proofs.comparison.SetEvaluation.{granted_to-cons}
 use Rattle.acl_normal.proofs.comparison.SetSearchLemmas.{found_left, found_right}
 use Rattle.acl_normal.specs.internal.FirstPlaces.{Agrees, AlikeAlone, AlikeWith, AlikeWithAll, IsLeast, OnAll}
-use Rattle.acl_normal.specs.internal.SetSearch.{Finds}
+use Rattle.acl_normal.specs.internal.SetSearch.{FindsSet}
 use Rattle.acl_normal.specs.internal.TwoLists.{AreAlikeTo, IsFirstMember, IsFirstPartner, IsFirstSingle, later_than, principal_at}
-
--- what holds at each number holds of all
-pub all_from_each : (P : Principal → Type 0) (ps : List Principal)
-    → ((k : ℕ) → k < length ps → P (slice_index_or ps k everyone)) → AllByRecursion P ps
-all_from_each P [] h = tt
-all_from_each P (p ∷ ps) h = (h 0 (omega arith), all_from_each P ps (λ k lt. h (suc k) (omega arith)))
-
--- what holds of all holds at each number
-pub each_from_all : (P : Principal → Type 0) (ps : List Principal) (k : ℕ) → k < length ps → AllByRecursion P ps
-    → P (slice_index_or ps k everyone)
-each_from_all P [] k lt h = absurd (omega arith)
-each_from_all P (p ∷ ps) zero lt h = h.0
-each_from_all P (p ∷ ps) (suc k) lt h = each_from_all P ps k (omega arith) h.1
 
 -- the first single principal at which the lists grant otherwise
 pub singles_first : (xs ys : List Ace) (ps : List Principal) (v : ℕ) → v < length ps
@@ -46,22 +34,13 @@ pub partners_first : (xs ys : List Ace) (p : Principal) (ps : List Principal) (v
     → ((k : ℕ) → k < v → OnAll (AlikeWith xs ys p ps) k) → (OnAll (AlikeWith xs ys p ps) v → ⊥)
     → FindsFirst xs ys (partners p ps) (Some (p ∷ slice_index_or ps v everyone ∷ []))
 partners_first xs ys p [] v lt before at = absurd (omega arith)
-partners_first xs ys p (q ∷ ps) zero lt before at = go (may_overlap p q) refl
-  where
-    go : (t : Bool) → may_overlap p q ≡ t → FindsFirst xs ys (partners p (q ∷ ps)) (Some (p ∷ q ∷ []))
-    go true e = rw e (inr ((λ alike. at (λ b has o. alike b has)), refl))
-    go false e = absurd (at (λ b has o. absurd (clash o e)))
-      where
-        clash : {t : Bool} → t ≡ true → t ≡ false → ⊥
-        clash h i = cc
+partners_first xs ys p (q ∷ ps) zero lt before at = cond_both (may_overlap p q) _ _
+    (λ sets. FindsFirst xs ys sets (Some (p ∷ q ∷ []))) (λ e. inr ((λ alike. at (λ b has o. alike b has)), refl))
+    (λ e. absurd (at (λ b has o. absurd (false≢true (sym e ∙ o)))))
 partners_first xs ys p (q ∷ ps) (suc v) lt before at =
-    go (may_overlap p q) refl (partners_first xs ys p ps v (omega arith) (λ k l. before (suc k) (omega arith)) at)
-  where
-    go : (t : Bool) → may_overlap p q ≡ t
-        → FindsFirst xs ys (partners p ps) (Some (p ∷ slice_index_or ps v everyone ∷ []))
-        → FindsFirst xs ys (partners p (q ∷ ps)) (Some (p ∷ slice_index_or ps v everyone ∷ []))
-    go true e ih = rw e (inl ((λ b has. before 0 (omega arith) b has e), ih))
-    go false e ih = rw e ih
+    let later = partners_first xs ys p ps v (omega arith) (λ k l. before (suc k) (omega arith)) at in
+    cond_both (may_overlap p q) _ _ (λ sets. FindsFirst xs ys sets (Some (p ∷ slice_index_or ps v everyone ∷ [])))
+    (λ e. inl ((λ b has. before 0 (omega arith) b has e), later)) (λ e. later)
 
 -- what holds of each bit for all, holds for all of each bit
 pub on_each : (xs ys : List Ace) (p : Principal) (ps : List Principal)
@@ -72,7 +51,7 @@ on_each xs ys p (q ∷ ps) h = ((λ o b has. (h b has).0 o), on_each xs ys p ps 
 -- those before the least member of a pair agree with all
 pub front_agrees : (xs ys : List Ace) (ps : List Principal) (z : ℕ) → z ≤ length ps
     → ((k : ℕ) → k < z → OnAll (AlikeWithAll xs ys ps) k) → AllByRecursion (Agrees xs ys ps) (take z ps)
-front_agrees xs ys ps z le before = all_from_each (Agrees xs ys ps) (take z ps)
+front_agrees xs ys ps z le before = all_from (Agrees xs ys ps) (take z ps) everyone
     (λ k lt. let l : k < z = omega (arith, length-take z ps) in
     subst (λ v. Agrees xs ys ps v) (sym (get_or-take z ps k everyone l))
     (on_each xs ys (slice_index_or ps k everyone) ps (before k l)))
@@ -86,30 +65,25 @@ split_at_place ps z lt = sym (take-append-drop z ps) ∙ ap (λ v. take z ps ++ 
 pub pairs_at : (xs ys : List Ace) (ps set : List Principal) (z : ℕ) → z < length ps
     → ((k : ℕ) → k < z → OnAll (AlikeWithAll xs ys ps) k)
     → FindsFirst xs ys (partners (slice_index_or ps z everyone) (drop (z + 1) ps)) (Some set)
-    → FindsFirst xs ys (pairs ps) (Some set)
+    → FindsFirst xs ys (principal_pairs ps) (Some set)
 pairs_at xs ys ps set z lt before f =
     let s : Principal = slice_index_or ps z everyone in
     let rest : List Principal = drop (z + 1) ps in
-    subst (λ v. FindsFirst xs ys (pairs v) (Some set)) (sym (split_at_place ps z lt))
+    subst (λ v. FindsFirst xs ys (principal_pairs v) (Some set)) (sym (split_at_place ps z lt))
     (pairs_after xs ys ps (take z ps) (s ∷ rest) [] (Some set) (split_at_place ps z lt)
-    (front_agrees xs ys ps z (omega arith) before) (found_left xs ys (partners s rest) (pairs rest) set f))
+    (front_agrees xs ys ps z (omega arith) before) (found_left xs ys (partners s rest) (principal_pairs rest) set f))
 
 -- where all agree with all, no pair is found
 pub pairs_none : (xs ys : List Ace) (ps : List Principal) (z : ℕ) → length ps ≤ z
-    → ((k : ℕ) → k < z → OnAll (AlikeWithAll xs ys ps) k) → FindsFirst xs ys (pairs ps) None
+    → ((k : ℕ) → k < z → OnAll (AlikeWithAll xs ys ps) k) → FindsFirst xs ys (principal_pairs ps) None
 pairs_none xs ys ps z le before =
-    no_pairs xs ys ps ps [] refl (all_from_each (Agrees xs ys ps) ps
+    no_pairs xs ys ps ps [] refl (all_from (Agrees xs ys ps) ps everyone
     (λ k lt. on_each xs ys (slice_index_or ps k everyone) ps (before k (omega arith))))
 
 -- two principals in either order, at one ACE
 swapped : (t e x y k g h : Bool) → g ≡ h
     → cond (t && (e || (x || (y || false)))) k g ≡ cond (t && (e || (y || (x || false)))) k h
-swapped false e x y k g h i = i
-swapped true true x y k g h i = refl
-swapped true false true true k g h i = refl
-swapped true false true false k g h i = refl
-swapped true false false true k g h i = refl
-swapped true false false false k g h i = i
+swapped t e x y k g h i = grind arith
 
 -- what is granted to two is granted in either order of them
 pub pair_swapped : (xs : List Ace) (p q : Principal) (b : ℕ)
@@ -128,8 +102,7 @@ pair_alone xs p b = pair_granted xs p p b
     ∙ one_value (nat_lt (first_place (p ∷ []) b xs) (first_place (p ∷ []) b xs)) (is_granted_to xs (p ∷ []) b)
   where
     one_value : (t v : Bool) → cond t v v ≡ v
-    one_value true v = refl
-    one_value false v = refl
+    one_value t v = grind arith
 
 -- a principal that doesn't agree with all, where all before it do, doesn't agree with one of the later ones
 pub has_partner : (xs ys : List Ace) (ps : List Principal) (z : ℕ) → z < length ps
@@ -138,7 +111,7 @@ pub has_partner : (xs ys : List Ace) (ps : List Principal) (z : ℕ) → z < len
     → ((k : ℕ) → k < length (drop (z + 1) ps)
     → OnAll (AlikeWith xs ys (slice_index_or ps z everyone) (drop (z + 1) ps)) k) → ⊥
 has_partner xs ys ps z lt alone before at later =
-    at (λ b has. all_from_each _ ps (λ j lj. here b has j lj (cases_order j z)))
+    at (λ b has. all_from _ ps everyone (λ j lj. here b has j lj (cases_order j z)))
   where
     s : Principal
     s = slice_index_or ps z everyone
@@ -159,9 +132,9 @@ has_partner xs ys ps z lt alone before at later =
         ∙ sym (pair_alone ys (slice_index_or ps z everyone) b))
     here b has j lj (inr (inl less)) o =
         pair_swapped xs (slice_index_or ps z everyone) (slice_index_or ps j everyone) b
-        ∙ each_from_all (λ q. may_overlap (slice_index_or ps j everyone) q ≡ true
+        ∙ all_at (λ q. may_overlap (slice_index_or ps j everyone) q ≡ true
         → is_granted_to xs (slice_index_or ps j everyone ∷ q ∷ []) b
-        ≡ is_granted_to ys (slice_index_or ps j everyone ∷ q ∷ []) b) ps z lt (before j less b has)
+        ≡ is_granted_to ys (slice_index_or ps j everyone ∷ q ∷ []) b) ps z everyone lt (before j less b has)
         (overlaps_back (slice_index_or ps z everyone) (slice_index_or ps j everyone) o)
         ∙ pair_swapped ys (slice_index_or ps j everyone) (slice_index_or ps z everyone) b
     here b has j lj (inr (inr more)) o =
@@ -174,12 +147,12 @@ has_partner xs ys ps z lt alone before at later =
 -- the answers of the fast search
 pub fast_single : (xs ys : List Ace) (ps : List Principal) (v : ℕ) → GrantAlikeTo xs ys []
     → IsLeast (OnAll (AlikeAlone xs ys ps)) (length ps) v → v < length ps
-    → Finds xs ys (small_sets ps) (Some (slice_index_or ps v everyone ∷ []))
+    → FindsSet xs ys (small_sets ps) (Some (slice_index_or ps v everyone ∷ []))
 fast_single xs ys ps v empty l lt =
     record {
       first = inl (
         empty,
-        found_left xs ys (singles ps) (pairs ps) (slice_index_or ps v everyone ∷ [])
+        found_left xs ys (singles ps) (principal_pairs ps) (slice_index_or ps v everyone ∷ [])
             (singles_first xs ys ps v lt l.before (l.at lt)),
       );
     }
@@ -187,12 +160,12 @@ fast_single xs ys ps v empty l lt =
 -- and that none is
 pub fast_none : (xs ys : List Ace) (ps : List Principal) (v z : ℕ) → GrantAlikeTo xs ys []
     → IsLeast (OnAll (AlikeAlone xs ys ps)) (length ps) v → length ps ≤ v
-    → IsLeast (OnAll (AlikeWithAll xs ys ps)) (length ps) z → length ps ≤ z → Finds xs ys (small_sets ps) None
+    → IsLeast (OnAll (AlikeWithAll xs ys ps)) (length ps) z → length ps ≤ z → FindsSet xs ys (small_sets ps) None
 fast_none xs ys ps v z empty l le m me =
     record {
       first = inl (
         empty,
-        found_right xs ys (singles ps) (pairs ps) None
+        found_right xs ys (singles ps) (principal_pairs ps) None
             (singles_none xs ys ps (λ k lt. l.before k (omega arith))) (pairs_none xs ys ps z me m.before),
       );
     }
@@ -203,13 +176,13 @@ pub fast_pair : (xs ys : List Ace) (ps : List Principal) (v z w : ℕ) → Grant
     → IsLeast (OnAll (AlikeWithAll xs ys ps)) (length ps) z → z < length ps
     → IsLeast (OnAll (AlikeWith xs ys (slice_index_or ps z everyone) (drop (z + 1) ps))) (length (drop (z + 1) ps)) w
     → w < length (drop (z + 1) ps)
-    → Finds xs ys (small_sets ps) (Some
+    → FindsSet xs ys (small_sets ps) (Some
     (slice_index_or ps z everyone ∷ slice_index_or (drop (z + 1) ps) w everyone ∷ []))
 fast_pair xs ys ps v z w empty l le m lt n lw =
     record {
       first = inl (
         empty,
-        found_right xs ys (singles ps) (pairs ps) _
+        found_right xs ys (singles ps) (principal_pairs ps) _
             (singles_none xs ys ps (λ k lk. l.before k (omega arith)))
             (pairs_at xs ys ps _ z lt m.before
             (partners_first xs ys (slice_index_or ps z everyone) (drop (z + 1) ps) w lw n.before (n.at lw))),

@@ -1,17 +1,10 @@
--- Where a list first speaks of each principal.
-use Rattle.acl_normal.proofs.Common.{[], Ace, ace, AceRef, aces_in, AllZip, ap, AreFirstFrom, AreWhoms, arith, Bool, cases_eq, cases_lt, cond, drop, drop_all, drop_more, eq-eqb, Everyone, everyone, false, first_place, get_or-map, get_or-replicate, get_or-set_other, get_or-set_same, has_bit, inl, inr, is_allow, is_among, is_granted_to, IsWhom, length, length-map, length-replicate, length-set, List, ne_eqb, no_ace, Nobody, One, Principal, principal_of, refl, replicate, slice_index_or, slice_set, subst, sym, takes_part, true, Whom, ℕ, ◌&&◌, ◌+◌, ◌<◌, ◌∙◌, ◌∷◌, ◌≡◌, ◌≤◌, ◌⊎◌}
-use Rattle.std.proofs.Common.{suc, zero}
+-- Where a list first mentions each principal.
+use Rattle.acl_normal.proofs.Common.{[], Ace, ace, AceRef, aces_in, ap, AreFirstFrom, AreWhoms, arith, Bool, cases_eq, cases_lt, cond, drop, drop_all, drop_more, eq-eqb, Everyone, everyone, false, first_place, get_or-map, get_or-replicate, get_or-set_other, get_or-set_same, has_bit, inl, inr, is_allow, is_granted_to, IsWhom, length, length-map, length-replicate, length-set, List, ne_eqb, no_ace, Nobody, One, Principal, refl, replicate, slice_index_or, slice_set, subst, sym, true, Whom, ℕ, ◌&&◌, ◌+◌, ◌<◌, ◌∙◌, ◌∷◌, ◌≡◌, ◌≤◌, ◌⊎◌}
 use Rattle.std.proofs.lemmas.List.{get_or_past}
+use Rattle.acl_normal.proofs.Each.{zip_at, zip_length}
 use Rattle.acl_normal.proofs.comparison.SetEvaluation.{granted_to-cons}
-use Rattle.acl_normal.specs.internal.FirstPlaces.{IsFirstFrom, IsWithin, is_of, no_first, put, stops, stops_at}
+use Rattle.acl_normal.specs.internal.FirstPlaces.{IsFirstFrom, IsWhomWithin, is_of, no_first, put, stops, stops_at}
 use Rattle.acl_normal.specs.declared.comparison.standing.First.{First}
-
--- both sides are equally long
-pub zip_length : {A B : Type 0} (R : A → B → Type 0) (xs : List A) (ys : List B) → AllZip R xs ys
-    → length ys ≡ length xs
-zip_length R [] [] z = refl
-zip_length R (x ∷ xs) (y ∷ ys) z = ap suc (zip_length R xs ys z.1)
-zip_length R _ _ z = absurd z
 
 -- as many are named as there are ACEs
 pub whoms_length : (ps : List Principal) (aces : List AceRef) (ws : List Whom) → AreWhoms ps (aces_in aces) ws
@@ -21,46 +14,35 @@ whoms_length ps aces ws z = zip_length (IsWhom ps) (aces_in aces) ws z ∙ lengt
 -- whom the ACE of a place names
 pub whom_at : (ps : List Principal) (xs : List Ace) (ws : List Whom) (i : ℕ) → i < length xs → AreWhoms ps xs ws
     → IsWhom ps (slice_index_or xs i no_ace) (slice_index_or ws i Nobody)
-whom_at ps [] [] i lt z = absurd (omega arith)
-whom_at ps (x ∷ xs) (w ∷ ws) zero lt z = z.0
-whom_at ps (x ∷ xs) (w ∷ ws) (suc i) lt z = whom_at ps xs ws i (omega arith) z.1
-whom_at ps _ _ i lt z = absurd z
+whom_at ps xs ws i lt z = zip_at (IsWhom ps) xs ws i no_ace Nobody lt z
 
--- three tests in either grouping
-regroup : (x y z : Bool) → ((x && y) && z) ≡ (x && (y && z))
-regroup true y z = refl
-regroup false y z = refl
+-- what the ACEs from a place on say first of a principal, by the ACE there
+first_cons : (xs : List Ace) (a : Ace) (b i : ℕ) (p : Principal) → drop i xs ≡ a ∷ drop (i + 1) xs
+    → (first_place (p ∷ []) b (drop i xs)
+    ≡ cond (has_bit a.mask b && is_of a p) 0 (first_place (p ∷ []) b (drop (i + 1) xs) + 1))
+    × (is_granted_to (drop i xs) (p ∷ []) b
+    ≡ cond (has_bit a.mask b && is_of a p) (is_allow a.kind) (is_granted_to (drop (i + 1) xs) (p ∷ []) b))
+first_cons xs a b i p is = (
+  ap (first_place (p ∷ []) b) is ∙ grind arith,
+  ap (λ v. is_granted_to v (p ∷ []) b) is ∙ granted_to-cons a (drop (i + 1) xs) (p ∷ []) b ∙ grind arith,
+)
 
 -- the first key of the rest decides, or none of it
-pub first_taken : (xs : List Ace) (a : Ace) (b i : ℕ) (p : Principal) → drop i xs ≡ a ∷ drop (i + 1) xs
+first_taken : (xs : List Ace) (a : Ace) (b i : ℕ) (p : Principal) → drop i xs ≡ a ∷ drop (i + 1) xs
     → (has_bit a.mask b && is_of a p) ≡ true → IsFirstFrom xs b i p (record { place = i; kind = a.kind })
 first_taken xs a b i p is h =
-    let head : ((has_bit a.mask b && takes_part a) && is_among (principal_of a) (everyone ∷ p ∷ [])) ≡ true =
-    regroup (has_bit a.mask b) (takes_part a) (is_among (principal_of a) (everyone ∷ p ∷ [])) ∙ h in
-    let place : first_place (p ∷ []) b (drop i xs) ≡ 0 =
-    ap (first_place (p ∷ []) b) is ∙ ap (λ t. cond t 0 (first_place (p ∷ []) b (drop (i + 1) xs) + 1)) head in
-    record {
-      place = omega arith;
-      allows =
-          sym (ap (λ v. is_granted_to v (p ∷ []) b) is ∙ granted_to-cons a (drop (i + 1) xs) (p ∷ []) b
-          ∙ ap (λ t. cond t (is_allow a.kind) (is_granted_to (drop (i + 1) xs) (p ∷ []) b)) head);
-    }
+    let said = first_cons xs a b i p is in
+    let here : first_place (p ∷ []) b (drop i xs) ≡ 0 = said.0 ∙ rw h refl in
+    record { place = omega (arith, here); allows = sym (said.1 ∙ rw h refl) }
 
 -- an ACE that is not of the principal leaves what the later ones say
-pub first_kept : (xs : List Ace) (a : Ace) (b i : ℕ) (p : Principal) (f : First) → drop i xs ≡ a ∷ drop (i + 1) xs
+first_kept : (xs : List Ace) (a : Ace) (b i : ℕ) (p : Principal) (f : First) → drop i xs ≡ a ∷ drop (i + 1) xs
     → (has_bit a.mask b && is_of a p) ≡ false → IsFirstFrom xs b (i + 1) p f → IsFirstFrom xs b i p f
 first_kept xs a b i p f is h later =
-    let head : ((has_bit a.mask b && takes_part a) && is_among (principal_of a) (everyone ∷ p ∷ [])) ≡ false =
-    regroup (has_bit a.mask b) (takes_part a) (is_among (principal_of a) (everyone ∷ p ∷ [])) ∙ h in
-    let place : first_place (p ∷ []) b (drop i xs) ≡ first_place (p ∷ []) b (drop (i + 1) xs) + 1 =
-    ap (first_place (p ∷ []) b) is ∙ ap (λ t. cond t 0 (first_place (p ∷ []) b (drop (i + 1) xs) + 1)) head in
-    let old = later.place in
-    record {
-      place = omega arith;
-      allows =
-          later.allows ∙ sym (ap (λ v. is_granted_to v (p ∷ []) b) is ∙ granted_to-cons a (drop (i + 1) xs) (p ∷ []) b
-          ∙ ap (λ t. cond t (is_allow a.kind) (is_granted_to (drop (i + 1) xs) (p ∷ []) b)) head);
-    }
+    let said = first_cons xs a b i p is in
+    let here : first_place (p ∷ []) b (drop i xs) ≡ first_place (p ∷ []) b (drop (i + 1) xs) + 1 =
+    said.0 ∙ rw h refl in
+    record { place = omega (arith, here, later.place); allows = later.allows ∙ sym (said.1 ∙ rw h refl) }
 
 -- at the first place of everyone, or behind the list
 pub first_end : (ps : List Principal) (xs : List Ace) (ws : List Whom) (b e k : ℕ) → k < length ps → e ≤ length xs
@@ -123,8 +105,7 @@ firsts_step ps xs a Nobody b i old is s h later =
     }
   where
     none : (x : Bool) → (x && false) ≡ false
-    none true = refl
-    none false = refl
+    none x = grind arith
 firsts_step ps xs a Everyone b i old is s h later =
     record {
       count = later.count;
@@ -181,7 +162,7 @@ firsts_more ps aces d ws b e n i old new next le within stops all at given later
 
 -- the number that an ACE names is one of a principal
 pub whom_within : (ps : List Principal) (aces : List AceRef) (ws : List Whom) (i n : ℕ) → i < length aces
-    → n ≡ length ps → AreWhoms ps (aces_in aces) ws → IsWithin (slice_index_or ws i Nobody) n
+    → n ≡ length ps → AreWhoms ps (aces_in aces) ws → IsWhomWithin (slice_index_or ws i Nobody) n
 whom_within ps aces ws i n lt e all =
-    subst (λ v. IsWithin (slice_index_or ws i Nobody) v) (sym e)
+    subst (λ v. IsWhomWithin (slice_index_or ws i Nobody) v) (sym e)
     (whom_at ps (aces_in aces) ws i (omega (arith, length-map aces ace)) all).within

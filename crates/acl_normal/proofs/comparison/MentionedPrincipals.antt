@@ -1,46 +1,37 @@
 -- The principals that lists mention.
-use Rattle.acl_normal.proofs.Common.{[], Ace, AllByRecursion, and_parts, ap, arith, Bool, Column, column, cond, Equal, everyone, false, Greater, has_bit, HasName, HasNames, is_among, is_mentioning, IsRising, length, Less, List, longest, longest_name, mentioned, mentioned_with, not, or_cases, or_left, or_right, Ordering, Principal, principal_cmp, principal_eq, principal_exact, principal_name, principal_of, principal_total, refl, subst, sym, takes_part, true, ℕ, ⊎_elim, ◌&&◌, ◌+◌, ◌<◌, ◌||◌, ◌∷◌, ◌≡◌, ◌≤◌}
+use Rattle.acl_normal.proofs.Common.{[], Ace, AllByRecursion, ap, arith, Column, column, cond, Equal, everyone, false, Greater, HasName, HasNames, is_among, is_mentioning, IsRisingSet, length, Less, List, longest, longest_name, mentioned, mentioned_with, or_cases, or_left, Ordering, Principal, principal_cmp, principal_eq, principal_exact, principal_name, principal_of, principal_total, refl, true, ℕ, ⊎_elim, ◌+◌, ◌<◌, ◌∷◌, ◌≡◌, ◌≤◌}
 use Rattle.std.specs.BTreeSet.{insert_key}
+use Rattle.std.specs.Ordering.{match_ordering}
+use Rattle.std.proofs.lemmas.Bool.{cond_both}
+use Rattle.acl_normal.proofs.unique.Realised.{cond_holds}
 use Rattle.acl_normal.proofs.unique.Names.{principal_eq_itself, principal_eq_same}
-use Rattle.acl_normal.proofs.unique.Small.{HasOnly, principal_greater}
+use Rattle.acl_normal.proofs.unique.FirstKind.{HasOnly}
+use Rattle.acl_normal.proofs.unique.Small.{principal_greater}
+
+-- what holds of each of three holds of the one that an order chooses
+chosen : {A : Type 0} (P : A → Type 0) (o : Ordering) (x y z : A) → (o ≡ Less → P x) → (o ≡ Equal → P y)
+    → (o ≡ Greater → P z) → P (match_ordering o x y z)
+chosen P Less x y z f g h = f refl
+chosen P Equal x y z f g h = g refl
+chosen P Greater x y z f g h = h refl
 
 -- an insert keeps what holds of each
 pub all_insert : (P : Principal → Type 0) (ps : List Principal) (p : Principal) → AllByRecursion P ps → P p
     → AllByRecursion P (insert_key principal_cmp ps p)
 all_insert P [] p h hp = (hp, tt)
-all_insert P (x ∷ ps) p h hp = go (principal_cmp p x) refl (all_insert P ps p h.1 hp)
-  where
-    go : (o : Ordering) → principal_cmp p x ≡ o → AllByRecursion P (insert_key principal_cmp ps p)
-        → AllByRecursion P (insert_key principal_cmp (x ∷ ps) p)
-    go Less e ih = rw e (hp, h)
-    go Equal e ih = rw e h
-    go Greater e ih = rw e (h.0, ih)
+all_insert P (x ∷ ps) p h hp = chosen (AllByRecursion P) (principal_cmp p x) _ _ _ (λ e. (hp, h)) (λ e. h)
+    (λ e. (h.0, all_insert P ps p h.1 hp))
 
 -- what is put in is there
 pub among_insert_new : (ps : List Principal) (p : Principal) → is_among p (insert_key principal_cmp ps p) ≡ true
 among_insert_new [] p = or_left _ _ (principal_eq_itself p)
-among_insert_new (x ∷ ps) p = go (principal_cmp p x) refl (among_insert_new ps p)
-  where
-    go : (o : Ordering) → principal_cmp p x ≡ o → is_among p (insert_key principal_cmp ps p) ≡ true
-        → is_among p (insert_key principal_cmp (x ∷ ps) p) ≡ true
-    go Less e ih = rw e (or_left _ _ (principal_eq_itself p))
-    go Equal e ih = rw e (or_left _ _
-        (subst (λ v. principal_eq p v ≡ true) (principal_exact p x e) (principal_eq_itself p)))
-    go Greater e ih = rw e (or_right (principal_eq p x) _ ih)
+among_insert_new (x ∷ ps) p = grind (arith, among_insert_new ps p, principal_eq_itself p, principal_exact p x)
 
 -- what was there stays
 pub among_insert_old : (ps : List Principal) (p q : Principal) → is_among q ps ≡ true
     → is_among q (insert_key principal_cmp ps p) ≡ true
 among_insert_old [] p q h = cc
-among_insert_old (x ∷ ps) p q h = go (principal_cmp p x) refl (among_insert_old ps p q)
-  where
-    go : (o : Ordering) → principal_cmp p x ≡ o
-        → (is_among q ps ≡ true → is_among q (insert_key principal_cmp ps p) ≡ true)
-        → is_among q (insert_key principal_cmp (x ∷ ps) p) ≡ true
-    go Less e ih = rw e (or_right (principal_eq q p) _ h)
-    go Equal e ih = rw e h
-    go Greater e ih = rw e (⊎_elim (λ i. or_left _ _ i) (λ i. or_right (principal_eq q x) _ (ih i))
-        (or_cases (principal_eq q x) (is_among q ps) h))
+among_insert_old (x ∷ ps) p q h = grind (arith, among_insert_old ps p q)
 
 -- what is below one is below those above it
 pub below_all : (p x : Principal) (ps : List Principal) → principal_cmp p x ≡ Less
@@ -49,102 +40,68 @@ below_all p x [] h a = tt
 below_all p x (q ∷ ps) h a = (principal_total.trans p x q h a.0, below_all p x ps h a.1)
 
 -- one more in its place leaves the order
-pub rising_insert : (ps : List Principal) (p : Principal) → IsRising ps → IsRising (insert_key principal_cmp ps p)
+pub rising_insert : (ps : List Principal) (p : Principal) → IsRisingSet ps → IsRisingSet (insert_key principal_cmp ps p)
 rising_insert [] p r = (tt, tt)
-rising_insert (x ∷ ps) p r = go (principal_cmp p x) refl (rising_insert ps p r.1)
-  where
-    go : (o : Ordering) → principal_cmp p x ≡ o → IsRising (insert_key principal_cmp ps p)
-        → IsRising (insert_key principal_cmp (x ∷ ps) p)
-    go Less e ih = rw e ((e, below_all p x ps e r.0), r)
-    go Equal e ih = rw e r
-    go Greater e ih = rw e (all_insert (λ q. principal_cmp x q ≡ Less) ps p r.0 (principal_greater p x e), ih)
+rising_insert (x ∷ ps) p r = chosen IsRisingSet (principal_cmp p x) _ _ _ (λ e. ((e, below_all p x ps e r.0), r))
+    (λ e. r) (λ e. (
+      all_insert (λ q. principal_cmp x q ≡ Less) ps p r.0 (principal_greater p x e),
+      rising_insert ps p r.1,
+    ))
 
 -- the principals of a list stand in order
-pub rising_with : (xs : List Ace) (ps : List Principal) → IsRising ps → IsRising (mentioned_with ps xs)
+pub rising_with : (xs : List Ace) (ps : List Principal) → IsRisingSet ps → IsRisingSet (mentioned_with ps xs)
 rising_with [] ps r = r
-rising_with (a ∷ xs) ps r = go (is_mentioning a) refl (λ qs. rising_with xs qs)
-  where
-    go : (b : Bool) → is_mentioning a ≡ b → ((qs : List Principal) → IsRising qs → IsRising (mentioned_with qs xs))
-        → IsRising (mentioned_with ps (a ∷ xs))
-    go true e ih = rw e (ih (insert_key principal_cmp ps (principal_of a)) (rising_insert ps (principal_of a) r))
-    go false e ih = rw e (ih ps r)
+rising_with (a ∷ xs) ps r = rising_with xs _
+    (cond_holds IsRisingSet (is_mentioning a) _ _ (rising_insert ps (principal_of a) r) r)
 
 -- what holds of those given and of each that the list mentions holds of all
 pub all_with : (P : Principal → Type 0) (xs : List Ace) (ps : List Principal) → AllByRecursion P ps
     → AllByRecursion (λ a. is_mentioning a ≡ true → P (principal_of a)) xs → AllByRecursion P (mentioned_with ps xs)
 all_with P [] ps h each = h
-all_with P (a ∷ xs) ps h each = go (is_mentioning a) refl (λ qs i. all_with P xs qs i each.1)
-  where
-    go : (b : Bool) → is_mentioning a ≡ b
-        → ((qs : List Principal) → AllByRecursion P qs → AllByRecursion P (mentioned_with qs xs))
-        → AllByRecursion P (mentioned_with ps (a ∷ xs))
-    go true e ih = rw e (ih (insert_key principal_cmp ps (principal_of a))
-        (all_insert P ps (principal_of a) h (each.0 e)))
-    go false e ih = rw e (ih ps h)
+all_with P (a ∷ xs) ps h each = all_with P xs _ (cond_both (is_mentioning a) _ _ (AllByRecursion P)
+    (λ e. all_insert P ps (principal_of a) h (each.0 e)) (λ e. h)) each.1
 
 -- what was given stays
 pub stays_with : (xs : List Ace) (ps : List Principal) (q : Principal) → is_among q ps ≡ true
     → is_among q (mentioned_with ps xs) ≡ true
 stays_with [] ps q h = h
-stays_with (a ∷ xs) ps q h = go (is_mentioning a) refl (λ qs. stays_with xs qs q)
-  where
-    go : (b : Bool) → is_mentioning a ≡ b
-        → ((qs : List Principal) → is_among q qs ≡ true → is_among q (mentioned_with qs xs) ≡ true)
-        → is_among q (mentioned_with ps (a ∷ xs)) ≡ true
-    go true e ih = rw e (ih (insert_key principal_cmp ps (principal_of a)) (among_insert_old ps (principal_of a) q h))
-    go false e ih = rw e (ih ps h)
+stays_with (a ∷ xs) ps q h = stays_with xs _ q (cond_holds (λ v. is_among q v ≡ true) (is_mentioning a) _ _
+    (among_insert_old ps (principal_of a) q h) h)
+
+-- whom the ACEs of a list mention is mentioned, whatever another list mentions besides
+pub among_mentioned : (xs ys : List Ace) (ps : List Principal) → AllByRecursion (λ a. is_mentioning a ≡ true
+    → is_among (principal_of a) (mentioned_with (mentioned_with ps xs) ys) ≡ true) xs
+among_mentioned [] ys ps = tt
+among_mentioned (a ∷ xs) ys ps = (
+  λ m. stays_with ys _ (principal_of a) (rw m (stays_with xs (insert_key principal_cmp ps (principal_of a))
+      (principal_of a) (among_insert_new ps (principal_of a)))),
+  among_mentioned xs ys (cond (is_mentioning a) (insert_key principal_cmp ps (principal_of a)) ps),
+)
 
 -- everyone, or one of these
 abbrev pub IsOneOf : List Principal → Principal → Type 0
 IsOneOf ps p = is_among p (everyone ∷ ps) ≡ true
 
--- an ACE that takes part and is not of everyone mentions its principal
-pub mentions : (a : Ace) → takes_part a ≡ true → principal_eq (principal_of a) everyone ≡ false → is_mentioning a ≡ true
-mentions a h i = rw (h, i) refl
-
--- each principal of a column everyone is or mentioned
-pub mentioned_has : (b : ℕ) (xs : List Ace) (ps whole : List Principal)
-    → ((q : Principal) → is_among q (mentioned_with ps xs) ≡ true → is_among q whole ≡ true)
+-- each principal of a column is everyone or mentioned
+mentioned_has : (b : ℕ) (xs : List Ace) (whole : List Principal)
+    → AllByRecursion (λ a. is_mentioning a ≡ true → is_among (principal_of a) whole ≡ true) xs
     → HasOnly (IsOneOf whole) (column xs b)
-mentioned_has b [] ps whole h = tt
-mentioned_has b (a ∷ xs) ps whole h =
-    go (has_bit a.mask b && takes_part a) refl (principal_eq (principal_of a) everyone) refl
-    (mentioned_has b xs (cond (is_mentioning a) (insert_key principal_cmp ps (principal_of a)) ps) whole h)
-  where
-    go : (t : Bool) → (has_bit a.mask b && takes_part a) ≡ t → (e : Bool) → principal_eq (principal_of a) everyone ≡ e
-        → HasOnly (IsOneOf whole) (column xs b) → HasOnly (IsOneOf whole) (column (a ∷ xs) b)
-    go false i e f ih = rw i ih
-    go true i true f ih = rw i (or_left (principal_eq (principal_of a) everyone) _ f, ih)
-    go true i false f ih =
-        let m : is_mentioning a ≡ true = mentions a ((and_parts (has_bit a.mask b) (takes_part a) i).1) f in
-        let new : is_among (principal_of a)
-        (mentioned_with (cond (is_mentioning a) (insert_key principal_cmp ps (principal_of a)) ps) xs) ≡ true =
-        subst (λ v. is_among (principal_of a)
-        (mentioned_with (cond v (insert_key principal_cmp ps (principal_of a)) ps) xs) ≡ true) (sym m)
-        (stays_with xs (insert_key principal_cmp ps (principal_of a)) (principal_of a)
-        (among_insert_new ps (principal_of a))) in
-        rw i (or_right (principal_eq (principal_of a) everyone) _ (h (principal_of a) new), ih)
+mentioned_has b [] whole h = tt
+mentioned_has b (a ∷ xs) whole h = grind (arith, mentioned_has b xs whole h.1, h.0)
 
 -- the first list names everyone or those that are mentioned
 pub first_has : (b : ℕ) (xs ys : List Ace) → HasOnly (IsOneOf (mentioned xs ys)) (column xs b)
-first_has b xs ys = mentioned_has b xs [] (mentioned xs ys) (λ q h. stays_with ys (mentioned_with [] xs) q h)
+first_has b xs ys = mentioned_has b xs (mentioned xs ys) (among_mentioned xs ys [])
 
 -- so does the second
 pub second_has : (b : ℕ) (xs ys : List Ace) → HasOnly (IsOneOf (mentioned xs ys)) (column ys b)
-second_has b xs ys = mentioned_has b ys (mentioned_with [] xs) (mentioned xs ys) (λ q h. h)
+second_has b xs ys = mentioned_has b ys (mentioned xs ys) (among_mentioned ys [] (mentioned_with [] xs))
 
 -- names of those of a list are at most as long as the longest
 pub within_longest : (ps : List Principal) (p : Principal) → is_among p ps ≡ true
     → length (principal_name p) ≤ longest ps
 within_longest [] p h = cc
-within_longest (x ∷ ps) p h = go (principal_eq p x) refl (within_longest ps p)
-  where
-    go : (b : Bool) → principal_eq p x ≡ b → (is_among p ps ≡ true → length (principal_name p) ≤ longest ps)
-        → length (principal_name p) ≤ longest (x ∷ ps)
-    go true e ih = let same : length (principal_name p) ≡ length (principal_name x) =
-        ap (λ v. length (principal_name v)) (principal_eq_same p x e) in omega arith
-    go false e ih = let below : length (principal_name p) ≤ longest ps =
-        ih (subst (λ t. (t || is_among p ps) ≡ true) e h) in omega arith
+within_longest (x ∷ ps) p h = grind (arith, within_longest ps p, principal_eq_same p x)
 
 -- the name of everyone or of one that is mentioned is shorter than the strange ones
 pub one_is_short : (ps : List Principal) (p : Principal) → IsOneOf ps p → length (principal_name p) < longest ps + 1
@@ -164,12 +121,7 @@ column_is_short ps ((p, k) ∷ c) h = let here = one_is_short ps p h.0 in let th
 pub mentions_others : (xs : List Ace)
     → AllByRecursion (λ a. is_mentioning a ≡ true → principal_eq (principal_of a) everyone ≡ false) xs
 mentions_others [] = tt
-mentions_others (a ∷ xs) = (at (takes_part a) (principal_eq (principal_of a) everyone), mentions_others xs)
-  where
-    at : (t e : Bool) → (t && not e) ≡ true → e ≡ false
-    at true true h = cc
-    at true false h = refl
-    at false e h = cc
+mentions_others (a ∷ xs) = (λ m. grind arith, mentions_others xs)
 
 -- none that is mentioned is everyone
 pub mentioned_others : (xs ys : List Ace) → AllByRecursion (λ p. principal_eq p everyone ≡ false) (mentioned xs ys)
@@ -188,5 +140,5 @@ mentioned_named xs ys h i = all_with HasName ys (mentioned_with [] xs)
     (all_with HasName xs [] tt (mentions_named xs h)) (mentions_named ys i)
 
 -- the mentioned principals stand in order
-pub mentioned_rising : (xs ys : List Ace) → IsRising (mentioned xs ys)
+pub mentioned_rising : (xs ys : List Ace) → IsRisingSet (mentioned xs ys)
 mentioned_rising xs ys = rising_with ys (mentioned_with [] xs) (rising_with xs [] tt)

@@ -1,16 +1,17 @@
 -- The principals that lists mention, by row and by number.
-use Rattle.acl_normal.proofs.Common.{[], Ace, ace, AceRef, aces_in, all_mentioned, AllByRecursion, ap, append-nil, AreRowNumbers, AreWhoms, arith, Bool, cases_eq, cases_lt, drop, Equal, everyone, false, get_or-append_seam, get_or-map, get_or-set_other, get_or-set_same, get_or_append_left, get_or_default, Greater, if◌then◌else◌, inl, inr, is_among, is_mentioning, is_named, IsRising, IsWhom, key_here, length, length-append, length-map, length-set, Less, List, map-append, mentioned_with, no_ace, None, Option, option_map, or_left, or_right, Ordering, Principal, principal, principal_cmp, principal_eq, principal_exact, principal_of, principals, refl, row_of, slice_index_or, slice_set, Some, subst, suc, sym, take, take_more, true, two_lists, unwrap_or, Whom, zero, ℕ, ◌++◌, ◌+◌, ◌<◌, ◌∙◌, ◌∷◌, ◌≡◌, ◌≤◌, ◌⊎◌}
+use Rattle.acl_normal.proofs.Common.{[], Ace, ace, AceRef, aces_in, all_mentioned, AllByRecursion, ap, append-nil, AreRowNumbers, AreWhoms, arith, Bool, cases_eq, cases_lt, drop, Equal, everyone, false, get_or-append_seam, get_or-map, get_or-set_other, get_or-set_same, get_or_append_left, get_or_default, Greater, if◌then◌else◌, inl, inr, is_among, is_mentioning, is_principal_of, IsRisingSet, IsWhom, key_here, length, length-append, length-map, length-set, Less, List, map-append, mentioned_with, no_ace, None, Option, option_map, or_left, or_right, Ordering, Principal, principal, principal_cmp, principal_eq, principal_exact, principal_of, principals, refl, row_of, same_Some, slice_index_or, slice_set, Some, subst, suc, sym, take, take_more, true, two_lists, Whom, zero, ℕ, ◌++◌, ◌+◌, ◌<◌, ◌∙◌, ◌∷◌, ◌≡◌, ◌≤◌, ◌⊎◌}
 use Rattle.std.specs.BTreeSet.{insert_key}
 use Rattle.std.proofs.Math.Seq.{take-length}
+use Rattle.acl_normal.proofs.Each.{all_at, all_from, zip_length, zip_push}
 use Rattle.acl_normal.proofs.rows.Rows.{named_here, row_below, row_less, row_same}
-use Rattle.acl_normal.proofs.comparison.MentionedPrincipals.{all_with, among_insert_new, mentioned_rising, stays_with}
-use Rattle.acl_normal.proofs.comparison.Numbers.{whom_is, zip_push}
+use Rattle.acl_normal.proofs.comparison.MentionedPrincipals.{all_with, among_mentioned, mentioned_rising}
+use Rattle.acl_normal.proofs.comparison.Numbers.{whom_is}
 use Rattle.acl_normal.proofs.comparison.Ordered.{rising_same}
 use Rattle.acl_normal.proofs.comparison.SmallSetLemmas.{below_one}
 use Rattle.acl_normal.proofs.unique.Names.{principal_eq_itself}
 use Rattle.acl_normal.proofs.unique.Realised.{same_answers}
 use Rattle.acl_normal.proofs.unique.Small.{principal_greater}
-use Rattle.acl_normal.specs.internal.MentionedRows.{AreByRow, AreMentioned, AreMentionedRows, AreNumbers, HasNumber, IsMentionedAt, at_row, held, mentioned_by, noted, whom_of, with_found}
+use Rattle.acl_normal.specs.internal.MentionedRows.{AreByRow, AreMentioned, AreMentionedRows, AreMentionedNumbers, HasNumber, IsMentionedAt, at_row, held, mentioned_by, noted, whom_of, with_found}
 use Rattle.acl_normal.specs.internal.Compared.{IsCompared, lists_in}
 use Rattle.acl_normal.specs.declared.comparison.compared.Compared.TheInside.{Inside}
 use Rattle.acl_normal.specs.declared.comparison.mentioned.Mentions.{Mentions}
@@ -31,8 +32,8 @@ key_is [] i l = absurd (omega (arith, l))
 key_is (a ∷ xs) zero l = refl
 key_is (a ∷ xs) (suc i) l = key_is xs i (omega (arith, l))
 
-named_there : (xs : List Ace) (i : ℕ) → i < length xs → is_named (principal_of (ace_at xs i)) xs ≡ true
-named_there xs i l = subst (λ p. is_named p xs ≡ true) (key_is xs i l) (named_here xs i l)
+named_there : (xs : List Ace) (i : ℕ) → i < length xs → is_principal_of (principal_of (ace_at xs i)) xs ≡ true
+named_there xs i l = subst (λ p. is_principal_of p xs ≡ true) (key_is xs i l) (named_here xs i l)
 
 row_there : (xs : List Ace) (rows : List ℕ) (i : ℕ) → AreRowNumbers xs rows → i < length xs
     → slice_index_or rows i 0 ≡ row_of (principal_of (ace_at xs i)) xs
@@ -45,26 +46,17 @@ row_fits xs i l = row_below (principal_of (ace_at xs i)) xs (named_there xs i l)
 -- whom an ACE of the list mentions is mentioned
 pub mentioned_there : (xs : List Ace) (ps : List Principal) (i : ℕ) → i < length xs → is_mentioning (ace_at xs i) ≡ true
     → is_among (principal_of (ace_at xs i)) (mentioned_with ps xs) ≡ true
-mentioned_there [] ps i l m = absurd (omega (arith, l))
-mentioned_there (a ∷ xs) ps zero l m =
-    rw m (stays_with xs (insert_key principal_cmp ps (principal_of a)) (principal_of a)
-    (among_insert_new ps (principal_of a)))
-mentioned_there (a ∷ xs) ps (suc i) l m =
-    mentioned_there xs (if is_mentioning a then insert_key principal_cmp ps (principal_of a) else ps) i
-    (omega (arith, l)) m
+mentioned_there xs ps i l m = all_at (λ a. is_mentioning a ≡ true
+    → is_among (principal_of a) (mentioned_with ps xs) ≡ true) xs i no_ace l (among_mentioned xs [] ps) m
 
 -- ---- the table by row
-
--- of equal answers the principals are equal
-same_some : (p q : Principal) → ◌≡◌ {A = Option Principal} (Some p) (Some q) → p ≡ q
-same_some p q e = ap (λ o. unwrap_or o p) e
 
 -- whom the ACE mentions
 mentioned_is : (a : Ace) (p : Principal) → Some p ≡ mentioned_by a → (is_mentioning a ≡ true) × (p ≡ principal_of a)
 mentioned_is a p e = go (is_mentioning a) refl
   where
     go : (b : Bool) → is_mentioning a ≡ b → (is_mentioning a ≡ true) × (p ≡ principal_of a)
-    go true m = (m, same_some p (principal_of a) (rw m at e))
+    go true m = (m, same_Some p (principal_of a) (rw m at e))
     go false m = absurd (cc (rw m at e))
 
 -- one ACE more, which mentions nobody
@@ -104,8 +96,8 @@ table_more xs rows table p i row r l at mentions t = record {
     place : row ≡ row_of (principal p) xs
     place = at ∙ row_there xs rows i r l ∙ ap (λ v. row_of v xs) (sym is.1)
 
-    named : is_named (principal p) xs ≡ true
-    named = subst (λ v. is_named v xs ≡ true) (sym is.1) (named_there xs i l)
+    named : is_principal_of (principal p) xs ≡ true
+    named = subst (λ v. is_principal_of v xs ≡ true) (sym is.1) (named_there xs i l)
 
     fits : row < length table
     fits = omega (arith, place, row_below (principal p) xs named, t.count)
@@ -116,7 +108,7 @@ table_more xs rows table p i row r l at mentions t = record {
     only : (other : ℕ) (q : Principal) → (other ≡ row) ⊎ (other ≡ row → ⊥) → at_row now other ≡ Some q
         → IsMentionedAt xs other q
     only other q (inl e) h =
-        let same : principal p ≡ q = same_some (principal p) q (sym here ∙ ap (at_row now) (sym e) ∙ h) in
+        let same : principal p ≡ q = same_Some (principal p) q (sym here ∙ ap (at_row now) (sym e) ∙ h) in
         subst (IsMentionedAt xs other) same
         (record {
           row_is = e ∙ place;
@@ -201,7 +193,7 @@ held_more table i d l = ap held (take_more table i d l) ∙ held_append (take i 
 -- one row more has its number
 numbers_with : (table : List (Option PrincipalRef)) (i : ℕ) (whole more : List Principal) (numbers new : List ℕ)
     (number : ℕ) → number ≡ length whole → new ≡ numbers ++ number ∷ [] → more ≡ held (take (i + 1) table)
-    → AreNumbers table i whole numbers → AreNumbers table (i + 1) more new
+    → AreMentionedNumbers table i whole numbers → AreMentionedNumbers table (i + 1) more new
 numbers_with table i whole more numbers new number is e m n = record {
   whole_is = m;
   count = ap length e ∙ length-append numbers (number ∷ []) ∙ ap (λ v. v + 1) n.count;
@@ -223,8 +215,8 @@ numbers_with table i whole more numbers new number is e m n = record {
 -- the code's names with a row without anyone
 numbers_skip : (table : List (Option PrincipalRef)) (i : ℕ) (d : Option PrincipalRef) (names : List PrincipalRef)
     (numbers new : List ℕ) (number : ℕ) → i < length table → slice_index_or table i d ≡ None
-    → number ≡ length names → new ≡ numbers ++ number ∷ [] → AreNumbers table i (principals names) numbers
-    → AreNumbers table (i + 1) (principals names) new
+    → number ≡ length names → new ≡ numbers ++ number ∷ [] → AreMentionedNumbers table i (principals names) numbers
+    → AreMentionedNumbers table (i + 1) (principals names) new
 numbers_skip table i d names numbers new number l none is e n =
     numbers_with table i (principals names) (principals names) numbers new number
     (is ∙ sym (length-map names principal)) e
@@ -235,8 +227,8 @@ numbers_skip table i d names numbers new number l none is e n =
 numbers_more : (table : List (Option PrincipalRef)) (i : ℕ) (d : Option PrincipalRef) (p : PrincipalRef)
     (names more : List PrincipalRef) (numbers new : List ℕ) (number : ℕ) → i < length table
     → slice_index_or table i d ≡ Some p → more ≡ names ++ p ∷ [] → number ≡ length names
-    → new ≡ numbers ++ number ∷ [] → AreNumbers table i (principals names) numbers
-    → AreNumbers table (i + 1) (principals more) new
+    → new ≡ numbers ++ number ∷ [] → AreMentionedNumbers table i (principals names) numbers
+    → AreMentionedNumbers table (i + 1) (principals more) new
 numbers_more table i d p names more numbers new number l some pushed is e n =
     numbers_with table i (principals names) (principals more) numbers new number
     (is ∙ sym (length-map names principal)) e
@@ -247,13 +239,13 @@ numbers_more table i d p names more numbers new number l some pushed is e n =
 pub numbers_step : (table : List (Option PrincipalRef)) (i : ℕ) (found d : Option PrincipalRef)
     (names more : List PrincipalRef) (numbers new : List ℕ) (number : ℕ) → i < length table
     → found ≡ slice_index_or table i d → number ≡ length names → new ≡ numbers ++ number ∷ []
-    → more ≡ with_found names found → AreNumbers table i (principals names) numbers
-    → AreNumbers table (i + 1) (principals more) new
+    → more ≡ with_found names found → AreMentionedNumbers table i (principals names) numbers
+    → AreMentionedNumbers table (i + 1) (principals more) new
 numbers_step table i found d names more numbers new number l at is e m n =
-    subst (λ v. AreNumbers table (i + 1) (principals v) new) (sym m) (go found (sym at))
+    subst (λ v. AreMentionedNumbers table (i + 1) (principals v) new) (sym m) (go found (sym at))
   where
     go : (o : Option PrincipalRef) → slice_index_or table i d ≡ o
-        → AreNumbers table (i + 1) (principals (with_found names o)) new
+        → AreMentionedNumbers table (i + 1) (principals (with_found names o)) new
     go None h = numbers_skip table i d names numbers new number l h is e n
     go (Some p) h = numbers_more table i d p names (names ++ p ∷ []) numbers new number l h refl is e n
 
@@ -262,7 +254,7 @@ held_at : (table : List (Option PrincipalRef)) (row : ℕ) (p : Principal) → a
     → HasNumber (held table) p (length (held (take row table)))
 held_at [] row p e = absurd (cc)
 held_at (None ∷ table) zero p e = absurd (cc)
-held_at (Some q ∷ table) zero p e = record { within = omega arith; is = sym (same_some (principal q) p e) }
+held_at (Some q ∷ table) zero p e = record { within = omega arith; is = sym (same_Some (principal q) p e) }
 held_at (None ∷ table) (suc row) p e = held_at table row p e
 held_at (Some q ∷ table) (suc row) p e =
     let behind = held_at table row p e in
@@ -277,8 +269,8 @@ all_held P (Some p ∷ table) h = (h 0 (principal p) refl, all_held P table (λ 
 
 -- those of rows in order rise
 rising_held : (xs : List Ace) (table : List (Option PrincipalRef)) (i : ℕ)
-    → ((row : ℕ) (p : Principal) → at_row table row ≡ Some p → (i + row ≡ row_of p xs) × (is_named p xs ≡ true))
-    → IsRising (held table)
+    → ((row : ℕ) (p : Principal) → at_row table row ≡ Some p → (i + row ≡ row_of p xs) × (is_principal_of p xs ≡ true))
+    → IsRisingSet (held table)
 rising_held xs [] i h = tt
 rising_held xs (None ∷ table) i h = rising_held xs table (i + 1) (λ row p e. let b = h (suc row) p e in
     (omega (arith, b.0), b.1))
@@ -288,8 +280,8 @@ rising_held xs (Some q ∷ table) i h = (
   rising_held xs table (i + 1) (λ row p e. let b = h (suc row) p e in (omega (arith, b.0), b.1)),
 )
   where
-    above : (row : ℕ) (p : Principal) → (i + suc row ≡ row_of p xs) × (is_named p xs ≡ true)
-        → (i + 0 ≡ row_of (principal q) xs) × (is_named (principal q) xs ≡ true)
+    above : (row : ℕ) (p : Principal) → (i + suc row ≡ row_of p xs) × (is_principal_of p xs ≡ true)
+        → (i + 0 ≡ row_of (principal q) xs) × (is_principal_of (principal q) xs ≡ true)
         → principal_cmp (principal q) p ≡ Less
     above row p b a = go (principal_cmp (principal q) p) refl
       where
@@ -318,14 +310,9 @@ among_at (p ∷ ps) zero l = or_left _ _ (principal_eq_itself p)
 among_at (p ∷ ps) (suc k) l =
     or_right (principal_eq (slice_index_or ps k everyone) p) _ (among_at ps k (omega (arith, l)))
 
--- what holds at each place holds of each ACE
-each_ace : (P : Ace → Type 0) (xs : List Ace) → ((i : ℕ) → i < length xs → P (ace_at xs i)) → AllByRecursion P xs
-each_ace P [] h = tt
-each_ace P (a ∷ xs) h = (h 0 (omega arith), each_ace P xs (λ i l. h (suc i) (omega (arith, l))))
-
 module _ (xs : List Ace) (table : List (Option PrincipalRef)) (t : AreByRow xs (length xs) table) where
   -- the principals of the table rise
-  table_rises : IsRising (held table)
+  table_rises : IsRisingSet (held table)
   table_rises =
       rising_held xs table 0 (λ row p e. let o = t.only row p e in (omega (arith, o.row_is), o.named))
 
@@ -337,7 +324,7 @@ module _ (xs : List Ace) (table : List (Option PrincipalRef)) (t : AreByRow xs (
       (λ h. below_one (λ p. is_among p (mentioned_with [] xs) ≡ true) (held table) s
       (all_held (λ p. is_among p (mentioned_with [] xs) ≡ true) table (λ row p e. (t.only row p e).mentioned)) h)
       (λ h. below_one (λ p. is_among p (held table) ≡ true) (mentioned_with [] xs) s
-      (all_with (λ p. is_among p (held table) ≡ true) xs [] tt (each_ace _ xs there)) h))
+      (all_with (λ p. is_among p (held table) ≡ true) xs [] tt (all_from _ xs no_ace there)) h))
     where
       there : (i : ℕ) → i < length xs → is_mentioning (ace_at xs i) ≡ true
           → is_among (principal_of (ace_at xs i)) (held table) ≡ true
@@ -348,9 +335,9 @@ module _ (xs : List Ace) (table : List (Option PrincipalRef)) (t : AreByRow xs (
 -- the numbers of a table are those of the ACEs' principals
 rows_mentioned : (xs : List Ace) (rows : List ℕ) (table : List (Option PrincipalRef)) (whole : List Principal)
     (numbers : List ℕ) → AreRowNumbers xs rows → AreByRow xs (length xs) table
-    → AreNumbers table (length table) whole numbers → AreMentionedRows xs rows whole numbers
+    → AreMentionedNumbers table (length table) whole numbers → AreMentionedRows xs rows whole numbers
 rows_mentioned xs rows table whole numbers r t n = record {
-  rising = subst IsRising (sym all) (table_rises xs table t);
+  rising = subst IsRisingSet (sym all) (table_rises xs table t);
   count = r.count;
   within = λ i l. omega (arith, row_there xs rows i r l, row_fits xs i l, t.count, n.count);
   number = λ i l m. at i l (t.each i l m);
@@ -424,19 +411,19 @@ whoms_back ps (a ∷ xs) ys (w ∷ ws) h = whoms_back ps xs ys ws h.1
 pub whoms_ready : (aces a b c : List AceRef) (rows r : List ℕ) (table t : List (Option PrincipalRef))
     (whole : List Principal) (numbers : List ℕ) → a ≡ aces → b ≡ aces → c ≡ aces → r ≡ rows → t ≡ table
     → AreRowNumbers (aces_in a) rows → AreByRow (aces_in b) (length b) table
-    → AreNumbers t (length t) whole numbers → AreMentionedRows (aces_in c) r whole numbers
+    → AreMentionedNumbers t (length t) whole numbers → AreMentionedRows (aces_in c) r whole numbers
 whoms_ready aces a b c rows r table t whole numbers ae be ce re te rn by n =
     subst (λ v. AreMentionedRows (aces_in v) r whole numbers) (sym ce)
     (subst (λ v. AreMentionedRows (aces_in aces) v whole numbers) (sym re)
     (rows_mentioned (aces_in aces) rows table whole numbers (subst (λ v. AreRowNumbers (aces_in v) rows) ae rn)
     (subst (λ v. AreByRow (aces_in aces) v table) (sym (length-map aces ace))
     (subst (λ v. AreByRow (aces_in v) (length v) table) be by))
-    (subst (λ v. AreNumbers v (length v) whole numbers) te n)))
+    (subst (λ v. AreMentionedNumbers v (length v) whole numbers) te n)))
 
 -- the principals are those that the list mentions
 pub whole_ready : (aces : List AceRef) (table t : List (Option PrincipalRef)) (whole : List Principal)
     (numbers : List ℕ) → t ≡ table → AreByRow (aces_in aces) (length aces) table
-    → AreNumbers t (length t) whole numbers → whole ≡ mentioned_with [] (aces_in aces)
+    → AreMentionedNumbers t (length t) whole numbers → whole ≡ mentioned_with [] (aces_in aces)
 whole_ready aces table t whole numbers te by n =
     n.whole_is ∙ ap (λ v. held (take (length v) v)) te ∙ ap held (take-length table)
     ∙ table_mentions (aces_in aces) table
@@ -466,12 +453,12 @@ whoms_second ps list other ws part n is e h =
 -- they are at least as many as the first list's ACEs
 pub whoms_cover : (ps : List Principal) (list other : List AceRef) (ws : List Whom)
     → AreWhoms ps (aces_in list ++ aces_in other) ws → length list ≤ length ws
-whoms_cover ps list other ws h = omega (arith, go (aces_in list) (aces_in other) ws h, length-map list ace)
-  where
-    go : (xs ys : List Ace) (ws : List Whom) → AreWhoms ps (xs ++ ys) ws → length xs ≤ length ws
-    go [] ys ws h = omega arith
-    go (a ∷ xs) ys [] h = absurd h
-    go (a ∷ xs) ys (w ∷ ws) h = omega (arith, go xs ys ws h.1)
+whoms_cover ps list other ws h = omega (
+  arith,
+  zip_length (IsWhom ps) (aces_in list ++ aces_in other) ws h,
+  length-append (aces_in list) (aces_in other),
+  length-map list ace,
+)
 
 -- there are as many principals as the lists mention
 pub all_there : (c : Inside) → IsCompared c → length c.mentioned.now ≡ length (all_mentioned (lists_in c))

@@ -1,8 +1,9 @@
 -- The numbers of principals that stand in order.
 use Rattle.std.proofs.Math.Bool.{or-false}
-use Rattle.acl_normal.proofs.Common.{[], Ace, AllByRecursion, AllZip, ap, arith, Bool, eq-eqb, eqb-true, everyone, false, get_or-map, is_mentioning, IsRising, IsWhom, length, Less, List, Principal, principal, principal_cmp, principal_eq, principal_of, principals, refl, slice_index_or, subst, sym, takes_part, true, ℕ, ◌++◌, ◌<◌, ◌∙◌, ◌∷◌, ◌≡◌}
+use Rattle.acl_normal.proofs.Common.{[], Ace, ap, arith, Bool, eq-eqb, eqb-true, everyone, false, get_or-map, is_mentioning, IsRisingSet, IsWhom, length, Less, List, Principal, principal, principal_cmp, principal_eq, principal_of, principals, refl, slice_index_or, subst, sym, takes_part, true, ℕ, ◌<◌, ◌∙◌, ◌∷◌, ◌≡◌}
 use Rattle.std.proofs.Common.{suc, zero}
 use Rattle.acl_perm.specs.declared.principal.Principal.{Principal as PrincipalRef}
+use Rattle.acl_normal.proofs.Each.{all_at}
 use Rattle.acl_normal.proofs.unique.Names.{principal_eq_itself, principal_eq_same}
 use Rattle.acl_normal.proofs.unique.Realised.{same_answers}
 use Rattle.acl_normal.proofs.comparison.SmallSetLemmas.{not_below_itself}
@@ -14,22 +15,17 @@ pub numbered : (names : List PrincipalRef) (q : PrincipalRef) (i : ℕ) → i < 
     → slice_index_or (principals names) i everyone ≡ principal (slice_index_or names i q)
 numbered names q i lt = get_or-map principal names i q everyone lt
 
--- one below all others
-pub below_at : (p : Principal) (ps : List Principal) (k : ℕ) → k < length ps
-    → AllByRecursion (λ q. principal_cmp p q ≡ Less) ps → principal_cmp p (slice_index_or ps k everyone) ≡ Less
-below_at p [] k lt h = absurd (omega arith)
-below_at p (q ∷ ps) zero lt h = h.0
-below_at p (q ∷ ps) (suc k) lt h = below_at p ps k (omega arith) h.1
-
 -- no two of a rising list are the same
-pub apart : (ps : List Principal) (i k : ℕ) → IsRising ps → i < length ps → k < length ps
+pub apart : (ps : List Principal) (i k : ℕ) → IsRisingSet ps → i < length ps → k < length ps
     → slice_index_or ps i everyone ≡ slice_index_or ps k everyone → k ≡ i
 apart [] i k r li lk e = absurd (omega arith)
 apart (p ∷ ps) zero zero r li lk e = refl
 apart (p ∷ ps) zero (suc k) r li lk e =
-    absurd (not_below_itself p (subst (λ v. principal_cmp p v ≡ Less) (sym e) (below_at p ps k (omega arith) r.0)))
+    absurd (not_below_itself p (subst (λ v. principal_cmp p v ≡ Less) (sym e)
+    (all_at (λ q. principal_cmp p q ≡ Less) ps k everyone (omega arith) r.0)))
 apart (p ∷ ps) (suc i) zero r li lk e =
-    absurd (not_below_itself p (subst (λ v. principal_cmp p v ≡ Less) e (below_at p ps i (omega arith) r.0)))
+    absurd (not_below_itself p (subst (λ v. principal_cmp p v ≡ Less) e
+    (all_at (λ q. principal_cmp p q ≡ Less) ps i everyone (omega arith) r.0)))
 apart (p ∷ ps) (suc i) (suc k) r li lk e = ap suc (apart ps i k r.1 (omega arith) (omega arith) e)
 
 -- a key that takes part and isn't of everyone is of a principal just where that is its own
@@ -38,7 +34,7 @@ pub is_of_own : (a : Ace) (p : Principal) → takes_part a ≡ true → principa
 is_of_own a p h e = rw (h, e) (or-false (principal_eq (principal_of a) p))
 
 -- whom an ACE names, by a number that is its principal's where it mentions that
-pub whom_is : (ps : List Principal) (a : Ace) (n : ℕ) → IsRising ps
+pub whom_is : (ps : List Principal) (a : Ace) (n : ℕ) → IsRisingSet ps
     → (is_mentioning a ≡ true → HasNumber ps (principal_of a) n) → IsWhom ps a (whom_of a n)
 whom_is ps a n r h = go (takes_part a) refl (principal_eq (principal_of a) everyone) refl
   where
@@ -60,10 +56,3 @@ whom_is ps a n r h = go (takes_part a) refl (principal_eq (principal_of a) every
               (λ g. subst (λ v. principal_eq (slice_index_or ps n everyone) (slice_index_or ps v everyone) ≡ true)
               (sym (eqb-true k n g)) (principal_eq_itself (slice_index_or ps n everyone)));
         })
-
--- one more on both sides
-pub zip_push : {A B : Type 0} (R : A → B → Type 0) (xs : List A) (ys : List B) (x : A) (y : B) → AllZip R xs ys
-    → R x y → AllZip R (xs ++ x ∷ []) (ys ++ y ∷ [])
-zip_push R [] [] x y z h = (h, tt)
-zip_push R (v ∷ xs) (w ∷ ys) x y z h = (z.0, zip_push R xs ys x y z.1 h)
-zip_push R _ _ x y z h = absurd z

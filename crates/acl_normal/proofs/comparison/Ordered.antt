@@ -1,5 +1,5 @@
 -- Rising lists of the same principals are the same.
-use Rattle.acl_normal.proofs.Common.{[], AllByRecursion, ap, false≢true, is_among, IsRising, Less, List, or_cases, or_left, or_right, Principal, principal_cmp, principal_eq, refl, subst, sym, true, ⊎_elim, ◌∙◌, ◌∷◌, ◌≡◌}
+use Rattle.acl_normal.proofs.Common.{[], AllByRecursion, ap, false≢true, is_among, IsRisingSet, Less, List, or_cases, or_left, or_right, Principal, principal_cmp, principal_eq, refl, subst, sym, true, ⊎_elim, ◌∙◌, ◌∷◌, ◌≡◌}
 use Rattle.acl_normal.proofs.unique.Names.{principal_eq_itself, principal_eq_same}
 use Rattle.acl_normal.proofs.unique.Realised.{same_answers}
 use Rattle.acl_normal.proofs.comparison.SmallSetLemmas.{below_one, not_below_itself, not_both_below}
@@ -28,7 +28,7 @@ same_first p q ps qs r t h = ⊎_elim
     (or_cases (principal_eq p q) (is_among p qs) (sym (h p) ∙ or_left _ _ (principal_eq_itself p)))
 
 -- rising lists of the same principals are the same
-pub rising_same : (ps qs : List Principal) → IsRising ps → IsRising qs
+pub rising_same : (ps qs : List Principal) → IsRisingSet ps → IsRisingSet qs
     → ((s : Principal) → is_among s ps ≡ is_among s qs) → ps ≡ qs
 rising_same [] [] r t h = refl
 rising_same [] (q ∷ qs) r t h = absurd (false≢true (h q ∙ or_left _ _ (principal_eq_itself q)))

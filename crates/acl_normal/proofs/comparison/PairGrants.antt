@@ -1,39 +1,22 @@
 -- What two principals are granted, by what each is granted alone and which comes first.
-use Rattle.acl_normal.proofs.Common.{[], Ace, AgreesAt, AllByRecursion, AllZip, and_from, and_parts, ap, append_assoc, arith, Bool, cond, differ, everyone, false, FindsFirst, first_place, has_bit, inl, inr, inverts, inverts_any, is_allow, is_granted_to, is_user, is_users, IsStanding, le-ltb, List, lt-ltb, may_overlap, nat_lt, None, not, Option, or_cases, or_parts, pairs, partners, Principal, principal_eq, principal_of, refl, SameAlone, Standing, subst, sym, takes_part, true, user, ℕ, ◌&&◌, ◌++◌, ◌+◌, ◌||◌, ◌∙◌, ◌∷◌, ◌≡◌, ◌≢◌, ◌⊎◌}
+use Rattle.acl_normal.proofs.Common.{[], Ace, AgreesAt, AllByRecursion, AllZip, and_parts, ap, append_assoc, arith, Bool, cond, differ, everyone, false, FindsFirst, first_place, has_bit, inl, inr, inverts, inverts_any, is_allow, is_granted_to, is_user, is_users, IsStanding, List, may_overlap, nat_lt, None, not, Option, or_cases, or_parts, principal_pairs, partners, Principal, principal_eq, principal_of, refl, SameAlone, Standing, subst, sym, takes_part, true, user, ℕ, ◌&&◌, ◌++◌, ◌+◌, ◌||◌, ◌∙◌, ◌∷◌, ◌≡◌, ◌≢◌, ◌⊎◌}
+use Rattle.std.proofs.lemmas.Bool.{cond_both}
 use Rattle.std.proofs.lemmas.Bool.Decides.{nat_tests}
 use Rattle.acl_normal.proofs.unique.Names.{bytes_eq_same}
 use Rattle.acl_normal.proofs.comparison.SetEvaluation.{granted_to-cons}
 use Rattle.acl_normal.proofs.comparison.SetSearchLemmas.{found_right}
 use Rattle.acl_normal.specs.internal.FirstPlaces.{Agrees}
 
--- one more on both sides leaves the order
-shift : (x y : ℕ) → nat_lt (x + 1) (y + 1) ≡ nat_lt x y
-shift x y = grind (arith, nat_tests)
-
 -- a choice among the same is the same
 cond_same : (l x v y w : Bool) → x ≡ v → y ≡ w → cond l x y ≡ cond l v w
-cond_same true x v y w h i = h
-cond_same false x v y w h i = i
-
--- nothing is below zero
-not_below_zero : (x : ℕ) → nat_lt x 0 ≡ false
-not_below_zero x = le-ltb x 0 (omega arith)
-
--- zero is below all others
-zero_below : (x : ℕ) → nat_lt 0 (x + 1) ≡ true
-zero_below x = lt-ltb 0 (x + 1) (omega arith)
+cond_same l x v y w h i = grind arith
 
 -- one ACE before a list of which the claim on pairs holds
 joined : (t e x y k g gp gq : Bool) (hp hq : ℕ) → g ≡ cond (nat_lt hq hp) gq gp
     → cond (t && (e || (x || (y || false)))) k g
     ≡ cond (nat_lt (cond (t && (e || (y || false))) 0 (hq + 1)) (cond (t && (e || (x || false))) 0 (hp + 1)))
     (cond (t && (e || (y || false))) k gq) (cond (t && (e || (x || false))) k gp)
-joined false e x y k g gp gq hp hq h = h ∙ ap (λ l. cond l gq gp) (sym (shift hq hp))
-joined true true x y k g gp gq hp hq h = sym (ap (λ l. cond l k k) (not_below_zero 0))
-joined true false true true k g gp gq hp hq h = sym (ap (λ l. cond l k k) (not_below_zero 0))
-joined true false true false k g gp gq hp hq h = sym (ap (λ l. cond l gq k) (not_below_zero (hq + 1)))
-joined true false false true k g gp gq hp hq h = sym (ap (λ l. cond l k gp) (zero_below hp))
-joined true false false false k g gp gq hp hq h = h ∙ ap (λ l. cond l gq gp) (sym (shift hq hp))
+joined t e x y k g gp gq hp hq h = grind (arith, nat_tests)
 
 -- what is granted to two is what is granted to the one that comes first
 pub pair_granted : (xs : List Ace) (p q : Principal) (b : ℕ)
@@ -57,41 +40,15 @@ both_users _ q h i o = cc
 
 -- of two that may not, both are users
 not_both_users : (p q : Principal) → (is_user p && is_user q) ≡ false → may_overlap p q ≡ true
-not_both_users (user a) (user b) h = cc
-not_both_users (user a) _ h = refl
-not_both_users _ q h = refl
+not_both_users p q h = grind arith
 
 -- four values, of which two agree, and the orders
 same_choice : (l m vp vq : Bool) → (differ vp vq && differ l m) ≡ false → cond l vq vp ≡ cond m vq vp
-same_choice true true vp vq h = refl
-same_choice false false vp vq h = refl
-same_choice true false true true h = refl
-same_choice true false false false h = refl
-same_choice true false true false h = cc
-same_choice true false false true h = cc
-same_choice false true true true h = refl
-same_choice false true false false h = refl
-same_choice false true true false h = cc
-same_choice false true false true h = cc
+same_choice l m vp vq h = grind arith
 
 -- and where they don't agree
 other_choice : (l m vp vq : Bool) → (differ vp vq && differ l m) ≡ true → cond l vq vp ≡ cond m vq vp → ⊥
-other_choice true true true true h e = cc
-other_choice true true true false h e = cc
-other_choice true true false true h e = cc
-other_choice true true false false h e = cc
-other_choice false false true true h e = cc
-other_choice false false true false h e = cc
-other_choice false false false true h e = cc
-other_choice false false false false h e = cc
-other_choice true false true true h e = cc
-other_choice true false false false h e = cc
-other_choice true false true false h e = cc
-other_choice true false false true h e = cc
-other_choice false true true true h e = cc
-other_choice false true false false h e = cc
-other_choice false true true false h e = cc
-other_choice false true false true h e = cc
+other_choice l m vp vq h e = grind arith
 
 -- what the standings say of a pair, in both lists
 pub here_is : (xs ys : List Ace) (b : ℕ) (p q : Principal) (r s : Standing) → IsStanding xs ys b p r
@@ -118,10 +75,7 @@ not_inverted xs ys b p q r s h i u v e o = here_is xs ys b p q r s h i ∙ go (i
     ∙ sym (there_is xs ys b p q r s h i u v)
   where
     one_value : (l m x y : Bool) → x ≡ y → cond l x y ≡ cond m x y
-    one_value true true x y k = refl
-    one_value true false x y k = k
-    one_value false true x y k = sym k
-    one_value false false x y k = refl
+    one_value l m x y k = grind arith
 
     go : (t : Bool) → (is_users r.class && is_users s.class) ≡ t
         → cond (nat_lt s.here.place r.here.place) (is_allow s.here.kind) (is_allow r.here.kind)
@@ -140,27 +94,12 @@ pub inverted : (xs ys : List Ace) (b : ℕ) (p q : Principal) (r s : Standing) �
     → IsStanding xs ys b q s
     → SameAlone r → SameAlone s → inverts r s ≡ true
     → (may_overlap p q ≡ true) × (is_granted_to xs (p ∷ q ∷ []) b ≢ is_granted_to ys (p ∷ q ∷ []) b)
-inverted xs ys b p q r s h i u v e =
-    let outer = and_parts (not (is_users r.class && is_users s.class)
-    && differ (is_allow r.here.kind) (is_allow s.here.kind))
-    (differ (nat_lt s.here.place r.here.place) (nat_lt s.there.place r.there.place)) e in
-    let inner = and_parts (not (is_users r.class && is_users s.class))
-    (differ (is_allow r.here.kind) (is_allow s.here.kind)) outer.0 in (
-      not_both_users p q (ap2_and (sym h.class) (sym i.class)
-          ∙ not_true (is_users r.class && is_users s.class) inner.0),
-      λ same. other_choice (nat_lt s.here.place r.here.place) (nat_lt s.there.place r.there.place)
-          (is_allow r.here.kind)
-          (is_allow s.here.kind) (and_from (differ (is_allow r.here.kind) (is_allow s.here.kind))
-          (differ (nat_lt s.here.place r.here.place) (nat_lt s.there.place r.there.place)) inner.1 outer.1)
-          (sym (here_is xs ys b p q r s h i) ∙ same ∙ there_is xs ys b p q r s h i u v),
-    )
-  where
-    ap2_and : {x y z w : Bool} → x ≡ z → y ≡ w → (x && y) ≡ (z && w)
-    ap2_and {x} {y} {z} {w} k l = rw (k, l) refl
-
-    not_true : (t : Bool) → not t ≡ true → t ≡ false
-    not_true true k = cc
-    not_true false k = refl
+inverted xs ys b p q r s h i u v e = (
+  not_both_users p q (grind (arith, h.class, i.class)),
+  λ same. other_choice (nat_lt s.here.place r.here.place) (nat_lt s.there.place r.there.place)
+      (is_allow r.here.kind) (is_allow s.here.kind) (grind arith)
+      (sym (here_is xs ys b p q r s h i) ∙ same ∙ there_is xs ys b p q r s h i u v),
+)
 
 -- a principal agrees with all the others on the bit just where its standing inverts none
 pub agrees_from_rows : (xs ys : List Ace) (b : ℕ) (p : Principal) (r : Standing) (ps : List Principal)
@@ -191,12 +130,9 @@ not_agrees_from_rows xs ys b p r _ _ h u z all e a = absurd z
 pub partners_agree : (xs ys : List Ace) (p : Principal) (ps : List Principal) → Agrees xs ys ps p
     → FindsFirst xs ys (partners p ps) None
 partners_agree xs ys p [] h = refl
-partners_agree xs ys p (q ∷ ps) h = go (may_overlap p q) refl (partners_agree xs ys p ps h.1)
-  where
-    go : (t : Bool) → may_overlap p q ≡ t → FindsFirst xs ys (partners p ps) None
-        → FindsFirst xs ys (partners p (q ∷ ps)) None
-    go true e ih = rw e (inl (h.0 e, ih))
-    go false e ih = rw e ih
+partners_agree xs ys p (q ∷ ps) h =
+    let later = partners_agree xs ys p ps h.1 in
+    cond_both (may_overlap p q) _ _ (λ sets. FindsFirst xs ys sets None) (λ e. inl (h.0 e, later)) (λ e. later)
 
 -- who agrees with all agrees with the rest
 pub agrees_rest : (xs ys : List Ace) (ps rest : List Principal) (p : Principal) → Agrees xs ys (ps ++ rest) p
@@ -206,25 +142,26 @@ agrees_rest xs ys (q ∷ ps) rest p h = agrees_rest xs ys ps rest p h.1
 
 -- if each of the first principals agrees with all, the pairs of the rest decide
 pub pairs_after : (xs ys : List Ace) (whole before rest done : List Principal) (r : Option (List Principal))
-    → whole ≡ done ++ (before ++ rest) → AllByRecursion (Agrees xs ys whole) before → FindsFirst xs ys (pairs rest) r
-    → FindsFirst xs ys (pairs (before ++ rest)) r
+    → whole ≡ done ++ (before ++ rest) → AllByRecursion (Agrees xs ys whole) before
+    → FindsFirst xs ys (principal_pairs rest) r
+    → FindsFirst xs ys (principal_pairs (before ++ rest)) r
 pairs_after xs ys whole [] rest done r is h f = f
 pairs_after xs ys whole (p ∷ before) rest done r is h f =
     let longer : whole ≡ (done ++ p ∷ []) ++ (before ++ rest) =
     is ∙ sym (append_assoc done (p ∷ []) (before ++ rest)) in
     let tail : Agrees xs ys (before ++ rest) p =
     agrees_rest xs ys (done ++ p ∷ []) (before ++ rest) p (subst (λ v. Agrees xs ys v p) longer h.0) in
-    found_right xs ys (partners p (before ++ rest)) (pairs (before ++ rest)) r
+    found_right xs ys (partners p (before ++ rest)) (principal_pairs (before ++ rest)) r
     (partners_agree xs ys p (before ++ rest) tail)
     (pairs_after xs ys whole before rest (done ++ p ∷ []) r longer h.1 f)
 
 -- where all agree with all, no pair differs
 pub no_pairs : (xs ys : List Ace) (whole rest done : List Principal) → whole ≡ done ++ rest
-    → AllByRecursion (Agrees xs ys whole) rest → FindsFirst xs ys (pairs rest) None
+    → AllByRecursion (Agrees xs ys whole) rest → FindsFirst xs ys (principal_pairs rest) None
 no_pairs xs ys whole [] done is h = refl
 no_pairs xs ys whole (p ∷ rest) done is h =
     let longer : whole ≡ (done ++ p ∷ []) ++ rest = is ∙ sym (append_assoc done (p ∷ []) rest) in
     let tail : Agrees xs ys rest p =
     agrees_rest xs ys (done ++ p ∷ []) rest p (subst (λ v. Agrees xs ys v p) longer h.0) in
-    found_right xs ys (partners p rest) (pairs rest) None (partners_agree xs ys p rest tail)
+    found_right xs ys (partners p rest) (principal_pairs rest) None (partners_agree xs ys p rest tail)
     (no_pairs xs ys whole rest (done ++ p ∷ []) longer h.1)

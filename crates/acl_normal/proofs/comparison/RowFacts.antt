@@ -1,11 +1,10 @@
 -- The least number of a principal at which two lists grant otherwise, bit by bit.
-use Rattle.acl_normal.proofs.Common.{[], Ace, AgreesAt, all_mentioned, all_rights, AllByRecursion, AllZip, ap, AreFirstFrom, AreStandings, arith, bit_at_above, cases_eq, cases_lt, drop, everyone, false, false≢true, get_or_read, has_bit, inl, inr, inverts, inverts_any, is_allow, is_among, is_granted_to, is_user, is_users, IsStanding, length, length-map, List, lit<, map-append, no_standing, Principal, principal, principals, SameAlone, slice_index_or, Standing, subst, sym, take, take_more, true, TwoLists, verdict, ℕ, ◌++◌, ◌+◌, ◌<◌, ◌∙◌, ◌∷◌, ◌≡◌, ◌≤◌, ◌⊎◌}
+use Rattle.acl_normal.proofs.Common.{[], Ace, AgreesAt, all_mentioned, all_rights, AllByRecursion, AllZip, ap, AreFirstFrom, AreStandings, arith, cases_eq, cases_lt, drop, everyone, false, get_or_read, has_bit, inl, inr, inverts, inverts_any, is_allow, is_among, is_granted_to, is_user, is_users, IsStanding, length, length-map, List, map-append, no_standing, Principal, principal, principals, SameAlone, slice_index_or, Standing, subst, sym, take, take_more, true, TwoLists, verdict, ℕ, ◌++◌, ◌+◌, ◌<◌, ◌∙◌, ◌∷◌, ◌≡◌, ◌≤◌, ◌⊎◌}
 use Rattle.std.proofs.Common.{suc, zero}
-use Rattle.std.proofs.Common.{eqb}
 use Rattle.acl_perm.specs.declared.principal.Principal.{Principal as PrincipalRef}
-use Rattle.acl_nfs4.specs.internal.Reading.{read}
-use Rattle.acl_normal.proofs.comparison.FirstPlaceLemmas.{zip_length}
-use Rattle.acl_normal.proofs.comparison.Numbers.{numbered, zip_push}
+use Rattle.acl_normal.proofs.Each.{all_at, all_drop, zip_at, zip_length, zip_push}
+use Rattle.acl_normal.proofs.unique.Bits.{below}
+use Rattle.acl_normal.proofs.comparison.Numbers.{numbered}
 use Rattle.acl_normal.proofs.comparison.PairGrants.{agrees_from_rows, inverted, not_agrees_from_rows, not_inverted}
 use Rattle.acl_normal.specs.internal.FirstPlaces.{AlikeAlone, AlikeWith, AlikeWithAll, IsFirst, IsFirstFrom, IsLeast, OnAll, no_first}
 use Rattle.acl_normal.specs.internal.TwoLists.{AlikeToOne, AlikeToPair, AlikeToPairs, HaveSameColumn, later_than, principal_at}
@@ -49,10 +48,7 @@ rows_more names q xs ys b i heres theres h t u old new lt hi ti ui hs ts is all 
 pub row_at : (ps : List Principal) (xs ys : List Ace) (b k : ℕ) (rows : List Standing) → k < length ps
     → AllZip (IsStanding xs ys b) ps rows
     → IsStanding xs ys b (slice_index_or ps k everyone) (slice_index_or rows k no_standing)
-row_at [] xs ys b k [] lt z = absurd (omega arith)
-row_at (p ∷ ps) xs ys b zero (r ∷ rows) lt z = z.0
-row_at (p ∷ ps) xs ys b (suc k) (r ∷ rows) lt z = row_at ps xs ys b k rows (omega arith) z.1
-row_at _ xs ys b k _ lt z = absurd z
+row_at ps xs ys b k rows lt z = zip_at (IsStanding xs ys b) ps rows k everyone no_standing lt z
 
 -- there are as many standings as principals
 pub rows_length : (ps : List Principal) (xs ys : List Ace) (b : ℕ) (rows : List Standing) → AreStandings ps xs ys b rows
@@ -77,9 +73,9 @@ least_start Q n least e = record
     { within = omega arith; before = λ k l b below has. absurd (omega arith); at = λ l h. absurd (omega arith) }
 
 -- one more bit, at which the least number may fall
-pub least_step : (Q : ℕ → ℕ → Type 0) (n bit old new : ℕ) → has_bit all_rights bit ≡ true → new ≤ old
-    → ((k : ℕ) → k < new → Q bit k) → (new < old → Q bit new → ⊥) → Least Q n bit old → Least Q n (bit + 1) new
-least_step Q n bit old new has le each stop h = record {
+pub least_step : (Q : ℕ → ℕ → Type 0) (n bit old new : ℕ) → new ≤ old → ((k : ℕ) → k < new → Q bit k)
+    → (new < old → OnAll Q new → ⊥) → Least Q n bit old → Least Q n (bit + 1) new
+least_step Q n bit old new le each stop h = record {
   within = omega (arith, h.within);
   before = λ k l b below has_b. at_bit k l b has_b below (cases_eq b bit);
   at = λ l all. at_end l all (cases_lt new old);
@@ -90,33 +86,19 @@ least_step Q n bit old new has le each stop h = record {
     at_bit k l b has_b below (inr n) = h.before k (omega arith) b (omega arith) has_b
 
     at_end : new < n → OnAll Q new → (new < old) ⊎ (old ≤ new) → ⊥
-    at_end l all (inl less) = stop less (all bit has)
+    at_end l all (inl less) = stop less all
     at_end l all (inr same) = let e : new ≡ old = omega arith in h.at (omega arith) (subst (λ v. OnAll Q v) e all)
 
 -- a bit of which Q holds below the least changes nothing
 pub least_skip : (Q : ℕ → ℕ → Type 0) (n bit least : ℕ) → ((k : ℕ) → Q bit k) → Least Q n bit least
     → Least Q n (bit + 1) least
 least_skip Q n bit least all h =
-    record { within = h.within; before = λ k l b below has_b. at_bit k l b has_b below (cases_eq b bit); at = h.at }
-  where
-    at_bit : (k : ℕ) → k < least → (b : ℕ) → has_bit all_rights b ≡ true → b < bit + 1 → (b ≡ bit) ⊎ (b ≡ bit → ⊥)
-        → Q b k
-    at_bit k l b has_b below (inl e) = subst (λ v. Q v k) (sym e) (all k)
-    at_bit k l b has_b below (inr n) = h.before k l b (omega arith) has_b
-
--- every right is below bit 21
-pub bits_below : (b : ℕ) → has_bit all_rights b ≡ true → b < 21
-bits_below b has = go (cases_lt b 21)
-  where
-    go : (b < 21) ⊎ (21 ≤ b) → b < 21
-    go (inl l) = l
-    go (inr le) = let none = bit_at_above all_rights 21 b (lit< tt) le in
-        absurd (false≢true (sym (ap (λ d. eqb d 1) none) ∙ has))
+    least_step Q n bit least least (omega arith) (λ k l. all k) (λ l. absurd (omega (arith, l))) h
 
 -- after the last bit the least number is known
 pub least_done : (Q : ℕ → ℕ → Type 0) (n bit least : ℕ) → 21 ≤ bit → Least Q n bit least → IsLeast (OnAll Q) n least
 least_done Q n bit least le h =
-    record { within = h.within; before = λ k l b has. h.before k l b (omega (arith, bits_below b has)) has; at = h.at }
+    record { within = h.within; before = λ k l b has. h.before k l b (omega (arith, below b has)) has; at = h.at }
 
 -- single principals
 pub alone_from_row : (ps : List Principal) (xs ys : List Ace) (b k : ℕ) (rows : List Standing) → k < length ps
@@ -138,9 +120,9 @@ pub single_step : (ps : List Principal) (xs ys : List Ace) (bit old new : ℕ) (
     → Least (AlikeAlone xs ys ps) (length ps) bit old
     → Least (AlikeAlone xs ys ps) (length ps) (bit + 1) new
 single_step ps xs ys bit old new rows h has le each stop l =
-    least_step (AlikeAlone xs ys ps) (length ps) bit old new has le
+    least_step (AlikeAlone xs ys ps) (length ps) bit old new le
     (λ k lt. alone_from_row ps xs ys bit k rows (omega (arith, l.within)) h (each k lt))
-    (λ lt e. not_alone_from_row ps xs ys bit new rows (omega (arith, l.within)) h (stop lt) e) l
+    (λ lt all. not_alone_from_row ps xs ys bit new rows (omega (arith, l.within)) h (stop lt) (all bit has)) l
 
 -- a principal and all others
 pub all_alone : (ps : List Principal) (xs ys : List Ace) (b : ℕ) (rows : List Standing)
@@ -154,13 +136,6 @@ all_alone (p ∷ ps) xs ys b (r ∷ rows) z h = (
 )
 all_alone _ xs ys b _ z h = absurd z
 
--- what holds of all standings holds of one
-pub same_at : (rows : List Standing) (k : ℕ) → k < length rows → AllByRecursion SameAlone rows
-    → SameAlone (slice_index_or rows k no_standing)
-same_at [] k lt h = absurd (omega arith)
-same_at (r ∷ rows) zero lt h = h.0
-same_at (r ∷ rows) (suc k) lt h = same_at rows k (omega arith) h.1
-
 -- one more bit of the search for the lesser member of a pair
 pub member_step : (ps : List Principal) (xs ys : List Ace) (bit old new : ℕ) (rows : List Standing)
     → AreStandings ps xs ys bit rows → ((k : ℕ) → k < length ps → OnAll (AlikeAlone xs ys ps) k)
@@ -171,14 +146,15 @@ pub member_step : (ps : List Principal) (xs ys : List Ace) (bit old new : ℕ) (
 member_step ps xs ys bit old new rows h alone has le each stop l =
     let same : AllByRecursion SameAlone rows = all_alone ps xs ys bit rows h.each (λ k lt. alone k lt bit has) in
     let count : length rows ≡ length ps = rows_length ps xs ys bit rows h in
-    least_step (AlikeWithAll xs ys ps) (length ps) bit old new has le
+    least_step (AlikeWithAll xs ys ps) (length ps) bit old new le
     (λ k lt. agrees_from_rows xs ys bit (slice_index_or ps k everyone) (slice_index_or rows k no_standing) ps rows
-    (row_at ps xs ys bit k rows (omega (arith, l.within)) h.each) (same_at rows k (omega (arith, l.within)) same)
+    (row_at ps xs ys bit k rows (omega (arith, l.within)) h.each)
+    (all_at SameAlone rows k no_standing (omega (arith, l.within)) same)
     h.each same (each k lt))
-    (λ lt e. not_agrees_from_rows xs ys bit (slice_index_or ps new everyone)
+    (λ lt all. not_agrees_from_rows xs ys bit (slice_index_or ps new everyone)
     (slice_index_or rows new no_standing) ps rows
     (row_at ps xs ys bit new rows (omega (arith, l.within)) h.each)
-    (same_at rows new (omega (arith, l.within)) same) h.each same (stop lt) e) l
+    (all_at SameAlone rows new no_standing (omega (arith, l.within)) same) h.each same (stop lt) (all bit has)) l
 
 -- a principal and one of the others
 pub zip_drop : {A B : Type 0} (R : A → B → Type 0) (n : ℕ) (xs : List A) (ys : List B) → AllZip R xs ys
@@ -198,19 +174,13 @@ pub partner_step : (p : Principal) (r : Standing) (ps : List Principal) (xs ys :
     → Least (AlikeWith xs ys p ps) (length ps) bit old → Least (AlikeWith xs ys p ps) (length ps) (bit + 1) new
 partner_step p r ps xs ys bit old new rows hp sp h same has le each stop l =
     let count : length rows ≡ length ps = rows_length ps xs ys bit rows h in
-    least_step (AlikeWith xs ys p ps) (length ps) bit old new has le
+    least_step (AlikeWith xs ys p ps) (length ps) bit old new le
     (λ k lt o. not_inverted xs ys bit p (slice_index_or ps k everyone) r (slice_index_or rows k no_standing) hp
     (row_at ps xs ys bit k rows (omega (arith, l.within)) h.each) sp
-    (same_at rows k (omega (arith, l.within)) same) (each k lt) o)
-    (λ lt e. let d = inverted xs ys bit p (slice_index_or ps new everyone) r (slice_index_or rows new no_standing) hp
+    (all_at SameAlone rows k no_standing (omega (arith, l.within)) same) (each k lt) o)
+    (λ lt all. let d = inverted xs ys bit p (slice_index_or ps new everyone) r (slice_index_or rows new no_standing) hp
     (row_at ps xs ys bit new rows (omega (arith, l.within)) h.each) sp
-    (same_at rows new (omega (arith, l.within)) same) (stop lt) in d.1 (e d.0)) l
-
--- what holds of all holds of the rest
-pub all_drop : {X : Type 0} (P : X → Type 0) (n : ℕ) (xs : List X) → AllByRecursion P xs → AllByRecursion P (drop n xs)
-all_drop P zero xs h = h
-all_drop P (suc n) [] h = h
-all_drop P (suc n) (x ∷ xs) h = all_drop P n xs h.1
+    (all_at SameAlone rows new no_standing (omega (arith, l.within)) same) (stop lt) in d.1 (all bit has d.0)) l
 
 -- there are as many later standings as later principals
 pub others_length : (ps : List Principal) (xs ys : List Ace) (b at : ℕ) (items slice others : List Standing)
@@ -238,7 +208,7 @@ partner_loop ps xs ys bit at old new row items slice others lt h is split read a
     partner_step (slice_index_or ps at everyone) row (drop (at + 1) ps) xs ys bit old new others
     (subst (λ v. IsStanding xs ys bit (slice_index_or ps at everyone) v) (sym own)
     (row_at ps xs ys bit at items lt h.each))
-    (subst (λ v. SameAlone v) (sym own) (same_at items at (omega arith) same))
+    (subst (λ v. SameAlone v) (sym own) (all_at SameAlone items at no_standing (omega arith) same))
     (record {
       each = subst (λ v. AllZip (IsStanding xs ys bit) (drop (at + 1) ps) v) (sym rest)
           (zip_drop (IsStanding xs ys bit) (at + 1) ps items h.each);

@@ -3,6 +3,7 @@ use Rattle.acl_normal.proofs.Common.{[], ace, AceRef, aces_in, AllByRecursion, A
 use Rattle.std.specs.declared.alloc.AllocError.{AllocError}
 use Rattle.std.proofs.Common.{suc}
 use Rattle.std.proofs.lemmas.List.{append_assoc}
+use Rattle.acl_normal.proofs.Each.{all_from}
 use Rattle.acl_normal.proofs.comparison.FirstPlaceLemmas.{whom_at, whoms_length}
 use Rattle.acl_normal.proofs.comparison.MentionedPrincipals.{all_with, mentioned_rising, stays_with}
 use Rattle.acl_normal.proofs.comparison.MentionedRows.{among_at, mentioned_there, with_both}
@@ -35,7 +36,8 @@ whom_same whole a b w h i =
       part = sym t ∙ i.part;
       all = sym (ap (λ v. v && principal_eq (principal_of (ace a)) everyone) t
           ∙ ap (λ q. takes_part (ace b) && principal_eq q everyone) p) ∙ i.all;
-      hit = λ k lt. sym (ap (λ v. v && is_among (principal_of (ace a)) (everyone ∷ slice_index_or whole k everyone ∷ [])) t
+      hit = λ k lt. sym (ap (λ v. v
+          && is_among (principal_of (ace a)) (everyone ∷ slice_index_or whole k everyone ∷ [])) t
           ∙ ap (λ q. takes_part (ace b) && is_among q (everyone ∷ slice_index_or whole k everyone ∷ [])) p) ∙ i.hit k lt;
     }
 
@@ -51,7 +53,8 @@ copies_named whole refs ws all (b ∷ others) (p ∷ places) count each =
       whom_same whole (slice_index_or refs p b) b (slice_index_or ws p Nobody) here.same
           (subst (λ v. IsWhom whole v (slice_index_or ws p Nobody)) (get_or-map ace refs p b no_ace here.within)
           (whom_at whole (aces_in refs) ws p (omega (arith, here.within, length-map refs ace)) all)),
-      copies_named whole refs ws all others places (omega (arith, count)) (λ i z lt. each (suc i) z (omega (arith, lt))),
+      copies_named whole refs ws all others places (omega (arith, count))
+          (λ i z lt. each (suc i) z (omega (arith, lt))),
     )
 copies_named whole refs ws all [] (p ∷ places) count each = absurd (omega (arith, count))
 copies_named whole refs ws all (b ∷ others) [] count each = absurd (omega (arith, count))
@@ -103,12 +106,7 @@ others_among refs (b ∷ others) [] count each = absurd (omega (arith, count))
 
 -- all of a list are among it
 all_among : (ps : List Principal) → AllByRecursion (λ p. is_among p ps ≡ true) ps
-all_among ps = from ps (λ k lt. among_at ps k lt)
-  where
-    from : (qs : List Principal) → ((k : ℕ) → k < length qs → is_among (slice_index_or qs k everyone) ps ≡ true)
-        → AllByRecursion (λ p. is_among p ps ≡ true) qs
-    from [] h = tt
-    from (q ∷ qs) h = (h 0 (omega arith), from qs (λ k lt. h (suc k) (omega (arith, lt))))
+all_among ps = all_from (λ p. is_among p ps ≡ true) ps everyone (λ k lt. among_at ps k lt)
 
 -- two lists mention whom the first does, where the other names the same
 pub first_mentions : (refs others : List AceRef) (places : List ℕ) → ArePlacesOf refs others (length others) places

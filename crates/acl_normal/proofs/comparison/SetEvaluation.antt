@@ -1,5 +1,5 @@
 -- What a list grants to a small set of principals, as the code finds it: for all rights at once.
-use Rattle.acl_normal.proofs.Common.{Ace, ace, AceRef, aces_in, all_rights, Allow, ap, AreGranted, arith, at_drop_more, bit_at, bits_from_mask, Bool, column, cond, Deny, differ, drop, drop_all, eq-eqb, everyone, false, false_from_ne_true, false≢true, GrantAlikeTo, has_bit, is_allow, is_among, is_granted_to, IsDifference, IsMask, IsMask-lt, IsSubset, IsTrue, IsUnion, length, List, ne_eqb, no_bit, not, or_parts, Principal, principal_of, refl, same_set, slice_index_or, subst, sym, takes_part, trailing_zeros, true, w32, ℕ, ◌&&◌, ◌+◌, ◌<◌, ◌==◌, ◌^◌, ◌||◌, ◌↔◌, ◌∙◌, ◌∷◌, ◌≡◌, ◌≢◌, ◌≤◌}
+use Rattle.acl_normal.proofs.Common.{Ace, ace, AceRef, aces_in, all_rights, Allow, ap, IsGrantedTo, arith, at_drop_more, bit_at, bits_from_mask, Bool, column, cond, Deny, differ, drop, drop_all, eq-eqb, everyone, false, false_from_ne_true, false≢true, GrantAlikeTo, has_bit, is_allow, is_among, is_granted_to, IsDifference, IsMask, IsMask-lt, IsSubset, IsTrue, IsUnion, length, List, ne_eqb, no_bit, not, or_parts, Principal, principal_of, refl, same_set, slice_index_or, subst, sym, takes_part, trailing_zeros, true, w32, ℕ, ◌&&◌, ◌+◌, ◌<◌, ◌==◌, ◌^◌, ◌||◌, ◌↔◌, ◌∙◌, ◌∷◌, ◌≡◌, ◌≢◌, ◌≤◌}
 use Rattle.std.specs.Bool.{OnFalse}
 use Rattle.std.proofs.lemmas.Nat.Bits.{bit_at-trailing_zeros}
 use Rattle.acl_normal.proofs.unique.Bits.{has_power, power_has}
@@ -13,69 +13,25 @@ pub granted_to-cons : (a : Ace) (rest : List Ace) (set : List Principal) (bit : 
     → is_granted_to (a ∷ rest) set bit
     ≡ cond ((has_bit a.mask bit && takes_part a) && is_among (principal_of a) (everyone ∷ set)) (is_allow a.kind)
     (is_granted_to rest set bit)
-granted_to-cons a rest set bit =
-    go (has_bit a.mask bit && takes_part a) refl (is_among (principal_of a) (everyone ∷ set)) refl
-  where
-    go : (t : Bool) → (has_bit a.mask bit && takes_part a) ≡ t → (u : Bool)
-        → is_among (principal_of a) (everyone ∷ set) ≡ u
-        → is_granted_to (a ∷ rest) set bit
-        ≡ cond ((has_bit a.mask bit && takes_part a) && is_among (principal_of a) (everyone ∷ set)) (is_allow a.kind)
-        (is_granted_to rest set bit)
-    go false h u i = rw h refl
-    go true h true i = rw (h, i) refl
-    go true h false i = rw (h, i) refl
+granted_to-cons a rest set bit = grind arith
 
 -- what is granted already, and what the rest of the list grants of what is not decided
 abbrev pub decides : ℕ → ℕ → List Ace → List Principal → ℕ → Bool
 decides granted decided rest set bit = has_bit granted bit || (not (has_bit decided bit) && is_granted_to rest set bit)
-
--- the four cases of a bit that an ACE allows
-allow_bits : (g d t r : Bool) → ((g || (t && not d)) || (not (d || t) && r)) ≡ (g || (not d && cond t true r))
-allow_bits true d t r = refl
-allow_bits false true true r = refl
-allow_bits false true false r = refl
-allow_bits false false true r = refl
-allow_bits false false false r = refl
-
--- and of one that it denies
-deny_bits : (g d t r : Bool) → (g || (not (d || t) && r)) ≡ (g || (not d && cond t false r))
-deny_bits true d t r = refl
-deny_bits false true true r = refl
-deny_bits false true false r = refl
-deny_bits false false true r = refl
-deny_bits false false false r = refl
 
 -- an ACE that allows grants its bits that were not decided before
 step_allow : (a : Ace) (rest : List Ace) (set : List Principal) (granted decided own less new more bit : ℕ)
     → IsDifference own decided less → IsUnion granted less new → IsUnion decided own more → HasBitsOf a set own
     → a.kind ≡ Allow → decides new more rest set bit ≡ decides granted decided (a ∷ rest) set bit
 step_allow a rest set granted decided own less new more bit d u v h k =
-    let t : Bool = (has_bit a.mask bit && takes_part a) && is_among (principal_of a) (everyone ∷ set) in
-    let first : has_bit new bit ≡ (has_bit granted bit || (t && not (has_bit decided bit))) =
-    u bit ∙ ap (λ x. has_bit granted bit || x) (d bit ∙ ap (λ x. x && not (has_bit decided bit)) (h.bits bit)) in
-    let second : has_bit more bit ≡ (has_bit decided bit || t) =
-    v bit ∙ ap (λ x. has_bit decided bit || x) (h.bits bit) in
-    let whole : is_granted_to (a ∷ rest) set bit ≡ cond t true (is_granted_to rest set bit) =
-    granted_to-cons a rest set bit ∙ ap (λ x. cond t (is_allow x) (is_granted_to rest set bit)) k in
-    ap (λ x. x || (not (has_bit more bit) && is_granted_to rest set bit)) first
-    ∙ ap (λ x. (has_bit granted bit || (t && not (has_bit decided bit))) || (not x && is_granted_to rest set bit))
-    second
-    ∙ allow_bits (has_bit granted bit) (has_bit decided bit) t (is_granted_to rest set bit)
-    ∙ ap (λ x. has_bit granted bit || (not (has_bit decided bit) && x)) (sym whole)
+    grind (arith, granted_to-cons a rest set bit, d bit, u bit, v bit, h.bits bit)
 
 -- one that denies only decides them
 step_deny : (a : Ace) (rest : List Ace) (set : List Principal) (granted decided own more bit : ℕ)
     → IsUnion decided own more → HasBitsOf a set own → a.kind ≡ Deny
     → decides granted more rest set bit ≡ decides granted decided (a ∷ rest) set bit
 step_deny a rest set granted decided own more bit v h k =
-    let t : Bool = (has_bit a.mask bit && takes_part a) && is_among (principal_of a) (everyone ∷ set) in
-    let second : has_bit more bit ≡ (has_bit decided bit || t) =
-    v bit ∙ ap (λ x. has_bit decided bit || x) (h.bits bit) in
-    let whole : is_granted_to (a ∷ rest) set bit ≡ cond t false (is_granted_to rest set bit) =
-    granted_to-cons a rest set bit ∙ ap (λ x. cond t (is_allow x) (is_granted_to rest set bit)) k in
-    ap (λ x. has_bit granted bit || (not x && is_granted_to rest set bit)) second
-    ∙ deny_bits (has_bit granted bit) (has_bit decided bit) t (is_granted_to rest set bit)
-    ∙ ap (λ x. has_bit granted bit || (not (has_bit decided bit) && x)) (sym whole)
+    grind (arith, granted_to-cons a rest set bit, v bit, h.bits bit)
 
 -- after the first i ACEs, what is granted and decided, with the rest, decides as the whole list
 pub record DecidesAll (refs : List AceRef) (set : List Principal) (i granted decided : ℕ) : Type 0 where
@@ -117,7 +73,7 @@ loop_starts refs set = record { bits = λ bit. rw (no_bit bit) refl }
 
 -- after the last the list is decided
 pub loop_ends : (refs : List AceRef) (set : List Principal) (granted decided i : ℕ) → length refs ≤ i
-    → DecidesAll refs set i granted decided → AreGranted (aces_in refs) set granted
+    → DecidesAll refs set i granted decided → IsGrantedTo (aces_in refs) set granted
 loop_ends refs set granted decided i le inv = record {
   bits = λ bit.
       sym (nothing (has_bit granted bit) (not (has_bit decided bit)))
@@ -125,38 +81,25 @@ loop_ends refs set granted decided i le inv = record {
 }
   where
     nothing : (x y : Bool) → (x || (y && false)) ≡ x
-    nothing true y = refl
-    nothing false true = refl
-    nothing false false = refl
+    nothing x y = grind arith
 
 -- answers that don't differ are the same
 differ_same : (x y : Bool) → differ x y ≡ false → x ≡ y
-differ_same true true h = refl
-differ_same false false h = refl
-differ_same true false h = absurd cc
-differ_same false true h = absurd cc
+differ_same x y h = grind arith
 
 -- an answer does not differ from itself
 differ_itself : (x : Bool) → differ x x ≡ false
-differ_itself true = refl
-differ_itself false = refl
-
--- one answer is true and the other not, either way round
-both_ways : (x y : Bool) → ((x && not y) || (y && not x)) ≡ differ x y
-both_ways true true = refl
-both_ways true false = refl
-both_ways false true = refl
-both_ways false false = refl
+differ_itself x = grind arith
 
 -- what one mask has and the other doesn't, either way round
 pub unlike_is : (m n less more result : ℕ) → IsDifference m n less → IsDifference n m more → IsUnion less more result
     → (bit : ℕ) → has_bit result bit ≡ differ (has_bit m bit) (has_bit n bit)
 unlike_is m n less more result d e u bit =
-    u bit ∙ rw (d bit, e bit) (both_ways (has_bit m bit) (has_bit n bit))
+    grind (arith, u bit, d bit, e bit)
 
 -- what one list grants and the other doesn't is what they differ on
 pub differing_are : (list other : List Ace) (set : List Principal) (m n result : ℕ)
-    → AreGranted list set m → AreGranted other set n
+    → IsGrantedTo list set m → IsGrantedTo other set n
     → ((bit : ℕ) → has_bit result bit ≡ differ (has_bit m bit) (has_bit n bit)) → AreDiffering list other set result
 differing_are list other set m n result h i is = record {
   bits = λ bit. is bit ∙ rw (h.bits bit, i.bits bit) refl;
@@ -213,7 +156,7 @@ has_part mask granted k part is h = same_answers part (has_bit granted k)
 -- the lowest of the rights on which the lists differ
 pub lowest_difference : (list other : List Ace) (set : List Principal) (rights mask granted k : ℕ) (first : Bool)
     → IsMask rights → AreDiffering list other set rights → IsLowestBit rights k → mask ≡ 2 ^ k
-    → AreGranted list set granted → IsTrue first ↔ IsSubset mask granted
+    → IsGrantedTo list set granted → IsTrue first ↔ IsSubset mask granted
     → IsLowestDifference list other set mask first
 lowest_difference list other set rights mask granted k first within d l is g f = record {
   bit = k;

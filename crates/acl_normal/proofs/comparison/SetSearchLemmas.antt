@@ -1,7 +1,8 @@
 -- Going over the small sets, one after the other.
-use Rattle.acl_normal.proofs.Common.{[], Ace, Bool, cond, drop, drop_all, drop_more, false, FindsFirst, GrantAlikeTo, inl, inr, length, List, may_overlap, None, Option, pairs, partners, Principal, principal, principals, refl, singles, slice_index_or, small_sets, Some, subst, true, ℕ, ◌++◌, ◌+◌, ◌<◌, ◌∷◌, ◌≡◌, ◌≤◌}
+use Rattle.acl_normal.proofs.Common.{[], Ace, cond, drop, drop_all, drop_more, FindsFirst, GrantAlikeTo, inl, inr, length, List, may_overlap, None, Option, principal_pairs, partners, Principal, principal, principals, refl, singles, slice_index_or, small_sets, Some, subst, true, ℕ, ◌++◌, ◌+◌, ◌<◌, ◌∷◌, ◌≡◌, ◌≤◌}
+use Rattle.std.proofs.lemmas.Bool.{cases_Bool}
 use Rattle.acl_perm.specs.declared.principal.Principal.{Principal as PrincipalRef}
-use Rattle.acl_normal.specs.internal.SetSearch.{Finds}
+use Rattle.acl_normal.specs.internal.SetSearch.{FindsSet}
 
 -- whatever is found among the rest is found among all
 pub record GoesOn (xs ys : List Ace) (rest whole : List (List Principal)) : Type 0 where
@@ -13,7 +14,7 @@ goes_on_all xs ys whole = record { found = λ r h. h }
 
 -- the search ends at a set at which the lists grant otherwise
 pub found_here : (xs ys : List Ace) (ps : List Principal) (rest whole : List (List Principal))
-    → (GrantAlikeTo xs ys ps → ⊥) → GoesOn xs ys (ps ∷ rest) whole → Finds xs ys whole (Some ps)
+    → (GrantAlikeTo xs ys ps → ⊥) → GoesOn xs ys (ps ∷ rest) whole → FindsSet xs ys whole (Some ps)
 found_here xs ys ps rest whole d g = record { first = g.found (Some ps) (inr (d, refl)) }
 
 -- and goes on behind one at which they grant alike
@@ -22,14 +23,14 @@ pub found_later : (xs ys : List Ace) (ps : List Principal) (rest whole : List (L
 found_later xs ys ps rest whole a g = record { found = λ r h. g.found r (inl (a, h)) }
 
 -- nothing is found where no set is left
-pub found_none : (xs ys : List Ace) (whole : List (List Principal)) → GoesOn xs ys [] whole → Finds xs ys whole None
+pub found_none : (xs ys : List Ace) (whole : List (List Principal)) → GoesOn xs ys [] whole → FindsSet xs ys whole None
 found_none xs ys whole g = record { first = g.found None refl }
 
 -- the search among single principals ends at one
 pub single_here : (xs ys : List Ace) (names : List PrincipalRef) (p : PrincipalRef) (whole : List (List Principal))
     (i : ℕ) → i < length names → (GrantAlikeTo xs ys (principal (slice_index_or names i p) ∷ []) → ⊥)
     → GoesOn xs ys (singles (principals (drop i names))) whole
-    → Finds xs ys whole (Some (principal (slice_index_or names i p) ∷ []))
+    → FindsSet xs ys whole (Some (principal (slice_index_or names i p) ∷ []))
 single_here xs ys names p whole i lt d g =
     found_here xs ys _ (singles (principals (drop (i + 1) names))) whole d
     (subst (λ v. GoesOn xs ys (singles (principals v)) whole) (drop_more names i p lt) g)
@@ -45,7 +46,7 @@ single_later xs ys names p whole i lt a g =
 
 -- or finds none
 pub single_none : (xs ys : List Ace) (names : List PrincipalRef) (whole : List (List Principal)) (i : ℕ)
-    → length names ≤ i → GoesOn xs ys (singles (principals (drop i names))) whole → Finds xs ys whole None
+    → length names ≤ i → GoesOn xs ys (singles (principals (drop i names))) whole → FindsSet xs ys whole None
 single_none xs ys names whole i le g =
     found_none xs ys whole (subst (λ v. GoesOn xs ys (singles (principals v)) whole) (drop_all i names le) g)
 
@@ -55,7 +56,7 @@ pub partner_here : (xs ys : List Ace) (s : Principal) (others : List PrincipalRe
     → may_overlap s (principal (slice_index_or others i q)) ≡ true
     → (GrantAlikeTo xs ys (s ∷ principal (slice_index_or others i q) ∷ []) → ⊥)
     → GoesOn xs ys (partners s (principals (drop i others))) whole
-    → Finds xs ys whole (Some (s ∷ principal (slice_index_or others i q) ∷ []))
+    → FindsSet xs ys whole (Some (s ∷ principal (slice_index_or others i q) ∷ []))
 partner_here xs ys s others q whole i lt o d g =
     let t = principal (slice_index_or others i q) in
     let rest = partners s (principals (drop (i + 1) others)) in
@@ -71,21 +72,19 @@ pub partner_later : (xs ys : List Ace) (s : Principal) (others : List PrincipalR
     → GoesOn xs ys (partners s (principals (drop i others))) whole
     → GoesOn xs ys (partners s (principals (drop (i + 1) others))) whole
 partner_later xs ys s others q whole i lt a g =
-    go (may_overlap s (principal (slice_index_or others i q))) refl
-    (subst (λ v. GoesOn xs ys (partners s (principals v)) whole) (drop_more others i q lt) g)
-  where
-    go : (b : Bool) → may_overlap s (principal (slice_index_or others i q)) ≡ b
-        → GoesOn xs ys (cond (may_overlap s (principal (slice_index_or others i q)))
-        ((s ∷ principal (slice_index_or others i q) ∷ []) ∷ partners s (principals (drop (i + 1) others)))
-        (partners s (principals (drop (i + 1) others)))) whole
-        → GoesOn xs ys (partners s (principals (drop (i + 1) others))) whole
-    go true e h = found_later xs ys (s ∷ principal (slice_index_or others i q) ∷ [])
-        (partners s (principals (drop (i + 1) others))) whole (a e) (rw e at h)
-    go false e h = rw e at h
+    let t = principal (slice_index_or others i q) in
+    let rest = partners s (principals (drop (i + 1) others)) in
+    let here : GoesOn xs ys (cond (may_overlap s t) ((s ∷ t ∷ []) ∷ rest) rest) whole =
+    subst (λ v. GoesOn xs ys (partners s (principals v)) whole) (drop_more others i q lt) g in
+    elim (cases_Bool (may_overlap s t)) [
+      | inl e ↦ found_later xs ys (s ∷ t ∷ []) rest whole (a e) (rw e at here)
+      | inr e ↦ rw e at here
+    ]
 
 -- or finds none
 pub partner_none : (xs ys : List Ace) (s : Principal) (others : List PrincipalRef) (whole : List (List Principal))
-    (i : ℕ) → length others ≤ i → GoesOn xs ys (partners s (principals (drop i others))) whole → Finds xs ys whole None
+    (i : ℕ) → length others ≤ i → GoesOn xs ys (partners s (principals (drop i others))) whole
+    → FindsSet xs ys whole None
 partner_none xs ys s others whole i le g =
     found_none xs ys whole (subst (λ v. GoesOn xs ys (partners s (principals v)) whole) (drop_all i others le) g)
 
@@ -106,12 +105,12 @@ found_right xs ys (s ∷ left) right r (inr h) i = absurd (cc)
 -- the search among pairs ends at the pairs of one principal
 pub pair_here : (xs ys : List Ace) (names others : List PrincipalRef) (p : PrincipalRef)
     (whole : List (List Principal)) (i : ℕ) (ps : List Principal) → i < length names → others ≡ drop (i + 1) names
-    → Finds xs ys (partners (principal (slice_index_or names i p)) (principals others)) (Some ps)
-    → GoesOn xs ys (pairs (principals (drop i names))) whole → Finds xs ys whole (Some ps)
+    → FindsSet xs ys (partners (principal (slice_index_or names i p)) (principals others)) (Some ps)
+    → GoesOn xs ys (principal_pairs (principals (drop i names))) whole → FindsSet xs ys whole (Some ps)
 pair_here xs ys names others p whole i ps lt is h g =
     let here : GoesOn xs ys (partners (principal (slice_index_or names i p))
-    (principals (drop (i + 1) names)) ++ pairs (principals (drop (i + 1) names))) whole =
-    subst (λ v. GoesOn xs ys (pairs (principals v)) whole) (drop_more names i p lt) g in
+    (principals (drop (i + 1) names)) ++ principal_pairs (principals (drop (i + 1) names))) whole =
+    subst (λ v. GoesOn xs ys (principal_pairs (principals v)) whole) (drop_more names i p lt) g in
     record {
       first = here.found (Some ps)
           (found_left xs ys _ _ ps (subst
@@ -122,13 +121,13 @@ pair_here xs ys names others p whole i ps lt is h g =
 -- or goes on behind them
 pub pair_later : (xs ys : List Ace) (names others : List PrincipalRef) (p : PrincipalRef)
     (whole : List (List Principal)) (i : ℕ) → i < length names → others ≡ drop (i + 1) names
-    → Finds xs ys (partners (principal (slice_index_or names i p)) (principals others)) None
-    → GoesOn xs ys (pairs (principals (drop i names))) whole
-    → GoesOn xs ys (pairs (principals (drop (i + 1) names))) whole
+    → FindsSet xs ys (partners (principal (slice_index_or names i p)) (principals others)) None
+    → GoesOn xs ys (principal_pairs (principals (drop i names))) whole
+    → GoesOn xs ys (principal_pairs (principals (drop (i + 1) names))) whole
 pair_later xs ys names others p whole i lt is h g =
     let here : GoesOn xs ys (partners (principal (slice_index_or names i p))
-    (principals (drop (i + 1) names)) ++ pairs (principals (drop (i + 1) names))) whole =
-    subst (λ v. GoesOn xs ys (pairs (principals v)) whole) (drop_more names i p lt) g in
+    (principals (drop (i + 1) names)) ++ principal_pairs (principals (drop (i + 1) names))) whole =
+    subst (λ v. GoesOn xs ys (principal_pairs (principals v)) whole) (drop_more names i p lt) g in
     record {
       found = λ r later. here.found r
           (found_right xs ys _ _ r (subst
@@ -138,24 +137,26 @@ pair_later xs ys names others p whole i lt is h g =
 
 -- or finds none
 pub pair_none : (xs ys : List Ace) (names : List PrincipalRef) (whole : List (List Principal)) (i : ℕ)
-    → length names ≤ i → GoesOn xs ys (pairs (principals (drop i names))) whole → Finds xs ys whole None
+    → length names ≤ i → GoesOn xs ys (principal_pairs (principals (drop i names))) whole → FindsSet xs ys whole None
 pair_none xs ys names whole i le g =
-    found_none xs ys whole (subst (λ v. GoesOn xs ys (pairs (principals v)) whole) (drop_all i names le) g)
+    found_none xs ys whole (subst (λ v. GoesOn xs ys (principal_pairs (principals v)) whole) (drop_all i names le) g)
 
 -- the three parts together
 pub empty_differs : (xs ys : List Ace) (ps : List Principal) → (GrantAlikeTo xs ys [] → ⊥)
-    → Finds xs ys (small_sets ps) (Some [])
+    → FindsSet xs ys (small_sets ps) (Some [])
 empty_differs xs ys ps d = record { first = inr (d, refl) }
 
 -- a single principal is found before all pairs
 pub single_differs : (xs ys : List Ace) (ps set : List Principal) → GrantAlikeTo xs ys []
-    → Finds xs ys (singles ps) (Some set) → Finds xs ys (small_sets ps) (Some set)
-single_differs xs ys ps set a h = record { first = inl (a, found_left xs ys (singles ps) (pairs ps) set h.first) }
+    → FindsSet xs ys (singles ps) (Some set) → FindsSet xs ys (small_sets ps) (Some set)
+single_differs xs ys ps set a h =
+    record { first = inl (a, found_left xs ys (singles ps) (principal_pairs ps) set h.first) }
 
 -- where none is found, the pairs decide
 pub pair_decides : (xs ys : List Ace) (ps : List Principal) (r : Option (List Principal)) → GrantAlikeTo xs ys []
-    → Finds xs ys (singles ps) None → Finds xs ys (pairs ps) r → Finds xs ys (small_sets ps) r
-pair_decides xs ys ps r a h i = record { first = inl (a, found_right xs ys (singles ps) (pairs ps) r h.first i.first) }
+    → FindsSet xs ys (singles ps) None → FindsSet xs ys (principal_pairs ps) r → FindsSet xs ys (small_sets ps) r
+pair_decides xs ys ps r a h i =
+    record { first = inl (a, found_right xs ys (singles ps) (principal_pairs ps) r h.first i.first) }
 
 -- where a search begins and ends, among single principals, partners and pairs
 pub ruleset single_ends = (goes_on_all, single_here, single_none)

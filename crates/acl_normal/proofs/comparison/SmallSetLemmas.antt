@@ -1,30 +1,16 @@
 -- The small situations of two lists decide whether the lists grant the same.
 use Rattle.std.specs.Prelude.{IsFalse}
-use Rattle.acl_normal.proofs.Common.{[], Ace, all_rights, AllByRecursion, Allow, ap, arith, Bool, column, Deny, everyone, false, false≢true, FindsFirst, GrantAlikeTo, has_bit, HasName, HasNames, inl, inr, is_allow, is_among, is_granted_to, IsRising, IsSituation, IsTrue, Kind, length, Less, List, longest, longest_name, map, map-append, matches, may_overlap, mentioned, None, not, or_cases, or_left, pairs, partners, Principal, principal_cmp, principal_eq, principal_name, principal_total, refl, SameGrants, singles, Situation, small_sets, small_situation, Some, subst, sym, true, unwrap_or, user, ℕ, ⊎_elim, ◌++◌, ◌+◌, ◌<◌, ◌^◌, ◌||◌, ◌↔◌, ◌∙◌, ◌∷◌, ◌≡◌, ◌≢◌, ◌⊎◌}
+use Rattle.acl_normal.proofs.Common.{[], Ace, all_rights, AllByRecursion, ap, arith, Bool, column, Deny, everyone, false, false≢true, FindsFirst, GrantAlikeTo, has_bit, HasName, HasNames, inl, inr, is_allow, is_among, is_granted_to, IsRisingSet, IsSituation, IsTrue, Kind, length, Less, List, longest, longest_name, map, map-append, matches, may_overlap, mentioned, None, not, or_cases, or_left, principal_pairs, partners, Principal, principal_cmp, principal_eq, principal_name, principal_total, refl, SameGrants, singles, Situation, small_sets, small_situation, Some, subst, sym, true, unwrap_or, user, ℕ, ⊎_elim, ◌++◌, ◌+◌, ◌<◌, ◌^◌, ◌||◌, ◌↔◌, ◌∙◌, ◌∷◌, ◌≡◌, ◌≢◌, ◌⊎◌}
 use Rattle.acl_eval.specs.Grant.{Grant, grants_bit}
+use Rattle.std.proofs.lemmas.Bool.{cond_both}
+use Rattle.acl_normal.proofs.Each.{all_append, all_left, at_split, all_right}
 use Rattle.acl_normal.proofs.unique.Bits.{has_power, power_has}
 use Rattle.acl_normal.proofs.unique.ListColumns.{same_grants_from_columns, same_verdicts}
 use Rattle.acl_normal.proofs.comparison.MentionedPrincipals.{IsOneOf, column_is_short, first_has, mentioned_named, mentioned_others, mentioned_rising, one_is_short, second_has}
 use Rattle.acl_normal.proofs.unique.Names.{overlaps_itself, principal_eq_same}
-use Rattle.acl_normal.proofs.unique.Realised.{AllNamed, AreShort, HasOneUser, first_kind_alike, one_user, small_is_situation, small_matches}
+use Rattle.acl_normal.proofs.unique.Realised.{HasOneUser, first_kind_alike, one_user, small_is_situation, small_matches}
 use Rattle.acl_normal.proofs.unique.Small.{IsSmallSet, none, one, small_suffice, two}
 use Rattle.acl_normal.specs.SmallSets.{GrantAlike, IsFirstDifference, SmallSituationsSuffice, TellsApart, strange_length}
-
--- what holds of two parts holds of both together
-pub all_append : {X : Type 0} (P : X → Type 0) (xs ys : List X) → AllByRecursion P xs → AllByRecursion P ys
-    → AllByRecursion P (xs ++ ys)
-all_append P [] ys h i = i
-all_append P (x ∷ xs) ys h i = (h.0, all_append P xs ys h.1 i)
-
--- what holds of all holds of the first part
-pub all_left : {X : Type 0} (P : X → Type 0) (xs ys : List X) → AllByRecursion P (xs ++ ys) → AllByRecursion P xs
-all_left P [] ys h = tt
-all_left P (x ∷ xs) ys h = (h.0, all_left P xs ys h.1)
-
--- and of the second
-pub all_right : {X : Type 0} (P : X → Type 0) (xs ys : List X) → AllByRecursion P (xs ++ ys) → AllByRecursion P ys
-all_right P [] ys h = h
-all_right P (x ∷ xs) ys h = all_right P xs ys h.1
 
 -- what holds of mapped elements holds of the elements by their map
 pub all_mapped : {X Y : Type 0} (P : Y → Type 0) (f : X → Y) (xs : List X) → AllByRecursion P (map f xs)
@@ -51,56 +37,30 @@ pub all_partners : (P : Principal → Type 0) (p : Principal) (ps : List Princip
     → principal_eq p everyone ≡ false → AllByRecursion P ps → AllByRecursion (λ q. principal_eq q everyone ≡ false) ps
     → AllByRecursion (λ q. principal_cmp p q ≡ Less) ps → AllByRecursion (IsSmallSet P) (partners p ps)
 all_partners P p [] hp op h o below = tt
-all_partners P p (q ∷ ps) hp op h o below = go (may_overlap p q) refl (all_partners P p ps hp op h.1 o.1 below.1)
-  where
-    go : (b : Bool) → may_overlap p q ≡ b → AllByRecursion (IsSmallSet P) (partners p ps)
-        → AllByRecursion (IsSmallSet P) (partners p (q ∷ ps))
-    go true e ih = rw e (two p q hp h.0 op o.0 e below.0, ih)
-    go false e ih = rw e ih
+all_partners P p (q ∷ ps) hp op h o below =
+    let later = all_partners P p ps hp op h.1 o.1 below.1 in
+    cond_both (may_overlap p q) _ _ (AllByRecursion (IsSmallSet P))
+    (λ e. (two p q hp h.0 op o.0 e below.0, later)) (λ e. later)
 
 -- all sets of two are
 pub all_pairs : (P : Principal → Type 0) (ps : List Principal) → AllByRecursion P ps
-    → AllByRecursion (λ p. principal_eq p everyone ≡ false) ps → IsRising ps → AllByRecursion (IsSmallSet P) (pairs ps)
+    → AllByRecursion (λ p. principal_eq p everyone ≡ false) ps → IsRisingSet ps
+    → AllByRecursion (IsSmallSet P) (principal_pairs ps)
 all_pairs P [] h o r = tt
-all_pairs P (p ∷ ps) h o r = all_append (IsSmallSet P) (partners p ps) (pairs ps)
+all_pairs P (p ∷ ps) h o r = all_append (IsSmallSet P) (partners p ps) (principal_pairs ps)
     (all_partners P p ps h.0 o.0 h.1 o.1 r.0) (all_pairs P ps h.1 o.1 r.1)
 
 -- all sets of the list are
 pub all_small : (P : Principal → Type 0) (ps : List Principal) → AllByRecursion P ps
-    → AllByRecursion (λ p. principal_eq p everyone ≡ false) ps → IsRising ps
+    → AllByRecursion (λ p. principal_eq p everyone ≡ false) ps → IsRisingSet ps
     → AllByRecursion (IsSmallSet P) (small_sets ps)
 all_small P ps h o r = (
   none,
-  all_append (IsSmallSet P) (singles ps) (pairs ps) (all_singles P ps h o)
+  all_append (IsSmallSet P) (singles ps) (principal_pairs ps) (all_singles P ps h o)
       (all_pairs P ps h o r),
 )
 
 -- each small set stands in the enumeration
-
--- what holds of each set of one holds at each principal
-pub at_single : (Q : List Principal → Type 0) (ps : List Principal) (p : Principal) → AllByRecursion Q (singles ps)
-    → is_among p ps ≡ true → Q (p ∷ [])
-at_single Q [] p h i = cc
-at_single Q (x ∷ ps) p h i = ⊎_elim
-    (λ e. subst (λ v. Q (v ∷ [])) (sym (principal_eq_same p x e)) h.0)
-    (λ j. at_single Q ps p h.1 j)
-    (or_cases (principal_eq p x) (is_among p ps) i)
-
--- what holds of each set of one and a later one holds at each later one that may overlap
-pub at_partner : (Q : List Principal → Type 0) (p q : Principal) (ps : List Principal)
-    → AllByRecursion Q (partners p ps) → is_among q ps ≡ true → may_overlap p q ≡ true → Q (p ∷ q ∷ [])
-at_partner Q p q [] h i o = cc
-at_partner Q p q (x ∷ ps) h i o =
-    go (may_overlap p x) refl (at_partner Q p q ps) (or_cases (principal_eq q x) (is_among q ps) i)
-  where
-    go : (b : Bool) → may_overlap p x ≡ b
-        → (AllByRecursion Q (partners p ps) → is_among q ps ≡ true → may_overlap p q ≡ true → Q (p ∷ q ∷ []))
-        → (principal_eq q x ≡ true) ⊎ (is_among q ps ≡ true) → Q (p ∷ q ∷ [])
-    go true e ih (inl s) = let here = rw e at h in subst (λ v. Q (p ∷ v ∷ [])) (sym (principal_eq_same q x s)) here.0
-    go true e ih (inr j) = let here = rw e at h in ih here.1 j o
-    go false e ih (inl s) = let apart : may_overlap p q ≡ false =
-        subst (λ v. may_overlap p v ≡ false) (sym (principal_eq_same q x s)) e in cc
-    go false e ih (inr j) = let here = rw e at h in ih here j o
 
 -- what holds of all principals holds of one among them
 pub below_one : (P : Principal → Type 0) (ps : List Principal) (p : Principal) → AllByRecursion P ps
@@ -111,6 +71,24 @@ below_one P (x ∷ ps) p h i = ⊎_elim
     (λ j. below_one P ps p h.1 j)
     (or_cases (principal_eq p x) (is_among p ps) i)
 
+-- what holds of each set of one holds of each principal's
+of_singles : (Q : List Principal → Type 0) (ps : List Principal) → AllByRecursion Q (singles ps)
+    → AllByRecursion (λ p. Q (p ∷ [])) ps
+of_singles Q [] h = tt
+of_singles Q (p ∷ ps) h = (h.0, of_singles Q ps h.1)
+
+-- what holds of each set of one and a later one holds of each later one that may overlap
+of_partners : (Q : List Principal → Type 0) (p : Principal) (ps : List Principal) → AllByRecursion Q (partners p ps)
+    → AllByRecursion (λ q. may_overlap p q ≡ true → Q (p ∷ q ∷ [])) ps
+of_partners Q p [] h = tt
+of_partners Q p (x ∷ ps) h = go (may_overlap p x) refl (of_partners Q p ps)
+  where
+    go : (b : Bool) → may_overlap p x ≡ b
+        → (AllByRecursion Q (partners p ps) → AllByRecursion (λ q. may_overlap p q ≡ true → Q (p ∷ q ∷ [])) ps)
+        → AllByRecursion (λ q. may_overlap p q ≡ true → Q (p ∷ q ∷ [])) (x ∷ ps)
+    go true e ih = let here = rw e at h in (λ o. here.0, ih here.1)
+    go false e ih = (λ o. absurd (false≢true (sym e ∙ o)), ih (rw e at h))
+
 -- nothing is below itself
 pub not_below_itself : (p : Principal) → principal_cmp p p ≡ Less → ⊥
 not_below_itself p h = let back = principal_total.antisymm p p in cc
@@ -120,13 +98,13 @@ pub not_both_below : (p q : Principal) → principal_cmp p q ≡ Less → princi
 not_both_below p q h i = not_below_itself p (principal_total.trans p q p h i)
 
 -- what holds of each set of two holds at each two that may overlap
-pub at_pair : (Q : List Principal → Type 0) (p q : Principal) (ps : List Principal) → IsRising ps
-    → AllByRecursion Q (pairs ps) → is_among p ps ≡ true → is_among q ps ≡ true → may_overlap p q ≡ true
+pub at_pair : (Q : List Principal → Type 0) (p q : Principal) (ps : List Principal) → IsRisingSet ps
+    → AllByRecursion Q (principal_pairs ps) → is_among p ps ≡ true → is_among q ps ≡ true → may_overlap p q ≡ true
     → principal_cmp p q ≡ Less → Q (p ∷ q ∷ [])
 at_pair Q p q [] r h i j o l = cc
 at_pair Q p q (x ∷ ps) r h i j o l =
     go (or_cases (principal_eq p x) (is_among p ps) i) (or_cases (principal_eq q x) (is_among q ps) j)
-    (at_pair Q p q ps r.1 (all_right Q (partners x ps) (pairs ps) h))
+    (at_pair Q p q ps r.1 (all_right Q (partners x ps) (principal_pairs ps) h))
   where
     go : (principal_eq p x ≡ true) ⊎ (is_among p ps ≡ true) → (principal_eq q x ≡ true) ⊎ (is_among q ps ≡ true)
         → (is_among p ps ≡ true → is_among q ps ≡ true → may_overlap p q ≡ true → principal_cmp p q ≡ Less
@@ -136,7 +114,8 @@ at_pair Q p q (x ∷ ps) r h i j o l =
         (principal_eq_same q x f ∙ sym (principal_eq_same p x e)) l))
     go (inl e) (inr f) ih =
         let same : p ≡ x = principal_eq_same p x e in
-        let here : Q (x ∷ q ∷ []) = at_partner Q x q ps (all_left Q (partners x ps) (pairs ps) h) f
+        let here : Q (x ∷ q ∷ []) = below_one (λ v. may_overlap x v ≡ true → Q (x ∷ v ∷ [])) ps q
+        (of_partners Q x ps (all_left Q (partners x ps) (principal_pairs ps) h)) f
         (subst (λ v. may_overlap v q ≡ true) same o) in
         subst (λ v. Q (v ∷ q ∷ [])) (sym same) here
     go (inr e) (inl f) ih = absurd
@@ -150,26 +129,22 @@ pub among_others : (ps : List Principal) (p : Principal) → IsOneOf ps p → pr
 among_others ps p h e = subst (λ t. (t || is_among p ps) ≡ true) e h
 
 -- what holds of each set of the list holds at each small set
-pub at_small : (Q : List Principal → Type 0) (ps set : List Principal) → IsRising ps
+pub at_small : (Q : List Principal → Type 0) (ps set : List Principal) → IsRisingSet ps
     → AllByRecursion Q (small_sets ps) → IsSmallSet (IsOneOf ps) set → Q set
 at_small Q ps _ r h none = h.0
-at_small Q ps _ r h (one p m e) = at_single Q ps p (all_left Q (singles ps) (pairs ps) h.1) (among_others ps p m e)
+at_small Q ps _ r h (one p m e) = below_one (λ v. Q (v ∷ [])) ps p
+    (of_singles Q ps (all_left Q (singles ps) (principal_pairs ps) h.1)) (among_others ps p m e)
 at_small Q ps _ r h (two p q m n e f o l) =
-    at_pair Q p q ps r (all_right Q (singles ps) (pairs ps) h.1) (among_others ps p m e) (among_others ps q n f) o l
+    at_pair Q p q ps r (all_right Q (singles ps) (principal_pairs ps) h.1) (among_others ps p m e)
+    (among_others ps q n f) o l
 
 -- what a small set is
 
--- the names of a small set of short names are short
-pub small_short : (n : ℕ) (set : List Principal) → IsSmallSet (λ p. length (principal_name p) < n) set → AreShort n set
-small_short n _ none = tt
-small_short n _ (one p m e) = (m, tt)
-small_short n _ (two p q m k e f o l) = (m, (k, tt))
-
--- those of a small set of names are names
-pub small_named : (set : List Principal) → IsSmallSet HasName set → AllNamed set
-small_named _ none = tt
-small_named _ (one p m e) = (m, tt)
-small_named _ (two p q m k e f o l) = (m, (k, tt))
+-- what holds of the principals of a small set holds of each
+pub small_each : (P : Principal → Type 0) (set : List Principal) → IsSmallSet P set → AllByRecursion P set
+small_each P _ none = tt
+small_each P _ (one p m e) = (m, tt)
+small_each P _ (two p q m k e f o l) = (m, (k, tt))
 
 -- a small set has at most one user name
 pub small_one_user : (P : Principal → Type 0) (set : List Principal) → IsSmallSet P set → HasOneUser set
@@ -193,14 +168,11 @@ pub situation_is_set : (n : ℕ) (set : List Principal) (xs : List Ace) (b : ℕ
 situation_is_set n set xs b pos small short =
     ap (λ o. is_allow (unwrap_or o Deny))
     (first_kind_alike (matches (small_situation n set)) (λ r. is_among r (everyone ∷ set)) (column xs b) n
-    (λ r l. small_matches n set (small_short n set small) (small_one_user _ set small) pos r l) short)
+    (λ r l. small_matches n set (small_each _ set small) (small_one_user _ set small) pos r l) short)
 
 -- kinds that both allow, or both don't, are the same
 pub kinds_from_allow : (j k : Kind) → is_allow j ≡ is_allow k → j ≡ k
-kinds_from_allow Deny Deny h = refl
-kinds_from_allow Allow Allow h = refl
-kinds_from_allow Deny Allow h = cc
-kinds_from_allow Allow Deny h = cc
+kinds_from_allow j k h = grind arith
 
 -- lists that grant alike in each small situation grant the same
 pub small_situations_suffice : SmallSituationsSuffice
@@ -216,18 +188,26 @@ small_situations_suffice xs ys all =
     (λ set small. kinds_from_allow _ _
     (at_small (λ v. GrantAlike xs ys (small_situation n v)) ms set (mentioned_rising xs ys) each small b is_bit)))
 
+-- in the small situation of a set, both lists grant what they grant to the set
+both_situations : (xs ys : List Ace) (set : List Principal) (b : ℕ)
+    → IsSmallSet (λ p. length (principal_name p) < strange_length xs ys) set
+    → (grants_bit xs (small_situation (strange_length xs ys) set) b ≡ is_granted_to xs set b)
+    × (grants_bit ys (small_situation (strange_length xs ys) set) b ≡ is_granted_to ys set b)
+both_situations xs ys set b small = (
+  situation_is_set (strange_length xs ys) set xs b (omega arith) small
+      (column_is_short (mentioned xs ys) (column xs b) (first_has b xs ys)),
+  situation_is_set (strange_length xs ys) set ys b (omega arith) small
+      (column_is_short (mentioned xs ys) (column ys b) (second_has b xs ys)),
+)
+
 -- the lists agree in the small situation just where they agree at the set
 pub alike_in_situation : (xs ys : List Ace) (set : List Principal)
     → IsSmallSet (λ p. length (principal_name p) < strange_length xs ys) set
     → (GrantAlike xs ys (small_situation (strange_length xs ys) set)) ↔ (GrantAlikeTo xs ys set)
-alike_in_situation xs ys set small =
-    let ms = mentioned xs ys in
-    let n : ℕ = longest ms + 1 in
-    let left : (b : ℕ) → grants_bit xs (small_situation n set) b ≡ is_granted_to xs set b =
-    λ b. situation_is_set n set xs b (omega arith) small (column_is_short ms (column xs b) (first_has b xs ys)) in
-    let right : (b : ℕ) → grants_bit ys (small_situation n set) b ≡ is_granted_to ys set b =
-    λ b. situation_is_set n set ys b (omega arith) small (column_is_short ms (column ys b) (second_has b xs ys)) in
-    ((λ h b i. sym (left b) ∙ h b i ∙ right b), (λ h b i. left b ∙ h b i ∙ sym (right b)))
+alike_in_situation xs ys set small = (
+  λ h b i. sym (both_situations xs ys set b small).0 ∙ h b i ∙ (both_situations xs ys set b small).1,
+  λ h b i. (both_situations xs ys set b small).0 ∙ h b i ∙ sym (both_situations xs ys set b small).1,
+)
 
 -- the sets of mentioned principals have names shorter than the strange ones
 pub sets_short : (xs ys : List Ace)
@@ -291,12 +271,6 @@ none_then_same xs ys h =
     (λ set small alike. (alike_in_situation xs ys set small).1 alike) (sets_short xs ys)
     (none_differs xs ys (small_sets (mentioned xs ys)) h))
 
--- an element of a list of which something holds
-pub at_split : {X : Type 0} (P : X → Type 0) (whole before : List X) (x : X) (after : List X)
-    → whole ≡ before ++ x ∷ after → AllByRecursion P whole → P x
-at_split P whole before x after is h = let i : AllByRecursion P (before ++ x ∷ after) =
-    subst (λ v. AllByRecursion P v) is h in (all_right P before (x ∷ after) i).0
-
 -- the small situation of the set that is found first is one of names, if those of the lists are
 pub found_is_situation : (xs ys : List Ace) (set : List Principal) → HasNames xs → HasNames ys
     → FindsFirst xs ys (small_sets (mentioned xs ys)) (Some set)
@@ -305,7 +279,7 @@ found_is_situation xs ys set nx ny h =
     let s = first_set xs ys (small_sets (mentioned xs ys)) set h in
     let named = at_split (IsSmallSet HasName) (small_sets (mentioned xs ys)) s.before set s.after s.is
     (sets_named xs ys nx ny) in
-    small_is_situation (strange_length xs ys) set (omega arith) (small_named set named)
+    small_is_situation (strange_length xs ys) set (omega arith) (small_each HasName set named)
 
 -- lists that differ at a small set grant otherwise
 pub some_then_differ : (xs ys : List Ace) (set : List Principal) → HasNames xs → HasNames ys
@@ -333,11 +307,7 @@ first_difference xs ys set bit mask first h is_power sixteen differs lowest gran
     let earlier : AllByRecursion (IsSmallSet (λ p. length (principal_name p) < n)) s.before =
     all_left _ s.before (set ∷ s.after)
     (subst (λ v. AllByRecursion (IsSmallSet (λ p. length (principal_name p) < n)) v) s.is (sets_short xs ys)) in
-    let ms = mentioned xs ys in
-    let left : (b : ℕ) → grants_bit xs (small_situation n set) b ≡ is_granted_to xs set b =
-    λ b. situation_is_set n set xs b (omega arith) small (column_is_short ms (column xs b) (first_has b xs ys)) in
-    let right : (b : ℕ) → grants_bit ys (small_situation n set) b ≡ is_granted_to ys set b =
-    λ b. situation_is_set n set ys b (omega arith) small (column_is_short ms (column ys b) (second_has b xs ys)) in
+    let at = λ (b : ℕ). both_situations xs ys set b small in
     record {
       before = map (small_situation n) s.before;
       after = map (small_situation n) s.after;
@@ -348,9 +318,9 @@ first_difference xs ys set bit mask first h is_power sixteen differs lowest gran
       bit = bit;
       one_bit = is_power;
       of_rights = sixteen;
-      differs = λ e. differs (sym (left bit) ∙ e ∙ right bit);
-      lowest = λ b l i. left b ∙ lowest b l i ∙ sym (right b);
-      first = grants ∙ sym (left bit);
+      differs = λ e. differs (sym (at bit).0 ∙ e ∙ (at bit).1);
+      lowest = λ b l i. (at b).0 ∙ lowest b l i ∙ sym (at b).1;
+      first = grants ∙ sym (at bit).0;
     }
 
 -- a request of one bit is granted just as the bit is
@@ -365,10 +335,7 @@ one_bit_granted xs s bit mask first is h = (
 
 -- the other of two answers that differ
 other_answer : (x y : Bool) → (x ≡ y → ⊥) → not x ≡ y
-other_answer true true h = absurd (h refl)
-other_answer true false h = refl
-other_answer false true h = refl
-other_answer false false h = absurd (h refl)
+other_answer x y h = grind arith
 
 -- what is not true is false
 false_by_not : (x : Bool) → IsTrue (not x) ↔ IsFalse x

@@ -1,12 +1,10 @@
--- Tables tell which standings invert another.
-use Rattle.acl_normal.proofs.Common.{[], Ace, all_mentioned, AllByRecursion, Allow, AllZip, and_parts, ap, arith, Bool, cases_eq, cond, Deny, differ, eq-eqb, everyone, false, false≢true, first_place, get_or-replicate, get_or-set_other, get_or-set_same, get_or_read, has_bit, inl, inr, inverts, inverts_any, is_among, is_of_camp, is_users, IsStanding, Kind, le-ltb, length, length-replicate, length-set, List, lt-ltb, max, nat_lt, ne_eqb, no_standing, not, Principal, principal_of, refl, replicate, slice_index_or, slice_set, StandAs, Standing, subst, sym, take, take_all, take_more, takes_part, true, TwoLists, ℕ, ◌&&◌, ◌++◌, ◌+◌, ◌-◌, ◌<◌, ◌==◌, ◌||◌, ◌∙◌, ◌∷◌, ◌≡◌, ◌≤◌, ◌⊎◌}
-use Rattle.std.proofs.Common.{suc, zero}
-use Rattle.std.proofs.lemmas.Bool.{cases_order}
+-- Tables that show which standings invert another.
+use Rattle.acl_normal.proofs.Common.{[], Ace, all_mentioned, AllByRecursion, AllZip, and_parts, ap, arith, Bool, cases_eq, cond, differ, eq-eqb, false, false≢true, first_place, get_or-replicate, get_or-set_other, get_or-set_same, get_or_read, inl, inr, inverts, inverts_any, is_of_camp, is_users, IsStanding, Kind, le-ltb, length, length-replicate, length-set, List, max, nat_lt, ne_eqb, no_standing, not, Principal, refl, replicate, slice_index_or, slice_set, StandAs, Standing, subst, sym, take, take_all, take_more, true, TwoLists, ℕ, ◌&&◌, ◌++◌, ◌+◌, ◌-◌, ◌<◌, ◌==◌, ◌||◌, ◌∙◌, ◌∷◌, ◌≡◌, ◌≤◌, ◌⊎◌}
 use Rattle.std.proofs.lemmas.Bool.Decides.{nat_tests}
-use Rattle.acl_normal.specs.internal.PlaceTables.{HasNone, HasPlaces, IsFirstOf, IsScattered, IsPlaceTable, Raises, is_counted, is_told, most_at, most_before, other_place, place_of}
+use Rattle.acl_normal.proofs.Each.{all_at}
+use Rattle.acl_normal.specs.internal.PlaceTables.{HasNone, IsStandingWithin, IsFirstOf, IsScattered, IsPlaceTable, Raises, is_counted, is_told, most_at, most_before, other_place, place_of}
 use Rattle.acl_normal.specs.internal.TwoLists.{AreWithin}
 use Rattle.acl_normal.specs.declared.class.Class.{Class}
-use Rattle.acl_normal.specs.declared.class.Class.TheVariants.{Others, Users}
 use Rattle.acl_normal.specs.declared.comparison.inversions.Camp.{Camp}
 use Rattle.acl_normal.specs.declared.comparison.inversions.Side.{Side}
 use Rattle.acl_normal.specs.declared.comparison.inversions.Side.TheVariants.{Here, There}
@@ -25,45 +23,18 @@ most_at-append q w k (r ∷ xs) ys = let ih = most_at-append q w k xs ys in omeg
 -- nothing stands just before place 0
 pub at_zero : (q : Camp) (w : Side) (rows : List Standing) → most_at q w 0 rows ≡ 0
 at_zero q w [] = refl
-at_zero q w (r ∷ rows) = rw (ne_eqb (place_of w r + 1) 0 (λ e. absurd (omega arith)), at_zero q w rows)
-    (none (is_counted q r))
-  where
-    none : (t : Bool) → max (cond (t && false) (other_place w r + 1) 0) 0 ≡ 0
-    none true = refl
-    none false = refl
+at_zero q w (r ∷ rows) =
+    grind (arith, at_zero q w rows, ne_eqb (place_of w r + 1) 0 (λ e. absurd (omega arith)))
 
 -- nothing stands before place 0
 pub before_zero : (q : Camp) (w : Side) (rows : List Standing) → most_before q w 0 rows ≡ 0
 before_zero q w [] = refl
-before_zero q w (r ∷ rows) =
-    rw (le-ltb (place_of w r) 0 (omega arith), before_zero q w rows) (none (is_counted q r))
-  where
-    none : (t : Bool) → max (cond (t && false) (other_place w r + 1) 0) 0 ≡ 0
-    none true = refl
-    none false = refl
+before_zero q w (r ∷ rows) = grind (arith, before_zero q w rows, le-ltb (place_of w r) 0 (omega arith))
 
 -- the head's share, one place on
 one_more : (t : Bool) (k j v : ℕ)
     → cond (t && nat_lt j (k + 1)) v 0 ≡ max (cond (t && (j + 1 == k + 1)) v 0) (cond (t && nat_lt j k) v 0)
-one_more false k j v = refl
-one_more true k j v = go (cases_order j k)
-  where
-    go : (j ≡ k) ⊎ ((j < k) ⊎ (k < j))
-        → cond (nat_lt j (k + 1)) v 0 ≡ max (cond (j + 1 == k + 1) v 0) (cond (nat_lt j k) v 0)
-    go (inl e) = rw (lt-ltb j (k + 1) (omega arith), eq-eqb (j + 1) (k + 1) (omega arith), le-ltb j k (omega arith))
-        (omega arith)
-    go (inr (inl l)) = rw (
-      lt-ltb j (k + 1) (omega arith),
-      ne_eqb (j + 1) (k + 1)
-          (λ e. absurd (omega arith)),
-      lt-ltb j k l,
-    ) (omega arith)
-    go (inr (inr l)) = rw (
-      le-ltb j (k + 1) (omega arith),
-      ne_eqb (j + 1) (k + 1)
-          (λ e. absurd (omega arith)),
-      le-ltb j k (omega arith),
-    ) refl
+one_more t k j v = grind (arith, nat_tests)
 
 -- one place on, those just before it are added
 pub before_more : (q : Camp) (w : Side) (k : ℕ) (rows : List Standing)
@@ -83,9 +54,7 @@ any_over q w k v (r ∷ rows) =
 -- one standing, and the others
 over_head : (t l : Bool) (v x m : ℕ)
     → nat_lt v (max (cond (t && l) (x + 1) 0) m) ≡ ((t && (l && not (nat_lt x v))) || nat_lt v m)
-over_head true true v x m = grind (arith, nat_tests)
-over_head true false v x m = grind (arith, nat_tests)
-over_head false l v x m = grind (arith, nat_tests)
+over_head t l v x m = grind (arith, nat_tests)
 
 -- the greatest is over a number exactly if some standing is
 pub over_is : (q : Camp) (w : Side) (k v : ℕ) (rows : List Standing)
@@ -99,12 +68,7 @@ over_is q w k v (r ∷ rows) =
 -- one order in one list and the other in the other, either way round
 either_order : (c l m x y : Bool)
     → ((c && differ l m) || (x || y)) ≡ (((c && (l && not m)) || x) || ((c && (m && not l)) || y))
-either_order true true true x y = refl
-either_order true true false x y = refl
-either_order true false true true y = refl
-either_order true false true false y = refl
-either_order true false false x y = refl
-either_order false l m x y = refl
+either_order c l m x y = grind arith
 
 -- a standing inverts another just where the tables, in one direction or in the other, say so
 pub inverts_is : (r : Standing) (rows : List Standing)
@@ -248,27 +212,13 @@ pub summed_done : (q : Camp) (w : Side) (size k : ℕ) (rows : List Standing) (t
     → IsSummed q w size k rows table → IsPlaceTable q w size rows table
 summed_done q w size k rows table le h = record { count = h.count; each = λ j lt. h.done j (omega arith) }
 
--- the places of one of the standings
-pub places_at : (size i : ℕ) (rows : List Standing) (d : Standing) → i < length rows
-    → AllByRecursion (HasPlaces size) rows
-    → HasPlaces size (slice_index_or rows i d)
-places_at size i [] d lt h = absurd (omega arith)
-places_at size zero (r ∷ rows) d lt h = h.0
-places_at size (suc i) (r ∷ rows) d lt h = places_at size i rows d (omega arith) h.1
-
 -- kinds that don't differ are the same
 pub same_kind : (k l : Kind) → not (differ (is_allow k) (is_allow l)) ≡ true → k ≡ l
-same_kind Deny Deny h = refl
-same_kind Allow Allow h = refl
-same_kind Deny Allow h = cc
-same_kind Allow Deny h = cc
+same_kind k l h = grind arith
 
 -- and so are classes
 same_class : (k l : Class) → not (differ (is_users k) (is_users l)) ≡ true → k ≡ l
-same_class Users Users h = refl
-same_class Others Others h = refl
-same_class Users Others h = cc
-same_class Others Users h = cc
+same_class k l h = grind arith
 
 -- a standing of a camp has that camp
 pub camp_is : (q : Camp) (r : Standing) → is_of_camp q r ≡ true → q ≡ camp_of r
@@ -280,7 +230,7 @@ camp_is q r h = let p = and_parts (not (differ (is_allow q.kind) (is_allow r.her
 -- what the two tables say of a standing of their camp
 pub by_camp : (q : Camp) (size : ℕ) (rows : List Standing) (r : Standing) (forward back : List ℕ)
     → is_of_camp q r ≡ true
-    → HasPlaces size r → IsPlaceTable q Here size rows forward → IsPlaceTable q There size rows back
+    → IsStandingWithin size r → IsPlaceTable q Here size rows forward → IsPlaceTable q There size rows back
     → inverts_any r rows ≡ (nat_lt r.there.place (slice_index_or forward r.here.place 0) || nat_lt r.here.place
     (slice_index_or back r.there.place 0))
 by_camp q size rows r forward back k p f b =
@@ -293,7 +243,7 @@ by_camp q size rows r forward back k p f b =
 
 -- a standing that is told inverts another
 pub found_true : (q : Camp) (size : ℕ) (rows : List Standing) (r : Standing) (forward back : List ℕ) (t : Bool)
-    → t ≡ is_told q r forward back → t ≡ true → HasPlaces size r → IsPlaceTable q Here size rows forward
+    → t ≡ is_told q r forward back → t ≡ true → IsStandingWithin size r → IsPlaceTable q Here size rows forward
     → IsPlaceTable q There size rows back → inverts_any r rows ≡ true
 found_true q size rows r forward back t h e p f b =
     let parts = and_parts (is_of_camp q r)
@@ -303,7 +253,7 @@ found_true q size rows r forward back t h e p f b =
 
 -- one of the camp that is not told inverts none
 pub found_false : (q : Camp) (size : ℕ) (rows : List Standing) (r : Standing) (forward back : List ℕ) (t : Bool)
-    → t ≡ is_told q r forward back → t ≡ false → HasPlaces size r → IsPlaceTable q Here size rows forward
+    → t ≡ is_told q r forward back → t ≡ false → IsStandingWithin size r → IsPlaceTable q Here size rows forward
     → IsPlaceTable q There size rows back → is_of_camp q r ≡ true → inverts_any r rows ≡ false
 found_false q size rows r forward back t h e p f b k =
     by_camp q size rows r forward back k p f b
@@ -314,16 +264,11 @@ found_false q size rows r forward back t h e p f b k =
 -- places of standings are within the lists
 pub first_place_within : (ps : List Principal) (b : ℕ) (xs : List Ace) → first_place ps b xs ≤ length xs
 first_place_within ps b [] = omega arith
-first_place_within ps b (a ∷ xs) =
-    go ((has_bit a.mask b && takes_part a) && is_among (principal_of a) (everyone ∷ ps)) (first_place_within ps b xs)
-  where
-    go : (t : Bool) → first_place ps b xs ≤ length xs → cond t 0 (first_place ps b xs + 1) ≤ length (a ∷ xs)
-    go true h = omega arith
-    go false h = omega arith
+first_place_within ps b (a ∷ xs) = grind (arith, first_place_within ps b xs)
 
 -- the places of standings are within the lists
 pub rows_within : (ps : List Principal) (xs ys : List Ace) (b size : ℕ) (rows : List Standing) → length xs ≤ size
-    → length ys ≤ size → AllZip (IsStanding xs ys b) ps rows → AllByRecursion (HasPlaces size) rows
+    → length ys ≤ size → AllZip (IsStanding xs ys b) ps rows → AllByRecursion (IsStandingWithin size) rows
 rows_within [] xs ys b size [] lx ly z = tt
 rows_within (p ∷ ps) xs ys b size (r ∷ rows) lx ly z = (
   record {
@@ -337,36 +282,37 @@ rows_within _ xs ys b size _ lx ly z = absurd z
 
 -- the same, as the code holds them
 pub slice_within : (both : TwoLists) (bit size : ℕ) (items slice : List Standing) → slice ≡ items → AreWithin both size
-    → StandAs both bit items → AllByRecursion (HasPlaces size) slice
+    → StandAs both bit items → AllByRecursion (IsStandingWithin size) slice
 slice_within both bit size items slice is within h =
-    subst (AllByRecursion (HasPlaces size)) (sym is)
+    subst (AllByRecursion (IsStandingWithin size)) (sym is)
     (rows_within (all_mentioned both) both.first both.second bit size items within.first within.second h.each)
 
 -- the first standing of a camp that is told
 pub first_of_camp : (q : Camp) (size limit k : ℕ) (rows : List Standing) (forward back fs bs : List ℕ) (t : Bool)
     → k < limit → limit ≤ length rows
     → ((j : ℕ) → j < k → is_of_camp q (slice_index_or rows j no_standing) ≡ true
-    → inverts_any (slice_index_or rows j no_standing) rows ≡ false) → AllByRecursion (HasPlaces size) rows
+    → inverts_any (slice_index_or rows j no_standing) rows ≡ false) → AllByRecursion (IsStandingWithin size) rows
     → IsPlaceTable q Here size rows forward → IsPlaceTable q There size rows back → fs ≡ forward → bs ≡ back
     → t ≡ is_told q (slice_index_or rows k no_standing) fs bs → t ≡ true → IsFirstOf q rows limit k
 first_of_camp q size limit k rows forward back fs bs t lt le before places f b fe be h e = record {
   within = omega arith;
   before = before;
   at = λ _. found_true q size rows (slice_index_or rows k no_standing) fs bs t h e
-      (places_at size k rows no_standing (omega arith) places) (subst (λ v. IsPlaceTable q Here size rows v) (sym fe) f)
+      (all_at (IsStandingWithin size) rows k no_standing (omega arith) places)
+      (subst (λ v. IsPlaceTable q Here size rows v) (sym fe) f)
       (subst (λ v. IsPlaceTable q There size rows v) (sym be) b);
 }
 
 -- one more standing of which none is told
 pub not_of_camp : (q : Camp) (size k : ℕ) (rows : List Standing) (forward back fs bs : List ℕ) (t : Bool)
-    → k < length rows → AllByRecursion (HasPlaces size) rows → IsPlaceTable q Here size rows forward
+    → k < length rows → AllByRecursion (IsStandingWithin size) rows → IsPlaceTable q Here size rows forward
     → IsPlaceTable q There size rows back → fs ≡ forward → bs ≡ back
     → t ≡ is_told q (slice_index_or rows k no_standing) fs bs → t ≡ false
     → is_of_camp q (slice_index_or rows k no_standing) ≡ true
     → inverts_any (slice_index_or rows k no_standing) rows ≡ false
 not_of_camp q size k rows forward back fs bs t lt places f b fe be h e =
     found_false q size rows (slice_index_or rows k no_standing) fs bs t h e
-    (places_at size k rows no_standing lt places)
+    (all_at (IsStandingWithin size) rows k no_standing lt places)
     (subst (λ v. IsPlaceTable q Here size rows v) (sym fe) f) (subst (λ v. IsPlaceTable q There size rows v) (sym be) b)
 
 -- where none is of the camp, none of it inverts another

@@ -1,14 +1,15 @@
 -- Chains of links: the queues of what waits, made from the last place to the first.
-use Rattle.acl_normal.proofs.Common.{[], Ace, AllByRecursion, and_from, and_parts, ap, AreNoted, AreQueues, arith, Bool, cases_eq, cases_lt, counts, false, get_or-set_other, get_or-set_same, has_bit, inl, inr, is_at, is_user, IsQueue, IsQueueAt, IsQuiet, Kind, kind_eq, length, length-set, Less, List, list_any, Marked, mask_here, nat_cmp, nat_cmp_is, or_cases, or_right, Principal, principal_here, principal_of, refl, same_class, slice_index_or, slice_set, slot_of, subst, suc, sym, take_out, true, waits, zero, ℕ, ⊎_elim, ◌&&◌, ◌++◌, ◌+◌, ◌<◌, ◌∙◌, ◌∷◌, ◌≡◌, ◌≢◌, ◌≤◌, ◌⊎◌}
+use Rattle.acl_normal.proofs.Common.{[], Ace, AllByRecursion, and_from, and_parts, ap, AreNoted, AreQueues, arith, Bool, cases_eq, cases_lt, counts, false, get_or-set_other, get_or-set_same, has_bit, inl, inr, is_at, is_user, IsQueue, IsQueueAt, IsQuiet, Kind, kind_eq, length, length-set, Less, List, list_any, Marked, mask_here, nat_cmp, nat_cmp_is, or_cases, or_right, Principal, principal_here, principal_of, refl, same_class, slice_index_or, slice_set, slot_of, subst, suc, sym, take_out, true, waits, zero, ℕ, ⊎_elim, ◌&&◌, ◌++◌, ◌+◌, ◌<◌, ◌∙◌, ◌∷◌, ◌≡◌, ◌≢◌, ◌≤◌, ◌⊎◌, column, Enters, is_blocked, IsOnce, key_here}
 use Rattle.std.specs.List.Sorted.{IsStrictlySortedBy}
-use Rattle.acl_normal.specs.Places.{kind_here}
-use Rattle.acl_normal.specs.internal.Queues.{BeginsWaiting, IsChain, IsNoted, IsNotedAt, MovesOn, Puts, head_in, link_in}
+use Rattle.acl_normal.specs.internal.Places.{kind_here}
+use Rattle.acl_normal.specs.internal.Ready.{AddsMark}
+use Rattle.acl_normal.specs.internal.Queues.{BeginsWaiting, IsChain, IsNoted, IsNotedAt, MovesOn, PutsPlace, head_in, link_in}
 use Rattle.acl_normal.specs.declared.emit.queues.Link.{Link}
 use Rattle.acl_normal.specs.declared.emit.queues.Queues.{Queues}
 use Rattle.acl_normal.proofs.emit.RemainingLemmas.{queue_on, queue_taken, waits_has}
-use Rattle.acl_normal.proofs.emit.Walk.{Walks, head_in as first_in, same_class_itself, waits_within, walk_starts}
+use Rattle.acl_normal.proofs.emit.Walk.{Walks, head_in as first_in, head_kind, head_within, same_class_itself, waits_within, walk_done, walk_on, walk_past, walk_starts, walk_stops}
 use Rattle.acl_normal.proofs.rows.BitTaken.{class_same, is_eq_same, same_default, slot_below, slot_same}
-use Rattle.acl_normal.proofs.rows.WaitingPlaces.{quiet_counts}
+use Rattle.acl_normal.proofs.unique.Normal.{counts_mask}
 use Rattle.acl_normal.proofs.unique.Bits.{no_bits_of_zero}
 use Rattle.acl_normal.proofs.unique.Free.{kind_eq_itself, kind_eq_same}
 
@@ -148,8 +149,59 @@ pub walk_begins : (k : Kind) (u : Bool) (b : ℕ) (xs : List Ace) (links : List 
 walk_begins k u b xs links at old q =
     record { places = q.places; chain = q.chain; walks = walk_starts k u b xs q.places old q.queue }
 
+-- the place of the link that a walk has reached
+module _ {k : Kind} {u : Bool} {b : ℕ} {xs : List Ace} {links : List Link} {at : ℕ} {l : Link} {old new : Marked}
+    (w : WalksAt k u b xs links at old new) (d : Link) (some : at ≢ 0) (e : l ≡ slice_index_or links at d) where
+  step : Step links at w.places l
+  step = chain_step links at w.places d l w.chain some e
+
+  -- the next link has a lower number
+  pub reached_falls : l.next < at
+  reached_falls = step.falls
+
+  -- the place is one of the list
+  pub reached_within : l.place < length xs
+  reached_within = head_within k u b xs l.place w.places step.rest old new w.walks step.is
+
+  -- if it waits, it is of the kind
+  pub reached_kind : IsOnce (column xs b) → has_bit (mask_here xs l.place) b ≡ true → kind_here xs l.place ≡ k
+  reached_kind once has = head_kind k u b xs l.place w.places step.rest old new once w.walks step.is has
+
+  -- if it is blocked, the walk ends
+  pub reached_blocked : IsOnce (column xs b) → is_blocked k u b xs l.place ≡ true → Enters k u b xs old new
+  reached_blocked once blocked = walk_stops k u b xs l.place w.places step.rest old new once w.walks step.is blocked
+
+  -- if it waits no more, the walk goes on
+  pub reached_past : has_bit (mask_here xs l.place) b ≡ false → WalksAt k u b xs links l.next old new
+  reached_past lacks = record {
+    places = step.rest;
+    chain = step.chain;
+    walks = walk_past k u b xs l.place w.places step.rest old new w.walks step.is lacks;
+  }
+
+  -- if it is free, it is marked, and the walk goes on
+  pub reached_free : {more : Marked} → IsOnce (column xs b) → is_blocked k u b xs l.place ≡ false
+      → has_bit (mask_here xs l.place) b ≡ true → AddsMark (key_here xs l.place) b new more
+      → WalksAt k u b xs links l.next old more
+  reached_free {more} once clear has adds = record {
+    places = step.rest;
+    chain = step.chain;
+    walks = walk_on k u b xs l.place w.places step.rest old new more once w.walks step.is clear has adds;
+  }
+
+-- a walk that has not ended has reached a link
+pub reached_link : {k : Kind} {u : Bool} {b : ℕ} {xs : List Ace} {links : List Link} {at : ℕ} {old new : Marked}
+    → WalksAt k u b xs links at old new → at ≢ 0 → at < length links
+reached_link {k} {u} {b} {xs} {links} {at} w some = (chain_goes links at w.places w.chain some).within
+
+-- behind the last link the walk ends
+pub walk_over : {k : Kind} {u : Bool} {b : ℕ} {xs : List Ace} {links : List Link} {at : ℕ} {old new : Marked}
+    → WalksAt k u b xs links at old new → IsOnce (column xs b) → at ≡ 0 → Enters k u b xs old new
+walk_over {k} {u} {b} {xs} {links} {at} {old} {new} w once none =
+    walk_done k u b xs w.places old new once w.walks (chain_ends links at w.places w.chain none)
+
 -- the queues of a list are those of what is left of it
-pub queues_taken : (p : Principal) (m : ℕ) (xs : List Ace) (queues : Queues) → AreQueues xs queues
+queues_taken : (p : Principal) (m : ℕ) (xs : List Ace) (queues : Queues) → AreQueues xs queues
     → AreQueues (take_out p m xs) queues
 queues_taken p m xs queues qs = record {
   slots = qs.slots;
@@ -157,6 +209,11 @@ queues_taken p m xs queues qs = record {
       let q = qs.each k u b l in
       record { places = q.places; chain = q.chain; queue = queue_taken k u b p m xs q.places q.queue };
 }
+
+-- also by another name
+pub queues_left : (p : Principal) (m : ℕ) (xs ys : List Ace) (queues : Queues) → ys ≡ take_out p m xs
+    → AreQueues xs queues → AreQueues ys queues
+queues_left p m xs ys queues is qs = subst (λ v. AreQueues v queues) (sym is) (queues_taken p m xs queues qs)
 
 -- the slot of a queue is there
 pub slot_there : (k : Kind) (u : Bool) (b at : ℕ) (queues : Queues) → length queues.heads.items ≡ 84 → b < 21
@@ -264,7 +321,7 @@ waits_here b [] i quiet h = absurd (clash (sym h ∙ no_bits_of_zero b))
     clash e = cc
 waits_here b (a ∷ xs) zero quiet h =
     and_from (counts b a) (kind_eq a.kind a.kind && same_class (is_user (principal_of a)) (is_user (principal_of a)))
-    (quiet_counts b a quiet.0 ∙ h)
+    (counts_mask b a quiet.0 ∙ h)
     (and_from (kind_eq a.kind a.kind) (same_class (is_user (principal_of a)) (is_user (principal_of a)))
     (kind_eq_itself a.kind) (same_class_itself (is_user (principal_of a))))
 waits_here b (a ∷ xs) (suc i) quiet h = waits_here b xs i quiet.1 h
@@ -345,7 +402,7 @@ noted_skip xs place m queues lacks qs = record {
 
 -- a bit that it has
 pub noted_on : (kind : Kind) (users : Bool) (xs : List Ace) (place m : ℕ) (old new : Queues)
-    → waits kind users m xs place ≡ true → m < 21 → Puts place (slot_of kind users m) old new
+    → waits kind users m xs place ≡ true → m < 21 → PutsPlace place (slot_of kind users m) old new
     → AreNoted xs (place + 1) m old → AreNoted xs (place + 1) (m + 1) new
 noted_on kind users xs place m old new waiting low puts qs = record {
   slots = ap length puts.heads ∙ length-set old.heads.items (slot_of kind users m) (length old.links.items) ∙ qs.slots;

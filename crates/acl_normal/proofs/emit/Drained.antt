@@ -1,15 +1,14 @@
 -- The loop that emits: what it keeps, what a turn does, and that it ends.
-use Rattle.acl_normal.proofs.unique.Shorter.{without_no_longer, without_shorter}
-use Rattle.acl_normal.proofs.Common.{[], Ace, ace_key, all_rights, Allow, and_from, and_parts, ap, arith, bit_at-zero, Bool, bytes_eq, cases_eq, cases_lt, Column, column, compare_keys, cond, conflicts, count_left, Deny, Emitted, emitted_ace, emitted_aces, everyone_name, false, false_from_ne_true, first_kind, FitsKeys, flags_for, group_name, has_bit, HasOnceColumns, inl, inr, is_either, is_free, is_le, is_named, is_user, IsEmission, IsMask, IsOnce, IsRowOf, IsStep, Key, key_eq, key_here, key_number, Kind, kind_eq, length, List, Marked, marks, may_overlap, None, not, nothing_left, or_cases, or_left, or_right, other_kind, owner_name, Principal, principal_eq, principal_of, refl, slice_index_or, slice_set, Some, subst, suc, sym, take_out, true, user, who_for, without_principal, zero, ℕ, ⊎_elim, ◌&&◌, ◌*◌, ◌++◌, ◌/◌, ◌<◌, ◌==◌, ◌∙◌, ◌∷◌, ◌≡◌, ◌≢◌, ◌≤◌, ◌⊎◌}
+use Rattle.acl_normal.proofs.unique.Shorter.{without_absent, without_no_longer, without_shorter}
+use Rattle.acl_normal.proofs.Common.{[], Ace, ace_key, all_rights, Allow, and_from, and_parts, ap, arith, bit_at-zero, Bool, bytes_eq, cases_eq, cases_lt, Column, column, compare_keys, cond, conflicts, count_left, Deny, Emitted, emitted_ace, emitted_aces, everyone_name, false, false_from_ne_true, first_kind, FitsKeys, flags_for, group_name, has_bit, HasOnceColumns, inl, inr, is_either, is_free, is_le, is_principal_of, is_user, IsEmission, IsMask, IsOnce, IsRowOf, IsStep, Key, key_eq, key_here, key_number, Kind, kind_eq, length, List, Marked, marks, may_overlap, None, not, nothing_left, or_cases, or_left, or_right, other_kind, owner_name, Principal, principal_eq, principal_of, refl, slice_index_or, slice_set, Some, subst, suc, sym, take_out, true, user, who_for, without_principal, zero, ℕ, ⊎_elim, ◌&&◌, ◌*◌, ◌++◌, ◌/◌, ◌<◌, ◌==◌, ◌∙◌, ◌∷◌, ◌≡◌, ◌≢◌, ◌≤◌, ◌⊎◌}
 use Rattle.acl_perm.proofs.Sets.{mask_from_bits}
-use Rattle.acl_normal.specs.Places.{principal_named}
-use Rattle.acl_normal.specs.internal.Ready.{IsKeyNumber, IsLeastReady, Frees, HoldsFree, Popped, Takes, emitted}
+use Rattle.acl_normal.specs.internal.Places.{principal_named}
+use Rattle.acl_normal.specs.internal.Ready.{IsKeyNumber, IsLeastReady, Frees, HoldsFree, Popped, TakesBits, emitted}
 use Rattle.acl_normal.proofs.unique.Names.{principal_eq_same, principal_eq_itself, overlaps_itself, bytes_eq_same, bytes_eq_itself}
 use Rattle.acl_normal.proofs.unique.Free.{kind_eq_same, kind_eq_itself, ahead_from_free, no_conflict, some_same}
 use Rattle.acl_normal.proofs.unique.Realised.{same_answers}
 use Rattle.acl_normal.proofs.unique.Unique.{head_is_free}
 use Rattle.acl_normal.proofs.unique.Bits.{no_bits}
-use Rattle.acl_normal.proofs.unique.Invariant.{without_absent}
 use Rattle.acl_normal.proofs.unique.FirstAndRest.{lacks_principal}
 use Rattle.acl_normal.proofs.emit.SoFar.{Completes, completes_more, completes_all}
 use Rattle.acl_normal.proofs.rows.TakeOut.{column_taken, none_taken, once_taken, low_taken}
@@ -181,13 +180,13 @@ popped xs old new n m f l set k = record {
   is = mark_named k.key xs old k.named ∙ ap (λ v. slice_index_or old v 0) (sym k.is) ∙ sym l.is;
   some = l.some;
   after = λ e. mark_written xs old new n 0 k.key e k.named k.is (number_within old n there) set;
-  least = λ e some. go e some (is_named e.0 xs) refl;
+  least = λ e some. go e some (is_principal_of e.0 xs) refl;
 }
   where
     there : slice_index_or old n 0 ≢ 0
     there none = l.some (l.is ∙ none)
 
-    go : (e : Key) → marks xs old e ≢ 0 → (t : Bool) → is_named e.0 xs ≡ t → is_le (compare_keys k.key e) ≡ true
+    go : (e : Key) → marks xs old e ≢ 0 → (t : Bool) → is_principal_of e.0 xs ≡ t → is_le (compare_keys k.key e) ≡ true
     go e some true named =
         let less : n ≤ key_number e xs = l.least (key_number e xs) (λ none. some (mark_named e xs old named ∙ none)) in
         number_order k.key e xs k.named named (subst (λ v. v ≤ key_number e xs) k.is less)
@@ -202,12 +201,12 @@ ready_within xs old n m f l =
 -- the key of the least number is taken, whatever key has that number
 pub takes : (xs : List Ace) (old new : List ℕ) (n m : ℕ) (q : Key) → FitsKeys (nothing_left xs) old
     → IsLeastReady old n m → new ≡ slice_set old n 0
-    → ((k : Key) → is_named k.0 xs ≡ true → n ≡ key_number k xs → q ≡ k) → Takes xs old new (n / 2) q m
+    → ((k : Key) → is_principal_of k.0 xs ≡ true → n ≡ key_number k xs → q ≡ k) → TakesBits xs old new (n / 2) q m
 takes xs old new n m q f l set whose = go (f.sound n (λ none. l.some (l.is ∙ none)))
   where
-    go : IsKeyNumber (nothing_left xs) n → Takes xs old new (n / 2) q m
+    go : IsKeyNumber (nothing_left xs) n → TakesBits xs old new (n / 2) q m
     go k =
-        let named : is_named k.key.0 xs ≡ true = sym (named_outline k.key.0 xs) ∙ k.named in
+        let named : is_principal_of k.key.0 xs ≡ true = sym (named_outline k.key.0 xs) ∙ k.named in
         let is : n ≡ key_number k.key xs = omega (arith, k.is, row_outline k.key.0 xs) in
         let same : k.key ≡ q = sym (whose k.key named is) in
         record {
@@ -434,7 +433,7 @@ drain_on whole out more old rest next q m xs a d p is same f =
 
 -- a turn, by number: the outline stays
 pub drain_turn : (whole : List Ace) (out more : List Emitted) (old rest next : List ℕ) (row m : ℕ) (q : Key)
-    (xs ys : List Ace) (a : Emitted) → Drains whole out (marks (nothing_left xs) old) xs → Takes xs old rest row q m
+    (xs ys : List Ace) (a : Emitted) → Drains whole out (marks (nothing_left xs) old) xs → TakesBits xs old rest row q m
     → more ≡ out ++ a ∷ [] → emitted_ace a ≡ emitted q m → ys ≡ take_out q.0 m xs
     → Frees q m ys (marks (nothing_left ys) rest) (marks (nothing_left ys) next)
     → Drains whole more (marks (nothing_left ys) next) ys

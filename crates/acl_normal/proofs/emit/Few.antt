@@ -1,5 +1,5 @@
 -- What is left of a list in memory has few ACEs: twice their number is one of the machine's.
-use Rattle.acl_normal.proofs.Common.{[], Ace, AceRef, arith, bits_in, Inside, IsRemaining, length, List, masks_left, remaining_of, subst, with_masks, ℕ, ◌<◌, ◌^◌, ◌∷◌, ◌≡◌, ◌≤◌}
+use Rattle.acl_normal.proofs.Common.{[], Ace, AceRef, arith, mask_numbers, Inside, IsRemaining, length, List, masks_left, remaining_of, subst, with_masks, ℕ, ◌<◌, ◌^◌, ◌∷◌, ◌≡◌, ◌≤◌}
 
 no_more : (aces : List AceRef) (masks : List ℕ) → length (with_masks aces masks) ≤ length aces
 no_more [] masks = omega arith
@@ -11,6 +11,6 @@ pub remaining_few : (a : Inside) (xs : List Ace) → IsRemaining a → remaining
 remaining_few a xs r is =
     subst (λ v. length v < 2 ^ 63) is (omega (
       arith,
-      no_more a.aces.items (masks_left (bits_in a.masks.items) a.rows.items (bits_in a.left.items)),
+      no_more a.aces.items (masks_left (mask_numbers a.masks.items) a.rows.items (mask_numbers a.left.items)),
       r.few,
     ))

@@ -144,15 +144,3 @@ popped_least bits heap rest r n m h is pops some =
     counted none =
         let one : times m heap ≡ 1 = h.once m ∙ ap (λ t. cond t 0 1) (some_is (slice_index_or bits m 0) some) in
         cc
-
--- without numbers there are no bits
-pub empty_heap : (bits : List ℕ) (heap : List (Reverse ℕ)) → IsHeapOf bits heap → length heap ≡ 0 → (n : ℕ)
-    → slice_index_or bits n 0 ≡ 0
-empty_heap bits [] h e n = go (cases_eq (slice_index_or bits n 0) 0)
-  where
-    go : (slice_index_or bits n 0 ≡ 0) ⊎ (slice_index_or bits n 0 ≡ 0 → ⊥) → slice_index_or bits n 0 ≡ 0
-    go (inl z) = z
-    go (inr d) =
-        let one : times n [] ≡ 1 = h.once n ∙ ap (λ t. cond t 0 1) (some_is (slice_index_or bits n 0) d) in
-        cc
-empty_heap bits (r ∷ heap) h e n = cc

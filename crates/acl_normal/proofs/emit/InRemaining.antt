@@ -1,5 +1,5 @@
 -- What remains of a list, by its fields.
-use Rattle.acl_normal.proofs.Common.{Ace, AceRef, aces_in, all_rights, ap, AreRowNumbers, arith, bit_and, bits_in, column, Inside, IsOnce, IsRemaining, IsRowOf, IsTidy, key_here, length, List, Mask, mask_here, masks_left, nothing_left, Principal, remaining_of, row_of, slice_index_or, slice_set, subst, sym, take_out, vec_len, with_masks, without, ℕ, ◌<◌, ◌^◌, ◌∙◌, ◌≡◌}
+use Rattle.acl_normal.proofs.Common.{Ace, AceRef, aces_in, all_rights, ap, AreRowNumbers, arith, bit_and, mask_numbers, column, Inside, IsOnce, IsRemaining, IsRowOf, IsTidy, key_here, length, List, Mask, mask_here, masks_left, nothing_left, Principal, remaining_of, row_of, slice_index_or, slice_set, subst, sym, take_out, vec_len, with_masks, without, ℕ, ◌<◌, ◌^◌, ◌∙◌, ◌≡◌}
 use Rattle.std.specs.Vec.{with_item}
 use Rattle.acl_normal.specs.internal.Remaining.{IsNumbered}
 use Rattle.acl_normal.proofs.unique.Bits.{bits_length, bits_set, bits_within}
@@ -11,14 +11,14 @@ use Rattle.acl_normal.proofs.rows.TakeOut.{none_taken}
 use Rattle.acl_normal.proofs.unique.Outline.{length_shown, outline_shown}
 
 -- a mask for each ACE
-masks_count : (s : Inside) → IsRemaining s → length (bits_in s.masks.items) ≡ length s.aces.items
+masks_count : (s : Inside) → IsRemaining s → length (mask_numbers s.masks.items) ≡ length s.aces.items
 masks_count s right = bits_length s.masks.items ∙ omega (arith, right.masks, s.masks.ok)
 
 -- as many are left as there are
 pub length_remaining : (s : Inside) → IsRemaining s → length (remaining_of s) ≡ length s.aces.items
 length_remaining s right =
     length_shown s.aces.items _
-    (length_left (bits_in s.masks.items) s.rows.items (bits_in s.left.items) ∙ masks_count s right)
+    (length_left (mask_numbers s.masks.items) s.rows.items (mask_numbers s.left.items) ∙ masks_count s right)
 
 -- each column of what remains has each principal once
 pub remaining_once : (s : Inside) (xs : List Ace) → IsRemaining s → remaining_of s ≡ xs → (b : ℕ) → IsOnce (column xs b)
@@ -28,7 +28,7 @@ remaining_once s xs right is b = subst (λ v. IsOnce (column v b)) is (right.lis
 pub outline_of : (s : Inside) → IsRemaining s → nothing_left (remaining_of s) ≡ nothing_left (aces_in s.aces.items)
 outline_of s right =
     outline_shown s.aces.items _
-    (length_left (bits_in s.masks.items) s.rows.items (bits_in s.left.items) ∙ masks_count s right)
+    (length_left (mask_numbers s.masks.items) s.rows.items (mask_numbers s.left.items) ∙ masks_count s right)
 
 -- the row of a place is one of those of which something is left
 pub row_of_place : (s : Inside) (i : ℕ) → IsRemaining s → i < length (remaining_of s)
@@ -61,22 +61,22 @@ order_there s i d n right l is = (same, omega (arith, same, right.list.order.wit
 -- the mask that is left at a place
 pub mask_remaining : (s : Inside) (i : ℕ) → IsRemaining s → i < length (remaining_of s)
     → mask_here (remaining_of s) i
-    ≡ bit_and (slice_index_or (bits_in s.masks.items) i 0)
-    (slice_index_or (bits_in s.left.items) (slice_index_or s.rows.items i 0) 0)
+    ≡ bit_and (slice_index_or (mask_numbers s.masks.items) i 0)
+    (slice_index_or (mask_numbers s.left.items) (slice_index_or s.rows.items i 0) 0)
 mask_remaining s i right l =
     mask_shown s.aces.items _ i
-    (length_left (bits_in s.masks.items) s.rows.items (bits_in s.left.items) ∙ masks_count s right)
-    ∙ left_at (bits_in s.masks.items) s.rows.items (bits_in s.left.items) i
+    (length_left (mask_numbers s.masks.items) s.rows.items (mask_numbers s.left.items) ∙ masks_count s right)
+    ∙ left_at (mask_numbers s.masks.items) s.rows.items (mask_numbers s.left.items) i
     (omega (arith, right.list.rows.count, length_remaining s right, masks_count s right))
     (omega (arith, l, length_remaining s right, masks_count s right))
 
 -- the list, where bits of a row are left out
 pub taken_view : (s : Inside) (row m : ℕ) (p : Principal) → IsRemaining s → IsRowOf row p (remaining_of s)
-    → with_masks s.aces.items (masks_left (bits_in s.masks.items) s.rows.items
-    (slice_set (bits_in s.left.items) row (without (slice_index_or (bits_in s.left.items) row 0) m)))
+    → with_masks s.aces.items (masks_left (mask_numbers s.masks.items) s.rows.items
+    (slice_set (mask_numbers s.left.items) row (without (slice_index_or (mask_numbers s.left.items) row 0) m)))
     ≡ take_out p m (remaining_of s)
 taken_view s row m p right at_row =
-    row_taken p m row s.aces.items (bits_in s.masks.items) s.rows.items (bits_in s.left.items)
+    row_taken p m row s.aces.items (mask_numbers s.masks.items) s.rows.items (mask_numbers s.left.items)
     (omega (arith, row_of_named s row p right at_row, bits_length s.left.items))
     (omega (arith, right.list.rows.count, length_remaining s right, masks_count s right)) right.list.tidy.quiet
     (λ i l e. row_same (key_here xs i).0 p xs (named_here xs i l) at_row.named
@@ -89,7 +89,7 @@ taken_view s row m p right at_row =
 -- what is left is right then
 pub taken_right : (s : Inside) (row m : ℕ) (mask : Mask) (p : Principal) → IsRemaining s
     → IsRowOf row p (remaining_of s)
-    → mask.bits ≡ without (slice_index_or (bits_in s.left.items) row 0) m
+    → mask.bits ≡ without (slice_index_or (mask_numbers s.left.items) row 0) m
     → IsRemaining (record {
       aces = s.aces;
       masks = s.masks;
@@ -112,52 +112,52 @@ taken_right s row m mask p right at_row is = record {
     xs : List Ace
     xs = remaining_of s
 
-    view : with_masks s.aces.items (masks_left (bits_in s.masks.items) s.rows.items
-        (bits_in (slice_set s.left.items row mask)))
+    view : with_masks s.aces.items (masks_left (mask_numbers s.masks.items) s.rows.items
+        (mask_numbers (slice_set s.left.items row mask)))
         ≡ take_out p m xs
     view =
-        ap (λ v. with_masks s.aces.items (masks_left (bits_in s.masks.items) s.rows.items v))
-        (bits_set s.left.items row mask ∙ ap (slice_set (bits_in s.left.items) row) is)
+        ap (λ v. with_masks s.aces.items (masks_left (mask_numbers s.masks.items) s.rows.items v))
+        (bits_set s.left.items row mask ∙ ap (slice_set (mask_numbers s.left.items) row) is)
         ∙ taken_view s row m p right at_row
 
-    outline : nothing_left (with_masks s.aces.items (masks_left (bits_in s.masks.items) s.rows.items
-        (bits_in (slice_set s.left.items row mask)))) ≡ nothing_left xs
+    outline : nothing_left (with_masks s.aces.items (masks_left (mask_numbers s.masks.items) s.rows.items
+        (mask_numbers (slice_set s.left.items row mask)))) ≡ nothing_left xs
     outline = ap nothing_left view ∙ outline_taken p m xs
 
 -- ---- all is left
 
 -- before anything was emitted the masks are all that is left
 pub all_remains : (aces : List AceRef) (masks : List Mask) (rows left : List ℕ) → length masks ≡ length aces
-    → length left ≡ length aces → AreRowNumbers (with_masks aces (bits_in masks)) rows
+    → length left ≡ length aces → AreRowNumbers (with_masks aces (mask_numbers masks)) rows
     → ((i : ℕ) → i < length left → slice_index_or left i 0 ≡ all_rights)
-    → masks_left (bits_in masks) rows left ≡ bits_in masks
+    → masks_left (mask_numbers masks) rows left ≡ mask_numbers masks
 all_remains aces masks rows left e f numbers full =
-    all_left (bits_in masks) rows left (omega (arith, numbers.count, count, shown)) here
+    all_left (mask_numbers masks) rows left (omega (arith, numbers.count, count, shown)) here
   where
     xs : List Ace
-    xs = with_masks aces (bits_in masks)
+    xs = with_masks aces (mask_numbers masks)
 
-    shown : length (bits_in masks) ≡ length aces
+    shown : length (mask_numbers masks) ≡ length aces
     shown = bits_length masks ∙ e
 
     count : length xs ≡ length aces
-    count = length_shown aces (bits_in masks) shown
+    count = length_shown aces (mask_numbers masks) shown
 
-    here : (i : ℕ) → i < length (bits_in masks)
-        → bit_and (slice_index_or (bits_in masks) i 0) (slice_index_or left (slice_index_or rows i 0) 0)
-        ≡ slice_index_or (bits_in masks) i 0
+    here : (i : ℕ) → i < length (mask_numbers masks)
+        → bit_and (slice_index_or (mask_numbers masks) i 0) (slice_index_or left (slice_index_or rows i 0) 0)
+        ≡ slice_index_or (mask_numbers masks) i 0
     here i l =
         let within : i < length xs = omega (arith, l, count, shown) in
         let below = row_below (key_here xs i).0 xs (named_here xs i within) in
         let row : slice_index_or rows i 0 < length left = omega (arith, numbers.at i within, below, count, f) in
-        ap (bit_and (slice_index_or (bits_in masks) i 0)) (full (slice_index_or rows i 0) row)
+        ap (bit_and (slice_index_or (mask_numbers masks) i 0)) (full (slice_index_or rows i 0) row)
         ∙ bits_within masks i (omega (arith, l, bits_length masks))
 
 -- the list begins right
 pub begins_right : (s : Inside) → length s.aces.items < 2 ^ 32 → vec_len s.masks ≡ length s.aces.items
     → vec_len s.left ≡ length s.aces.items
-    → IsNumbered (with_masks s.aces.items (bits_in s.masks.items)) s.rows.items s.order.items
-    → masks_left (bits_in s.masks.items) s.rows.items (bits_in s.left.items) ≡ (bits_in s.masks.items) → IsRemaining s
+    → IsNumbered (with_masks s.aces.items (mask_numbers s.masks.items)) s.rows.items s.order.items
+    → masks_left (mask_numbers s.masks.items) s.rows.items (mask_numbers s.left.items) ≡ (mask_numbers s.masks.items) → IsRemaining s
 begins_right s few masks left reduced all = record {
   few = few;
   masks = masks;
@@ -165,5 +165,5 @@ begins_right s few masks left reduced all = record {
   list = subst (λ v. IsNumbered v s.rows.items s.order.items) view reduced;
 }
   where
-    view : with_masks s.aces.items (bits_in s.masks.items) ≡ remaining_of s
+    view : with_masks s.aces.items (mask_numbers s.masks.items) ≡ remaining_of s
     view = ap (with_masks s.aces.items) (sym all)

@@ -5,7 +5,8 @@ use Rattle.acl_normal.proofs.unique.Names.{overlaps_itself, either_first, princi
 use Rattle.acl_normal.proofs.unique.ListColumns.{no_other_bits, same_grants_from_columns}
 use Rattle.acl_normal.proofs.unique.Unique.{unique}
 use Rattle.acl_normal.proofs.unique.Normal.{emission_of_irreducible, quiet_flags, column_quiet}
-use Rattle.acl_normal.proofs.unique.Invariant.{without_absent, alike_without}
+use Rattle.acl_normal.proofs.unique.Invariant.{alike_without}
+use Rattle.acl_normal.proofs.unique.Shorter.{without_absent}
 use Rattle.acl_normal.proofs.unique.FirstAndRest.{once_without}
 use Rattle.acl_normal.proofs.unique.Columns.{column_first}
 

@@ -1,7 +1,7 @@
 -- The keys and bits that are marked as free, by number.
-use Rattle.acl_normal.proofs.Common.{Ace, Allow, and_from, and_parts, ap, arith, bit_at-zero, bit_or, Bool, cases_eq, cases_lt, compare_keys, cond, Deny, Equal, false, FitsKeys, get_or-replicate, get_or-set_other, get_or-set_same, Greater, has_bit, has_bit-or, inl, inr, is_le, is_named, IsRowOf, Key, key_eq, key_number, Kind, kind_eq, kind_rank, length, length-replicate, length-set, Less, List, marks, nat_cmp, nothing_left, Ordering, principal_cmp, principal_eq, principal_exact, principal_order, refl, replicate, row_of, slice_index_or, slice_set, subst, sym, true, ℕ, ◌%◌, ◌&&◌, ◌*◌, ◌+◌, ◌/◌, ◌<◌, ◌==◌, ◌^◌, ◌||◌, ◌∙◌, ◌≡◌, ◌≢◌, ◌≤◌, ◌⊎◌}
+use Rattle.acl_normal.proofs.Common.{Ace, Allow, and_from, and_parts, ap, arith, bit_at-zero, bit_or, Bool, cases_eq, cases_lt, compare_keys, cond, Deny, Equal, false, FitsKeys, get_or-replicate, get_or-set_other, get_or-set_same, Greater, has_bit, has_bit-or, inl, inr, is_le, is_principal_of, IsRowOf, Key, key_eq, key_number, Kind, kind_eq, kind_rank, length, length-replicate, length-set, Less, List, marks, nat_cmp, nothing_left, Ordering, principal_cmp, principal_eq, principal_exact, principal_order, refl, replicate, row_of, slice_index_or, slice_set, subst, sym, true, ℕ, ◌%◌, ◌&&◌, ◌*◌, ◌+◌, ◌/◌, ◌<◌, ◌==◌, ◌^◌, ◌||◌, ◌∙◌, ◌≡◌, ◌≢◌, ◌≤◌, ◌⊎◌}
 use Rattle.std.proofs.lemmas.List.{get_or_past}
-use Rattle.acl_normal.specs.internal.Ready.{IsKeyNumber, Adds}
+use Rattle.acl_normal.specs.internal.Ready.{IsKeyNumber, AddsMark}
 use Rattle.acl_normal.proofs.unique.Names.{principal_eq_same, principal_eq_itself}
 use Rattle.acl_normal.proofs.unique.Free.{kind_eq_same, kind_eq_itself}
 use Rattle.acl_normal.proofs.unique.Bits.{has_power}
@@ -32,7 +32,7 @@ rank_same Allow Deny h = cc
 rank_same Allow Allow h = refl
 
 -- a number is that of one key alone
-pub number_same : (k l : Key) (xs : List Ace) → is_named k.0 xs ≡ true → is_named l.0 xs ≡ true
+pub number_same : (k l : Key) (xs : List Ace) → is_principal_of k.0 xs ≡ true → is_principal_of l.0 xs ≡ true
     → key_number k xs ≡ key_number l xs → k ≡ l
 number_same k l xs h i e =
     let rows : row_of k.0 xs ≡ row_of l.0 xs = omega (arith, e, rank_below k.1, rank_below l.1) in
@@ -42,7 +42,7 @@ number_same k l xs h i e =
 -- what twice a row and a kind come to
 pub record IsNumberOf (k : Key) (xs : List Ace) (number : ℕ) : Type 0 where
   pub below : number < 2 * length xs
-  pub named : is_named k.0 (nothing_left xs) ≡ true
+  pub named : is_principal_of k.0 (nothing_left xs) ≡ true
   pub is : number ≡ key_number k (nothing_left xs)
 
 -- the number of a key, whatever masks there are
@@ -63,7 +63,7 @@ pub number_rank : (k : Key) (xs : List Ace) (n : ℕ) → n ≡ key_number k xs 
 number_rank k xs n is = omega (arith, is, rank_below k.1)
 
 -- numbers rise with the keys
-pub number_order : (k l : Key) (xs : List Ace) → is_named k.0 xs ≡ true → is_named l.0 xs ≡ true
+pub number_order : (k l : Key) (xs : List Ace) → is_principal_of k.0 xs ≡ true → is_principal_of l.0 xs ≡ true
     → key_number k xs ≤ key_number l xs → is_le (compare_keys k l) ≡ true
 number_order k l xs h i le = go (principal_cmp k.0 l.0) (principal_cmp l.0 k.0) refl refl
   where
@@ -93,22 +93,22 @@ number_order k l xs h i le = go (principal_cmp k.0 l.0) (principal_cmp l.0 k.0) 
 -- ---- what is marked
 
 -- the bits of a key whose principal is named
-pub mark_named : (k : Key) (xs : List Ace) (bits : List ℕ) → is_named k.0 xs ≡ true
+pub mark_named : (k : Key) (xs : List Ace) (bits : List ℕ) → is_principal_of k.0 xs ≡ true
     → marks xs bits k ≡ slice_index_or bits (key_number k xs) 0
 mark_named k xs bits h = rw h refl
 
 -- one key alone has other bits where those of its number were written
-pub mark_written : (xs : List Ace) (old new : List ℕ) (n v : ℕ) (k l : Key) → is_named k.0 xs ≡ true
+pub mark_written : (xs : List Ace) (old new : List ℕ) (n v : ℕ) (k l : Key) → is_principal_of k.0 xs ≡ true
     → n ≡ key_number k xs → n < length old → new ≡ slice_set old n v
     → marks xs new l ≡ cond (key_eq l k) v (marks xs old l)
-mark_written xs old new n v k l named is within set = go (is_named l.0 xs) refl (key_eq l k) refl
+mark_written xs old new n v k l named is within set = go (is_principal_of l.0 xs) refl (key_eq l k) refl
   where
-    go : (s : Bool) → is_named l.0 xs ≡ s → (t : Bool) → key_eq l k ≡ t
+    go : (s : Bool) → is_principal_of l.0 xs ≡ s → (t : Bool) → key_eq l k ≡ t
         → marks xs new l ≡ cond (key_eq l k) v (marks xs old l)
     go s e true f =
         let same : k ≡ l = sym (key_eq_same l k f) in
         let here : n ≡ key_number l xs = is ∙ ap (λ w. key_number w xs) same in
-        let its : is_named l.0 xs ≡ true = ap (λ (w : Key). is_named w.0 xs) (sym same) ∙ named in
+        let its : is_principal_of l.0 xs ≡ true = ap (λ (w : Key). is_principal_of w.0 xs) (sym same) ∙ named in
         rw f (mark_named l xs new its ∙ ap (λ w. slice_index_or w (key_number l xs) 0) set
         ∙ ap (λ w. slice_index_or (slice_set old n v) w 0) (sym here) ∙ get_or-set_same old n v 0 within)
     go true e false f =
@@ -161,16 +161,16 @@ fits_zeros xs count is = record {
 -- and mark none
 pub nothing_marked : (xs : List Ace) (bits : List ℕ) → ((n : ℕ) → slice_index_or bits n 0 ≡ 0) → (k : Key)
     → marks xs bits k ≡ 0
-nothing_marked xs bits none k = go (is_named k.0 xs) refl
+nothing_marked xs bits none k = go (is_principal_of k.0 xs) refl
   where
-    go : (t : Bool) → is_named k.0 xs ≡ t → marks xs bits k ≡ 0
+    go : (t : Bool) → is_principal_of k.0 xs ≡ t → marks xs bits k ≡ 0
     go true e = rw e (none (key_number k xs))
     go false e = rw e refl
 
 -- one bit more of a key
-pub adds : (xs : List Ace) (old new : List ℕ) (n bit : ℕ) (k : Key) → is_named k.0 xs ≡ true
+pub adds : (xs : List Ace) (old new : List ℕ) (n bit : ℕ) (k : Key) → is_principal_of k.0 xs ≡ true
     → n ≡ key_number k xs → n < length old
-    → new ≡ slice_set old n (bit_or (slice_index_or old n 0) (2 ^ bit)) → Adds k bit (marks xs old) (marks xs new)
+    → new ≡ slice_set old n (bit_or (slice_index_or old n 0) (2 ^ bit)) → AddsMark k bit (marks xs old) (marks xs new)
 adds xs old new n bit k named is within set = record {
   bits =
       λ l b. ap (λ v. has_bit v b)

@@ -1,13 +1,12 @@
 -- What remains of a list while it is emitted: masks by place of which masks by row leave a part, and queues of places.
-use Rattle.acl_normal.proofs.Common.{[], Ace, AceRef, and_parts, ap, arith, bit_and, Bool, cases_eq, counts, false, false_from_ne_true, get_or-set_other, get_or-set_same, has_bit, has_bit-without, inl, inr, is_at, is_inherit_only, is_waiting, IsQueue, IsQuiet, key_here, Kind, length, List, list_any, mask_here, masks_left, nat_cmp, not, or_cases, or_right, Principal, principal_eq, principal_of, refl, slice_index_or, slice_set, subst, suc, sym, take_out, true, waits, waits_before, with_masks, without, without_bits, zero, ℕ, ⊎_elim, ◌&&◌, ◌<◌, ◌∙◌, ◌∷◌, ◌≡◌, ◌≤◌, ◌⊎◌}
+use Rattle.acl_normal.proofs.Common.{[], Ace, AceRef, and_parts, ap, arith, bit_and, Bool, cases_eq, counts, false, false_from_ne_true, get_or-set_other, get_or-set_same, has_bit, has_bit-without, inl, inr, is_at, is_inherit_only, is_waiting, IsQueue, IsQuiet, key_here, Kind, length, List, list_any, mask_here, masks_left, nat_cmp, not, or_cases, or_right, Principal, principal_eq, principal_of, refl, slice_index_or, slice_set, subst, suc, sym, take_out, true, waits, waits_before, with_masks, without, without_bits, zero, ℕ, ⊎_elim, ◌&&◌, ◌<◌, ◌∙◌, ◌∷◌, ◌≡◌, ◌≤◌, ◌⊎◌, ace, has_bit-and}
 use Rattle.std.proofs.lemmas.Map.Keys.{sorted_head, sorted_tail}
 use Rattle.acl_normal.proofs.emit.Walk.{head_in, later_than}
 use Rattle.acl_normal.proofs.rows.BitTaken.{is_eq_same}
 use Rattle.acl_normal.proofs.rows.Rows.{outline_taken}
 use Rattle.acl_normal.proofs.rows.TakeOut.{waiting_left}
 use Rattle.acl_normal.proofs.rows.Waits.{before_none}
-use Rattle.acl_normal.proofs.rows.WaitingPlaces.{shown_with}
-use Rattle.acl_normal.proofs.reduce.LaterBits.{has_bit-and}
+use Rattle.acl_normal.proofs.rows.ByPlace.{masked}
 use Rattle.acl_normal.proofs.unique.Bits.{masks_same, no_bits_of_zero}
 use Rattle.acl_normal.proofs.unique.Names.{principal_eq_same, principal_eq_itself}
 use Rattle.acl_normal.proofs.unique.Outline.{length_alike}
@@ -87,15 +86,15 @@ row_taken p m row (x ∷ aces) (n ∷ masks) (r ∷ rows) left l e quiet there b
     new = slice_set left row (without (slice_index_or left row 0) m)
 
     head : Ace
-    head = shown_with x (bit_and n (slice_index_or left r 0))
+    head = masked (ace x) (bit_and n (slice_index_or left r 0))
 
-    here : (r ≡ row) ⊎ (r ≡ row → ⊥) → shown_with x (bit_and n (slice_index_or new r 0)) ≡ without_bits p m head
+    here : (r ≡ row) ⊎ (r ≡ row → ⊥) → masked (ace x) (bit_and n (slice_index_or new r 0)) ≡ without_bits p m head
     here (inr d) =
-        ap (λ v. shown_with x (bit_and n v)) (get_or-set_other left row r _ 0 d) ∙ rw apart refl
+        ap (λ v. masked (ace x) (bit_and n v)) (get_or-set_other left row r _ 0 d) ∙ rw apart refl
       where
         apart : principal_eq (principal_of head) p ≡ false
         apart = false_from_ne_true _ (λ t. d (back 0 (omega arith) (principal_eq_same (principal_of head) p t)))
-    here (inl s) = ap (shown_with x) mask ∙ go (is_inherit_only head) refl
+    here (inl s) = ap (masked (ace x)) mask ∙ go (is_inherit_only head) refl
       where
         mask : bit_and n (slice_index_or new r 0) ≡ without (bit_and n (slice_index_or left r 0)) m
         mask =
@@ -107,10 +106,10 @@ row_taken p m row (x ∷ aces) (n ∷ masks) (r ∷ rows) left l e quiet there b
         named : principal_eq (principal_of head) p ≡ true
         named = ap (λ v. principal_eq v p) (there 0 (omega arith) s) ∙ principal_eq_itself p
 
-        go : (t : Bool) → is_inherit_only head ≡ t → shown_with x (without head.mask m) ≡ without_bits p m head
+        go : (t : Bool) → is_inherit_only head ≡ t → masked (ace x) (without head.mask m) ≡ without_bits p m head
         go false f = rw (named, f) refl
         go true f =
-            rw (named, f) (ap (shown_with x)
+            rw (named, f) (ap (masked (ace x))
             (ap (λ v. without v m) (quiet.0 f) ∙ nothing_without m ∙ sym (quiet.0 f)))
 
 -- ---- queues

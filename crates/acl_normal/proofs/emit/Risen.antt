@@ -1,18 +1,19 @@
 -- The numbers of the keys show whether they rise, and the list without its empty ACEs is made place by place.
-use Rattle.acl_normal.proofs.Common.{[], Ace, ace_key, AceRef, all_cleared, AllByRecursion, ap, AreRowNumbers, arith, bits_in, Bool, cases_lt, cleared, compare_keys, drop, eqb-false, Equal, false, full, Greater, HasRisen, inl, inr, is_le, is_named, IsAccepted, IsNormalFormOf, IsReducedOf, Key, key_here, key_number, key_order, key_record, kind_rank, left, length, Less, List, map-append, Mask, mask_here, ne_eqb, Ordering, refl, slice_index_or, subst, suc, sym, take, take_all, take_more, true, with_masks, zero, ℕ, ⊎_elim, ◌*◌, ◌++◌, ◌+◌, ◌<◌, ◌==◌, ◌∙◌, ◌∷◌, ◌≡◌, ◌≢◌, ◌≤◌, ◌⊎◌}
-use Rattle.acl_nfs4.proofs.Lists.{front_accepted}
+use Rattle.acl_normal.proofs.Common.{[], Ace, ace_key, AceRef, all_cleared, AllByRecursion, ap, AreRowNumbers, arith, mask_numbers, Bool, cases_lt, cleared, compare_keys, drop, eqb-false, Equal, false, full, Greater, HasRisen, inl, inr, is_le, is_principal_of, IsAccepted, IsNormalFormOf, IsReducedOf, Key, key_here, key_number, key_order, key_record, kind_rank, left, length, Less, List, map-append, Mask, mask_here, ne_eqb, Ordering, refl, slice_index_or, subst, suc, sym, take, take_all, take_more, true, with_masks, zero, ℕ, ⊎_elim, ◌*◌, ◌++◌, ◌+◌, ◌<◌, ◌==◌, ◌∙◌, ◌∷◌, ◌≡◌, ◌≢◌, ◌≤◌, ◌⊎◌}
+use Rattle.acl_nfs4.proofs.Exports.{front_accepted}
 use Rattle.acl_eval.proofs.Children.{moved}
 use Rattle.acl_normal.specs.internal.Rising.{IsRising}
 use Rattle.acl_normal.proofs.emit.Marks.{number_order}
 use Rattle.acl_normal.proofs.emit.RisingKeys.{rising_form}
 use Rattle.acl_normal.proofs.rows.BitsTaken.{key_there}
 use Rattle.acl_normal.proofs.rows.Rows.{named_here, row_below}
-use Rattle.acl_normal.proofs.unique.Bits.{bits_at}
+use Rattle.acl_normal.proofs.rows.ByPlace.{length_masks, mask_there}
+use Rattle.acl_normal.proofs.unique.Bits.{bits_at, bits_length}
 use Rattle.acl_normal.proofs.unique.Forming.{form_from}
 use Rattle.acl_normal.proofs.unique.Taken.{taken}
 
 -- numbers that rise are those of keys that rise
-number_less : (k l : Key) (xs : List Ace) → is_named k.0 xs ≡ true → is_named l.0 xs ≡ true
+number_less : (k l : Key) (xs : List Ace) → is_principal_of k.0 xs ≡ true → is_principal_of l.0 xs ≡ true
     → key_number k xs < key_number l xs → compare_keys k l ≡ Less
 number_less k l xs h i less = go (compare_keys k l) refl
   where
@@ -42,7 +43,7 @@ all_left P (a ∷ xs) h = go (a.mask == 0) refl (all_left P xs (λ j l some. h (
     go false e rest = rw e (h 0 (omega arith) (eqb-false a.mask 0 e), rest)
 
 -- keys that rise place by place are those of a rising list
-rises_from : (whole xs : List Ace) → ((i : ℕ) → i < length xs → is_named (key_here xs i).0 whole ≡ true)
+rises_from : (whole xs : List Ace) → ((i : ℕ) → i < length xs → is_principal_of (key_here xs i).0 whole ≡ true)
     → ((i j : ℕ) → i < j → j < length xs → mask_here xs i ≢ 0 → mask_here xs j ≢ 0
     → key_number (key_here xs i) whole < key_number (key_here xs j) whole)
     → IsRising (left xs)
@@ -127,6 +128,36 @@ number_few xs rows i numbers within =
     let below = row_below (key_here xs i).0 xs (named_here xs i within) in
     omega (arith, row, below)
 
+-- ---- a place of the ACEs and the masks of the code
+
+-- there are as many ACEs with masks as ACEs
+pub masked_count : (aces : List AceRef) (masks : List Mask) → length masks ≡ length aces
+    → length (with_masks aces (mask_numbers masks)) ≡ length aces
+masked_count aces masks same = length_masks aces (mask_numbers masks) (bits_length masks ∙ same)
+
+-- the row of a place is there, and it is small
+pub record HasRow (count place : ℕ) (rows : List ℕ) : Type 0 where
+  pub there : place < length rows
+  pub few : 2 * slice_index_or rows place 0 + 2 ≤ 2 * count
+
+pub has_row : (aces : List AceRef) (masks : List Mask) (rows : List ℕ) (place : ℕ) → length masks ≡ length aces
+    → AreRowNumbers (with_masks aces (mask_numbers masks)) rows → place < length aces → HasRow (length aces) place rows
+has_row aces masks rows place same numbers l =
+    let count = masked_count aces masks same in
+    let within : place < length (with_masks aces (mask_numbers masks)) = omega (arith, count, l) in
+    record {
+      there = omega (arith, count, numbers.count, l);
+      few = omega (arith, count, number_few (with_masks aces (mask_numbers masks)) rows place numbers within);
+    }
+
+-- the mask of a place
+pub mask_of : (aces : List AceRef) (masks : List Mask) (place : ℕ) (m : Mask) → length masks ≡ length aces
+    → place < length aces → m ≡ slice_index_or masks place m
+    → mask_here (with_masks aces (mask_numbers masks)) place ≡ m.bits
+mask_of aces masks place m same l is =
+    sym (mask_there aces (mask_numbers masks) place 0 (omega (arith, masked_count aces masks same, l)))
+    ∙ bits_at masks place 0 m (omega (arith, same, l)) is
+
 -- ---- the list without its empty ACEs, place by place
 
 left_append : (xs ys : List Ace) → left (xs ++ ys) ≡ left xs ++ left ys
@@ -171,14 +202,14 @@ shown a m = record { kind = a.kind; flags = a.flags.bits; mask = m.bits; who = a
 
 -- and at a place
 pub shown_at : (aces : List AceRef) (masks : List Mask) (i : ℕ) (x : AceRef) (m : Mask) → i < length masks
-    → i < length (with_masks aces (bits_in masks)) → x ≡ slice_index_or aces i x → m ≡ slice_index_or masks i m
-    → slice_index_or (with_masks aces (bits_in masks)) i (shown x m) ≡ shown x m
+    → i < length (with_masks aces (mask_numbers masks)) → x ≡ slice_index_or aces i x → m ≡ slice_index_or masks i m
+    → slice_index_or (with_masks aces (mask_numbers masks)) i (shown x m) ≡ shown x m
 shown_at aces masks i x m within inside is of_mask =
-    shown_there aces (bits_in masks) i (shown x m) x m.bits inside
+    shown_there aces (mask_numbers masks) i (shown x m) x m.bits inside
     ∙ ap (λ (a : AceRef). record {
       kind = a.kind;
       flags = a.flags.bits;
-      mask = slice_index_or (bits_in masks) i m.bits;
+      mask = slice_index_or (mask_numbers masks) i m.bits;
       who = a.who.now;
     }) (sym is)
     ∙ ap (λ (n : ℕ). record { kind = x.kind; flags = x.flags.bits; mask = n; who = x.who.now })

@@ -2,7 +2,7 @@
 use Rattle.acl_normal.proofs.Common.{[], Ace, AllByRecursion, Allow, and_from, and_parts, ap, arith, Bool, cases_eq, column, counts, Deny, Enters, eq-eqb, eqb-true, false, false_from_ne_true, first_at, Grows, has_bit, inl, inr, is_at, is_blocked, is_free, is_le, is_user, is_waiting, IsOnce, IsQueue, Key, key_eq, key_here, Kind, kind_eq, length, Less, List, list_any, Marked, mask_here, nat_cmp, None, not, Option, or_cases, or_left, or_right, other_kind, Principal, principal_eq, principal_of, refl, same_class, Some, subst, suc, sym, true, waits, waits_before, zero, ℕ, ⊎_elim, ◌&&◌, ◌<◌, ◌==◌, ◌∙◌, ◌∷◌, ◌≡◌, ◌≤◌, ◌⊎◌}
 use Rattle.std.specs.List.Sorted.{IsStrictlySortedBy}
 use Rattle.std.proofs.lemmas.Map.Keys.{sorted_head, sorted_tail, le_from_is_le}
-use Rattle.acl_normal.specs.internal.Ready.{Adds}
+use Rattle.acl_normal.specs.internal.Ready.{AddsMark}
 use Rattle.acl_normal.proofs.unique.Names.{principal_eq_same, principal_eq_itself}
 use Rattle.acl_normal.proofs.unique.Free.{kind_eq_same, kind_eq_itself}
 use Rattle.acl_normal.proofs.rows.TakeOut.{IsHere, IsThere, first_cases, none_behind, once_rest, waits_first}
@@ -150,11 +150,6 @@ stands_free k u b xs q once class free = go (first_at b q xs) refl
         clash h = cc
     go (Some (j, i)) e = at j i e (kinds j (free_at_first b q xs j i once e).1)
 
--- a queue of no length is empty
-pub no_places : (places : List ℕ) → (length places == 0) ≡ true → places ≡ []
-no_places [] h = refl
-no_places (i ∷ places) h = absurd (omega (arith, eqb-true (length (i ∷ places)) 0 h))
-
 -- where no place is in the queue, nothing is free
 pub nothing_waits : (k : Kind) (u : Bool) (b : ℕ) (xs : List Ace) (places : List ℕ) (old : Marked)
     → IsOnce (column xs b) → IsQueue k u b xs places → places ≡ [] → Enters k u b xs old old
@@ -244,7 +239,7 @@ walk_past k u b xs i all rest old new before is lacks = go (subst (λ v. Walks k
 -- a place that is clear
 pub walk_on : (k : Kind) (u : Bool) (b : ℕ) (xs : List Ace) (i : ℕ) (all rest : List ℕ) (old new more : Marked)
     → IsOnce (column xs b) → Walks k u b xs all old new → all ≡ i ∷ rest → is_blocked k u b xs i ≡ false
-    → has_bit (mask_here xs i) b ≡ true → Adds (key_here xs i) b new more → Walks k u b xs rest old more
+    → has_bit (mask_here xs i) b ≡ true → AddsMark (key_here xs i) b new more → Walks k u b xs rest old more
 walk_on k u b xs i all rest old new more once before is clear has adds =
     go (subst (λ v. Walks k u b xs v old new) is before)
   where

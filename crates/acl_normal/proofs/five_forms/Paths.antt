@@ -1,9 +1,9 @@
 -- Below the first new directory nothing is new, and what fits a profile does at every path.
 use Rattle.std.proofs.Common.{◌≡◌, ◌≤◌, ℕ, zero, suc, Bool, true, false, List, [], ◌∷◌, refl, ◌⊎◌}
-use Rattle.acl_normal.proofs.Common.{Ace, ap, arith, bit_and, bit_or, everyone, Fits, flags_for, group, group_named, has_bit, has_bit-and, has_bit-or, HasNormalFlags, inl, inr, IsNormalFormOf, IsProfile, IsTrue, IsWithin, no_bit, None, Option, owner, Principal, principal_of, Profile, same_set, same_Some, Some, subst, sym, user, ◌&&◌, ◌||◌, ◌↔◌, ◌∙◌}
+use Rattle.acl_normal.proofs.Common.{Ace, ap, arith, bit_and, bit_or, Fits, flags_for, has_bit, has_bit-and, has_bit-or, HasNormalFlags, inl, inr, IsNormalFormOf, IsProfile, IsTrue, IsWithin, no_bit, None, Option, Principal, principal_of, Profile, same_set, same_Some, Some, subst, sym, ◌&&◌, ◌||◌, ◌↔◌, ◌∙◌}
 use Rattle.acl_perm.specs.Bits.{all_flags, inherit_only}
-use Rattle.acl_nfs4.proofs.Within.{within_part}
-use Rattle.acl_eval.specs.Inheritance.{child_flags, children, directory_inherit, ends, file_inherit, goes_on, no_propagate_inherit, waits, with_flags}
+use Rattle.acl_nfs4.proofs.Exports.{within_part}
+use Rattle.acl_eval.specs.Inheritance.{child_flags, children, directory_inherit, ends, file_inherit, goes_on, no_propagate_inherit, waiting_flags, with_flags}
 use Rattle.acl_eval.specs.declared.inherit.ChildKind.{ChildKind}
 use Rattle.acl_eval.specs.declared.inherit.ChildKind.TheVariants.{Directory, File}
 use Rattle.acl_eval.proofs.Children.{child_fits, child_has, child_lacks, directory_absent, directory_ended, directory_ended_before, directory_for_files, directory_inherited, file_absent, union_within}
@@ -26,14 +26,14 @@ goes_on_again flags = same_set _ _ (λ k.
     has_bit-and (goes_on flags) 0x77 k ∙ ap (λ (b : Bool). b && has_bit 0x77 k) (has_bit-and flags 0x77 k)
     ∙ kept_twice (has_bit flags k) (has_bit 0x77 k) ∙ sym (has_bit-and flags 0x77 k))
 
-waiting_bit : (flags k : ℕ) → has_bit (waits flags) k ≡ ((has_bit flags k && has_bit 0x77 k) || has_bit 0x08 k)
+waiting_bit : (flags k : ℕ) → has_bit (waiting_flags flags) k ≡ ((has_bit flags k && has_bit 0x77 k) || has_bit 0x08 k)
 waiting_bit flags k =
     has_bit-or (goes_on flags) 0x08 k ∙ ap (λ (b : Bool). b || has_bit 0x08 k) (has_bit-and flags 0x77 k)
 
 -- what waits waits as it is
-waits_again : (flags : ℕ) → waits (waits flags) ≡ waits flags
+waits_again : (flags : ℕ) → waiting_flags (waiting_flags flags) ≡ waiting_flags flags
 waits_again flags = same_set _ _ (λ k.
-    waiting_bit (waits flags) k
+    waiting_bit (waiting_flags flags) k
     ∙ ap (λ (b : Bool). (b && has_bit 0x77 k) || has_bit 0x08 k) (waiting_bit flags k)
     ∙ set_twice (has_bit flags k) (has_bit 0x77 k) (has_bit 0x08 k) ∙ sym (waiting_bit flags k))
 
@@ -63,9 +63,9 @@ on_again flags d n =
     (has_bit-and flags 0x77 1 ∙ ap (λ (b : Bool). b && true) d) ∙ ap Some (goes_on_again flags)
 
 wait_again : (flags : ℕ) → has_bit flags directory_inherit ≡ false → has_bit flags no_propagate_inherit ≡ false
-    → has_bit flags file_inherit ≡ true → child_flags Directory (waits flags) ≡ Some (waits flags)
+    → has_bit flags file_inherit ≡ true → child_flags Directory (waiting_flags flags) ≡ Some (waiting_flags flags)
 wait_again flags d n f =
-    directory_for_files (waits flags) (waiting_bit flags 2 ∙ ap (λ (b : Bool). (b && true) || false) n)
+    directory_for_files (waiting_flags flags) (waiting_bit flags 2 ∙ ap (λ (b : Bool). (b && true) || false) n)
     (waiting_bit flags 1 ∙ ap (λ (b : Bool). (b && true) || false) d)
     (waiting_bit flags 0 ∙ ap (λ (b : Bool). (b && true) || false) f) ∙ ap Some (waits_again flags)
 

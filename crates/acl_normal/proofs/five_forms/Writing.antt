@@ -1,7 +1,7 @@
 -- That the ACEs of a normal form, one after the other, are a list.
 use Rattle.std.proofs.Common.{◌≡◌, ℕ, ◌+◌, ◌≤◌, ◌<◌, zero, suc, List, [], ◌∷◌, ◌++◌, length, take, drop, refl}
 use Rattle.acl_normal.proofs.Common.{Ace, ap, arith, Emitted, emitted_ace, emitted_aces, full, IsAccepted, map-append, slice_index_or, subst, sym, take_all, take_more, ◌∙◌}
-use Rattle.acl_nfs4.proofs.Lists.{front_accepted}
+use Rattle.acl_nfs4.proofs.Exports.{front_accepted}
 use Rattle.acl_eval.proofs.Children.{moved}
 
 -- a list, split at a place

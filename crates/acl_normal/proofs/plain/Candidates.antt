@@ -1,6 +1,6 @@
 -- Which ACE comes first: of those that are free somewhere, the one with the least key.
 use Rattle.std.proofs.Common.{◌≡◌, ℕ, Bool, true, false, List, [], ◌∷◌, ◌++◌, refl}
-use Rattle.acl_normal.proofs.Common.{Ace, ace_key, AllByRecursion, and_parts, ap, arith, Best, bytes_eq, Column, column, compare_keys, conflicts, counts, Equal, everyone_name, false≢true, fits_of, flags_for, Greater, group_name, has_bit, HasEmptyColumns, identifier_group, is_free, is_le, IsAce, IsLeastCandidate, IsWithin, Key, key_order, key_record, kind_eq, Less, no_bit, None, not, Option, or_cases, Ordering, ordering_reverse, owner_name, principal_eq, principal_of, Profile, Some, subst, sym, ⊎_elim, ◌&&◌, ◌∙◌}
+use Rattle.acl_normal.proofs.Common.{Ace, ace_key, AllByRecursion, and_parts, ap, arith, Best, Column, column, compare_keys, conflicts, counts, Equal, false≢true, fits_of, flags_for, Greater, has_bit, HasEmptyColumns, identifier_group, is_free, is_le, IsAce, IsLeastCandidate, IsWithin, Key, key_order, key_record, kind_eq, Less, no_bit, None, not, Option, or_cases, Ordering, ordering_reverse, principal_eq, principal_of, Profile, Some, subst, sym, ⊎_elim, ◌&&◌, ◌∙◌}
 use Rattle.acl_perm.specs.Order.{key_cmp}
 use Rattle.acl_normal.specs.internal.Passes.{IsNowhereFree, IsCandidate, IsBelow, AreNowhereFree, IsWithinAs, lesser}
 use Rattle.acl_normal.proofs.unique.Names.{principal_eq_same}

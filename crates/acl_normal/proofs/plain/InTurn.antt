@@ -4,7 +4,7 @@ use Rattle.std.proofs.Common.{◌≡◌, ◌≢◌, ℕ, ◌+◌, ◌<◌, ◌�
 use Rattle.acl_normal.proofs.Common.{Ace, ace_key, AllByRecursion, ap, append_assoc, arith, cases_lt, Column, column, count_left, false≢true, flags_for, full, has_bit, HasEmptyColumns, HasNoEmptyMask, HasNormalFlags, HasOnceColumns, inl, inr, is_free, IsAccepted, IsAce, IsEmission, IsLeastCandidate, IsMask-lt, IsStep, KeepsProfiles, length-append, principal_of, subst, sym, without_principal, ◌∙◌}
 use Rattle.acl_perm.proofs.Sets.{some_bit}
 use Rattle.acl_nfs4.specs.Limits.{most_weight}
-use Rattle.acl_nfs4.proofs.Push.{each_push}
+use Rattle.acl_nfs4.proofs.Exports.{each_push}
 use Rattle.acl_normal.proofs.unique.Names.{overlaps_itself}
 use Rattle.acl_normal.proofs.unique.Free.{ahead_from_free}
 use Rattle.acl_normal.proofs.unique.ListColumns.{column-append}

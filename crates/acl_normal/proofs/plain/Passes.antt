@@ -1,7 +1,6 @@
 -- Loops over ACEs in memory, and what they gather bit by bit.
-use Rattle.std.proofs.Common.{◌≡◌, ℕ, ◌+◌, ◌<◌, Bool, true, false, List, [], ◌∷◌, ◌++◌, length, take, refl}
-use Rattle.acl_normal.proofs.Common.{Ace, ace, AceRef, aces_in, Allow, and_false_right, ap, arith, Column, column, conflicts, conflicts_before, counts, default, Deny, everyone, first_kind, has_bit, has_opposite, is_either, is_free, is_shadowed, is_some, IsUnion, Key, Kind, kind_eq, may_overlap, not, Principal, principal_eq, principal_of, slice_index_or, sym, take_more, verdict, ◌&&◌, ◌||◌, ◌∙◌}
-use Rattle.std.proofs.Math.Bool.{or_assoc}
+use Rattle.std.proofs.Common.{◌≡◌, ℕ, ◌+◌, ◌<◌, Bool, List, [], ◌∷◌, ◌++◌, length, take, refl}
+use Rattle.acl_normal.proofs.Common.{Ace, ace, AceRef, aces_in, Allow, ap, arith, Column, column, conflicts, conflicts_before, counts, default, everyone, first_kind, has_bit, has_opposite, is_either, is_free, is_shadowed, is_some, IsUnion, Key, Kind, kind_eq, not, Principal, principal_eq, principal_of, slice_index_or, sym, take_more, verdict, ◌&&◌, ◌||◌, ◌∙◌}
 use Rattle.acl_perm.proofs.Bools.{and_true_right}
 use Rattle.acl_normal.proofs.unique.ListColumns.{column-append}
 

@@ -1,15 +1,14 @@
 -- What is emitted of the plain reduction of a list is its normal form.
 use Rattle.std.proofs.Common.{◌≡◌, ℕ, ◌≤◌, List, [], length}
-use Rattle.acl_normal.proofs.Common.{Ace, all_rights, AllByRecursion, ap, arith, column, count_left, default, equivalence, Err, fits_of, full, HasOnceColumns, IfOk, IsAccepted, IsAce, IsEmission, IsEquivalence, IsNormal, IsNormalFormOf, IsOnce, KeepsProfiles, needed_keys, Ok, Result, SameGrants, subst, sym, unshadowed, weight, ◌∙◌}
+use Rattle.acl_normal.proofs.Common.{Ace, all_rights, AllByRecursion, ap, arith, column, count_left, default, Err, full, HasOnceColumns, IfOk, IsAccepted, IsAce, IsEmission, IsNormal, IsNormalFormOf, IsOnce, KeepsProfiles, needed_keys, Ok, Result, SameGrants, subst, sym, unshadowed, ◌∙◌}
 use Rattle.acl_nfs4.specs.Limits.{most_weight}
-use Rattle.acl_nfs4.proofs.Within.{each_of}
 use Rattle.acl_normal.specs.internal.Passes.{IsPlainReduction}
 use Rattle.acl_normal.proofs.unique.Accepted.{each_mask, each_name}
 use Rattle.acl_normal.proofs.unique.Normal.{emitted_is_normal, quiet_flags}
 use Rattle.acl_normal.proofs.plain.Reduced.{reduced_once}
 use Rattle.acl_normal.proofs.plain.Shorter.{reduced_shorter}
 use Rattle.acl_normal.proofs.unique.Forming.{form_of}
-use Rattle.acl_normal.proofs.unique.Weights.{count_falls, count_within, length_under, weight_falls}
+use Rattle.acl_normal.proofs.unique.Weights.{count_falls, count_within, weight_falls}
 
 -- a normal list with the grants of an accepted one, with no more keys at any bit and within what that is within, is
 -- its normal form

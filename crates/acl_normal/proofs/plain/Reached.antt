@@ -1,7 +1,6 @@
 -- The first pass of the plain reduction: shadowed bits go.
-use Rattle.std.proofs.Common.{◌≡◌, ℕ, ◌+◌, ◌<◌, Bool, true, false, List, [], ◌∷◌, ◌++◌, length, take, refl, append-nil}
-use Rattle.acl_normal.proofs.Common.{Ace, ace, ace_key, AceRef, aces_in, and_false_right, ap, append_assoc, arith, Column, column, everyone, first_kind, has_bit, is_either, is_inherit_only, is_none, is_shadowed, IsDifference, Kind, None, not, Option, principal_of, slice_index_or, Some, sym, unshadowed, ◌&&◌, ◌∙◌}
-use Rattle.acl_normal.proofs.unique.Columns.{column_lacks}
+use Rattle.std.proofs.Common.{◌≡◌, ℕ, ◌+◌, ◌<◌, List, [], ◌∷◌, ◌++◌, length, take, append-nil}
+use Rattle.acl_normal.proofs.Common.{Ace, ace, ace_key, AceRef, aces_in, ap, append_assoc, arith, Column, column, has_bit, is_inherit_only, is_shadowed, IsDifference, not, principal_of, slice_index_or, sym, unshadowed, ◌&&◌, ◌∙◌}
 use Rattle.acl_normal.proofs.unique.ListColumns.{column-append}
 use Rattle.acl_normal.proofs.plain.Passes.{Marks, list_of-append, list_of-more}
 

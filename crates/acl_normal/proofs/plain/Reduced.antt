@@ -1,10 +1,10 @@
 -- The plain reduction of a column decides alike, and is settled.
-use Rattle.acl_normal.proofs.Common.{[], Allow, and_parts, ap, arith, Bool, Column, default, Deny, everyone, false, false_from_ne_true, first_kind, has_opposite, inl, inr, is_either, is_needed, IsOnce, Kind, kind_eq, may_overlap, needed_keys, None, not, Option, or_cases, or_from, or_left, or_parts, Principal, principal_eq, reduced, refl, Some, subst, sym, true, unshadowed, unwrap_or, verdict, ⊎_elim, ◌&&◌, ◌++◌, ◌||◌, ◌∙◌, ◌∷◌, ◌≡◌, ◌⊎◌}
+use Rattle.acl_normal.proofs.Common.{[], Allow, and_parts, ap, arith, Bool, Column, default, Deny, everyone, false, first_kind, has_opposite, inl, inr, is_either, is_needed, IsOnce, Kind, kind_eq, may_overlap, needed_keys, None, not, Option, or_cases, or_from, or_left, Principal, principal_eq, reduced, refl, Some, subst, sym, true, unshadowed, unwrap_or, verdict, ◌&&◌, ◌++◌, ◌∙◌, ◌∷◌, ◌≡◌, ◌⊎◌}
 use Rattle.acl_normal.proofs.unique.Names.{principal_eq_same, either_first, either_second, either_within}
 use Rattle.acl_normal.proofs.unique.FirstKind.{IsClique, none_within, append_none, append_some}
-use Rattle.acl_normal.proofs.unique.Irreducible.{IsClean, either_same}
+use Rattle.acl_normal.proofs.unique.Irreducible.{IsClean}
 use Rattle.acl_normal.proofs.unique.Free.{kind_eq_same, kind_eq_itself, some_same, once_from_clean}
-use Rattle.acl_normal.proofs.unique.Settled.{opposite, everyone_for, IsWitness, IsSettled, two_kinds}
+use Rattle.acl_normal.proofs.unique.Settled.{opposite, everyone_for, IsWitness, IsSettled}
 
 -- the shadowed keys decide nothing
 pub same_unshadowed : (m : Principal → Bool) (before c : Column) → m everyone ≡ true → first_kind m before ≡ None

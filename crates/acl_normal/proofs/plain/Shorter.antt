@@ -1,6 +1,6 @@
 -- The plain reduction takes keys away.
-use Rattle.std.proofs.Common.{◌≡◌, ◌≤◌, Bool, true, false, suc, [], ◌∷◌, ◌++◌, length, refl}
-use Rattle.acl_normal.proofs.Common.{arith, Column, default, everyone, first_kind, is_either, is_needed, is_none, Kind, needed_keys, reduced, unshadowed}
+use Rattle.std.proofs.Common.{◌≤◌, [], ◌∷◌, ◌++◌, length}
+use Rattle.acl_normal.proofs.Common.{arith, Column, default, Kind, needed_keys, reduced, unshadowed}
 
 unshadowed_shorter : (before c : Column) → length (unshadowed before c) ≤ length c
 unshadowed_shorter before [] = omega arith

@@ -1,27 +1,21 @@
 -- The masks of the first ACEs of a list, place by place.
-use Rattle.std.proofs.Math.Bool.{and-true, or-false, and-false, or_self}
-use Rattle.acl_normal.proofs.Common.{[], Ace, ace, ace_key, AceRef, aces_in, add-one, ap, append-nil, AreRowNumbers, arith, bit_or, Bool, Column, column, cond, counts, everyone, false, first_at, first_kind, full, get_or-replicate, get_or-set_other, get_or-set_same, has_bit, has_bit-or, is_either, is_inherit_only, is_named, is_none, is_some, IsAccepted, IsDifference, IsOnce, IsQuiet, IsTidy, KeepsFirsts, Key, Kind, length, length-append, length-replicate, length-set, length-take-le, List, None, not, nothing_left, Option, option_map, Principal, principal_eq, principal_of, refl, replicate, row_of, slice_index_or, slice_set, Some, subst, suc, sym, take, take_all, take_more, true, unshadowed, with_masks, ℕ, ◌&&◌, ◌++◌, ◌+◌, ◌<◌, ◌||◌, ◌∙◌, ◌∷◌, ◌≡◌, ◌≤◌}
+use Rattle.acl_normal.proofs.Common.{[], Ace, ace, ace_key, AceRef, aces_in, add-one, ap, append-nil, AreRowNumbers, arith, bit_or, Bool, Column, column, cond, counts, everyone, false, first_at, first_kind, full, get_or-replicate, get_or-set_other, get_or-set_same, has_bit, has_bit-or, is_either, is_inherit_only, is_principal_of, is_none, is_some, IsAccepted, IsDifference, IsOnce, IsQuiet, IsTidy, KeepsFirsts, Key, Kind, length, length-append, length-replicate, length-set, length-take-le, List, None, nothing_left, Option, Principal, principal_eq, principal_of, refl, replicate, row_of, slice_index_or, slice_set, Some, subst, suc, sym, take, take_all, take_more, true, unshadowed, with_masks, ℕ, ◌&&◌, ◌++◌, ◌+◌, ◌<◌, ◌||◌, ◌∙◌, ◌∷◌, ◌≡◌, ◌≤◌, mask_numbers, Mask}
 use Rattle.acl_normal.specs.internal.Reduced.{IsThinned}
 use Rattle.acl_normal.proofs.unique.Accepted.{accepted_masks}
-use Rattle.acl_normal.proofs.unique.Bits.{no_bits, no_bits_of_zero}
+use Rattle.acl_normal.proofs.unique.Bits.{no_bits, no_bits_of_zero, no_right, bits_length, bits_at, bits_push, bits_set}
 use Rattle.acl_normal.proofs.unique.Columns.{column_first}
-use Rattle.acl_normal.proofs.rows.BitTaken.{same_default}
 use Rattle.acl_normal.proofs.unique.FirstKind.{none_within}
-use Rattle.acl_normal.proofs.reduce.FirstRows.{column_more, first_then, first_there, index_is, key_at_index, length_of, none_from, none_is, some_either, unshadowed_push}
-use Rattle.acl_normal.proofs.unique.Irreducible.{either_same}
+use Rattle.acl_normal.proofs.reduce.FirstRows.{column_more, first_there, none_from, none_is, some_either, unshadowed_push}
+use Rattle.acl_normal.proofs.rows.ByPlace.{index_is, key_at_index, length_of, masked, masks_none, masks_push}
 use Rattle.acl_normal.proofs.unique.ListColumns.{column-append}
-use Rattle.acl_normal.proofs.unique.Names.{either_first, either_second, principal_eq_itself, principal_eq_same}
+use Rattle.acl_normal.proofs.unique.Names.{either_first, either_second, principal_eq_itself, principal_eq_same, either_within}
 use Rattle.acl_normal.proofs.unique.Outline.{length_alike, nothing_append}
 use Rattle.acl_normal.proofs.plain.Reduced.{same_unshadowed, unshadowed_once}
-use Rattle.acl_normal.proofs.reduce.Reducing.{no_column, no_right}
+use Rattle.acl_normal.proofs.reduce.Reducing.{no_column}
 use Rattle.acl_normal.proofs.rows.Rows.{named_here, row_below, row_same}
 use Rattle.acl_normal.proofs.rows.TakeOut.{absent_first, none_cases}
 
 -- ---- one ACE behind a list
-
--- the ACE with another mask
-abbrev pub masked : Ace → ℕ → Ace
-masked a m = record a { mask = m }
 
 -- the column with it
 pub column_push : (b : ℕ) (xs : List Ace) (a : Ace)
@@ -32,19 +26,7 @@ column_push b xs a = column-append b xs (a ∷ []) ∙ ap (λ v. column xs b ++ 
 first_front : (b : ℕ) (p : Principal) (xs ys : List Ace) (e : Kind × ℕ) → first_at b p xs ≡ Some e
     → first_at b p (xs ++ ys) ≡ Some e
 first_front b p [] ys e h = cc
-first_front b p (x ∷ xs) ys e h =
-    go (counts b x && principal_eq (principal_of x) p) refl (first_at b p xs) refl
-    (λ d g. first_front b p xs ys d g)
-  where
-    go : (t : Bool) → (counts b x && principal_eq (principal_of x) p) ≡ t → (o : Option (Kind × ℕ))
-        → first_at b p xs ≡ o
-        → ((d : Kind × ℕ) → first_at b p xs ≡ Some d → first_at b p (xs ++ ys) ≡ Some d)
-        → first_at b p (x ∷ (xs ++ ys)) ≡ Some e
-    go true f o g ih = rw f (rw f at h)
-    go false f None g ih = cc (rw (f, g) at h)
-    go false f (Some d) g ih =
-        let rest : first_at b p (xs ++ ys) ≡ Some d = ih d g in
-        rw (f, rest) (rw (f, g) at h)
+first_front b p (x ∷ xs) ys e h = grind (arith, first_front b p xs ys)
 
 -- and where none does, it may
 first_behind : (b : ℕ) (p : Principal) (xs : List Ace) (a : Ace) → first_at b p xs ≡ None
@@ -53,33 +35,13 @@ first_behind : (b : ℕ) (p : Principal) (xs : List Ace) (a : Ace) → first_at 
 first_behind b p [] a h = refl
 first_behind b p (x ∷ xs) a h =
     let both = none_cases b p x xs h in
-    let rest = first_behind b p xs a both.1 in
-    rw (both.0, rest) (go (counts b a && principal_eq (principal_of a) p))
-  where
-    later : Kind × ℕ → Kind × ℕ
-    later e = (e.0, suc e.1)
-
-    go : (t : Bool) → option_map later (cond t (Some (a.kind, length xs)) None)
-        ≡ cond t (Some (a.kind, suc (length xs))) None
-    go true = refl
-    go false = refl
+    grind (arith, both.0, first_behind b p xs a both.1)
 
 -- whether one more key is the first of some principals
 some_push : (m : Principal → Bool) (c : Column) (k : Key) (t : Bool)
     → is_some (first_kind m (c ++ cond t (k ∷ []) [])) ≡ (is_some (first_kind m c) || (t && m k.0))
-some_push m [] k false = refl
-some_push m [] k true = go (m k.0) refl
-  where
-    go : (t : Bool) → m k.0 ≡ t → is_some (cond (m k.0) (Some k.1) None) ≡ m k.0
-    go true e = rw e refl
-    go false e = rw e refl
-some_push m ((q, j) ∷ c) k t = go (m q) refl (some_push m c k t)
-  where
-    go : (s : Bool) → m q ≡ s → is_some (first_kind m (c ++ cond t (k ∷ []) []))
-        ≡ (is_some (first_kind m c) || (t && m k.0)) → is_some
-        (first_kind m ((q, j) ∷ (c ++ cond t (k ∷ []) []))) ≡ (is_some (first_kind m ((q, j) ∷ c)) || (t && m k.0))
-    go true e ih = rw e refl
-    go false e ih = rw e ih
+some_push m [] k t = grind arith
+some_push m ((q, j) ∷ c) k t = grind (arith, some_push m c k t)
 
 -- ---- the list, place by place
 
@@ -111,17 +73,7 @@ IsFresh xs a m = (b : ℕ)
 
 -- it takes part with all of them
 fresh_counts : (xs : List Ace) (a : Ace) (m b : ℕ) → IsFresh xs a m → counts b (masked a m) ≡ has_bit m b
-fresh_counts xs a m b f = go (is_inherit_only a) refl (has_bit a.mask b) refl
-  where
-    go : (t : Bool) → is_inherit_only a ≡ t → (s : Bool) → has_bit a.mask b ≡ s
-        → (has_bit m b && not (is_inherit_only a)) ≡ has_bit m b
-    go false e s g = rw e (and-true (has_bit m b))
-    go true e true g =
-        let none : has_bit m b ≡ false = f b ∙ rw (g, e) refl in
-        rw none refl
-    go true e false g =
-        let none : has_bit m b ≡ false = f b ∙ rw g refl in
-        rw none refl
+fresh_counts xs a m b f = grind (arith, f b)
 
 quiet_push : (xs : List Ace) (a : Ace) → IsQuiet xs → (is_inherit_only a ≡ true → a.mask ≡ 0)
     → IsQuiet (xs ++ a ∷ [])
@@ -136,88 +88,59 @@ firsts_to_more whole n xs a m f l is fresh = record {
   outline =
       nothing_append xs (masked a m ∷ []) ∙ ap (λ v. v ++ record a { mask = 0 } ∷ []) f.outline
       ∙ sym (nothing_append (take n whole) (a ∷ [])) ∙ ap nothing_left (sym more);
-  columns = λ b. columns b (counts b a) refl;
-  quiet = quiet_push xs (masked a m) f.quiet (λ e. no_bits m (λ b. lacks e b (has_bit a.mask b) refl));
+  columns = λ b. columns b;
+  quiet = quiet_push xs (masked a m) f.quiet (λ e. no_bits m (λ b. grind (arith, fresh b, e)));
   firsts = λ b p k i h. firsts b p k i h (first_at b p xs) refl;
 }
   where
     more : take (suc n) whole ≡ take n whole ++ a ∷ []
     more = ap (λ v. take v whole) (sym (add-one n)) ∙ take_more whole n a l ∙ ap (λ v. take n whole ++ v ∷ []) is
 
-    lacks : is_inherit_only a ≡ true → (b : ℕ) → (t : Bool) → has_bit a.mask b ≡ t → has_bit m b ≡ false
-    lacks e b true g = fresh b ∙ rw (g, e) refl
-    lacks e b false g = fresh b ∙ rw g refl
-
-    columns : (b : ℕ) (t : Bool) → counts b a ≡ t
-        → column (xs ++ masked a m ∷ []) b ≡ unshadowed [] (column (take (suc n) whole) b)
-    columns b false e =
-        let none : counts b (masked a m) ≡ false = fresh_counts xs a m b fresh ∙ fresh b ∙ rw e refl in
-        column_push b xs (masked a m) ∙ ap (λ t. column xs b ++ cond t (ace_key a ∷ []) []) none
-        ∙ append-nil (column xs b) ∙ f.columns b
-        ∙ ap (λ v. unshadowed [] v) (sym (column_more b n whole a l is
-        ∙ ap (λ t. column (take n whole) b ++ cond t (ace_key a ∷ []) []) e
-        ∙ append-nil (column (take n whole) b)))
-    columns b true e =
-        let new : counts b (masked a m) ≡ is_none (first_kind (is_either (principal_of a) everyone) (column xs b)) =
-        fresh_counts xs a m b fresh ∙ fresh b ∙ rw e refl in
-        column_push b xs (masked a m) ∙ ap (λ t. column xs b ++ cond t (ace_key a ∷ []) []) new
-        ∙ then_is (column xs b) (is_none (first_kind (is_either (principal_of a) everyone) (column xs b)))
-        ∙ ap (first_then (ace_key a)) (f.columns b)
-        ∙ sym (unshadowed_push (column (take n whole) b) (ace_key a))
-        ∙ ap (λ v. unshadowed [] v) (sym (column_more b n whole a l is
-        ∙ ap (λ t. column (take n whole) b ++ cond t (ace_key a ∷ []) []) e))
-      where
-        then_is : (c : Column) (t : Bool) → c ++ cond t (ace_key a ∷ []) [] ≡ cond t (c ++ ace_key a ∷ []) c
-        then_is c true = refl
-        then_is c false = append-nil c
+    columns : (b : ℕ) → column (xs ++ masked a m ∷ []) b ≡ unshadowed [] (column (take (suc n) whole) b)
+    columns b =
+        rw (column_push b xs (masked a m), column_more b n whole a l is)
+        (grind (
+          arith,
+          fresh_counts xs a m b fresh,
+          fresh b,
+          f.columns b,
+          unshadowed_push (column (take n whole) b) (ace_key a),
+          append-nil (column xs b),
+          append-nil (column (take n whole) b),
+        ))
 
     count : length xs ≡ n
     count = length_alike xs (take n whole) f.outline ∙ length-take-le n whole (omega (arith, l))
+
+    none : (b : ℕ) (p : Principal) → principal_eq (principal_of a) p ≡ true
+        → is_none (first_kind (is_either (principal_of a) everyone) (column xs b)) ≡ true
+        → first_at b p (take n whole) ≡ None
+    none b p e z =
+        let either : first_kind (is_either (principal_of a) everyone) (column (take n whole) b) ≡ None =
+        sym (same_unshadowed (is_either (principal_of a) everyone) [] (column (take n whole) b)
+        (either_second (principal_of a) everyone) refl)
+        ∙ ap (first_kind (is_either (principal_of a) everyone)) (sym (f.columns b)) ∙ none_from _ z in
+        subst (λ v. first_at b v (take n whole) ≡ None) (principal_eq_same (principal_of a) p e)
+        (absent_first b (principal_of a) (take n whole)
+        (none_within (is_either (principal_of a) everyone) (is_either (principal_of a) (principal_of a))
+        (column (take n whole) b) either
+        (either_within (is_either (principal_of a) everyone) (principal_of a) (principal_of a)
+        (either_first (principal_of a) everyone) (either_first (principal_of a) everyone))))
 
     firsts : (b : ℕ) (p : Principal) (k : Kind) (i : ℕ) → first_at b p (xs ++ masked a m ∷ []) ≡ Some (k, i)
         → (o : Option (Kind × ℕ)) → first_at b p xs ≡ o → first_at b p whole ≡ Some (k, i)
     firsts b p k i h (Some d) e =
         f.firsts b p k i (e ∙ sym (first_front b p xs (masked a m ∷ []) d e) ∙ h)
     firsts b p k i h None e =
-        here (counts b (masked a m)) refl (principal_eq (principal_of a) p) refl (counts b a) refl
-        (is_none (first_kind (is_either (principal_of a) everyone) (column xs b))) refl
-      where
-        at : Kind × ℕ
-        at = (a.kind, length xs)
-
-        whole_is : cond (counts b (masked a m) && principal_eq (principal_of a) p) (Some at) None ≡ Some (k, i)
-        whole_is = sym (first_behind b p xs (masked a m) e) ∙ h
-
-        counts_is : counts b (masked a m)
-            ≡ (counts b a && is_none (first_kind (is_either (principal_of a) everyone) (column xs b)))
-        counts_is = fresh_counts xs a m b fresh ∙ fresh b
-
-        here : (t : Bool) → counts b (masked a m) ≡ t → (s : Bool) → principal_eq (principal_of a) p ≡ s
-            → (u : Bool) → counts b a ≡ u → (v : Bool)
-            → is_none (first_kind (is_either (principal_of a) everyone) (column xs b)) ≡ v
-            → first_at b p whole ≡ Some (k, i)
-        here false t s x u y v z = cc (rw t at whole_is)
-        here true t false x u y v z = cc (rw (t, x) at whole_is)
-        here true t true x false y v z = cc (rw y at counts_is)
-        here true t true x true y false z = cc (rw (y, z) at counts_is)
-        here true t true x true y true z =
-            let pair : Some at ≡ Some (k, i) = rw (t, x) at whole_is in
-            first_there b p n whole a l is y x none ∙ ap (λ w. Some (a.kind, w)) (sym count) ∙ pair
-          where
-            either : first_kind (is_either (principal_of a) everyone) (column (take n whole) b) ≡ None
-            either =
-                sym (same_unshadowed (is_either (principal_of a) everyone) [] (column (take n whole) b)
-                (either_second (principal_of a) everyone) refl)
-                ∙ ap (first_kind (is_either (principal_of a) everyone)) (sym (f.columns b)) ∙ none_from _ z
-
-            none : first_at b p (take n whole) ≡ None
-            none =
-                subst (λ v. first_at b v (take n whole) ≡ None) (principal_eq_same (principal_of a) p x)
-                (absent_first b (principal_of a) (take n whole)
-                (none_within (is_either (principal_of a) everyone) (is_either (principal_of a) (principal_of a))
-                (column (take n whole) b) either
-                (λ w g. subst (λ v. is_either (principal_of a) everyone v ≡ true)
-                (sym (either_same (principal_of a) w g)) (either_first (principal_of a) everyone))))
+        grind (
+          arith,
+          first_behind b p xs (masked a m) e,
+          fresh_counts xs a m b fresh,
+          fresh b,
+          count,
+          none b p,
+          first_there b p n whole a l is,
+        )
 
 -- after the last place
 pub firsts_to_all : (whole : List Ace) (n : ℕ) (xs : List Ace) → FirstsTo whole n xs → length whole ≤ n
@@ -241,7 +164,7 @@ firsts_tidy whole xs accepted quiet columns = record {
 -- what the loop knows: the bits of each row, and those of everyone
 pub record HoldsSeen (whole : List Ace) (seen : List ℕ) (all : ℕ) (xs : List Ace) : Type 0 where
   pub count : length seen ≡ length whole
-  pub rows : (p : Principal) → is_named p whole ≡ true → (b : ℕ)
+  pub rows : (p : Principal) → is_principal_of p whole ≡ true → (b : ℕ)
       → has_bit (slice_index_or seen (row_of p whole) 0) b ≡ is_some (first_kind (is_either p p) (column xs b))
   pub everyone : (b : ℕ) → has_bit all b ≡ is_some (first_kind (is_either everyone everyone) (column xs b))
 
@@ -258,108 +181,76 @@ seen_start whole seen is = record {
 
 -- the bits that are new, by what was seen
 pub fresh_is : (whole : List Ace) (seen : List ℕ) (all : ℕ) (xs : List Ace) (a : Ace) (active m : ℕ)
-    → HoldsSeen whole seen all xs → is_named (principal_of a) whole ≡ true
+    → HoldsSeen whole seen all xs → is_principal_of (principal_of a) whole ≡ true
     → ((b : ℕ) → has_bit active b ≡ counts b a)
     → IsDifference active (bit_or (slice_index_or seen (row_of (principal_of a) whole) 0) all) m → IsFresh xs a m
 fresh_is whole seen all xs a active m s named act is b =
-    is b
-    ∙ ap (λ t. t && not (has_bit (bit_or (slice_index_or seen (row_of (principal_of a) whole) 0) all) b)) (act b)
-    ∙ ap (λ t. counts b a && not t) seen_is
-    ∙ ap (λ t. counts b a && t) (sym (none_is _))
-  where
-    seen_is : has_bit (bit_or (slice_index_or seen (row_of (principal_of a) whole) 0) all) b
-        ≡ is_some (first_kind (is_either (principal_of a) everyone) (column xs b))
-    seen_is =
-        has_bit-or (slice_index_or seen (row_of (principal_of a) whole) 0) all b
-        ∙ ap (λ t. t || has_bit all b) (s.rows (principal_of a) named b)
-        ∙ ap (λ t. is_some (first_kind (is_either (principal_of a) (principal_of a)) (column xs b)) || t)
-        (s.everyone b)
-        ∙ sym (some_either (principal_of a) everyone (column xs b))
+    grind (
+      arith,
+      is b,
+      act b,
+      has_bit-or (slice_index_or seen (row_of (principal_of a) whole) 0) all b,
+      s.rows (principal_of a) named b,
+      s.everyone b,
+      some_either (principal_of a) everyone (column xs b),
+      none_is (first_kind (is_either (principal_of a) everyone) (column xs b)),
+    )
 
 -- one ACE more is seen
 pub seen_more : (whole : List Ace) (seen : List ℕ) (all all' : ℕ) (xs : List Ace) (a : Ace) (m : ℕ)
-    → HoldsSeen whole seen all xs → is_named (principal_of a) whole ≡ true → IsFresh xs a m
+    → HoldsSeen whole seen all xs → is_principal_of (principal_of a) whole ≡ true → IsFresh xs a m
     → ((b : ℕ) → has_bit all' b ≡ (has_bit all b || (has_bit m b && principal_eq (principal_of a) everyone)))
     → HoldsSeen whole (slice_set seen (row_of (principal_of a) whole)
     (bit_or (slice_index_or seen (row_of (principal_of a) whole) 0) m)) all' (xs ++ masked a m ∷ [])
 seen_more whole seen all all' xs a m s named fresh is = record {
   count = length-set seen row new ∙ s.count;
   rows = λ p h b. rows p h b (principal_eq (principal_of a) p) refl;
-  everyone = λ b. of_all b;
+  everyone = λ b. grind (arith, is b, s.everyone b, some_is b everyone);
 }
   where
     row : ℕ
     row = row_of (principal_of a) whole
 
     new : ℕ
-    new = bit_or (slice_index_or seen (row_of (principal_of a) whole) 0) m
+    new = bit_or (slice_index_or seen row 0) m
 
     some_is : (b : ℕ) (p : Principal) → is_some (first_kind (is_either p p) (column (xs ++ masked a m ∷ []) b))
         ≡ (is_some (first_kind (is_either p p) (column xs b)) || (has_bit m b && principal_eq (principal_of a) p))
     some_is b p =
-        ap (λ v. is_some (first_kind (is_either p p) v)) (column_push b xs (masked a m))
-        ∙ some_push (is_either p p) (column xs b) (ace_key a) (counts b (masked a m))
-        ∙ ap (λ t. is_some (first_kind (is_either p p) (column xs b)) || (t && is_either p p (principal_of a)))
-        (fresh_counts xs a m b fresh)
-        ∙ ap (λ t. is_some (first_kind (is_either p p) (column xs b)) || (has_bit m b && t))
-        (or_self (principal_eq (principal_of a) p))
+        rw (column_push b xs (masked a m))
+        (grind (
+          arith,
+          some_push (is_either p p) (column xs b) (ace_key a) (counts b (masked a m)),
+          fresh_counts xs a m b fresh,
+        ))
 
-    rows : (p : Principal) → is_named p whole ≡ true → (b : ℕ) → (t : Bool) → principal_eq (principal_of a) p ≡ t
-        → has_bit (slice_index_or (slice_set seen (row_of (principal_of a) whole)
-        (bit_or (slice_index_or seen (row_of (principal_of a) whole) 0) m)) (row_of p whole) 0) b
+    rows : (p : Principal) → is_principal_of p whole ≡ true → (b : ℕ) → (t : Bool) → principal_eq (principal_of a) p ≡ t
+        → has_bit (slice_index_or (slice_set seen row new) (row_of p whole) 0) b
         ≡ is_some (first_kind (is_either p p) (column (xs ++ masked a m ∷ []) b))
     rows p h b true e =
         let same : principal_of a ≡ p = principal_eq_same (principal_of a) p e in
-        let within : row_of (principal_of a) whole < length seen =
-        omega (arith, row_below (principal_of a) whole named, s.count) in
-        ap (λ v. has_bit (slice_index_or (slice_set seen (row_of (principal_of a) whole)
-        (bit_or (slice_index_or seen (row_of (principal_of a) whole) 0) m)) (row_of v whole) 0) b) (sym same)
-        ∙ ap (λ v. has_bit v b) (get_or-set_same seen (row_of (principal_of a) whole)
-        (bit_or (slice_index_or seen (row_of (principal_of a) whole) 0) m) 0 within)
-        ∙ has_bit-or (slice_index_or seen (row_of (principal_of a) whole) 0) m b
-        ∙ ap (λ t. t || has_bit m b) (s.rows (principal_of a) named b)
-        ∙ ap (λ v. is_some (first_kind (is_either v v) (column xs b)) || has_bit m b) same
-        ∙ ap (λ t. is_some (first_kind (is_either p p) (column xs b)) || t) (sym (and-true (has_bit m b)))
-        ∙ ap (λ t. is_some (first_kind (is_either p p) (column xs b)) || (has_bit m b && t)) (sym e)
-        ∙ sym (some_is b p)
+        let within : row < length seen = omega (arith, row_below (principal_of a) whole named, s.count) in
+        ap (λ v. has_bit (slice_index_or (slice_set seen row new) (row_of v whole) 0) b) (sym same)
+        ∙ ap (λ v. has_bit v b) (get_or-set_same seen row new 0 within)
+        ∙ grind (
+          arith,
+          has_bit-or (slice_index_or seen row 0) m b,
+          s.rows (principal_of a) named b,
+          same,
+          some_is b p,
+        )
     rows p h b false e =
-        ap (λ v. has_bit v b) (get_or-set_other seen (row_of (principal_of a) whole) (row_of p whole)
-        (bit_or (slice_index_or seen (row_of (principal_of a) whole) 0) m) 0 apart)
-        ∙ s.rows p h b
-        ∙ sym (or-false (is_some (first_kind (is_either p p) (column xs b))))
-        ∙ ap (λ t. is_some (first_kind (is_either p p) (column xs b)) || t) (sym (and-false (has_bit m b)))
-        ∙ ap (λ t. is_some (first_kind (is_either p p) (column xs b)) || (has_bit m b && t)) (sym e)
-        ∙ sym (some_is b p)
+        ap (λ v. has_bit v b) (get_or-set_other seen row (row_of p whole) new 0 apart)
+        ∙ grind (arith, s.rows p h b, some_is b p)
       where
-        apart : row_of p whole ≡ row_of (principal_of a) whole → ⊥
+        apart : row_of p whole ≡ row → ⊥
         apart g =
             let same : p ≡ principal_of a = row_same p (principal_of a) whole h named g in
             let one : principal_eq (principal_of a) p ≡ true =
             ap (principal_eq (principal_of a)) same ∙ principal_eq_itself (principal_of a) in
             cc
 
-    of_all : (b : ℕ)
-        → has_bit all' b ≡ is_some (first_kind (is_either everyone everyone) (column (xs ++ masked a m ∷ []) b))
-    of_all b =
-        is b ∙ ap (λ t. t || (has_bit m b && principal_eq (principal_of a) everyone)) (s.everyone b)
-        ∙ sym (some_is b everyone)
-
 -- ---- masks by place
-
--- no masks show no ACE
-pub masks_none : (aces : List AceRef) → with_masks aces [] ≡ []
-masks_none [] = refl
-masks_none (x ∷ aces) = refl
-
--- one mask more shows one ACE more
-pub masks_push : (aces : List AceRef) (masks : List ℕ) (x : AceRef) (m : ℕ) → length masks < length aces
-    → x ≡ slice_index_or aces (length masks) x
-    → with_masks aces (masks ++ m ∷ []) ≡ with_masks aces masks ++ masked (ace x) m ∷ []
-masks_push [] masks x m h is = absurd (omega (arith, h))
-masks_push (y ∷ aces) [] x m h is =
-    ap (λ v. masked (ace y) m ∷ v) (masks_none aces) ∙ sym (ap (λ v. masked (ace v) m ∷ []) is)
-masks_push (y ∷ aces) (n ∷ masks) x m h is =
-    ap (λ v. masked (ace y) n ∷ v) (masks_push aces masks x m (omega (arith, h)) is)
 
 -- ---- rows by place
 
@@ -371,19 +262,14 @@ row_here whole rows i a r l is =
 
 -- who is named
 pub named_there : (whole : List Ace) (i : ℕ) (a : Ace) → i < length whole → slice_index_or whole i a ≡ a
-    → is_named (principal_of a) whole ≡ true
+    → is_principal_of (principal_of a) whole ≡ true
 named_there whole i a l is =
-    ap (λ k. is_named k.0 whole) (sym (key_at_index whole i a l ∙ ap ace_key is)) ∙ named_here whole i l
-
--- what stands at the row
-pub row_value : (seen : List ℕ) (row r v : ℕ) → v ≡ slice_index_or seen row v → row ≡ r → r < length seen
-    → v ≡ slice_index_or seen r 0
-row_value seen row r v h e l = h ∙ ap (λ n. slice_index_or seen n v) e ∙ same_default seen r v 0 l
+    ap (λ k. is_principal_of k.0 whole) (sym (key_at_index whole i a l ∙ ap ace_key is)) ∙ named_here whole i l
 
 -- the row of the ACE at a place is one of those that are seen
-pub row_seen : (aces : List AceRef) (rows seen : List ℕ) (place all : ℕ) (xs : List Ace) (x : AceRef)
+pub row_seen : (aces : List AceRef) (rows : List ℕ) (seen : List Mask) (place all : ℕ) (xs : List Ace) (x : AceRef)
     → AreRowNumbers (aces_in aces) rows → place < length aces → x ≡ slice_index_or aces place x
-    → HoldsSeen (aces_in aces) seen all xs → slice_index_or rows place 0 < length seen
+    → HoldsSeen (aces_in aces) (mask_numbers seen) all xs → slice_index_or rows place 0 < length seen
 row_seen aces rows seen place all xs x r l is holds =
     let within : place < length (aces_in aces) = omega (arith, length_of aces, l) in
     let at = index_is aces place x l is in
@@ -392,6 +278,7 @@ row_seen aces rows seen place all xs x r l is holds =
       row_here (aces_in aces) rows place (ace x) r within at,
       row_below (principal_of (ace x)) (aces_in aces) (named_there (aces_in aces) place (ace x) within at),
       holds.count,
+      bits_length seen,
     )
 
 -- ---- the loop
@@ -416,37 +303,43 @@ reaches_none aces masks seen no_mask zeros = record {
     none : with_masks aces masks ≡ []
     none = ap (with_masks aces) no_mask ∙ masks_none aces
 
--- the ACE at the next place, what was seen in its row before, and what takes part of it and is new
-pub record IsNext (aces : List AceRef) (rows : List ℕ) (place : ℕ) (seen : List ℕ) (all : ℕ) (x : AceRef)
-    (here fresh : ℕ) : Type 0 where
+-- the ACE at the next place, what was seen in its row before and after, and what takes part of it and is new
+pub record IsNext (aces : List AceRef) (rows : List ℕ) (place : ℕ) (seen : List Mask) (all : ℕ) (x : AceRef)
+    (here both fresh : Mask) : Type 0 where
   pub numbers : AreRowNumbers (aces_in aces) rows
   pub below : place < length aces
   pub is : x ≡ slice_index_or aces place x
   pub in_row : here ≡ slice_index_or seen (slice_index_or rows place 0) here
   pub active : ℕ
   pub takes_part : (b : ℕ) → has_bit active b ≡ counts b (ace x)
-  pub new : IsDifference active (bit_or here all) fresh
+  pub new : IsDifference active (bit_or here.bits all) fresh.bits
+  pub together : both.bits ≡ bit_or here.bits fresh.bits
 
 -- one place more
-pub reaches_more : (aces : List AceRef) (rows : List ℕ) (place : ℕ) (masks seen : List ℕ) (all all' : ℕ) (x : AceRef)
-    (here fresh : ℕ) → Reaches aces place masks seen all → IsNext aces rows place seen all x here fresh
-    → ((b : ℕ) → has_bit all' b ≡ (has_bit all b || (has_bit fresh b && principal_eq (principal_of (ace x)) everyone)))
-    → Reaches aces (place + 1) (masks ++ fresh ∷ [])
-    (slice_set seen (slice_index_or rows place 0) (bit_or here fresh)) all'
-reaches_more aces rows place masks seen all all' x here fresh r next of_all = record {
-  count = length-append masks (fresh ∷ []) ∙ ap (λ n. n + 1) r.count;
+pub reaches_more : (aces : List AceRef) (rows : List ℕ) (place : ℕ) (masks seen : List Mask) (all all' : ℕ) (x : AceRef)
+    (here both fresh : Mask) → Reaches aces place (mask_numbers masks) (mask_numbers seen) all
+    → IsNext aces rows place seen all x here both fresh
+    → ((b : ℕ) → has_bit all' b
+    ≡ (has_bit all b || (has_bit fresh.bits b && principal_eq (principal_of (ace x)) everyone)))
+    → Reaches aces (place + 1) (mask_numbers (masks ++ fresh ∷ []))
+    (mask_numbers (slice_set seen (slice_index_or rows place 0) both)) all'
+reaches_more aces rows place masks seen all all' x here both fresh r next of_all = record {
+  count = ap length (bits_push masks fresh) ∙ length-append (mask_numbers masks) (fresh.bits ∷ []) ∙ ap (λ n. n + 1) r.count;
   firsts =
       subst (FirstsTo whole (place + 1)) (sym shown)
-      (subst (λ n. FirstsTo whole n (with_masks aces masks ++ masked (ace x) fresh ∷ [])) (sym (add-one place))
+      (subst (λ n. FirstsTo whole n (so_far ++ masked (ace x) fresh.bits ∷ [])) (sym (add-one place))
       (firsts_to_more whole place _ _ _ r.firsts within is new));
   holds =
       subst (HoldsSeen whole _ all') (sym shown)
-      (subst (λ v. HoldsSeen whole v all' (with_masks aces masks ++ masked (ace x) fresh ∷ [])) (sym written)
-      (seen_more whole seen all all' _ _ _ r.holds named new of_all));
+      (subst (λ v. HoldsSeen whole v all' (so_far ++ masked (ace x) fresh.bits ∷ [])) (sym written)
+      (seen_more whole (mask_numbers seen) all all' _ _ _ r.holds named new of_all));
 }
   where
     whole : List Ace
     whole = aces_in aces
+
+    so_far : List Ace
+    so_far = with_masks aces (mask_numbers masks)
 
     row : ℕ
     row = row_of (principal_of (ace x)) whole
@@ -460,28 +353,31 @@ reaches_more aces rows place masks seen all all' x here fresh r next of_all = re
     at_row : slice_index_or rows place 0 ≡ row
     at_row = row_here whole rows place (ace x) next.numbers within is
 
-    named : is_named (principal_of (ace x)) whole ≡ true
+    named : is_principal_of (principal_of (ace x)) whole ≡ true
     named = named_there whole place (ace x) within is
 
-    there : here ≡ slice_index_or seen row 0
+    there : here.bits ≡ slice_index_or (mask_numbers seen) row 0
     there =
-        row_value seen _ row here next.in_row at_row
-        (omega (arith, row_below (principal_of (ace x)) whole named, r.holds.count))
+        sym (bits_at seen (slice_index_or rows place 0) 0 here
+        (row_seen aces rows seen place all so_far x next.numbers next.below next.is r.holds) next.in_row)
+        ∙ ap (λ n. slice_index_or (mask_numbers seen) n 0) at_row
 
-    written : slice_set seen (slice_index_or rows place 0) (bit_or here fresh)
-        ≡ slice_set seen row (bit_or (slice_index_or seen row 0) fresh)
+    written : mask_numbers (slice_set seen (slice_index_or rows place 0) both)
+        ≡ slice_set (mask_numbers seen) row (bit_or (slice_index_or (mask_numbers seen) row 0) fresh.bits)
     written =
-        ap (λ n. slice_set seen n (bit_or here fresh)) at_row
-        ∙ ap (λ v. slice_set seen row (bit_or v fresh)) there
+        bits_set seen (slice_index_or rows place 0) both
+        ∙ ap (λ n. slice_set (mask_numbers seen) n both.bits) at_row
+        ∙ ap (slice_set (mask_numbers seen) row) (next.together ∙ ap (λ v. bit_or v fresh.bits) there)
 
-    new : IsFresh (with_masks aces masks) (ace x) fresh
+    new : IsFresh so_far (ace x) fresh.bits
     new =
-        fresh_is whole seen all (with_masks aces masks) (ace x) next.active fresh r.holds named next.takes_part
-        (subst (λ v. IsDifference next.active (bit_or v all) fresh) there next.new)
+        fresh_is whole (mask_numbers seen) all so_far (ace x) next.active fresh.bits r.holds named next.takes_part
+        (subst (λ v. IsDifference next.active (bit_or v all) fresh.bits) there next.new)
 
-    shown : with_masks aces (masks ++ fresh ∷ []) ≡ with_masks aces masks ++ masked (ace x) fresh ∷ []
+    shown : with_masks aces (mask_numbers (masks ++ fresh ∷ [])) ≡ so_far ++ masked (ace x) fresh.bits ∷ []
     shown =
-        masks_push aces masks x fresh (omega (arith, r.count, next.below))
+        ap (with_masks aces) (bits_push masks fresh)
+        ∙ masks_push aces (mask_numbers masks) x fresh.bits (omega (arith, r.count, next.below))
         (next.is ∙ ap (λ n. slice_index_or aces n x) (sym r.count))
 
 -- after the last place

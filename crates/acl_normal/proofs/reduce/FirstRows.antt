@@ -1,5 +1,5 @@
 -- What is unshadowed in a column, and ACEs by place.
-use Rattle.acl_normal.proofs.Common.{[], Ace, ace, ace_key, AceRef, aces_in, add-one, ap, append-nil, append_assoc, arith, Bool, Column, column, cond, counts, everyone, false, first_at, first_kind, is_either, is_none, is_some, Key, key_here, Kind, length, List, None, not, Option, Principal, principal_eq, principal_of, refl, slice_index_or, Some, subst, suc, sym, take, take_more, true, unshadowed, zero, ℕ, ◌++◌, ◌<◌, ◌||◌, ◌∙◌, ◌∷◌, ◌≡◌}
+use Rattle.acl_normal.proofs.Common.{[], Ace, ace_key, add-one, ap, append-nil, append_assoc, arith, Column, column, cond, counts, everyone, first_at, first_kind, is_either, is_none, is_some, Key, Kind, length, List, None, not, Option, Principal, principal_eq, principal_of, refl, slice_index_or, Some, subst, suc, sym, take, take_more, true, unshadowed, zero, ℕ, ◌++◌, ◌<◌, ◌||◌, ◌∙◌, ◌∷◌, ◌≡◌}
 use Rattle.acl_normal.proofs.unique.Names.{either_second}
 use Rattle.acl_normal.proofs.unique.ListColumns.{column-append}
 use Rattle.acl_normal.proofs.plain.Reduced.{same_unshadowed}
@@ -15,20 +15,7 @@ pub some_either : (p q : Principal) (c : Column)
     → is_some (first_kind (is_either p q) c)
     ≡ (is_some (first_kind (is_either p p) c) || is_some (first_kind (is_either q q) c))
 some_either p q [] = refl
-some_either p q ((s, j) ∷ c) = go (principal_eq s p) (principal_eq s q) refl refl (some_either p q c)
-  where
-    right : (t : Bool) → true ≡ (t || true)
-    right true = refl
-    right false = refl
-
-    go : (x y : Bool) → principal_eq s p ≡ x → principal_eq s q ≡ y
-        → is_some (first_kind (is_either p q) c)
-        ≡ (is_some (first_kind (is_either p p) c) || is_some (first_kind (is_either q q) c)) → is_some
-        (first_kind (is_either p q) ((s, j) ∷ c))
-        ≡ (is_some (first_kind (is_either p p) ((s, j) ∷ c)) || is_some (first_kind (is_either q q) ((s, j) ∷ c)))
-    go true y e f ih = rw e refl
-    go false true e f ih = rw (e, f) (right (is_some (first_kind (is_either p p) c)))
-    go false false e f ih = rw (e, f) ih
+some_either p q ((s, j) ∷ c) = grind (arith, some_either p q c)
 
 -- none is not some
 pub none_is : (o : Option Kind) → is_none o ≡ not (is_some o)
@@ -51,36 +38,14 @@ pub unshadowed_append : (before c : Column) (k : Key)
 unshadowed_append before [] (p, k) =
     ap (λ v. cond (is_none (first_kind (is_either p everyone) v)) ((p, k) ∷ []) []) (sym (append-nil before))
 unshadowed_append before ((q, j) ∷ c) k =
-    go (is_none (first_kind (is_either q everyone) before)) refl (unshadowed_append (before ++ (q, j) ∷ []) c k)
-  where
-    go : (t : Bool) → is_none (first_kind (is_either q everyone) before) ≡ t
-        → unshadowed (before ++ (q, j) ∷ []) (c ++ k ∷ []) ≡ unshadowed (before ++ (q, j) ∷ []) c
-        ++ cond (is_none (first_kind (is_either k.0 everyone) ((before ++ (q, j) ∷ []) ++ c))) (k ∷ []) []
-        → unshadowed before ((q, j) ∷ (c ++ k ∷ [])) ≡ unshadowed before ((q, j) ∷ c)
-        ++ cond (is_none (first_kind (is_either k.0 everyone) (before ++ (q, j) ∷ c))) (k ∷ []) []
-    go true e ih =
-        let step =
-        ih ∙ ap (λ v. unshadowed (before ++ (q, j) ∷ []) c
-        ++ cond (is_none (first_kind (is_either k.0 everyone) v)) (k ∷ []) [])
-        (append_assoc before ((q, j) ∷ []) c) in
-        rw e (ap (λ v. (q, j) ∷ v) step)
-    go false e ih =
-        let step =
-        ih ∙ ap (λ v. unshadowed (before ++ (q, j) ∷ []) c
-        ++ cond (is_none (first_kind (is_either k.0 everyone) v)) (k ∷ []) [])
-        (append_assoc before ((q, j) ∷ []) c) in
-        rw e step
+    grind (arith, unshadowed_append (before ++ (q, j) ∷ []) c k, append_assoc before ((q, j) ∷ []) c)
 
 -- one key more
 pub unshadowed_push : (c : Column) (k : Key) → unshadowed [] (c ++ k ∷ []) ≡ first_then k (unshadowed [] c)
 unshadowed_push c k =
     unshadowed_append [] c k ∙ ap (λ o. unshadowed [] c ++ cond (is_none o) (k ∷ []) [])
     (sym (same_unshadowed (is_either k.0 everyone) [] c (either_second k.0 everyone) refl))
-    ∙ go (is_none (first_kind (is_either k.0 everyone) (unshadowed [] c)))
-  where
-    go : (t : Bool) → unshadowed [] c ++ cond t (k ∷ []) [] ≡ cond t (unshadowed [] c ++ k ∷ []) (unshadowed [] c)
-    go true = refl
-    go false = append-nil (unshadowed [] c)
+    ∙ grind (arith, append-nil (unshadowed [] c))
 
 -- ---- one place more
 
@@ -96,13 +61,6 @@ first_there b p (suc i) (x ∷ xs) a l is has same none =
     let rest = first_there b p i xs a (omega (arith, l)) is has same both.1 in
     rw (both.0, rest) refl
 
--- the key of the ACE at a place
-pub key_at_index : (xs : List Ace) (i : ℕ) (d : Ace) → i < length xs
-    → key_here xs i ≡ ace_key (slice_index_or xs i d)
-key_at_index [] i d h = absurd (omega (arith, h))
-key_at_index (a ∷ xs) zero d h = refl
-key_at_index (a ∷ xs) (suc i) d h = key_at_index xs i d (omega (arith, h))
-
 -- the column of one place more
 pub column_more : (b i : ℕ) (xs : List Ace) (a : Ace) → i < length xs → slice_index_or xs i a ≡ a
     → column (take (suc i) xs) b ≡ column (take i xs) b ++ cond (counts b a) (ace_key a ∷ []) []
@@ -112,20 +70,3 @@ column_more b i xs a h is =
     is ∙ ap (λ v. column (take i xs) b ++ v) (column_first b a [])
 
 -- ---- keys that borrow their names
-
--- as many ACEs are shown as there are
-pub length_of : (aces : List AceRef) → length (aces_in aces) ≡ length aces
-length_of [] = refl
-length_of (x ∷ aces) = ap suc (length_of aces)
-
--- the ACE at a place
-pub index_of : (aces : List AceRef) (i : ℕ) (d : AceRef) → i < length aces
-    → slice_index_or (aces_in aces) i (ace (slice_index_or aces i d)) ≡ ace (slice_index_or aces i d)
-index_of [] i d h = absurd (omega (arith, h))
-index_of (x ∷ aces) zero d h = refl
-index_of (x ∷ aces) (suc i) d h = index_of aces i d (omega (arith, h))
-
--- the same of what indexing gives
-pub index_is : (aces : List AceRef) (i : ℕ) (x : AceRef) → i < length aces → x ≡ slice_index_or aces i x
-    → slice_index_or (aces_in aces) i (ace x) ≡ ace x
-index_is aces i x h is = ap (λ v. slice_index_or (aces_in aces) i (ace v)) is ∙ index_of aces i x h ∙ ap ace (sym is)

@@ -1,13 +1,16 @@
 -- A list with reduced columns is irreducible and grants the same.
-use Rattle.acl_normal.proofs.Common.{[], Ace, all_rights, ap, arith, bit_at, bit_at_above, Bool, cases_lt, column, default, eqb-false, eqb-true, false, full, has_bit, HasMasks, HasNames, HasNoEmptyMask, IsAccepted, IsIrreducible, IsIrreducibleList, IsNormal, IsQuiet, IsTidy, left, List, matches, needed_keys, nothing_left, reduced, refl, SameGrants, subst, sym, true, unshadowed, verdict, ℕ, ⊎_elim, ◌<◌, ◌==◌, ◌∙◌, ◌∷◌, ◌≡◌, ◌≤◌}
+use Rattle.acl_normal.proofs.Common.{[], Ace, all_rights, ap, arith, cases_lt, column, default, false, full, has_bit, HasMasks, HasNames, HasNoEmptyMask, IsAccepted, IsIrreducible, IsIrreducibleList, IsNormal, IsQuiet, IsTidy, left, List, matches, needed_keys, nothing_left, reduced, refl, SameGrants, subst, sym, unshadowed, verdict, ℕ, ⊎_elim, ◌<◌, ◌∙◌, ◌∷◌, ◌≡◌}
 use mathlib.Core.Logic.Iff.{symm, trans}
 use Rattle.acl_normal.proofs.unique.Accepted.{accepted_masks, accepted_names}
 use Rattle.acl_normal.proofs.unique.ListColumns.{names_in_column, same_grants_from_columns}
-use Rattle.acl_normal.proofs.unique.Normal.{irreducible_list, clique_of}
+use Rattle.acl_normal.proofs.unique.FirstKind.{clique_of}
+use Rattle.acl_normal.proofs.unique.Normal.{irreducible_list}
 use Rattle.acl_normal.proofs.plain.Reduced.{same_reduced, reduced_settled}
 use Rattle.acl_normal.proofs.unique.Settled.{IsSettled, settled_irreducible}
 use Rattle.acl_normal.proofs.unique.Unique.{unique}
 use Rattle.acl_normal.proofs.emit.Leaving.{column_left, masks_of_quiet}
+use Rattle.acl_normal.proofs.unique.Columns.{column_first}
+use Rattle.acl_normal.proofs.unique.Bits.{below}
 
 -- two passes that reduce each column
 pub reduces : (xs ys zs : List Ace) → ((b : ℕ) → b < 21 → column ys b ≡ unshadowed [] (column xs b))
@@ -33,44 +36,17 @@ names_kept xs ys e h = names_back ys (subst HasNames (sym e) (names_on xs h))
 -- a bit that is no right has an empty column
 pub no_column : (b : ℕ) (xs : List Ace) → HasMasks xs → has_bit all_rights b ≡ false → column xs b ≡ []
 no_column b [] h out = refl
-no_column b (a ∷ xs) h out = go (has_bit a.mask b) refl (no_column b xs h.1 out)
-  where
-    go : (t : Bool) → has_bit a.mask b ≡ t → column xs b ≡ [] → column (a ∷ xs) b ≡ []
-    go true e ih = cc (h.0 b e)
-    go false e ih = rw e ih
-
--- a right is one of the first 21 bits
-pub below : (b : ℕ) → has_bit all_rights b ≡ true → b < 21
-below b h = ⊎_elim (λ l. l) (λ l. absurd (high l)) (cases_lt b 21)
-  where
-    high : 21 ≤ b → ⊥
-    high l = omega (arith, bit_at_above all_rights 21 b (omega arith) l, eqb-true (bit_at all_rights b) 1 h)
-
--- and no bit above these is one
-pub no_right : (b : ℕ) → 21 ≤ b → has_bit all_rights b ≡ false
-no_right b h = go (has_bit all_rights b) refl
-  where
-    go : (t : Bool) → has_bit all_rights b ≡ t → t ≡ false
-    go true e = absurd (omega (arith, h, below b e))
-    go false e = refl
+no_column b (a ∷ xs) h out = grind (arith, no_column b xs h.1 out, h.0 b, column_first b a xs)
 
 -- ---- without the empty keys
 
 full_left : (xs : List Ace) → HasNoEmptyMask (left xs)
 full_left [] = tt
-full_left (a ∷ xs) = go (a.mask == 0) refl (full_left xs)
-  where
-    go : (t : Bool) → (a.mask == 0) ≡ t → HasNoEmptyMask (left xs) → HasNoEmptyMask (left (a ∷ xs))
-    go true e ih = rw e ih
-    go false e ih = rw e (eqb-false a.mask 0 e, ih)
+full_left (a ∷ xs) = grind (arith, full_left xs)
 
 quiet_left : (xs : List Ace) → IsQuiet xs → IsQuiet (left xs)
 quiet_left [] q = tt
-quiet_left (a ∷ xs) q = go (a.mask == 0) refl (quiet_left xs q.1)
-  where
-    go : (t : Bool) → (a.mask == 0) ≡ t → IsQuiet (left xs) → IsQuiet (left (a ∷ xs))
-    go true e ih = rw e ih
-    go false e ih = rw e (q.0, ih)
+quiet_left (a ∷ xs) q = grind (arith, quiet_left xs q.1, q.0)
 
 -- ---- a list with reduced columns
 

@@ -1,10 +1,10 @@
 -- The bytes with which the names of a list begin, and heads of what is behind them.
-use Rattle.acl_normal.proofs.Common.{[], Ace, ace, AceRef, aces_in, ap, arith, BeginsWith, cases_lt, inl, inr, length, length-map, List, map, named_at, named_from, Principal, principal_here, principal_of, refl, slice_index_or, subst, suc, take, take_all, zero, ℕ, ◌+◌, ◌<◌, ◌∙◌, ◌∷◌, ◌≡◌, ◌≤◌, ◌⊎◌}
+use Rattle.acl_normal.proofs.Common.{[], Ace, ace, AceRef, aces_in, ap, arith, BeginsWith, Bool, cases_lt, false, inl, inr, length, length-map, List, map, named_at, named_from, nat_cmp, Principal, principal_cmp, principal_here, principal_of, refl, slice_cmp, slice_index_or, subst, suc, sym, take, take_all, true, zero, ℕ, ◌+◌, ◌<◌, ◌∙◌, ◌∷◌, ◌≡◌, ◌≤◌, ◌⊎◌}
 use Rattle.std.specs.List.{All, Contains}
 use Rattle.acl_normal.specs.declared.rows.numbers.HeadedPlace.{HeadedPlace}
-use Rattle.acl_normal.specs.internal.Heads.{AllBegin, IsHeadOf}
-use Rattle.acl_normal.specs.internal.RowNumbers.{AreHeaded, DoHeadsTell}
-use Rattle.acl_normal.proofs.rows.HeadOrder.{lesser_head, ranks_alike}
+use Rattle.acl_normal.specs.internal.Heads.{AllBegin, IsHeadOf, is_whole}
+use Rattle.acl_normal.specs.internal.RowNumbers.{AreHeaded, DoHeadsTell, tail_here}
+use Rattle.acl_normal.proofs.rows.HeadOrder.{lesser_head, ranks_alike, whole_same}
 use Rattle.acl_normal.proofs.Whoms.{compared_by_whos}
 use Rattle.acl_normal.proofs.rows.RowNumbers.{named_in}
 
@@ -54,13 +54,22 @@ heads_tell start xs places begin h = record {
       let other = is n d in
       lesser_head start m.head n.head (principal_here xs m.place) (principal_here xs n.place) at.head other.head
       (begin m.place at.within) (begin n.place other.within) l;
-  same = λ m n c d e. let at = is m c in
-      let other = is n d in
-      compared_by_whos xs m.place n.place at.within other.within
-      (ranks_alike (length start) m.head n.head (principal_here xs m.place) (principal_here xs n.place) at.head
-      other.head e);
+  same = λ m n c d e. alike m n (is m c) (is n d) e (is_whole m.head) refl;
 }
   where
+    alike : (m n : HeadedPlace) → IsHeaded (length start) xs m → IsHeaded (length start) xs n → m.head ≡ n.head
+        → (whole : Bool) → is_whole m.head ≡ whole → principal_cmp (principal_here xs m.place) (principal_here xs n.place)
+        ≡ slice_cmp nat_cmp (tail_here xs m) (tail_here xs n)
+    alike m n at other e true is =
+        whole_same start m.head n.head (principal_here xs m.place) (principal_here xs n.place) at.head other.head
+        (begin m.place at.within) (begin n.place other.within) e is
+        ∙ sym (rw (is, sym (ap is_whole e) ∙ is) refl)
+    alike m n at other e false is =
+        compared_by_whos xs m.place n.place at.within other.within
+        (ranks_alike (length start) m.head n.head (principal_here xs m.place) (principal_here xs n.place) at.head
+        other.head e)
+        ∙ sym (rw (is, sym (ap is_whole e) ∙ is) refl)
+
     is : (n : HeadedPlace) → Contains places n → IsHeaded (length start) xs n
     is n c = subst (IsHeaded (length start) xs) c.2 (h c.0 n c.1)
 

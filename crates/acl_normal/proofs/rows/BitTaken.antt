@@ -1,10 +1,10 @@
 -- One bit of a principal taken out of the rows.
-use Rattle.acl_normal.proofs.Common.{[], Allow, and_parts, ap, arith, Bool, cases_eq, cond, Deny, eq-eqb, Equal, false, false_from_ne_true, first_at, get_or-set_other, get_or-set_same, has_bit, is_at, is_eq, is_user, Kind, kind_eq, length, List, list_any, nat_cmp, nat_cmp_is, ne_eqb, Principal, refl, same_class, slice_index_or, slice_set, slot_of, Some, suc, sym, take_out, true, waits, zero, ℕ, ⊎_elim, ◌&&◌, ◌<◌, ◌==◌, ◌^◌, ◌∙◌, ◌∷◌, ◌≡◌, ◌≢◌}
+use Rattle.acl_normal.proofs.Common.{[], and_parts, ap, arith, Bool, cases_eq, cond, eq-eqb, Equal, false, false_from_ne_true, first_at, get_or-set_other, get_or-set_same, has_bit, is_at, is_eq, is_user, Kind, kind_eq, length, List, list_any, nat_cmp, nat_cmp_is, ne_eqb, Principal, refl, same_class, slice_index_or, slice_set, slot_of, Some, suc, sym, take_out, true, waits, zero, ℕ, ⊎_elim, ◌&&◌, ◌<◌, ◌==◌, ◌^◌, ◌∙◌, ◌∷◌, ◌≡◌, ◌≢◌}
 use Rattle.std.specs.Cmp.{Equal-is}
 use Rattle.std.specs.Vec.{with_item}
 use Rattle.std.specs.declared.collections.BTreeSet.{BTreeSet}
 use Rattle.std.proofs.Common.{Global}
-use Rattle.acl_normal.specs.declared.rows.merged.MergedRows.TheInside.{Inside}
+use Rattle.acl_normal.specs.declared.merged.MergedRows.TheInside.{Inside}
 use Rattle.acl_normal.specs.internal.Merged.{IsMerged}
 use Rattle.acl_normal.proofs.unique.Free.{kind_eq_same}
 use Rattle.acl_normal.proofs.unique.Bits.{has_power, power_has}
@@ -20,30 +20,11 @@ same_default (x ∷ xs) (suc i) d e h = same_default xs i d e (omega arith)
 
 -- a slot is one of 84
 pub slot_below : (k : Kind) (u : Bool) (b : ℕ) → b < 21 → slot_of k u b < 84
-slot_below Deny false b h = omega arith
-slot_below Deny true b h = omega arith
-slot_below Allow false b h = omega arith
-slot_below Allow true b h = omega arith
-
--- the slots of a DENY are none of an ALLOW
-kinds_apart : (u v : Bool) (b c : ℕ) → slot_of Deny u b ≡ slot_of Allow v c → ⊥
-kinds_apart false false b c h = omega arith
-kinds_apart false true b c h = omega arith
-kinds_apart true false b c h = omega arith
-kinds_apart true true b c h = omega arith
+slot_below k u b h = grind arith
 
 -- a slot tells its kind, class and bit
 pub slot_same : (k j : Kind) (u v : Bool) (b c : ℕ) → slot_of k u b ≡ slot_of j v c → (k ≡ j) × (u ≡ v) × (b ≡ c)
-slot_same Deny Deny false false b c h = (refl, refl, omega arith)
-slot_same Deny Deny true true b c h = (refl, refl, omega arith)
-slot_same Allow Allow false false b c h = (refl, refl, omega arith)
-slot_same Allow Allow true true b c h = (refl, refl, omega arith)
-slot_same Deny Deny false true b c h = absurd (omega arith)
-slot_same Deny Deny true false b c h = absurd (omega arith)
-slot_same Allow Allow false true b c h = absurd (omega arith)
-slot_same Allow Allow true false b c h = absurd (omega arith)
-slot_same Deny Allow u v b c h = absurd (kinds_apart u v b c h)
-slot_same Allow Deny u v b c h = absurd (kinds_apart v u c b (sym h))
+slot_same k j u v b c h = (grind arith, grind arith, grind arith)
 
 -- classes that are told to be the same are
 pub class_same : (u v : Bool) → same_class u v ≡ true → u ≡ v
@@ -76,21 +57,12 @@ Without i old new =
 
 -- a place that was removed is no more
 pub removed_here : (i : ℕ) (old new : List ℕ) → Without i old new → list_any (is_at (nat_cmp i)) new ≡ false
-removed_here i old new h = h i ∙ same i
-  where
-    itself : (i : ℕ) → is_at (nat_cmp i) i ≡ true
-    itself i = is_eq_itself i
-
-    same : (i : ℕ) → cond (is_at (nat_cmp i) i) false (list_any (is_at (nat_cmp i)) old) ≡ false
-    same i = rw (itself i) refl
+removed_here i old new h = h i ∙ rw (is_eq_itself i) refl
 
 -- and the others are
 pub removed_apart : (i l : ℕ) (old new : List ℕ) → Without i old new → l ≢ i
     → list_any (is_at (nat_cmp l)) new ≡ list_any (is_at (nat_cmp l)) old
-removed_apart i l old new h n = h l ∙ rw differs refl
-  where
-    differs : is_at (nat_cmp i) l ≡ false
-    differs = false_from_ne_true _ (λ t. n (sym (is_eq_same i l t)))
+removed_apart i l old new h n = h l ∙ rw (false_from_ne_true (is_at (nat_cmp i) l) (λ t. n (sym (is_eq_same i l t)))) refl
 
 -- a set without places
 abbrev pub NoKeys : BTreeSet ℕ Global

@@ -1,22 +1,15 @@
 -- Several bits of a principal taken out, one after the other.
-use Rattle.acl_normal.proofs.Common.{[], Ace, ace, AceRef, add-one, ap, arith, bit_or, Bool, cases_eq, cases_lt, eq-eqb, false, has_bit, has_bit-or, has_bit-without, is_inherit_only, key_here, le-ltb, length, List, low_bits, lt-ltb, nat_lt, ne_eqb, not, Principal, principal_eq, principal_of, refl, slice_index_or, subst, suc, sym, take_out, true, with_masks, without, without_bits, zero, ℕ, ⊎_elim, ◌&&◌, ◌+◌, ◌<◌, ◌^◌, ◌||◌, ◌∙◌, ◌∷◌, ◌≡◌, ◌≤◌}
+use Rattle.acl_normal.proofs.Common.{[], Ace, ace, AceRef, add-one, ap, arith, bit_or, false, has_bit, has_bit-or, has_bit-without, key_here, length, List, low_bits, nat_lt, Principal, principal_of, refl, slice_index_or, subst, suc, sym, take_out, true, with_masks, without, without_bits, zero, ℕ, ◌&&◌, ◌+◌, ◌<◌, ◌^◌, ◌∙◌, ◌∷◌, ◌≡◌, ◌≤◌, principal_eq, is_inherit_only, Bool, not, ◌||◌}
 use Rattle.acl_normal.proofs.unique.Bits.{masks_same, no_bits_of_zero}
 use Rattle.acl_normal.proofs.rows.BitTaken.{power_is}
 
 -- no bits taken out leave the ACE
 pub without_nothing : (p : Principal) (a : Ace) → without_bits p 0 a ≡ a
-without_nothing p a = go (principal_eq (principal_of a) p && not (is_inherit_only a)) refl
-  where
-    same : without a.mask 0 ≡ a.mask
-    same = masks_same _ _ (λ b. has_bit-without a.mask 0 b ∙ rw (no_bits_of_zero b) (kept (has_bit a.mask b)))
-      where
-        kept : (t : Bool) → (t && true) ≡ t
-        kept true = refl
-        kept false = refl
-
-    go : (t : Bool) → (principal_eq (principal_of a) p && not (is_inherit_only a)) ≡ t → without_bits p 0 a ≡ a
-    go true e = rw e (ap (λ v. record a { mask = v }) same)
-    go false e = rw e refl
+without_nothing p a = grind (
+  arith,
+  ap (λ v. record a { mask = v })
+      (masks_same (without a.mask 0) a.mask (λ b. has_bit-without a.mask 0 b ∙ grind (arith, no_bits_of_zero b))),
+)
 
 -- and the list
 pub take_zero : (p : Principal) (xs : List Ace) → take_out p 0 xs ≡ xs
@@ -64,60 +57,13 @@ emit_same p m b xs ys h e = rw add-one (rw h e)
 
 -- the bits below a place
 pub has_bit-low : (m b i : ℕ) → has_bit (low_bits m b) i ≡ (has_bit m i && nat_lt i b)
-has_bit-low m zero i = no_bits_of_zero i ∙ sym (rw (le-ltb i 0 (omega arith)) (none (has_bit m i)))
-  where
-    none : (t : Bool) → (t && false) ≡ false
-    none true = refl
-    none false = refl
-has_bit-low m (suc b) i = go (has_bit m b) refl (has_bit-low m b i)
-  where
-    same : (i ≡ b → ⊥) → nat_lt i (suc b) ≡ nat_lt i b
-    same n =
-        ⊎_elim (λ l. lt-ltb i (suc b) (omega (arith, l)) ∙ sym (lt-ltb i b l)) (λ l. le-ltb i (suc b) (above l)
-        ∙ sym (le-ltb i b l)) (cases_lt i b)
-      where
-        above : b ≤ i → suc b ≤ i
-        above l = ⊎_elim (λ g. g) (λ g. absurd (n (omega (arith, l, g)))) (cases_lt b i)
-
-    right : (t : Bool) → (t || true) ≡ true
-    right true = refl
-    right false = refl
-
-    go : (t : Bool) → has_bit m b ≡ t → has_bit (low_bits m b) i ≡ (has_bit m i && nat_lt i b)
-        → has_bit (low_bits m (suc b)) i ≡ (has_bit m i && nat_lt i (suc b))
-    go true e ih = rw e (has_bit-or (low_bits m b) (2 ^ b) i ∙ ⊎_elim (λ f. here f) (λ n. there n) (cases_eq i b))
-      where
-        here : i ≡ b → (has_bit (low_bits m b) i || has_bit (2 ^ b) i) ≡ (has_bit m i && nat_lt i (suc b))
-        here f =
-            rw (power_is b i, eq-eqb i b f, lt-ltb i (suc b) (omega (arith, f))) (right (has_bit (low_bits m b) i)
-            ∙ sym (ap (λ v. has_bit m v && true) f ∙ rw e refl))
-
-        there : (i ≡ b → ⊥) → (has_bit (low_bits m b) i || has_bit (2 ^ b) i) ≡ (has_bit m i && nat_lt i (suc b))
-        there n = rw (power_is b i, ne_eqb i b n, ih, same n) (other (has_bit m i && nat_lt i b))
-          where
-            other : (t : Bool) → (t || false) ≡ t
-            other true = refl
-            other false = refl
-    go false e ih = rw e (ih ∙ ⊎_elim (λ f. here f) (λ n. rw (same n) refl) (cases_eq i b))
-      where
-        here : i ≡ b → (has_bit m i && nat_lt i b) ≡ (has_bit m i && nat_lt i (suc b))
-        here f =
-            let none : has_bit m i ≡ false = ap (has_bit m) f ∙ e in
-            rw none refl
+has_bit-low m zero i = grind (arith, no_bits_of_zero i)
+has_bit-low m (suc b) i =
+    grind (arith, has_bit-low m b i, has_bit-or (low_bits m b) (2 ^ b) i, power_is b i)
 
 -- which are all of them in the end
 pub low_all : (m b : ℕ) → ((i : ℕ) → b ≤ i → has_bit m i ≡ false) → low_bits m b ≡ m
-low_all m b h = masks_same _ _ (λ i. has_bit-low m b i ∙ ⊎_elim (λ l. below i l) (λ l. above i l) (cases_lt i b))
-  where
-    kept : (t : Bool) → (t && true) ≡ t
-    kept true = refl
-    kept false = refl
-
-    below : (i : ℕ) → i < b → (has_bit m i && nat_lt i b) ≡ has_bit m i
-    below i l = rw (lt-ltb i b l) (kept (has_bit m i))
-
-    above : (i : ℕ) → b ≤ i → (has_bit m i && nat_lt i b) ≡ has_bit m i
-    above i l = rw (h i l) refl
+low_all m b h = masks_same _ _ (λ i. has_bit-low m b i ∙ grind (arith, h i))
 
 -- a place of what is left is one of the list
 pub place_within : (aces : List AceRef) (masks : List ℕ) (i : ℕ) → i < length (with_masks aces masks) → i < length aces

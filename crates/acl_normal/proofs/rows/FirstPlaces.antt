@@ -1,9 +1,9 @@
 -- Where each right of a principal stands: the place of its first ACE with the right.
-use Rattle.acl_normal.proofs.Common.{[], Ace, and_from, and_parts, ap, AreRowNumbers, arith, cases_lt, column, counts, Equal, false, first_at, first_place_of, Greater, has_bit, inl, inr, is_le, is_user, IsByPrincipal, IsOnce, IsQuiet, IsRowOf, Key, key_here, Kind, kind_eq, length, Less, List, mask_here, None, Option, option_map, Ordering, ordering_reverse, Principal, principal_cmp, principal_exact, principal_here, principal_of, principal_order, refl, row_of, same_class, same_Some, slice_index_or, Some, subst, suc, sym, true, waits, zero, ℕ, ⊎_elim, ◌&&◌, ◌<◌, ◌∙◌, ◌∷◌, ◌≡◌, ◌≤◌, ◌⊎◌}
+use Rattle.acl_normal.proofs.Common.{[], Ace, and_from, and_parts, ap, AreRowNumbers, arith, cases_lt, column, counts, false, first_at, first_place_of, has_bit, is_le, is_user, IsByPrincipal, IsOnce, IsQuiet, IsRowOf, Key, key_here, Kind, kind_eq, length, List, mask_here, None, Option, option_map, Principal, principal_cmp, principal_exact, principal_here, principal_of, principal_order, refl, row_of, same_class, same_Some, slice_index_or, Some, subst, suc, sym, true, waits, zero, ℕ, ⊎_elim, ◌&&◌, ◌<◌, ◌∙◌, ◌∷◌, ◌≡◌, ◌≤◌}
 use Rattle.acl_normal.proofs.emit.Walk.{key_from_first, same_class_itself, stands_at}
 use Rattle.acl_normal.proofs.rows.Rows.{named_here, row_same}
 use Rattle.acl_normal.proofs.rows.TakeOut.{IsHere, IsThere, first_cases}
-use Rattle.acl_normal.proofs.rows.WaitingPlaces.{quiet_counts}
+use Rattle.acl_normal.proofs.unique.Normal.{counts_mask}
 use Rattle.acl_normal.proofs.unique.Free.{kind_eq_itself}
 
 -- the first ACE of a principal with the bit has the kind of the ACE at its place
@@ -21,20 +21,14 @@ first_by_place b p xs i h = go (first_at b p xs) refl
 -- which is one of the list
 pub first_in : (b : ℕ) (p : Principal) (xs : List Ace) (e : Kind × ℕ) → first_at b p xs ≡ Some e → e.1 < length xs
 first_in b p [] e h = cc
-first_in b p (a ∷ xs) (j, i) h = go (first_cases b p a xs j i h) (λ l. first_in b p xs (j, l))
-  where
-    go : IsHere b p a j i ⊎ IsThere b p a xs j i
-        → ((l : ℕ) → first_at b p xs ≡ Some (j, l) → l < length xs) → i < length (a ∷ xs)
-    go (inl here) ih = omega (arith, here.place)
-    go (inr there) ih = omega (arith, there.place, ih there.before there.first)
+first_in b p (a ∷ xs) (j, i) h = ⊎_elim
+    (λ (here : IsHere b p a j i). omega (arith, here.place))
+    (λ (there : IsThere b p a xs j i). omega (arith, there.place, first_in b p xs (j, there.before) there.first))
+    (first_cases b p a xs j i h)
 
 -- without a place there is no such ACE
 pub first_by_none : (b : ℕ) (p : Principal) (xs : List Ace) → first_place_of b p xs ≡ None → first_at b p xs ≡ None
-first_by_none b p xs h = go (first_at b p xs) refl
-  where
-    go : (o : Option (Kind × ℕ)) → first_at b p xs ≡ o → first_at b p xs ≡ None
-    go None e = e
-    go (Some (j, l)) e = cc (rw e at h)
+first_by_none b p xs h = grind arith
 
 -- what has the bit waits in its kind and class
 waits_here : (b : ℕ) (xs : List Ace) (i : ℕ) → IsQuiet xs → has_bit (mask_here xs i) b ≡ true → i < length xs
@@ -42,7 +36,7 @@ waits_here : (b : ℕ) (xs : List Ace) (i : ℕ) → IsQuiet xs → has_bit (mas
 waits_here b [] i quiet has l = absurd (omega (arith, l))
 waits_here b (a ∷ xs) zero quiet has l =
     and_from (counts b a) (kind_eq a.kind a.kind && same_class (is_user (principal_of a)) (is_user (principal_of a)))
-    (quiet_counts b a quiet.0 ∙ has)
+    (counts_mask b a quiet.0 ∙ has)
     (and_from (kind_eq a.kind a.kind) (same_class (is_user (principal_of a)) (is_user (principal_of a)))
     (kind_eq_itself a.kind) (same_class_itself (is_user (principal_of a))))
 waits_here b (a ∷ xs) (suc i) quiet has l = waits_here b xs i quiet.1 has (omega (arith, l))
@@ -58,13 +52,10 @@ first_here b xs i once quiet has l =
 pub has_first : (b : ℕ) (p : Principal) (xs : List Ace) (j : Kind) (i : ℕ) → first_at b p xs ≡ Some (j, i)
     → has_bit (mask_here xs i) b ≡ true
 has_first b p [] j i h = cc
-has_first b p (a ∷ xs) j i h = go (first_cases b p a xs j i h) (has_first b p xs j)
-  where
-    go : IsHere b p a j i ⊎ IsThere b p a xs j i
-        → ((i : ℕ) → first_at b p xs ≡ Some (j, i) → has_bit (mask_here xs i) b ≡ true)
-        → has_bit (mask_here (a ∷ xs) i) b ≡ true
-    go (inl here) ih = rw here.place ((and_parts (has_bit a.mask b) _ here.counts).0)
-    go (inr there) ih = rw there.place (ih there.before there.first)
+has_first b p (a ∷ xs) j i h = ⊎_elim
+    (λ (here : IsHere b p a j i). rw here.place ((and_parts (has_bit a.mask b) _ here.counts).0))
+    (λ (there : IsThere b p a xs j i). rw there.place (has_first b p xs j there.before there.first))
+    (first_cases b p a xs j i h)
 
 -- the ACE at a place that is first of a principal names it
 pub named_there : (b : ℕ) (p : Principal) (xs : List Ace) (i : ℕ) → first_place_of b p xs ≡ Some i → principal_here xs i ≡ p
@@ -74,14 +65,7 @@ named_there b p xs i h = ap (λ (k : Key). k.0) (key_from_first b p xs _ i (firs
 
 -- who stands no higher than another and no lower is the same
 both_le : (a b : Principal) → is_le (principal_cmp a b) ≡ true → is_le (principal_cmp b a) ≡ true → a ≡ b
-both_le a b h l = go (principal_cmp a b) refl
-  where
-    go : (o : Ordering) → principal_cmp a b ≡ o → a ≡ b
-    go Less e =
-        let turned : principal_cmp b a ≡ Greater = principal_order.reversed a b ∙ ap ordering_reverse e in
-        absurd (cc)
-    go Equal e = principal_exact a b e
-    go Greater e = cc
+both_le a b h l = grind (arith, principal_order.reversed a b, principal_exact a b)
 
 -- between two places of a principal all are of it
 between : (p : Principal) (xs : List Ace) (order : List ℕ) (i j k : ℕ) → IsByPrincipal xs order → i ≤ j → j ≤ k

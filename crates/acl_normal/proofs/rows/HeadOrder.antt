@@ -1,12 +1,13 @@
 -- A head that is less is of a principal that comes first.
 use Rattle.std.specs.Prelude.{get_or}
-use Rattle.acl_normal.proofs.Common.{[], ap, arith, BeginsWith, cases_lt, drop, Equal, everyone, Greater, group, group_named, inl, inr, length, Less, List, nat_cmp, nat_cmp_is, Ordering, owner, Principal, principal, principal_cmp, principal_name, refl, slice_cmp, subst, suc, sym, take, user, zero, ℕ, ◌*◌, ◌+◌, ◌<◌, ◌∙◌, ◌∷◌, ◌≡◌, ◌≤◌, ◌⊎◌}
+use Rattle.acl_normal.proofs.Common.{[], ap, arith, BeginsWith, cases_lt, drop, Equal, everyone, Greater, group, group_named, inl, inr, length, Less, List, nat_cmp, nat_cmp_is, Ordering, owner, Principal, principal, principal_cmp, principal_name, refl, slice_cmp, subst, suc, sym, take, user, zero, ℕ, true, ◌%◌, ◌*◌, ◌+◌, ◌<◌, ◌∙◌, ◌∷◌, ◌≡◌, ◌≤◌, ◌⊎◌}
 use Rattle.std.specs.Ordering.{ordering_then}
 use Rattle.std.proofs.lemmas.Map.Lookups.{exact_unsigned}
+use Rattle.std.proofs.lemmas.Bool.{ltb-true}
 use Rattle.acl_perm.specs.Order.{principal_rank}
 use Rattle.acl_perm.specs.declared.principal.Principal.{Principal as PrincipalRef}
 use Rattle.acl_nfs4.specs.internal.Progress.{IsBytes}
-use Rattle.acl_normal.specs.internal.Heads.{HasHead, IsHeadOf, head_from, principal_head}
+use Rattle.acl_normal.specs.internal.Heads.{HasHead, IsHeadOf, count_to, head_from, is_whole, principal_head}
 
 less : (x y : ℕ) → x < y → nat_cmp x y ≡ Less
 less x y l = sym (nat_cmp_is x y Less l)
@@ -23,11 +24,22 @@ tail_bytes b xs h i = h (suc i)
 no_bytes : IsBytes []
 no_bytes i = omega arith
 
+-- there are as many bytes as the number at most
+count_most : (n : ℕ) (xs : List ℕ) → count_to n xs ≤ n
+count_most zero xs = omega arith
+count_most (suc n) [] = omega arith
+count_most (suc n) (b ∷ xs) = omega (arith, count_most n xs)
+
+-- the count stands in the lowest byte
+count_lowest : (n m c : ℕ) (xs : List ℕ) → c < 256 → head_from m n xs c % 256 ≡ c
+count_lowest zero m c xs l = omega (arith, l)
+count_lowest (suc n) m c xs l = count_lowest n (m * 256 + get_or xs 0 0) c (drop 1 xs) l
+
 -- what stands before decides
-before_decides : (n m k : ℕ) (xs ys : List ℕ) → IsBytes xs → m < k → head_from m n xs < head_from k n ys
-before_decides zero m k xs ys h l = l
-before_decides (suc n) m k xs ys h l =
-    before_decides n (m * 256 + get_or xs 0 0) (k * 256 + get_or ys 0 0) (drop 1 xs) (drop 1 ys) (rest xs h)
+before_decides : (n m k c d : ℕ) (xs ys : List ℕ) → c < 256 → IsBytes xs → m < k → head_from m n xs c < head_from k n ys d
+before_decides zero m k c d xs ys u h l = omega (arith, u, l)
+before_decides (suc n) m k c d xs ys u h l =
+    before_decides n (m * 256 + get_or xs 0 0) (k * 256 + get_or ys 0 0) c d (drop 1 xs) (drop 1 ys) u (rest xs h)
     (omega (arith, h 0, l))
   where
     rest : (xs : List ℕ) → IsBytes xs → IsBytes (drop 1 xs)
@@ -35,15 +47,15 @@ before_decides (suc n) m k xs ys h l =
     rest (b ∷ xs) h = tail_bytes b xs h
 
 -- nothing comes before any bytes
-nothing_first : (n m : ℕ) (ys : List ℕ) → head_from m n [] ≤ head_from m n ys
-nothing_first zero m ys = omega arith
-nothing_first (suc n) m ys = go (nothing_first n (m * 256 + 0) (drop 1 ys)) (get_or ys 0 0) refl
+nothing_first : (n m c d : ℕ) (ys : List ℕ) → c ≤ d → c < 256 → head_from m n [] c ≤ head_from m n ys d
+nothing_first zero m c d ys l u = omega (arith, l)
+nothing_first (suc n) m c d ys l u = go (nothing_first n (m * 256 + 0) c d (drop 1 ys) l u) (get_or ys 0 0) refl
   where
-    go : head_from (m * 256 + 0) n [] ≤ head_from (m * 256 + 0) n (drop 1 ys) → (b : ℕ) → get_or ys 0 0 ≡ b
-        → head_from m (suc n) [] ≤ head_from m (suc n) ys
+    go : head_from (m * 256 + 0) n [] c ≤ head_from (m * 256 + 0) n (drop 1 ys) d → (b : ℕ) → get_or ys 0 0 ≡ b
+        → head_from m (suc n) [] c ≤ head_from m (suc n) ys d
     go h zero e = rw e h
     go h (suc b) e =
-        let l = before_decides n (m * 256 + 0) (m * 256 + get_or ys 0 0) [] (drop 1 ys) no_bytes (omega (arith, e)) in
+        let l = before_decides n (m * 256 + 0) (m * 256 + get_or ys 0 0) c d [] (drop 1 ys) u no_bytes (omega (arith, e)) in
         omega (arith, l)
 
 -- one of two numbers is less, or they are one number
@@ -74,24 +86,81 @@ decided b c m k rest below above same =
     (λ l. rw (greater b c l) (agrees m k Greater (λ h. absurd (omega (arith, h, above l))) (λ h. refl)))
     (λ e. rw (equal b c e) (same e))
 
+-- the counts of two names, of which so many bytes stand before
+record AreCounts (n before c d : ℕ) (xs ys : List ℕ) : Type 0 where
+  first : c ≡ before + count_to (suc n) xs
+  second : d ≡ before + count_to (suc n) ys
+  low : c < 256
+  also : d < 256
+
+-- and of what is behind a byte more
+counts_on : (n before c d b e : ℕ) (xs ys : List ℕ) → AreCounts (suc n) before c d (b ∷ xs) (e ∷ ys)
+    → AreCounts n (before + 1) c d xs ys
+counts_on n before c d b e xs ys h = record {
+  first = omega (arith, h.first);
+  second = omega (arith, h.second);
+  low = h.low;
+  also = h.also;
+}
+
 -- behind equal bytes the names decide
-names_agree : (n m k : ℕ) (xs ys : List ℕ) → IsBytes xs → IsBytes ys → m ≡ k
-    → Agrees (head_from m n xs) (head_from k n ys) (slice_cmp nat_cmp xs ys)
-names_agree zero m k xs ys f g e = rw (equal m k e) refl
-names_agree (suc n) m k [] [] f g e = rw e (rw (equal (head_from k (suc n) []) (head_from k (suc n) []) refl) refl)
-names_agree (suc n) m k [] (c ∷ ys) f g e =
+names_agree : (n before m k c d : ℕ) (xs ys : List ℕ) → AreCounts n before c d xs ys → IsBytes xs → IsBytes ys → m ≡ k
+    → Agrees (head_from m n xs c) (head_from k n ys d) (slice_cmp nat_cmp xs ys)
+names_agree zero before m k c d [] [] h f g e = rw (equal (m * 256 + c) (k * 256 + d) (omega (arith, e, h.first, h.second))) refl
+names_agree zero before m k c d [] (y ∷ ys) h f g e =
+    rw (less (m * 256 + c) (k * 256 + d) (omega (arith, e, h.first, h.second))) refl
+names_agree zero before m k c d (x ∷ xs) [] h f g e =
+    rw (greater (m * 256 + c) (k * 256 + d) (omega (arith, e, h.first, h.second))) refl
+names_agree zero before m k c d (x ∷ xs) (y ∷ ys) h f g e =
+    rw (equal (m * 256 + c) (k * 256 + d) (omega (arith, e, h.first, h.second))) refl
+names_agree (suc n) before m k c d [] [] h f g e =
+    let same : c ≡ d = omega (arith, h.first, h.second) in
+    rw (e, same) (rw (equal (head_from k (suc n) [] d) (head_from k (suc n) [] d) refl) refl)
+names_agree (suc n) before m k c d [] (y ∷ ys) h f g e =
     rw e
-    (agrees (head_from k (suc n) []) (head_from k (suc n) (c ∷ ys)) Less (λ h. refl)
-    (λ h. absurd (omega (arith, h, nothing_first (suc n) k (c ∷ ys)))))
-names_agree (suc n) m k (b ∷ xs) [] f g e =
+    (agrees (head_from k (suc n) [] c) (head_from k (suc n) (y ∷ ys) d) Less (λ l. refl)
+    (λ l. absurd (omega (
+      arith,
+      l,
+      nothing_first (suc n) k c d (y ∷ ys) (omega (arith, h.first, h.second)) h.low,
+    ))))
+names_agree (suc n) before m k c d (x ∷ xs) [] h f g e =
     rw e
-    (agrees (head_from k (suc n) (b ∷ xs)) (head_from k (suc n) []) Greater
-    (λ h. absurd (omega (arith, h, nothing_first (suc n) k (b ∷ xs)))) (λ h. refl))
-names_agree (suc n) m k (b ∷ xs) (c ∷ ys) f g e =
-    decided b c (head_from (m * 256 + b) n xs) (head_from (k * 256 + c) n ys) (slice_cmp nat_cmp xs ys)
-    (λ l. before_decides n (m * 256 + b) (k * 256 + c) xs ys (tail_bytes b xs f) (omega (arith, e, l)))
-    (λ l. before_decides n (k * 256 + c) (m * 256 + b) ys xs (tail_bytes c ys g) (omega (arith, e, l)))
-    (λ h. names_agree n (m * 256 + b) (k * 256 + c) xs ys (tail_bytes b xs f) (tail_bytes c ys g) (omega (arith, e, h)))
+    (agrees (head_from k (suc n) (x ∷ xs) c) (head_from k (suc n) [] d) Greater
+    (λ l. absurd (omega (
+      arith,
+      l,
+      nothing_first (suc n) k d c (x ∷ xs) (omega (arith, h.first, h.second)) h.also,
+    ))) (λ l. refl))
+names_agree (suc n) before m k c d (x ∷ xs) (y ∷ ys) h f g e =
+    decided x y (head_from (m * 256 + x) n xs c) (head_from (k * 256 + y) n ys d) (slice_cmp nat_cmp xs ys)
+    (λ l. before_decides n (m * 256 + x) (k * 256 + y) c d xs ys h.low (tail_bytes x xs f) (omega (arith, e, l)))
+    (λ l. before_decides n (k * 256 + y) (m * 256 + x) d c ys xs h.also (tail_bytes y ys g) (omega (arith, e, l)))
+    (λ l. names_agree n (before + 1) (m * 256 + x) (k * 256 + y) c d xs ys (counts_on n before c d x y xs ys h)
+    (tail_bytes x xs f) (tail_bytes y ys g) (omega (arith, e, l)))
+
+-- where the heads are one number and have the whole names, the names are the same
+names_same : (n before m k c : ℕ) (xs ys : List ℕ) → AreCounts n before c c xs ys → c ≤ before + n → IsBytes xs
+    → IsBytes ys → m ≡ k → head_from m n xs c ≡ head_from k n ys c → slice_cmp nat_cmp xs ys ≡ Equal
+names_same n before m k c [] [] h w f g e is = refl
+names_same n before m k c [] (y ∷ ys) h w f g e is = absurd (omega (arith, h.first, h.second))
+names_same n before m k c (x ∷ xs) [] h w f g e is = absurd (omega (arith, h.first, h.second))
+names_same zero before m k c (x ∷ xs) (y ∷ ys) h w f g e is = absurd (omega (arith, h.first, w))
+names_same (suc n) before m k c (x ∷ xs) (y ∷ ys) h w f g e is =
+    compare x y
+    (λ l. absurd (omega (
+      arith,
+      is,
+      before_decides n (m * 256 + x) (k * 256 + y) c c xs ys h.low (tail_bytes x xs f) (omega (arith, e, l)),
+    )))
+    (λ l. absurd (omega (
+      arith,
+      is,
+      before_decides n (k * 256 + y) (m * 256 + x) c c ys xs h.low (tail_bytes y ys g) (omega (arith, e, l)),
+    )))
+    (λ l. ap (λ o. ordering_then o (slice_cmp nat_cmp xs ys)) (equal x y l)
+    ∙ names_same n (before + 1) (m * 256 + x) (k * 256 + y) c xs ys (counts_on n before c c x y xs ys h)
+    (omega (arith, w)) (tail_bytes x xs f) (tail_bytes y ys g) (omega (arith, e, l)) is)
 
 -- bytes that are the same decide nothing
 compared_behind : (c : ℕ) (xs ys : List ℕ) → take c xs ≡ take c ys
@@ -110,6 +179,28 @@ bytes_behind zero xs h = h
 bytes_behind (suc c) [] h = h
 bytes_behind (suc c) (x ∷ xs) h = bytes_behind c xs (tail_bytes x xs h)
 
+-- the bytes of a name behind the first ones, and how many they are
+abbrev rest_of : ℕ → Principal → List ℕ
+rest_of c p = drop c (principal_name p)
+
+abbrev count_of : ℕ → Principal → ℕ
+count_of c p = count_to 7 (rest_of c p)
+
+counts_of : (c : ℕ) (p q : Principal) → AreCounts 6 0 (count_of c p) (count_of c q) (rest_of c p) (rest_of c q)
+counts_of c p q = record {
+  first = omega arith;
+  second = omega arith;
+  low = omega (arith, count_most 7 (rest_of c p));
+  also = omega (arith, count_most 7 (rest_of c q));
+}
+
+-- a lesser rank is of a lesser head
+rank_decides : (c : ℕ) (p q : Principal) → IsBytes (principal_name p) → principal_rank p < principal_rank q
+    → principal_head c p < principal_head c q
+rank_decides c p q bytes l =
+    before_decides 6 (principal_rank p) (principal_rank q) (count_of c p) (count_of c q) (rest_of c p) (rest_of c q)
+    (counts_of c p q).low (bytes_behind c (principal_name p) bytes) l
+
 -- the heads never say other than the principals, where names of one rank begin alike
 heads_agree : (c m k : ℕ) (p q : Principal) → IsHeadOf c m p → IsHeadOf c k q
     → (principal_rank p ≡ principal_rank q → take c (principal_name p) ≡ take c (principal_name q))
@@ -118,26 +209,21 @@ heads_agree c m k p q f g alike =
     rw (f.is, g.is)
     (decided (principal_rank p) (principal_rank q) (principal_head c p) (principal_head c q)
     (slice_cmp nat_cmp (principal_name p) (principal_name q))
-    (before_decides 7 (principal_rank p) (principal_rank q) name_p name_q (bytes_behind c (principal_name p) f.bytes))
-    (before_decides 7 (principal_rank q) (principal_rank p) name_q name_p (bytes_behind c (principal_name q) g.bytes))
+    (rank_decides c p q f.bytes) (rank_decides c q p g.bytes)
     (λ e. subst (Agrees (principal_head c p) (principal_head c q))
     (compared_behind c (principal_name p) (principal_name q) (alike e))
-    (names_agree 7 (principal_rank p) (principal_rank q) name_p name_q
-    (bytes_behind c (principal_name p) f.bytes) (bytes_behind c (principal_name q) g.bytes) e)))
-  where
-    name_p : List ℕ
-    name_p = drop c (principal_name p)
-
-    name_q : List ℕ
-    name_q = drop c (principal_name q)
+    (names_agree 6 0 (principal_rank p) (principal_rank q) (count_of c p) (count_of c q) (rest_of c p) (rest_of c q)
+    (counts_of c p q) (bytes_behind c (principal_name p) f.bytes) (bytes_behind c (principal_name q) g.bytes) e)))
 
 -- a head that is made of a rank and of what is behind the first bytes of a name
-pub head_made : (common rank head : ℕ) (name rest : List ℕ) (p : Principal) → head ≡ head_from rank 7 rest
+pub head_made : (common rank head : ℕ) (name rest : List ℕ) (p : Principal)
+    → head ≡ head_from rank 6 rest (count_to 7 rest)
     → rest ≡ drop common name → IsBytes name → rank ≡ principal_rank p → name ≡ principal_name p
     → IsHeadOf common head p
 head_made common rank head name rest p e behind bytes ranked named = record {
-  is = e ∙ ap (head_from rank 7) behind ∙ ap (λ v. head_from v 7 (drop common name)) ranked
-      ∙ ap (λ v. head_from (principal_rank p) 7 (drop common v)) named;
+  is = e ∙ ap (λ v. head_from rank 6 v (count_to 7 v)) behind
+      ∙ ap (λ v. head_from v 6 (drop common name) (count_to 7 (drop common name))) ranked
+      ∙ ap (λ v. head_from (principal_rank p) 6 (drop common v) (count_to 7 (drop common v))) named;
   bytes = subst IsBytes named bytes;
 }
 
@@ -180,20 +266,35 @@ pub ranks_alike : (c m k : ℕ) (p q : Principal) → IsHeadOf c m p → IsHeadO
     → principal_rank p ≡ principal_rank q
 ranks_alike c m k p q f g e =
     compare (principal_rank p) (principal_rank q)
-    (λ l. absurd (omega (
-      arith,
-      e,
-      f.is,
-      g.is,
-      before_decides 7 (principal_rank p) (principal_rank q) (drop c (principal_name p)) (drop c (principal_name q))
-          (bytes_behind c (principal_name p) f.bytes) l,
-    )))
-    (λ l. absurd (omega (
-      arith,
-      e,
-      f.is,
-      g.is,
-      before_decides 7 (principal_rank q) (principal_rank p) (drop c (principal_name q)) (drop c (principal_name p))
-          (bytes_behind c (principal_name q) g.bytes) l,
-    )))
+    (λ l. absurd (omega (arith, e, f.is, g.is, rank_decides c p q f.bytes l)))
+    (λ l. absurd (omega (arith, e, f.is, g.is, rank_decides c q p g.bytes l)))
     (λ e. e)
+
+-- the same heads, with the whole names, are of one principal
+pub whole_same : (start : List ℕ) (m k : ℕ) (p q : Principal) → IsHeadOf (length start) m p
+    → IsHeadOf (length start) k q → BeginsWith start p → BeginsWith start q → m ≡ k → is_whole m ≡ true
+    → principal_cmp p q ≡ Equal
+whole_same start m k p q f g h l e whole =
+    ap (λ o. ordering_then o (slice_cmp nat_cmp (principal_name p) (principal_name q)))
+    (equal (principal_rank p) (principal_rank q) ranks)
+    ∙ sym (compared_behind c (principal_name p) (principal_name q) (begin_alike start p q h l ranks))
+    ∙ names_same 6 0 (principal_rank p) (principal_rank q) (count_of c p) (rest_of c p) (rest_of c q)
+    (subst (λ v. AreCounts 6 0 (count_of c p) v (rest_of c p) (rest_of c q)) (sym count) (counts_of c p q))
+    (omega (arith, ltb-true (m % 256) 7 whole, ap (λ v. v % 256) f.is, first))
+    (bytes_behind c (principal_name p) f.bytes) (bytes_behind c (principal_name q) g.bytes) ranks
+    (sym f.is ∙ e ∙ g.is ∙ ap (head_from (principal_rank q) 6 (rest_of c q)) (sym count))
+  where
+    c : ℕ
+    c = length start
+
+    ranks : principal_rank p ≡ principal_rank q
+    ranks = ranks_alike c m k p q f g e
+
+    first : principal_head c p % 256 ≡ count_of c p
+    first = count_lowest 6 (principal_rank p) (count_of c p) (rest_of c p) (counts_of c p q).low
+
+    second : principal_head c q % 256 ≡ count_of c q
+    second = count_lowest 6 (principal_rank q) (count_of c q) (rest_of c q) (counts_of c p q).also
+
+    count : count_of c p ≡ count_of c q
+    count = sym first ∙ ap (λ v. v % 256) (sym f.is ∙ e ∙ g.is) ∙ second

@@ -1,11 +1,10 @@
 -- What the public calls on merged rows say, from what those on one bit say.
 use Rattle.std.proofs.Common.{◌≡◌, ℕ, ◌+◌, ◌<◌, ◌≤◌, Bool, true, false, List, refl}
-use Rattle.acl_normal.proofs.Common.{Ace, Allow, ap, arith, bits_from_mask, cases_eq, cases_lt, column, Deny, false_from_ne_true, has_bit, IfNone, IfSome, inl, inr, is_free, IsMask, IsTrue, Kind, None, Option, option_map, Principal, Some, subst, sym, ⊎_elim, ◌||◌, ◌↔◌, ◌∙◌}
+use Rattle.acl_normal.proofs.Common.{Ace, Allow, ap, arith, bits_from_mask, cases_eq, column, Deny, false_from_ne_true, has_bit, IfNone, IfSome, inl, inr, is_free, IsMask, IsTrue, Kind, None, Option, option_map, Principal, Some, subst, ⊎_elim, ◌||◌, ◌↔◌, ◌∙◌, or_cases, ◌⊎◌}
 use Rattle.acl_perm.specs.declared.bit.Bit.{Bit}
 use Rattle.acl_normal.specs.Left.{HasFree, IsLowest}
 use Rattle.acl_normal.specs.internal.NextRight.{IsNextRight, LacksFrom}
-use Rattle.acl_normal.proofs.reduce.Reducing.{below}
-use Rattle.acl_normal.proofs.unique.Bits.{no_bits_of_zero}
+use Rattle.acl_normal.proofs.unique.Bits.{below, no_bits_of_zero}
 
 -- a right is one of the first 21 bits
 pub right_below : (bits b : ℕ) → IsMask bits → has_bit bits b ≡ true → b < 21
@@ -32,82 +31,45 @@ none_free_yet list p bits b l h = absurd (omega (arith, l))
 -- one more that isn't free
 pub none_free_more : (list : List Ace) (p : Principal) (bits n : ℕ) → NoneFree list p bits n
     → (has_bit bits n ≡ true → free_either list p n ≡ false) → NoneFree list p bits (n + 1)
-none_free_more list p bits n before here b l h = elim (cases_eq b n) [
-  | inl e ↦ ap (free_either list p) e ∙ here (subst (λ v. has_bit bits v ≡ true) e h)
-  | inr other ↦ before b (less other) h
-]
-  where
-    less : (b ≡ n → ⊥) → b < n
-    less other = ⊎_elim (λ g. g) (λ g. absurd (other (omega (arith, g, l)))) (cases_lt b n)
-
-some_kind : (list : List Ace) (p : Principal) (bits b : ℕ) (d a : Bool) → has_bit bits b ≡ true
-    → is_free (column list b) (p, Deny) ≡ d → is_free (column list b) (p, Allow) ≡ a → (d || a) ≡ true
-    → HasFree list p bits
-some_kind list p bits b true a has e f h = (b, Deny, has, e)
-some_kind list p bits b false true has e f h = (b, Allow, has, f)
-some_kind list p bits b false false has e f h = absurd cc
+none_free_more list p bits n before here b l h = ⊎_elim
+    (λ (e : b ≡ n). ap (free_either list p) e ∙ here (subst (λ v. has_bit bits v ≡ true) e h))
+    (λ (other : b ≡ n → ⊥). before b (grind arith) h) (cases_eq b n)
 
 -- a bit that is not asked for
 pub none_free_absent : (list : List Ace) (p : Principal) (bits n : ℕ) → NoneFree list p bits n
     → has_bit bits n ≡ false → NoneFree list p bits (n + 1)
-none_free_absent list p bits n before lacks =
-    none_free_more list p bits n before (λ has. absurd (clash (sym lacks ∙ has)))
-  where
-    clash : false ≡ true → ⊥
-    clash e = cc
+none_free_absent list p bits n before lacks = none_free_more list p bits n before (λ has. cc)
 
 -- a bit that is free
 pub free_there : (list : List Ace) (p : Principal) (bits b : ℕ) → has_bit bits b ≡ true
     → free_either list p b ≡ true → IsTrue true ↔ HasFree list p bits
-free_there list p bits b has free = (λ t. some_kind list p bits b _ _ has refl refl free, λ h. refl)
+free_there list p bits b has free = (λ t. either (or_cases _ _ free), λ h. refl)
+  where
+    either : (is_free (column list b) (p, Deny) ≡ true) ⊎ (is_free (column list b) (p, Allow) ≡ true)
+        → HasFree list p bits
+    either (inl e) = (b, Deny, has, e)
+    either (inr e) = (b, Allow, has, e)
 
 -- where none is, there is none
 pub free_nowhere : (list : List Ace) (p : Principal) (bits : ℕ) → IsMask bits → NoneFree list p bits 21
     → IsTrue false ↔ HasFree list p bits
 free_nowhere list p bits is none = (λ t. absurd cc, λ (b, kind, has, free). absurd (clash b kind has free))
   where
-    left_false : (d a : Bool) → (d || a) ≡ false → d ≡ true → ⊥
-    left_false true a h e = cc
-    left_false false a h e = cc
-
-    right_false : (d a : Bool) → (d || a) ≡ false → a ≡ true → ⊥
-    right_false true a h e = cc
-    right_false false true h e = cc
-    right_false false false h e = cc
-
     clash : (b : ℕ) (kind : Kind) → has_bit bits b ≡ true → is_free (column list b) (p, kind) ≡ true → ⊥
-    clash b Deny has free = left_false _ _ (none b (right_below bits b is has) has) free
-    clash b Allow has free = right_false _ _ (none b (right_below bits b is has) has) free
+    clash b Deny has free = grind (arith, none b (right_below bits b is has) has)
+    clash b Allow has free = grind (arith, none b (right_below bits b is has) has)
 
 -- ---- the lowest right
 
 -- the next right from bit 0 on is the lowest, and a set without a next has no lowest
 pub lowest_is : (bits : ℕ) (next : Option Bit) → IsMask bits → IfSome next (λ right. IsNextRight bits 0 right.bit)
     → IfNone next (LacksFrom bits 0 21) → (b : ℕ) → IsLowest b bits → option_map (λ right. right.bit) next ≡ Some b
-lowest_is bits None is some none b (has, before) =
-    absurd (clash (sym (none b (omega arith) (right_below bits b is has)) ∙ has))
-  where
-    clash : false ≡ true → ⊥
-    clash e = cc
+lowest_is bits None is some none b (has, before) = absurd (grind (arith, none b (omega arith) (right_below bits b is has)))
 lowest_is bits (Some right) is some none b (has, before) =
-    ap Some (⊎_elim (λ g. absurd (above g))
-    (λ g. ⊎_elim (λ l. absurd (below_it l)) (λ l. omega (arith, l, g)) (cases_lt b right.bit)) (cases_lt right.bit b))
-  where
-    clash : false ≡ true → ⊥
-    clash e = cc
-
-    above : right.bit < b → ⊥
-    above g = clash (sym (before right.bit g) ∙ some.has)
-
-    below_it : b < right.bit → ⊥
-    below_it g = clash (sym (some.lacks b (omega arith) g) ∙ has)
+    ap Some (grind (arith, before right.bit, some.has, some.lacks b (omega arith)))
 
 -- the empty set has no next right
 pub no_lowest : (bits : ℕ) (next : Option Bit) → IfSome next (λ right. IsNextRight bits 0 right.bit) → bits ≡ 0
     → next ≡ None
 no_lowest bits None some none = refl
-no_lowest bits (Some right) some none =
-    absurd (clash (sym (ap (λ v. has_bit v right.bit) none ∙ no_bits_of_zero right.bit) ∙ some.has))
-  where
-    clash : false ≡ true → ⊥
-    clash e = cc
+no_lowest bits (Some right) some none = grind (arith, no_bits_of_zero right.bit, some.has)

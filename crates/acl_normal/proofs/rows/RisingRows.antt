@@ -13,15 +13,6 @@ pub record AreRisingTo (xs : List Ace) (numbers : List ℕ) (now : ℕ) (last : 
   pub top : (k : ℕ) → k < length xs → is_lt (principal_cmp last (principal_here xs k)) ≡ false
   pub row : now ≡ row_of last xs
 
--- before the first
-pub rising_none : (last : Principal) → AreRisingTo [] [] 0 last
-rising_none last = record {
-  order = λ k l. absurd (omega (arith, l));
-  rows = record { count = refl; at = λ k l. absurd (omega (arith, l)) };
-  top = λ k l. absurd (omega (arith, l));
-  row = refl;
-}
-
 -- whom the ACEs name, with one more behind them
 here_before : (xs : List Ace) (a : Ace) (k : ℕ) → k < length xs
     → principal_here (xs ++ a ∷ []) k ≡ principal_here xs k

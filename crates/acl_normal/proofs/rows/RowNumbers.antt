@@ -1,5 +1,5 @@
 -- Rows of principals by number: among the names in order, each row begins where its principal first stands.
-use Rattle.acl_normal.proofs.Common.{[], Ace, ace, AceRef, aces_in, ap, AreRowNumbers, arith, Bool, bytes_eq, cases_eq, cases_lt, cond, Equal, everyone, false, false_from_ne_true, get_or-map, get_or-set_other, get_or-set_same, get_or_default, Greater, inl, inr, is_eq, is_le, is_lt, is_named, IsByPrincipal, IsRowOf, IsTrue, key_here, length, length-map, length-set, length-take-le, Less, List, map, map-append, named_from, nat_cmp, nat_cmp_is, Ordering, ordering_reverse, Principal, principal_cmp, principal_exact, principal_here, principal_of, principal_order, principal_total, refl, row_of, slice_cmp, slice_index_or, slice_set, subst, suc, sym, take, take_more, true, who_here, zero, ℕ, ⊎_elim, ◌&&◌, ◌++◌, ◌+◌, ◌<◌, ◌==◌, ◌↔◌, ◌∙◌, ◌∷◌, ◌≡◌, ◌≢◌, ◌≤◌, ◌⊎◌}
+use Rattle.acl_normal.proofs.Common.{[], Ace, ace, AceRef, aces_in, ap, AreRowNumbers, arith, Bool, bytes_eq, cases_eq, cases_lt, cond, Equal, everyone, false, false_from_ne_true, get_or-map, get_or-set_other, get_or-set_same, get_or_default, Greater, inl, inr, is_eq, is_le, is_lt, is_principal_of, IsByPrincipal, IsRowOf, IsTrue, key_here, length, length-map, length-set, length-take-le, Less, List, map, map-append, named_from, nat_cmp, nat_cmp_is, Ordering, ordering_reverse, Principal, principal_cmp, principal_exact, principal_here, principal_of, principal_order, principal_total, refl, row_of, slice_cmp, slice_index_or, slice_set, subst, suc, sym, take, take_more, true, zero, ℕ, ⊎_elim, ◌&&◌, ◌++◌, ◌+◌, ◌<◌, ◌==◌, ◌↔◌, ◌∙◌, ◌∷◌, ◌≡◌, ◌≢◌, ◌≤◌, ◌⊎◌}
 use Rattle.std.specs.List.{Contains, HoldsAt}
 use Rattle.std.specs.List.Sorted.{IsNonDecreasingBy, IsPartitionPoint, IsPartitionedBy, IsPermutation, IsSortedByKey}
 use Rattle.std.specs.Cmp.{IsTotalOrder}
@@ -9,8 +9,8 @@ use Rattle.std.proofs.lemmas.Cmp.{nat_cmp_total, nat_list_cmp_total, on_total, t
 use Rattle.std.proofs.lemmas.Map.Text.{is_eq-slice_cmp}
 use Rattle.std.proofs.lemmas.List.Recursion.{is_count_by}
 use Rattle.std.proofs.lemmas.List.Sorted.{All-permutation, Contains-permutation, IsPermutation-map, IsPermutation-sym, length_permutation, ranks_by, searchable_from_sorted, sorted_far, sum_by-IsPermutation}
-use Rattle.acl_perm.proofs.Orders.{principals_same}
-use Rattle.acl_normal.specs.internal.RowNumbers.{AreHeaded, AreSorted, AreSortedNames, DoHeadsTell, named_at as name_of}
+use Rattle.acl_perm.proofs.Orders.{principals_same, is_less}
+use Rattle.acl_normal.specs.internal.RowNumbers.{AreHeaded, AreSorted, AreSortedNames, DoHeadsTell, named_at as name_of, tail_here}
 use Rattle.acl_normal.specs.declared.rows.numbers.HeadedPlace.{HeadedPlace}
 use Rattle.acl_normal.proofs.rows.Rows.{named_at, named_here, not_below, row_below}
 
@@ -33,8 +33,7 @@ module _ {X : Type 0} (t : X → Bool) where
   -- where none passes, none is counted
   count_none : (xs : List X) → ((k : ℕ) (d : X) → k < length xs → t (slice_index_or xs k d) ≡ false) → count xs ≡ 0
   count_none [] h = refl
-  count_none (x ∷ xs) h =
-      rw (h 0 x (omega arith)) (count_none xs (λ k d l. h (suc k) d (omega (arith, l))))
+  count_none (x ∷ xs) h = rw (h 0 x (omega arith)) (count_none xs (λ k d l. h (suc k) d (omega (arith, l))))
 
   -- where those that pass stand before the others, the count parts them
   count_parts : (xs : List X) → IsPartitionedBy t xs
@@ -112,11 +111,6 @@ pub le_then_less : (a b p : Principal) → is_lt (principal_cmp b a) ≡ false �
     → is_lt (principal_cmp a p) ≡ true
 le_then_less a b p h l = go (principal_cmp a b) refl
   where
-    is_less : (o : Ordering) → is_lt o ≡ true → o ≡ Less
-    is_less Less h = refl
-    is_less Equal h = cc
-    is_less Greater h = cc
-
     go : (o : Ordering) → principal_cmp a b ≡ o → is_lt (principal_cmp a p) ≡ true
     go Less e = ap is_lt (principal_order.transitive a b p e (is_less (principal_cmp b p) l))
     go Equal e = subst (λ v. is_lt (principal_cmp v p) ≡ true) (sym (principal_exact a b e)) l
@@ -126,25 +120,11 @@ le_then_less a b p h l = go (principal_cmp a b) refl
 
 -- who is neither below nor above is the same
 neither : (a b : Principal) → is_lt (principal_cmp a b) ≡ false → is_lt (principal_cmp b a) ≡ false → a ≡ b
-neither a b h l = go (principal_cmp a b) refl
-  where
-    go : (o : Ordering) → principal_cmp a b ≡ o → a ≡ b
-    go Less e = cc
-    go Equal e = principal_exact a b e
-    go Greater e =
-        let turned : principal_cmp b a ≡ Less = principal_order.reversed a b ∙ ap ordering_reverse e in
-        absurd (cc)
+neither a b h l = grind (arith, principal_order.reversed a b, principal_exact a b)
 
 -- who is not above is below or the same
 not_above : (a b : Principal) → is_lt (principal_cmp b a) ≡ false → is_le (principal_cmp a b) ≡ true
-not_above a b h = go (principal_cmp a b) refl
-  where
-    go : (o : Ordering) → principal_cmp a b ≡ o → is_le o ≡ true
-    go Less e = refl
-    go Equal e = refl
-    go Greater e =
-        let turned : principal_cmp b a ≡ Less = principal_order.reversed a b ∙ ap ordering_reverse e in
-        absurd (cc)
+not_above a b h = grind (arith, principal_order.reversed a b)
 
 -- one ACE more
 named_push : (i : ℕ) (xs : List Ace) (a : Ace)
@@ -396,7 +376,7 @@ module _ (xs : List Ace) (places : List HeadedPlace) (s : AreSorted xs places) w
 
   -- what heads and whos tell of two places is what the principals tell
   told_by_principals : (m n : HeadedPlace) → Contains places m → Contains places n
-      → ((m.head == n.head) && bytes_eq (who_here xs m.place) (who_here xs n.place))
+      → ((m.head == n.head) && bytes_eq (tail_here xs m) (tail_here xs n))
       ≡ eq_by_cmp principal_cmp (principal_here xs m.place) (principal_here xs n.place)
   told_by_principals m n c d = go (eqb_tells m.head n.head) (cases_lt m.head n.head)
     where
@@ -408,7 +388,7 @@ module _ (xs : List Ace) (places : List HeadedPlace) (s : AreSorted xs places) w
 
       Told : Type 0
       Told =
-          ((m.head == n.head) && bytes_eq (who_here xs m.place) (who_here xs n.place)) ≡ eq_by_cmp principal_cmp p q
+          ((m.head == n.head) && bytes_eq (tail_here xs m) (tail_here xs n)) ≡ eq_by_cmp principal_cmp p q
 
       above : (m.head ≢ n.head) → n.head ≤ m.head → n.head < m.head
       above d l = ⊎_elim (λ u. u) (λ u. absurd (d (omega (arith, l, u)))) (cases_lt n.head m.head)
@@ -417,7 +397,7 @@ module _ (xs : List Ace) (places : List HeadedPlace) (s : AreSorted xs places) w
           → (m.head < n.head) ⊎ (n.head ≤ m.head) → Told
       go (inl e) _ =
           rw e.0
-          (sym (is_eq-slice_cmp (who_here xs m.place) (who_here xs n.place))
+          (sym (is_eq-slice_cmp (tail_here xs m) (tail_here xs n))
           ∙ ap is_eq (sym (s.heads.same m n c d e.1)))
       go (inr e) (inl l) = rw e.0 (sym (ap is_eq (s.heads.lesser m n c d l)))
       go (inr e) (inr l) =
@@ -426,7 +406,7 @@ module _ (xs : List Ace) (places : List HeadedPlace) (s : AreSorted xs places) w
 
   module _ (rows : List ℕ) (start i : ℕ) (n first : HeadedPlace) (l : i < length places)
       (here : n ≡ slice_index_or places i n) (there : first ≡ slice_index_or places start first) (alike : Bool)
-      (told : alike ≡ ((n.head == first.head) && bytes_eq (who_here xs n.place) (who_here xs first.place)))
+      (told : alike ≡ ((n.head == first.head) && bytes_eq (tail_here xs n) (tail_here xs first)))
       (so_far : AreNumberedTo xs names rows start i) where
     abbrev name : ℕ → Principal × ℕ
     name k = slice_index_or names k no_name
@@ -521,7 +501,7 @@ places_by_principal xs names s = record {
         let not : is_lt (principal_cmp (at k).0 p) ≡ false = ap (λ v. is_lt (principal_cmp v p)) is ∙ not_below p in
         absurd (cc)
 
-    first : (p : Principal) → is_named p xs ≡ true
+    first : (p : Principal) → is_principal_of p xs ≡ true
         → (key_here xs (slice_index_or (map (λ n. n.1) names) (row_of p xs) 0)).0 ≡ p
     first p h =
         let n = named_at p xs h in
@@ -547,7 +527,7 @@ sorted_by_principal xs places s =
 
 -- places that were sorted by their heads and whos
 pub sorted_names : (xs : List Ace) (places new : List HeadedPlace) → AreHeaded xs places → IsPermutation places new
-    → IsSortedByKey (λ n. (n.head, who_here xs n.place)) head_cmp new → AreSorted xs new
+    → IsSortedByKey (λ n. (n.head, tail_here xs n)) head_cmp new → AreSorted xs new
 sorted_names xs places new h p s = record {
   names = record {
     permutation = subst (λ v. IsPermutation v (map (name_of xs) new)) h.names (IsPermutation-map (name_of xs) places new p);
@@ -575,7 +555,7 @@ sorted_names xs places new h p s = record {
         before n c = Contains-permutation new places n (IsPermutation-sym places new p) c
 
     in_order : (m n : HeadedPlace) → Contains new m → Contains new n
-        → is_lt (head_cmp (m.head, who_here xs m.place) (n.head, who_here xs n.place)) ≡ false
+        → is_lt (head_cmp (m.head, tail_here xs m) (n.head, tail_here xs n)) ≡ false
         → is_lt (principal_cmp (principal_here xs m.place) (principal_here xs n.place)) ≡ false
     in_order m n c d e = go (cases_lt m.head n.head) (cases_lt n.head m.head)
       where
@@ -586,7 +566,7 @@ sorted_names xs places new h p s = record {
         q = principal_here xs n.place
 
         whos : Ordering
-        whos = slice_cmp nat_cmp (who_here xs m.place) (who_here xs n.place)
+        whos = slice_cmp nat_cmp (tail_here xs m) (tail_here xs n)
 
         heads : (o : Ordering) → o ≡ nat_cmp m.head n.head → is_lt (ordering_then o whos) ≡ false
         heads o is = subst (λ o. is_lt (ordering_then o whos) ≡ false) (sym is) e
@@ -639,7 +619,7 @@ found_row xs rows order p i r o l h =
     let is : (key_here xs (slice_index_or order i 0)).0 ≡ p =
     principal_exact (key_here xs (slice_index_or order i 0)).0 p (h 0) in
     record {
-      named = subst (λ v. is_named v xs ≡ true) is (named_here xs (slice_index_or order i 0) place);
+      named = subst (λ v. is_principal_of v xs ≡ true) is (named_here xs (slice_index_or order i 0) place);
       is = r.at (slice_index_or order i 0) place ∙ ap (λ v. row_of v xs) is;
     }
 
@@ -648,14 +628,14 @@ pub missing_row : (xs : List Ace) (order : List ℕ) (p : Principal) (i : ℕ) �
     → (IsNonDecreasingBy (λ y. ordering_index (principal_cmp (key_here xs y).0 p)) order
     → IsPartitionPoint (λ y. principal_cmp (key_here xs y).0 p ≡ Less)
     (λ y. principal_cmp (key_here xs y).0 p ≡ Greater) order i)
-    → is_named p xs ≡ false
-missing_row xs order p i o h = false_from_ne_true (is_named p xs) named
+    → is_principal_of p xs ≡ false
+missing_row xs order p i o h = false_from_ne_true (is_principal_of p xs) named
   where
     point : IsPartitionPoint (λ y. principal_cmp (key_here xs y).0 p ≡ Less)
         (λ y. principal_cmp (key_here xs y).0 p ≡ Greater) order i
     point = h (search_rises xs order p o)
 
-    named : is_named p xs ≡ true → ⊥
+    named : is_principal_of p xs ≡ true → ⊥
     named n = go (cases_lt begin i)
       where
         begin : ℕ

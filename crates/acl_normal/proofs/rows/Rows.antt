@@ -1,19 +1,15 @@
 -- Rows of principals: they stand in the order of the principals, and masks do not move them.
-use Rattle.acl_normal.proofs.Common.{[], Ace, ap, AreRowNumbers, arith, Bool, cond, counts, Equal, false, first_at, Greater, IfNone, IfSome, is_inherit_only, is_le, is_lt, is_named, IsByPrincipal, IsRowOf, Key, key_here, length, Less, List, None, nothing_left, Option, or_cases, or_left, or_right, Ordering, Principal, principal_cmp, principal_eq, principal_exact, principal_of, principal_order, refl, row_of, slice_index_or, Some, subst, suc, sym, take_out, true, without_bits, zero, ℕ, ⊎_elim, ◌&&◌, ◌<◌, ◌||◌, ◌∙◌, ◌∷◌, ◌≡◌, ◌≤◌}
+use Rattle.acl_normal.proofs.Common.{[], Ace, ap, AreRowNumbers, arith, cond, Equal, false, first_at, Greater, IfNone, IfSome, is_le, is_lt, is_principal_of, IsByPrincipal, IsRowOf, Key, key_here, length, Less, List, None, nothing_left, Option, or_cases, Ordering, Principal, principal_cmp, principal_eq, principal_exact, principal_of, principal_order, refl, row_of, slice_index_or, Some, subst, suc, sym, take_out, true, zero, ℕ, ⊎_elim, ◌<◌, ◌||◌, ◌∙◌, ◌∷◌, ◌≡◌, ◌≤◌, ordering_reverse, Bool}
 use Rattle.acl_normal.proofs.unique.Names.{principal_eq_same, principal_eq_itself}
 use Rattle.acl_normal.proofs.unique.Outline.{key_alike, length_alike}
 
 -- ---- who is named
 
 -- whom the ACE at a place names is named
-pub named_here : (xs : List Ace) (i : ℕ) → i < length xs → is_named (key_here xs i).0 xs ≡ true
+pub named_here : (xs : List Ace) (i : ℕ) → i < length xs → is_principal_of (key_here xs i).0 xs ≡ true
 named_here [] i l = absurd (omega (arith, l))
-named_here (a ∷ xs) zero l =
-    or_left (principal_eq (principal_of a) (principal_of a)) (is_named (principal_of a) xs)
-    (principal_eq_itself (principal_of a))
-named_here (a ∷ xs) (suc i) l =
-    or_right (principal_eq (principal_of a) (key_here xs i).0) (is_named (key_here xs i).0 xs)
-    (named_here xs i (omega (arith, l)))
+named_here (a ∷ xs) zero l = grind (arith, principal_eq_itself (principal_of a))
+named_here (a ∷ xs) (suc i) l = grind (arith, named_here xs i (omega (arith, l)))
 
 -- a place at which a principal is named
 pub record IsNamedAt (p : Principal) (xs : List Ace) : Type 0 where
@@ -22,92 +18,48 @@ pub record IsNamedAt (p : Principal) (xs : List Ace) : Type 0 where
   pub is : (key_here xs place).0 ≡ p
 
 -- who is named is named at a place
-pub named_at : (p : Principal) (xs : List Ace) → is_named p xs ≡ true → IsNamedAt p xs
+pub named_at : (p : Principal) (xs : List Ace) → is_principal_of p xs ≡ true → IsNamedAt p xs
 named_at p [] h = cc
 named_at p (a ∷ xs) h =
     ⊎_elim (λ e. record { place = 0; within = omega arith; is = principal_eq_same (principal_of a) p e })
-    (λ e. behind (named_at p xs e)) (or_cases (principal_eq (principal_of a) p) (is_named p xs) h)
+    (λ e. behind (named_at p xs e)) (or_cases (principal_eq (principal_of a) p) (is_principal_of p xs) h)
   where
     behind : IsNamedAt p xs → IsNamedAt p (a ∷ xs)
     behind n = record { place = suc n.place; within = omega (arith, n.within); is = n.is }
 
 -- who is not named stands nowhere
-pub unnamed_first : (b : ℕ) (p : Principal) (xs : List Ace) → is_named p xs ≡ false → first_at b p xs ≡ None
+pub unnamed_first : (b : ℕ) (p : Principal) (xs : List Ace) → is_principal_of p xs ≡ false → first_at b p xs ≡ None
 unnamed_first b p [] h = refl
-unnamed_first b p (a ∷ xs) h = go (principal_eq (principal_of a) p) refl (unnamed_first b p xs)
-  where
-    none : (t : Bool) → (t && false) ≡ false
-    none true = refl
-    none false = refl
-
-    go : (t : Bool) → principal_eq (principal_of a) p ≡ t → (is_named p xs ≡ false → first_at b p xs ≡ None)
-        → first_at b p (a ∷ xs) ≡ None
-    go true e ih = cc (rw e at h)
-    go false e ih =
-        let rest : first_at b p xs ≡ None = ih (rw e at h) in
-        rw (e, none (counts b a), rest) refl
+unnamed_first b p (a ∷ xs) h = grind (arith, unnamed_first b p xs)
 
 -- nothing is taken out for who is not named
-pub unnamed_taken : (p : Principal) (m : ℕ) (xs : List Ace) → is_named p xs ≡ false → take_out p m xs ≡ xs
+pub unnamed_taken : (p : Principal) (m : ℕ) (xs : List Ace) → is_principal_of p xs ≡ false → take_out p m xs ≡ xs
 unnamed_taken p m [] h = refl
-unnamed_taken p m (a ∷ xs) h = go (principal_eq (principal_of a) p) refl (unnamed_taken p m xs)
-  where
-    go : (t : Bool) → principal_eq (principal_of a) p ≡ t → (is_named p xs ≡ false → take_out p m xs ≡ xs)
-        → take_out p m (a ∷ xs) ≡ a ∷ xs
-    go true e ih = cc (rw e at h)
-    go false e ih =
-        let rest : take_out p m xs ≡ xs = ih (rw e at h) in
-        let here : without_bits p m a ≡ a = rw e refl in
-        ap (λ v. v ∷ take_out p m xs) here ∙ ap (λ v. a ∷ v) rest
+unnamed_taken p m (a ∷ xs) h = grind (arith, unnamed_taken p m xs)
 
 -- ---- the order of rows
 
 -- one more below the principal, or none
 row_step : (p : Principal) (a : Ace) (xs : List Ace) → row_of p xs ≤ row_of p (a ∷ xs)
-row_step p a xs = go (is_lt (principal_cmp (principal_of a) p)) refl
-  where
-    go : (t : Bool) → is_lt (principal_cmp (principal_of a) p) ≡ t → row_of p xs ≤ row_of p (a ∷ xs)
-    go true e = rw e (omega arith)
-    go false e = rw e (omega arith)
+row_step p a xs = grind arith
 
 -- rows are no more than there are ACEs
 pub row_within : (p : Principal) (xs : List Ace) → row_of p xs ≤ length xs
 row_within p [] = omega arith
-row_within p (a ∷ xs) = go (is_lt (principal_cmp (principal_of a) p)) refl (row_within p xs)
-  where
-    go : (t : Bool) → is_lt (principal_cmp (principal_of a) p) ≡ t → row_of p xs ≤ length xs
-        → row_of p (a ∷ xs) ≤ length (a ∷ xs)
-    go true e ih = rw e (omega (arith, ih))
-    go false e ih = rw e (omega (arith, ih))
+row_within p (a ∷ xs) = grind (arith, row_within p xs)
 
 -- a principal is not below itself
 pub not_below : (p : Principal) → is_lt (principal_cmp p p) ≡ false
 not_below p = ap is_lt ((principal_order.equal p p).1 refl)
 
 -- the row of who is named is below the number of ACEs
-pub row_below : (p : Principal) (xs : List Ace) → is_named p xs ≡ true → row_of p xs < length xs
+pub row_below : (p : Principal) (xs : List Ace) → is_principal_of p xs ≡ true → row_of p xs < length xs
 row_below p [] h = cc
 row_below p (a ∷ xs) h =
-    ⊎_elim (λ e. here (principal_eq_same (principal_of a) p e)) (λ e. there (row_below p xs e))
-    (or_cases (principal_eq (principal_of a) p) (is_named p xs) h)
-  where
-    here : principal_of a ≡ p → row_of p (a ∷ xs) < length (a ∷ xs)
-    here e =
-        let none : is_lt (principal_cmp (principal_of a) p) ≡ false =
-        ap (λ v. is_lt (principal_cmp v p)) e ∙ not_below p in
-        rw none (omega (arith, row_within p xs))
-
-    there : row_of p xs < length xs → row_of p (a ∷ xs) < length (a ∷ xs)
-    there l = go (is_lt (principal_cmp (principal_of a) p)) refl
-      where
-        go : (t : Bool) → is_lt (principal_cmp (principal_of a) p) ≡ t → row_of p (a ∷ xs) < length (a ∷ xs)
-        go true e = rw e (omega (arith, l))
-        go false e = rw e (omega (arith, l))
+    grind (arith, row_below p xs, row_within p xs, principal_eq_same (principal_of a) p, not_below p)
 
 is_less : (o : Ordering) → is_lt o ≡ true → o ≡ Less
-is_less Less h = refl
-is_less Equal h = cc
-is_less Greater h = cc
+is_less o h = grind arith
 
 -- what is below the lower is below the higher
 below_both : (s p q : Principal) → principal_cmp p q ≡ Less → is_lt (principal_cmp s p) ≡ true
@@ -117,22 +69,15 @@ below_both s p q l h = ap is_lt (principal_order.transitive s p q (is_less (prin
 -- rows rise with the principals
 pub row_rises : (p q : Principal) (xs : List Ace) → principal_cmp p q ≡ Less → row_of p xs ≤ row_of q xs
 row_rises p q [] l = omega arith
-row_rises p q (a ∷ xs) l = go (is_lt (principal_cmp (principal_of a) p)) refl (row_rises p q xs l)
-  where
-    go : (t : Bool) → is_lt (principal_cmp (principal_of a) p) ≡ t → row_of p xs ≤ row_of q xs
-        → row_of p (a ∷ xs) ≤ row_of q (a ∷ xs)
-    go true e ih = rw (e, below_both (principal_of a) p q l e) (omega (arith, ih))
-    go false e ih =
-        let more = row_step q a xs in
-        rw e (omega (arith, ih, more))
+row_rises p q (a ∷ xs) l = grind (arith, row_rises p q xs l, below_both (principal_of a) p q l)
 
 -- and the row of who is named is below those of higher principals
-pub row_less : (p q : Principal) (xs : List Ace) → is_named p xs ≡ true → principal_cmp p q ≡ Less
+pub row_less : (p q : Principal) (xs : List Ace) → is_principal_of p xs ≡ true → principal_cmp p q ≡ Less
     → row_of p xs < row_of q xs
 row_less p q [] h l = cc
 row_less p q (a ∷ xs) h l =
     ⊎_elim (λ e. here (principal_eq_same (principal_of a) p e)) (λ e. there (row_less p q xs e l))
-    (or_cases (principal_eq (principal_of a) p) (is_named p xs) h)
+    (or_cases (principal_eq (principal_of a) p) (is_principal_of p xs) h)
   where
     here : principal_of a ≡ p → row_of p (a ∷ xs) < row_of q (a ∷ xs)
     here e =
@@ -152,23 +97,20 @@ row_less p q (a ∷ xs) h l =
             rw e (omega (arith, less, more))
 
 -- who is named has a row of its own
-pub row_same : (p q : Principal) (xs : List Ace) → is_named p xs ≡ true → is_named q xs ≡ true
+pub row_same : (p q : Principal) (xs : List Ace) → is_principal_of p xs ≡ true → is_principal_of q xs ≡ true
     → row_of p xs ≡ row_of q xs → p ≡ q
-row_same p q xs h i same = go (principal_cmp p q) (principal_cmp q p) refl refl
+row_same p q xs h i same = go (principal_cmp p q) refl
   where
-    go : (o w : Ordering) → principal_cmp p q ≡ o → principal_cmp q p ≡ w → p ≡ q
-    go Equal w e f = principal_exact p q e
-    go Less w e f = absurd (omega (arith, row_less p q xs h e, same))
-    go Greater Less e f = absurd (omega (arith, row_less q p xs i f, same))
-    go Greater Equal e f = sym (principal_exact q p f)
-    go Greater Greater e f =
-        let turned = principal_order.reversed p q in
-        absurd (cc)
+    go : (o : Ordering) → principal_cmp p q ≡ o → p ≡ q
+    go Equal e = principal_exact p q e
+    go Less e = absurd (omega (arith, row_less p q xs h e, same))
+    go Greater e =
+        absurd (omega (arith, row_less q p xs i (principal_order.reversed p q ∙ ap ordering_reverse e), same))
 
 -- ---- masks
 
 -- masks name nobody
-pub named_outline : (p : Principal) (xs : List Ace) → is_named p (nothing_left xs) ≡ is_named p xs
+pub named_outline : (p : Principal) (xs : List Ace) → is_principal_of p (nothing_left xs) ≡ is_principal_of p xs
 named_outline p [] = refl
 named_outline p (a ∷ xs) = ap (λ t. principal_eq (principal_of a) p || t) (named_outline p xs)
 
@@ -180,8 +122,8 @@ row_outline p (a ∷ xs) =
 
 -- lists of one outline name the same
 pub named_alike : (p : Principal) (xs ys : List Ace) → nothing_left xs ≡ nothing_left ys
-    → is_named p xs ≡ is_named p ys
-named_alike p xs ys e = sym (named_outline p xs) ∙ ap (is_named p) e ∙ named_outline p ys
+    → is_principal_of p xs ≡ is_principal_of p ys
+named_alike p xs ys e = sym (named_outline p xs) ∙ ap (is_principal_of p) e ∙ named_outline p ys
 
 -- and number the same
 pub row_alike : (p : Principal) (xs ys : List Ace) → nothing_left xs ≡ nothing_left ys → row_of p xs ≡ row_of p ys
@@ -190,17 +132,7 @@ row_alike p xs ys e = sym (row_outline p xs) ∙ ap (row_of p) e ∙ row_outline
 -- bits taken out keep the outline
 pub outline_taken : (p : Principal) (m : ℕ) (xs : List Ace) → nothing_left (take_out p m xs) ≡ nothing_left xs
 outline_taken p m [] = refl
-outline_taken p m (a ∷ xs) =
-    ap (λ v. v ∷ nothing_left (take_out p m xs)) here ∙ ap (λ v. record a { mask = 0 } ∷ v) (outline_taken p m xs)
-  where
-    here : record (without_bits p m a) { mask = 0 } ≡ record a { mask = 0 }
-    here = go (principal_eq (principal_of a) p) refl (is_inherit_only a) refl
-      where
-        go : (s : Bool) → principal_eq (principal_of a) p ≡ s → (t : Bool) → is_inherit_only a ≡ t
-            → record (without_bits p m a) { mask = 0 } ≡ record a { mask = 0 }
-        go true e true f = rw (e, f) refl
-        go true e false f = rw (e, f) refl
-        go false e t f = rw e refl
+outline_taken p m (a ∷ xs) = grind (arith, outline_taken p m xs)
 
 -- rows are numbered by the outline
 pub rows_alike : (xs ys : List Ace) (rows : List ℕ) → nothing_left xs ≡ nothing_left ys → AreRowNumbers xs rows
@@ -237,7 +169,7 @@ order_alike xs ys order e o = record {
     at : (i : ℕ) → (key_here xs (slice_index_or order i 0)).0 ≡ (key_here ys (slice_index_or order i 0)).0
     at i = ap (λ (k : Key). k.0) (key_alike xs ys (slice_index_or order i 0) e)
 
-    first : (p : Principal) → is_named p xs ≡ true → row_of p xs ≡ row_of p ys
+    first : (p : Principal) → is_principal_of p xs ≡ true → row_of p xs ≡ row_of p ys
         → (key_here ys (slice_index_or order (row_of p ys) 0)).0 ≡ p
     first p h r =
         ap (λ n. (key_here ys (slice_index_or order n 0)).0) (sym r) ∙ sym (at (row_of p xs)) ∙ o.first p h
@@ -258,6 +190,6 @@ found_row p xs ys (Some row) e h = is_row_alike row p xs ys e h
 
 -- and none
 pub missed_row : (p : Principal) (xs ys : List Ace) (o : Option ℕ) → nothing_left xs ≡ nothing_left ys
-    → IfNone o (is_named p xs ≡ false) → IfNone o (is_named p ys ≡ false)
+    → IfNone o (is_principal_of p xs ≡ false) → IfNone o (is_principal_of p ys ≡ false)
 missed_row p xs ys None e h = sym (named_alike p xs ys e) ∙ h
 missed_row p xs ys (Some row) e h = h

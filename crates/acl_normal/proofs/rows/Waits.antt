@@ -1,8 +1,8 @@
 -- Whether places wait before a place.
-use Rattle.acl_normal.proofs.Common.{[], Ace, ace_key, ap, arith, Bool, column, Equal, false, false_from_ne_true, Greater, is_at, is_le, is_waiting, Kind, length, Less, List, list_any, nat_cmp, or_from, or_left, or_right, Ordering, refl, suc, sym, true, waits, waits_before, zero, ℕ, ◌<◌, ◌∙◌, ◌∷◌, ◌≡◌, ◌≤◌}
+use Rattle.acl_normal.proofs.Common.{[], Ace, ap, arith, Bool, column, false, false_from_ne_true, is_at, is_le, is_waiting, Kind, length, List, list_any, nat_cmp, or_left, or_right, Ordering, refl, suc, sym, true, waits, waits_before, zero, ℕ, ◌<◌, ◌∙◌, ◌∷◌, ◌≡◌, ◌≤◌}
 use Rattle.std.specs.Ordering.{is_gt}
 use Rattle.std.proofs.lemmas.Map.Keys.{le_from_is_le}
-use Rattle.acl_normal.proofs.unique.Columns.{column_has, column_lacks, counts}
+use Rattle.acl_normal.proofs.unique.Columns.{column_first}
 
 -- none before, if none of the lesser places waits
 pub before_none : (k : Kind) (u : Bool) (b : ℕ) (xs : List Ace) (i : ℕ) → ((j : ℕ) → j < i → waits k u b xs j ≡ false)
@@ -10,8 +10,7 @@ pub before_none : (k : Kind) (u : Bool) (b : ℕ) (xs : List Ace) (i : ℕ) → 
 before_none k u b [] i h = refl
 before_none k u b (a ∷ xs) zero h = refl
 before_none k u b (a ∷ xs) (suc i) h =
-    or_from (is_waiting k u b a) (waits_before k u b xs i) (h 0 (omega arith))
-    (before_none k u b xs i (λ j l. h (suc j) (omega arith)))
+    grind (arith, h 0, before_none k u b xs i (λ j l. h (suc j) (omega arith)))
 
 -- some before, if one of them does
 pub before_some : (k : Kind) (u : Bool) (b : ℕ) (xs : List Ace) (i j : ℕ) → j < i → waits k u b xs j ≡ true
@@ -24,9 +23,7 @@ before_some k u b (a ∷ xs) (suc i) (suc j) l h =
 
 -- what is not after another comes at or before it
 not_after : (o : Ordering) → is_gt o ≡ false → is_le o ≡ true
-not_after Less h = refl
-not_after Equal h = refl
-not_after Greater h = cc
+not_after o h = grind arith
 
 -- none before the least of the places that wait
 pub before_least : (k : Kind) (u : Bool) (b : ℕ) (xs : List Ace) (places : List ℕ) (least i : ℕ)
@@ -54,13 +51,5 @@ no_keys (i ∷ places) h = absurd (h (omega arith))
 -- at a bit that no ACE has nothing waits
 pub waits_nowhere : (k : Kind) (u : Bool) (b : ℕ) (xs : List Ace) (i : ℕ) → column xs b ≡ [] → waits k u b xs i ≡ false
 waits_nowhere k u b [] i h = refl
-waits_nowhere k u b (a ∷ xs) i h = go i (counts b a) refl (waits_nowhere k u b xs)
-  where
-    clash : [] ≡ ace_key a ∷ column xs b → ⊥
-    clash e = cc
-
-    go : (i : ℕ) (t : Bool) → counts b a ≡ t → ((j : ℕ) → column xs b ≡ [] → waits k u b xs j ≡ false)
-        → waits k u b (a ∷ xs) i ≡ false
-    go i true e rest = absurd (clash (sym h ∙ column_has b a xs e))
-    go zero false e rest = rw e refl
-    go (suc i) false e rest = rest i (sym (column_lacks b a xs e) ∙ h)
+waits_nowhere k u b (a ∷ xs) zero h = grind (arith, column_first b a xs)
+waits_nowhere k u b (a ∷ xs) (suc i) h = waits_nowhere k u b xs i (grind (arith, column_first b a xs))

@@ -1,13 +1,14 @@
 -- What is known of an accepted list: each who is a name, and each bit is a right.
-use Rattle.std.proofs.Common.{◌≡◌, ℕ, ◌<◌, ◌+◌, ◌/◌, ◌%◌, Bool, true, false, List, [], ◌∷◌, ◌++◌, length, refl}
-use Rattle.acl_normal.proofs.Common.{Ace, AllByRecursion, and_parts, arith, bits_from_mask, bytes_eq, everyone_name, full, group_name, has_bit, HasMasks, HasName, HasNames, identifier_group, if◌then◌else◌, inl, inr, IsAccepted, IsAce, IsName, nat_lt, None, not, Option, owner_name, principal_of, Profile, Some, subst}
+use Rattle.std.proofs.Common.{◌≡◌, ℕ, ◌<◌, ◌+◌, ◌/◌, ◌%◌, Bool, true, false, List, [], ◌∷◌, length, refl}
+use Rattle.acl_normal.proofs.Common.{Ace, AllByRecursion, and_parts, arith, bits_from_mask, full, HasMasks, HasName, HasNames, if◌then◌else◌, inl, inr, IsAccepted, IsAce, IsName, nat_lt, None, not, Option, principal_of, Profile, Some, subst}
 use Rattle.std.specs.Str.{is_utf8}
+use Rattle.acl_normal.proofs.Each.{all_append}
 use Rattle.std.proofs.Math.Utf8.{encode, encodes, scalar, scalars, scalar_cases}
 use Rattle.std.proofs.lemmas.Bool.{ltb-true}
 use Rattle.std.proofs.lemmas.List.Elements.{All-from_recursion}
 use Rattle.std.proofs.lemmas.Str.{IsUtf8-from_is_utf8}
 use Rattle.acl_nfs4.specs.Who.{IsWho, is_no_who_len}
-use Rattle.acl_nfs4.proofs.Fields.{who_bounds}
+use Rattle.acl_nfs4.proofs.Exports.{who_bounds}
 
 -- ---- a who is a name
 
@@ -29,10 +30,6 @@ encoded_bytes c lt = go (nat_lt c 128) refl (nat_lt c 2048) refl (nat_lt c 65536
     go false e false f true g = rw (e, f, g) (let h = ltb-true c 65536 g in omega arith, (next (c / 64), (next c, tt)))
     go false e false f false g = rw (e, f, g) (omega arith, (next (c / 4096), (next (c / 64), (next c, tt))))
 
-are_bytes-append : (xs ys : List ℕ) → AreBytes xs → AreBytes ys → AreBytes (xs ++ ys)
-are_bytes-append [] ys h g = g
-are_bytes-append (x ∷ xs) ys h g = (h.0, are_bytes-append xs ys h.1 g)
-
 scalar_below : (c : ℕ) → scalar c ≡ true → c < 1114112
 scalar_below c h = elim (scalar_cases c h) [
   | inl low ↦ omega arith
@@ -43,7 +40,8 @@ encodes_bytes : (cs : List ℕ) → scalars cs ≡ true → AreBytes (encodes cs
 encodes_bytes [] h = tt
 encodes_bytes (c ∷ cs) h =
     let parts = and_parts (scalar c) (scalars cs) h in
-    are_bytes-append (encode c) (encodes cs) (encoded_bytes c (scalar_below c parts.0)) (encodes_bytes cs parts.1)
+    all_append (λ b. b < 256) (encode c) (encodes cs) (encoded_bytes c (scalar_below c parts.0))
+    (encodes_bytes cs parts.1)
 
 utf8_bytes : (bs : List ℕ) → is_utf8 bs ≡ true → AreBytes bs
 utf8_bytes bs h =

@@ -1,7 +1,7 @@
 -- Single bits of a mask.
 use Rattle.std.specs.Prelude.{IsSome}
 use Rattle.std.specs.Int.Count.{trailing_of_zero}
-use Rattle.acl_normal.proofs.Common.{[], ap, arith, bit_and, bit_at, bit_at-lt, bit_at-zero, bits_in, cases_eq, cases_lt, eqb-false, eqb-true, false, get_or-map, has_bit, has_bit-without, IfNone, inl, inr, IsDifference, IsMask, length, length-map, List, map-append, Mask, ne_eqb, None, Option, refl, replicate, slice_index_or, slice_set, Some, subst, suc, sym, trailing_zeros, true, w32, without, zero, ℕ, ⊎_elim, ◌%◌, ◌++◌, ◌+◌, ◌-◌, ◌/◌, ◌<◌, ◌==◌, ◌^◌, ◌∙◌, ◌∷◌, ◌≡◌, ◌≢◌, ◌≤◌, ◌⊎◌}
+use Rattle.acl_normal.proofs.Common.{[], ap, arith, bit_and, bit_at, bit_at-lt, bit_at-zero, mask_numbers, cases_eq, cases_lt, eqb-false, eqb-true, false, get_or-map, has_bit, has_bit-without, IfNone, inl, inr, IsDifference, IsMask, length, length-map, List, map-append, Mask, ne_eqb, None, Option, refl, replicate, slice_index_or, slice_set, Some, subst, suc, sym, trailing_zeros, true, w32, without, zero, ℕ, ⊎_elim, ◌%◌, ◌++◌, ◌+◌, ◌-◌, ◌/◌, ◌<◌, ◌==◌, ◌^◌, ◌∙◌, ◌∷◌, ◌≡◌, ◌≢◌, ◌≤◌, ◌⊎◌, all_rights, false_from_ne_true, bit_at_above}
 use Rattle.std.proofs.lemmas.Nat.Bits.{bit_at_xor, bit_at_and, bit_at-pow_same, bit_at-pow_other, same_from_bits, bit_at-trailing_zeros}
 use Rattle.std.proofs.Math.Nat.{div-le_self}
 use Rattle.std.proofs.lemmas.Nat.{shr-shr}
@@ -124,30 +124,42 @@ pub difference_is : (m n set : ℕ) → IsDifference m n set → set ≡ without
 difference_is m n set is = masks_same set (without m n) (λ b. is b ∙ sym (has_bit-without m n b))
 
 -- a number for each mask
-pub bits_length : (masks : List Mask) → length (bits_in masks) ≡ length masks
+pub bits_length : (masks : List Mask) → length (mask_numbers masks) ≡ length masks
 bits_length masks = length-map masks (λ m. m.bits)
 
 -- the number of the mask at a place
 pub bits_at : (masks : List Mask) (i d : ℕ) (m : Mask) → i < length masks → m ≡ slice_index_or masks i m
-    → slice_index_or (bits_in masks) i d ≡ m.bits
+    → slice_index_or (mask_numbers masks) i d ≡ m.bits
 bits_at masks i d m within is = get_or-map (λ m. m.bits) masks i m d within ∙ ap (λ v. v.bits) (sym is)
 
 -- of one mask more
-pub bits_push : (masks : List Mask) (m : Mask) → bits_in (masks ++ m ∷ []) ≡ bits_in masks ++ m.bits ∷ []
+pub bits_push : (masks : List Mask) (m : Mask) → mask_numbers (masks ++ m ∷ []) ≡ mask_numbers masks ++ m.bits ∷ []
 bits_push masks m = map-append (λ m. m.bits) masks (m ∷ [])
 
 -- of a mask in the place of another
 pub bits_set : (masks : List Mask) (i : ℕ) (m : Mask)
-    → bits_in (slice_set masks i m) ≡ slice_set (bits_in masks) i m.bits
+    → mask_numbers (slice_set masks i m) ≡ slice_set (mask_numbers masks) i m.bits
 bits_set masks i m = map-set (λ m. m.bits) masks i m
 
 -- of one mask everywhere
-pub bits_all : (n : ℕ) (m : Mask) → bits_in (replicate n m) ≡ replicate n m.bits
+pub bits_all : (n : ℕ) (m : Mask) → mask_numbers (replicate n m) ≡ replicate n m.bits
 bits_all zero m = refl
 bits_all (suc n) m = ap (λ v. m.bits ∷ v) (bits_all n m)
 
 -- each is a set of rights
-pub bits_within : (masks : List Mask) (i : ℕ) → i < length masks → IsMask (slice_index_or (bits_in masks) i 0)
+pub bits_within : (masks : List Mask) (i : ℕ) → i < length masks → IsMask (slice_index_or (mask_numbers masks) i 0)
 bits_within [] i within = absurd (omega (arith, within))
 bits_within (m ∷ masks) zero within = m.within
 bits_within (m ∷ masks) (suc i) within = bits_within masks i (omega (arith, within))
+
+-- a right is one of the first 21 bits
+pub below : (b : ℕ) → has_bit all_rights b ≡ true → b < 21
+below b h = ⊎_elim (λ l. l) (λ l. absurd (omega (
+  arith,
+  bit_at_above all_rights 21 b (omega arith) l,
+  eqb-true (bit_at all_rights b) 1 h,
+))) (cases_lt b 21)
+
+-- and no bit above these is one
+pub no_right : (b : ℕ) → 21 ≤ b → has_bit all_rights b ≡ false
+no_right b h = false_from_ne_true _ (λ e. omega (arith, h, below b e))

@@ -1,5 +1,5 @@
 -- One bit of a list that begins with an ACE, or that is two lists.
-use Rattle.std.proofs.Common.{◌≡◌, ℕ, Bool, true, false, List, ◌∷◌, refl}
+use Rattle.std.proofs.Common.{◌≡◌, ℕ, true, false, List, ◌∷◌, refl}
 use Rattle.acl_normal.proofs.Common.{Ace, ace_key, arith, column, cond}
 pub use Rattle.acl_normal.specs.Normal.{counts}
 

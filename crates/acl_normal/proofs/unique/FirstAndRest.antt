@@ -1,30 +1,15 @@
 -- What comes first of a list, and what is emitted of the rest.
-use Rattle.acl_normal.proofs.Common.{[], Ace, ace_key, ap, arith, Bool, Column, column, false, false_from_ne_true, first_kind, has_bit, HasOnceColumns, is_either, is_free, IsAlike, IsEmission, IsOnce, IsStep, Key, Kind, List, may_overlap, None, or_from, Principal, principal_eq, principal_of, refl, Some, subst, sym, true, without_principal, ℕ, ⊎_elim, ◌||◌, ◌∙◌, ◌∷◌, ◌≡◌}
-use Rattle.acl_normal.proofs.unique.Names.{principal_eq_same, overlaps_back, overlaps_itself, principal_eq_itself}
-use Rattle.acl_normal.proofs.unique.Irreducible.{either_is, either_same}
+use Rattle.acl_normal.proofs.Common.{[], Ace, ace_key, ap, arith, Bool, Column, column, false, first_kind, has_bit, HasOnceColumns, is_either, is_free, IsAlike, IsEmission, IsOnce, IsStep, Key, Kind, List, may_overlap, None, Principal, principal_of, refl, Some, subst, sym, true, without_principal, ℕ, ⊎_elim, ◌∙◌, ◌∷◌, ◌≡◌}
+use Rattle.acl_normal.proofs.unique.Names.{overlaps_back, overlaps_itself}
+use Rattle.acl_normal.proofs.unique.FirstKind.{first_kind_same}
+use Rattle.acl_normal.proofs.unique.Irreducible.{either_is}
+use Rattle.acl_normal.proofs.unique.Shorter.{without_other}
 use Rattle.acl_normal.proofs.unique.Free.{ahead_from_free, same_free, skip_head}
 use Rattle.acl_normal.proofs.unique.Unique.{column_with, column_lacking}
 
--- tests that agree everywhere find the same
-pub first_kind_same : (m n : Principal → Bool) (c : Column) → ((z : Principal) → m z ≡ n z)
-    → first_kind m c ≡ first_kind n c
-first_kind_same m n [] h = refl
-first_kind_same m n ((p, k) ∷ c) h = grind (arith, first_kind_same m n c h, h p)
-
--- either of two, whichever comes first
-pub or_swap : (a b : Bool) → (a || b) ≡ (b || a)
-or_swap a b = grind arith
-
 -- the order of two principals plays no part in what comes first
 pub either_swap : (p q : Principal) (c : Column) → first_kind (is_either p q) c ≡ first_kind (is_either q p) c
-either_swap p q c =
-    first_kind_same (is_either p q) (is_either q p) c (λ z. or_swap (principal_eq z p) (principal_eq z q))
-
--- a test that doesn't pass a principal finds the same without it
-pub first_kind_other : (m : Principal → Bool) (p : Principal) (c : Column) → m p ≡ false
-    → first_kind m (without_principal p c) ≡ first_kind m c
-first_kind_other m p [] h = refl
-first_kind_other m p ((q, j) ∷ c) h = grind (arith, first_kind_other m p c h, principal_eq_same q p)
+either_swap p q c = first_kind_same (is_either p q) (is_either q p) c (λ z. grind arith)
 
 -- a free key may stand first
 move_front : (c d : Column) (p : Principal) (k : Kind) → is_free c (p, k) ≡ true → IsAlike (without_principal p c) d
@@ -35,7 +20,7 @@ move_front c d p k free a x y o = go (is_either x y p) refl
     ahead = ahead_from_free c p k free
 
     go : (b : Bool) → is_either x y p ≡ b → first_kind (is_either x y) c ≡ first_kind (is_either x y) ((p, k) ∷ d)
-    go false e = sym (first_kind_other (is_either x y) p c e) ∙ a x y o ∙ sym (skip_head (is_either x y) p k d e)
+    go false e = sym (without_other _ _ p c e (λ z n. refl)) ∙ a x y o ∙ sym (skip_head (is_either x y) p k d e)
     go true e =
         let found : first_kind (is_either x y) c ≡ Some k = ⊎_elim
         (λ f. subst (λ v. first_kind (is_either v y) c ≡ Some k) f

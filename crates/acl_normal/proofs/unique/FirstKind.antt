@@ -1,6 +1,7 @@
 -- The first key of a column that passes a test.
-use Rattle.acl_normal.proofs.Common.{[], ap, arith, Bool, Column, false, first_kind, is_either, IsAlike, Kind, may_overlap, None, Option, Principal, refl, Some, sym, true, ◌++◌, ◌∙◌, ◌∷◌, ◌≡◌}
-use Rattle.acl_normal.proofs.unique.Names.{either_first, either_second, either_within, overlaps_itself}
+use Rattle.acl_normal.proofs.Common.{[], AllByRecursion, ap, arith, Bool, Column, Deny, everyone, false, first_kind, is_either, is_either_or_everyone, IsAlike, Kind, matches, may_overlap, None, Option, Principal, refl, Situation, Some, sym, true, unwrap_or, verdict, ◌++◌, ◌∙◌, ◌∷◌, ◌≡◌}
+use Rattle.acl_normal.proofs.Each.{at_split}
+use Rattle.acl_normal.proofs.unique.Names.{either_first, either_or_everyone_within, either_second, either_within, matches_overlap, or_everyone_first, or_everyone_second}
 
 -- the first test passes only where the second does
 abbrev pub IsWithin : (Principal → Bool) → (Principal → Bool) → Type 0
@@ -21,6 +22,17 @@ pub append_some : (m : Principal → Bool) (l r : Column) (k : Kind) → first_k
     → first_kind m (l ++ r) ≡ Some k
 append_some m [] r k h = cc
 append_some m ((p, j) ∷ l) r k h = grind (arith, append_some m l r k)
+
+-- tests that agree everywhere find the same
+pub first_kind_same : (m n : Principal → Bool) (c : Column) → ((z : Principal) → m z ≡ n z)
+    → first_kind m c ≡ first_kind n c
+first_kind_same m n [] h = refl
+first_kind_same m n ((p, k) ∷ c) h = grind (arith, first_kind_same m n c h, h p)
+
+-- what holds of each principal of a column holds of that of a key
+pub only_at : (P : Principal → Type 0) (c l r : Column) (p : Principal) (k : Kind) → c ≡ l ++ (p, k) ∷ r
+    → AllByRecursion (λ e. P e.0) c → P p
+only_at P c l r p k is h = at_split (λ e. P e.0) c l (p, k) r is h
 
 -- the test passes no key of `before`, and then this principal
 pub record SplitsAt (m : Principal → Bool) (c : Column) (k : Kind) : Type 0 where
@@ -63,33 +75,79 @@ first_within m n c k s h w =
 abbrev pub IsClique : (Principal → Bool) → Type 0
 IsClique m = (p q : Principal) → m p ≡ true → m q ≡ true → may_overlap p q ≡ true
 
--- what is found in a column is not missed in an alike one
-not_missed : (m : Principal → Bool) (c d : Column) (k : Kind) → IsAlike c d → first_kind m c ≡ Some k
-    → first_kind m d ≡ None → ⊥
-not_missed m c d k a h i =
-    let s = splits_at m c k h in
-    let p : Principal = s.principal in
-    let w : IsWithin (is_either p p) m = either_within m p p s.passes s.passes in
-    let found = first_within m (is_either p p) c k s (either_first p p) w in
-    let missed = none_within m (is_either p p) d i w in
-    let both = a p p (overlaps_itself p) in
-    cc
+-- P holds of each principal of the column
+abbrev pub HasOnly : (Principal → Type 0) → Column → Type 0
+HasOnly P c = AllByRecursion (λ e. P e.0) c
+
+-- of each two principals that m passes, the test of these two passes both, and only what m passes
+pub record Narrows (test : Principal → Principal → Principal → Bool) (m : Principal → Bool) : Type 0 where
+  pub within : (p q : Principal) → m p ≡ true → m q ≡ true → IsWithin (test p q) m
+  pub first : (p q : Principal) → test p q p ≡ true
+  pub second : (p q : Principal) → test p q q ≡ true
+
+module _ {X : Type 0} (f : Option Kind → X) (test : Principal → Principal → Principal → Bool) (m : Principal → Bool)
+    (n : Narrows test m) (P : Principal → Type 0) where
+  -- what columns say at each two of their principals that the test passes
+  abbrev pub AgreeAtOwn : Column → Column → Type 0
+  AgreeAtOwn c d = (p q : Principal) → P p → P q → m p ≡ true → m q ≡ true
+      → f (first_kind (test p q) c) ≡ f (first_kind (test p q) d)
+
+  -- where one of them has a key that passes and the other has none, its own principal is such a pair
+  one_found : (c d : Column) (k : Kind) → HasOnly P c → AgreeAtOwn c d → first_kind m c ≡ Some k
+      → first_kind m d ≡ None → f (first_kind m c) ≡ f (first_kind m d)
+  one_found c d k only a h i =
+      let s = splits_at m c k h in
+      let p : Principal = s.principal in
+      let w = n.within p p s.passes s.passes in
+      let own = only_at P c s.before s.after p k s.is only in
+      ap f (h ∙ sym (first_within m (test p p) c k s (n.first p p) w)) ∙ a p p own own s.passes s.passes
+      ∙ ap f (none_within m (test p p) d i w ∙ sym i)
+
+  -- columns that agree at their own pairs agree where the test does
+  pub own_pairs_agree : (c d : Column) → HasOnly P c → HasOnly P d → AgreeAtOwn c d
+      → f (first_kind m c) ≡ f (first_kind m d)
+  own_pairs_agree c d oc od a = go (first_kind m c) (first_kind m d) refl refl
+    where
+      go : (x y : Option Kind) → first_kind m c ≡ x → first_kind m d ≡ y → f (first_kind m c) ≡ f (first_kind m d)
+      go None None h i = ap f (h ∙ sym i)
+      go (Some j) None h i = one_found c d j oc a h i
+      go None (Some k) h i = sym (one_found d c k od (λ p q hp hq mp mq. sym (a p q hp hq mp mq)) i h)
+      go (Some j) (Some k) h i =
+          let s = splits_at m c j h in
+          let t = splits_at m d k i in
+          let w = n.within s.principal t.principal s.passes t.passes in
+          ap f (h ∙ sym (first_within m (test s.principal t.principal) c j s (n.first s.principal t.principal) w))
+          ∙ a s.principal t.principal (only_at P c s.before s.after s.principal j s.is oc)
+          (only_at P d t.before t.after t.principal k t.is od) s.passes t.passes
+          ∙ ap f (first_within m (test s.principal t.principal) d k t (n.second s.principal t.principal) w ∙ sym i)
+
+-- principals that match in one situation overlap
+pub clique_of : (s : Situation) → IsClique (matches s)
+clique_of s p q h i = matches_overlap s p q h i
 
 -- alike columns have the same first key among principals that all overlap
 pub alike_agree : (m : Principal → Bool) (c d : Column) → IsClique m → IsAlike c d → first_kind m c ≡ first_kind m d
-alike_agree m c d q a = go (first_kind m c) (first_kind m d) refl refl
+alike_agree m c d q a =
+    own_pairs_agree (λ o. o) is_either m
+    (record { within = λ p r h i. either_within m p r h i; first = either_first; second = either_second })
+    (λ p. Unit {0}) c d (any c) (any d) (λ p r hp hr i j. a p r (q p r i j))
   where
-    go : (x y : Option Kind) → first_kind m c ≡ x → first_kind m d ≡ y → first_kind m c ≡ first_kind m d
-    go None None h i = h ∙ sym i
-    go (Some j) None h i = absurd (not_missed m c d j a h i)
-    go None (Some k) h i = absurd (not_missed m d c k (λ p q o. sym (a p q o)) i h)
-    go (Some j) (Some k) h i =
-        let s = splits_at m c j h in
-        let t = splits_at m d k i in
-        let w : IsWithin (is_either s.principal t.principal) m =
-        either_within m s.principal t.principal s.passes t.passes in
-        let left = first_within m (is_either s.principal t.principal) c j s (either_first s.principal t.principal) w in
-        let right =
-        first_within m (is_either s.principal t.principal) d k t (either_second s.principal t.principal) w in
-        let both = a s.principal t.principal (q s.principal t.principal s.passes t.passes) in
-        cc
+    any : (c : Column) → HasOnly (λ p. Unit {0}) c
+    any [] = tt
+    any (e ∷ c) = (tt, any c)
+
+-- the columns agree at each two principals of which P holds that overlap, with everyone
+abbrev pub AgreeWhere : (Principal → Type 0) → Column → Column → Type 0
+AgreeWhere P c d = (p q : Principal) → P p → P q → may_overlap p q ≡ true
+    → verdict (is_either_or_everyone p q) c ≡ verdict (is_either_or_everyone p q) d
+
+-- columns that agree at their own pairs agree at every clique with everyone
+pub cliques_agree : (P : Principal → Type 0) (m : Principal → Bool) (c d : Column) → IsClique m → m everyone ≡ true
+    → HasOnly P c → HasOnly P d → AgreeWhere P c d → verdict m c ≡ verdict m d
+cliques_agree P m c d q e oc od a =
+    own_pairs_agree (λ o. unwrap_or o Deny) is_either_or_everyone m
+    (record {
+      within = λ p r h i. either_or_everyone_within m p r h i e;
+      first = or_everyone_first;
+      second = or_everyone_second;
+    }) P c d oc od (λ p r hp hr i j. a p r hp hr (q p r i j))

@@ -1,9 +1,8 @@
--- The five normal forms of a list, and what they tell of it.
+-- The five normal forms of a list, and what they say about the list.
 use Rattle.std.proofs.Common.{◌≡◌, ℕ, List, [], ◌++◌, refl}
-use Rattle.acl_normal.proofs.Common.{Ace, all_rights, ap, equivalence, Fits, IsAccepted, IsEquivalence, IsNormalFormOf, IsProfile, Profile, SameGrants, spelling, subst, ◌↔◌, ◌∙◌}
+use Rattle.acl_normal.proofs.Common.{Ace, all_rights, ap, equivalence, Fits, IsAccepted, IsEquivalence, IsNormalFormOf, IsProfile, Profile, SameGrants, spelling, subst, ◌↔◌}
 use Rattle.std.proofs.lemmas.List.{append_cancel_left}
-use Rattle.acl_nfs4.proofs.Body.{one}
-use Rattle.acl_nfs4.proofs.Within.{accepted_where_it_fits}
+use Rattle.acl_nfs4.proofs.Exports.{accepted_where_it_fits, one}
 use Rattle.acl_eval.specs.Inheritance.{children}
 use Rattle.acl_eval.specs.declared.inherit.ChildKind.TheVariants.{Directory, File}
 use Rattle.acl_normal.specs.FiveForms.{AreAccepted, AreFormsOf, AreSpelledAlike, five_spellings}
@@ -11,7 +10,6 @@ use Rattle.acl_normal.specs.Paths.{Path, SameAt, SameAtEveryPath, at, below, her
 use Rattle.acl_normal.specs.declared.five_forms.FiveForms.{FiveForms}
 use Rattle.acl_normal.proofs.five_forms.Paths.{fits_at, five_suffice, form_fits, wider_is, with_inherit_only}
 use Rattle.acl_normal.proofs.unique.Profiles.{same_within}
-use Rattle.acl_normal.proofs.unique.Spelled.{spelled_alike}
 
 -- ---- what is accepted
 
@@ -123,27 +121,6 @@ five_tell p source other forms other_forms is taken h taken_other k = (
 
 -- ---- equal bytes
 
--- five accepted lists have the spellings of five others exactly if they are these
-pub five_spelled : (p : Profile) (forms other : FiveForms) → IsProfile p → AreAccepted p forms → AreAccepted p other
-    → AreSpelledAlike forms other ↔ (forms ≡ other)
-five_spelled p forms other is h k = (
-  λ same. five_equal forms other
-      (spelled_alike p forms.object other.object is h.object k.object same.object)
-      (spelled_alike p forms.file other.file is h.file k.file same.file)
-      (spelled_alike p forms.directory other.directory is h.directory k.directory same.directory)
-      (spelled_alike p forms.file_in_directory other.file_in_directory is h.file_in_directory k.file_in_directory
-      same.file_in_directory)
-      (spelled_alike p forms.directory_in_directory other.directory_in_directory is h.directory_in_directory
-      k.directory_in_directory same.directory_in_directory),
-  λ e. record {
-    object = ap (λ f. spelling f.object) e;
-    file = ap (λ f. spelling f.file) e;
-    directory = ap (λ f. spelling f.directory) e;
-    file_in_directory = ap (λ f. spelling f.file_in_directory) e;
-    directory_in_directory = ap (λ f. spelling f.directory_in_directory) e;
-  },
-)
-
 -- a list that a text begins with, and what stands behind it
 first_of_both : (p : Profile) (list other : List Ace) (rest other_rest : List ℕ) → IsProfile p → IsAccepted p list
     → IsAccepted p other → spelling list ++ rest ≡ spelling other ++ other_rest
@@ -183,6 +160,22 @@ five_written p forms other is h k = (
 
     behind_object : FiveForms → List ℕ
     behind_object f = spelling f.file ++ behind_file f
+
+-- as are five pairs of spellings
+five_spelled : (p : Profile) (forms other : FiveForms) → IsProfile p → AreAccepted p forms → AreAccepted p other
+    → AreSpelledAlike forms other ↔ (forms ≡ other)
+five_spelled p forms other is h k = (
+  λ same. (five_written p forms other is h k).0
+      (λ i. same.object i ++ (same.file i ++ (same.directory i ++ (same.file_in_directory i
+      ++ (same.directory_in_directory i ++ []))))),
+  λ e. record {
+    object = ap (λ f. spelling f.object) e;
+    file = ap (λ f. spelling f.file) e;
+    directory = ap (λ f. spelling f.directory) e;
+    file_in_directory = ap (λ f. spelling f.file_in_directory) e;
+    directory_in_directory = ap (λ f. spelling f.directory_in_directory) e;
+  },
+)
 
 -- so the spellings of the forms tell what the forms do, pair by pair
 pub spelled_tell : (p : Profile) (source other : List Ace) (forms other_forms : FiveForms) → IsProfile p

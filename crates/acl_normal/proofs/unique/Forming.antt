@@ -1,21 +1,18 @@
 -- What makes a normal list the normal form of an accepted one: that its keys are keys of the source.
 use Rattle.acl_normal.proofs.unique.Normal.{quiet_flags}
-use Rattle.std.proofs.Common.{◌≡◌, ℕ, ◌≤◌, ◌<◌, zero, suc, Bool, true, false, List, [], ◌∷◌, ◌++◌, length, refl}
-use Rattle.std.specs.Prelude.{count_ones}
-use Rattle.acl_normal.proofs.Common.{Ace, ace_key, all_rights, AllByRecursion, and_parts, ap, arith, bit_at-zero, bytes_eq, Column, column, counts, everyone, everyone_name, false_from_ne_true, Fits, fits_of, flags_for, full, group, group_name, group_named, Has, has_bit, has_bit-and, HasMasks, HasNoEmptyMask, HasNormalFlags, identifier_group, inl, inr, is_inherit_only, IsAccepted, IsAce, IsNormal, IsNormalFormOf, IsSubset, IsWithin, KeepsProfiles, Key, not, owner, owner_name, Principal, principal_of, Profile, same_set, SameGrants, subst, sym, user, weight, who_for, ◌&&◌, ◌==◌, ◌∙◌, ◌≢◌}
-use Rattle.std.proofs.lemmas.Nat.{zero_from_ones}
+use Rattle.std.proofs.Common.{◌≡◌, ℕ, ◌≤◌, ◌<◌, true, false, List, [], ◌∷◌, ◌++◌}
+use Rattle.acl_normal.proofs.Common.{Ace, ace_key, all_rights, and_parts, ap, arith, Column, column, false_from_ne_true, fits_of, flags_for, full, Has, has_bit, has_bit-and, HasMasks, inl, inr, IsAccepted, IsAce, IsNormal, IsNormalFormOf, IsSubset, IsWithin, KeepsProfiles, Key, principal_of, SameGrants, subst, sym, weight, who_for, ◌∙◌, ◌≢◌}
+use Rattle.acl_normal.proofs.Each.{at_split, from_splits}
 use Rattle.acl_nfs4.specs.Who.{IsWho}
-use Rattle.acl_nfs4.proofs.Lists.{weight-cons}
-use Rattle.acl_nfs4.proofs.Within.{each_of}
-use Rattle.acl_normal.proofs.unique.Bits.{no_bits, power_has}
-use Rattle.acl_normal.proofs.unique.Columns.{column_has, column_lacks}
+use Rattle.acl_nfs4.proofs.Exports.{each_of}
+use Rattle.acl_normal.proofs.unique.Bits.{below, no_bits}
 use Rattle.acl_normal.proofs.emit.Drained.{some_below}
 use Rattle.acl_normal.proofs.emit.Leaving.{masks_of_quiet}
 use Rattle.acl_normal.proofs.unique.ListColumns.{column-append, comes_from, no_other_bits}
 use Rattle.acl_normal.proofs.unique.Weights.{length_under}
 use Rattle.acl_normal.proofs.unique.Kept.{within_from}
 use Rattle.acl_normal.proofs.plain.Candidates.{naming_within}
-use Rattle.acl_normal.proofs.reduce.Reducing.{below, only_one}
+use Rattle.acl_normal.proofs.reduce.Reducing.{only_one}
 use Rattle.acl_normal.proofs.unique.Unique.{who_is, column_with}
 
 -- the ACE of a list that is a key of a column
@@ -35,17 +32,6 @@ first_same e f c d h = (cc, cc)
 pub source_of : (b : ℕ) (xs : List Ace) (e : Key) → Has (column xs b) e → IsSource b xs e
 source_of b xs e h = let s = comes_from b xs h.before e h.after h.is in
     record { before = s.before; item = s.ace; after = s.after; is = s.is; has = s.has; entry = s.entry }
-
--- what holds of each holds of the one at a place
-pub each_at : (P : Ace → Type 0) (l : List Ace) (a : Ace) (r : List Ace) → AllByRecursion P (l ++ a ∷ r) → P a
-each_at P [] a r h = h.0
-each_at P (b ∷ l) a r h = each_at P l a r h.1
-
--- what holds of the one at each place holds of each
-pub each_from : (P : Ace → Type 0) (xs : List Ace) → ((l : List Ace) (a : Ace) (r : List Ace) → xs ≡ l ++ a ∷ r → P a)
-    → AllByRecursion P xs
-each_from P [] h = tt
-each_from P (a ∷ xs) h = (h [] a xs refl, each_from P xs (λ l b r e. h (a ∷ l) b r (ap (λ v. a ∷ v) e)))
 
 -- ---- a list whose keys are keys of the source
 
@@ -69,19 +55,19 @@ bit_source source xs l a r b t is has = source_of b source (ace_key a) (t.comes 
 }))
   where
     flags : a.flags ≡ flags_for (principal_of a)
-    flags = each_at (λ v. v.flags ≡ flags_for (principal_of v)) l a r (subst HasNormalFlags is t.normal.flags)
+    flags = at_split (λ v. v.flags ≡ flags_for (principal_of v)) xs l a r is t.normal.flags
 
 -- and each ACE of the result has some bit
 own_source : (source xs l : List Ace) (a : Ace) (r : List Ace) → IsTaken source xs → xs ≡ l ++ a ∷ r
     → (b : ℕ) × IsSource b source (ace_key a)
 own_source source xs l a r t is = elim (some_below a.mask 21) [
   | inl (b, has) ↦ (b, bit_source source xs l a r b t is has)
-  | inr none ↦ absurd (each_at (λ v. v.mask ≢ 0) l a r (subst HasNoEmptyMask is t.normal.irreducible.no_empty_mask)
+  | inr none ↦ absurd (at_split (λ v. v.mask ≢ 0) xs l a r is t.normal.irreducible.no_empty_mask
       (no_bits a.mask (λ b. false_from_ne_true _ (λ h. absurd (clash (sym (none b (low b h)) ∙ h))))))
 ]
   where
     low : (b : ℕ) → has_bit a.mask b ≡ true → b < 21
-    low b h = below b (each_at (λ v. IsSubset v.mask all_rights) l a r (subst HasMasks is (masks_of xs t.normal)) b h)
+    low b h = below b (at_split (λ v. IsSubset v.mask all_rights) xs l a r is (masks_of xs t.normal) b h)
 
     clash : false ≡ true → ⊥
     clash h = cc
@@ -96,10 +82,10 @@ bits_within set n b is h =
 
 -- the result is within what the source is within
 taken_kept : (source xs : List Ace) → IsTaken source xs → KeepsProfiles source xs
-taken_kept source xs t p h = each_from (IsAce p) xs (λ l a r is.
+taken_kept source xs t p h = from_splits (IsAce p) xs (λ l a r is.
     let (b, s) = own_source source xs l a r t is in
     let own = of s.before s.item s.after s.is in
-    let normal = each_at (λ v. v.flags ≡ flags_for (principal_of v)) l a r (subst HasNormalFlags is t.normal.flags) in
+    let normal = at_split (λ v. v.flags ≡ flags_for (principal_of v)) xs l a r is t.normal.flags in
     record {
       flags = subst (IsWithin p.flags) (ap (λ k. flags_for k.0) s.entry ∙ sym normal)
           (naming_within p.flags s.item own.flags);
@@ -110,7 +96,7 @@ taken_kept source xs t p h = each_from (IsAce p) xs (λ l a r is.
     })
   where
     of : (l : List Ace) (a : Ace) (r : List Ace) → source ≡ l ++ a ∷ r → IsAce p a
-    of l a r is = each_at (IsAce p) l a r (subst (AllByRecursion (IsAce p)) is h)
+    of l a r is = at_split (IsAce p) source l a r is h
 
 -- a normal list with the grants of an accepted one, no heavier and within what that is within, is its normal form
 pub form_of : (source result : List Ace) → IsAccepted full source → IsNormal result

@@ -1,8 +1,9 @@
 -- Which keys are free, by what comes first.
-use Rattle.acl_normal.proofs.Common.{[], Allow, and_from, and_parts, ap, arith, Bool, Column, cond, conflicts, Deny, false, first_kind, inl, inr, is_either, is_free, IsAlike, IsOnce, Key, Kind, kind_eq, may_overlap, None, not, or_cases, or_from, or_left, or_right, Principal, principal_eq, refl, Some, subst, sym, true, unwrap_or, ⊎_elim, ◌&&◌, ◌||◌, ◌∙◌, ◌∷◌, ◌≡◌, ◌⊎◌}
-use Rattle.acl_normal.proofs.unique.Names.{principal_eq_itself, principal_eq_same, either_second, overlaps_itself, overlaps_back}
+use Rattle.acl_normal.proofs.Common.{[], ap, arith, Bool, Column, conflicts, false, first_kind, is_either, is_free, IsAlike, IsOnce, Key, Kind, kind_eq, may_overlap, None, not, Principal, principal_eq, refl, Some, sym, true, unwrap_or, ◌∙◌, ◌∷◌, ◌≡◌}
+use Rattle.acl_normal.proofs.unique.Names.{principal_eq_itself, overlaps_itself, overlaps_back}
 use Rattle.acl_perm.proofs.Bools.{same_answers}
-use Rattle.acl_normal.proofs.unique.Irreducible.{alone, alone_first, lacks_same, IsClean, either_is, first_kind_without}
+use Rattle.acl_normal.proofs.unique.Irreducible.{alone, alone_first, lacks_same, either_is}
+pub use Rattle.acl_normal.proofs.unique.Irreducible.{once_from_clean}
 
 -- kinds that are told to be the same are
 pub kind_eq_same : (j k : Kind) → kind_eq j k ≡ true → j ≡ k
@@ -11,11 +12,6 @@ kind_eq_same j k h = grind arith
 -- a kind is the same as itself
 pub kind_eq_itself : (j : Kind) → kind_eq j j ≡ true
 kind_eq_itself j = grind arith
-
--- a clean column has each principal once
-pub once_from_clean : (c : Column) → IsClean c → IsOnce c
-once_from_clean [] h = tt
-once_from_clean ((p, k) ∷ r) h = (h.0, once_from_clean r h.2)
 
 -- of each principal that may_overlap and the key's own, the key's comes first
 abbrev pub IsAhead : Column → Principal → Kind → Type 0

@@ -1,5 +1,5 @@
 -- What an irreducible column looks like.
-use Rattle.acl_normal.proofs.Common.{[], Allow, ap, append_assoc, arith, Bool, Column, Deny, everyone, false, first_kind, inl, inr, is_either, is_either_or_everyone, IsIrreducible, IsSituation, Kind, matches, None, Option, or_cases, Principal, principal_eq, refl, Situation, Some, subst, sym, true, verdict, ⊎_elim, ◌++◌, ◌∙◌, ◌∷◌, ◌≡◌, ◌⊎◌}
+use Rattle.acl_normal.proofs.Common.{[], Allow, ap, append_assoc, arith, Bool, Column, Deny, everyone, false, first_kind, is_either, is_either_or_everyone, IsIrreducible, IsOnce, IsSituation, Kind, matches, None, Option, Principal, principal_eq, refl, Situation, Some, subst, sym, true, verdict, ◌++◌, ◌∙◌, ◌∷◌, ◌≡◌, ◌⊎◌}
 use Rattle.acl_normal.proofs.unique.Names.{principal_eq_same}
 use Rattle.acl_normal.proofs.unique.FirstKind.{splits_at}
 
@@ -74,6 +74,11 @@ clean_after c l ((p, k) ∷ r) irr is = (
 -- an irreducible column is clean
 pub clean : (c : Column) → IsIrreducible c → IsClean c
 clean c irr = clean_after c [] c irr refl
+
+-- a clean column has each principal once
+pub once_from_clean : (c : Column) → IsClean c → IsOnce c
+once_from_clean [] h = tt
+once_from_clean ((p, k) ∷ r) h = (h.0, once_from_clean r h.2)
 
 -- everyone stands last, so that the first of two principals decides
 pub first_decides : (p q : Principal) (c : Column) (k : Kind) → IsClean c → first_kind (is_either p q) c ≡ Some k

@@ -1,7 +1,8 @@
 -- ACEs with fewer bits stay within what the list is within.
-use Rattle.std.proofs.Common.{◌≡◌, ℕ, ◌<◌, Bool, true, false, List, [], ◌∷◌, ◌++◌, length, zero, suc, refl}
-use Rattle.acl_normal.proofs.Common.{Ace, ace, AceRef, aces_in, AllByRecursion, ap, arith, has_bit, has_bit-and, IsAce, IsDifference, IsWithin, KeepsProfiles, not, Profile, same_set, slice_index_or, subst, sym, ◌&&◌, ◌∙◌}
-use Rattle.acl_nfs4.proofs.Push.{each_push}
+use Rattle.std.proofs.Common.{◌≡◌, ℕ, ◌<◌, Bool, true, List, [], ◌∷◌, ◌++◌, length}
+use Rattle.acl_normal.proofs.Common.{Ace, ace, AceRef, aces_in, ap, arith, get_or-map, has_bit, has_bit-and, IsAce, IsDifference, IsWithin, KeepsProfiles, length-map, no_ace, not, Profile, same_set, slice_index_or, subst, sym, ◌&&◌, ◌∙◌}
+use Rattle.acl_nfs4.proofs.Exports.{each_push}
+use Rattle.acl_normal.proofs.Each.{all_at}
 use Rattle.acl_normal.specs.internal.Passes.{IsWithinAs}
 use Rattle.acl_normal.proofs.plain.Passes.{list_of-append}
 
@@ -19,8 +20,7 @@ within_fewer set m n is fewer = within_from set m (λ k h.
 
 -- the first of two that hold together
 pub front_true : (a b : Bool) → (a && b) ≡ true → a ≡ true
-front_true true b e = refl
-front_true false b e = absurd cc
+front_true a b e = grind arith
 
 -- a difference has no other bits
 pub difference_fewer : (m n d : ℕ) → IsDifference m n d → (k : ℕ) → has_bit d k ≡ true → has_bit m k ≡ true
@@ -38,13 +38,8 @@ fewer_bits p a r flags who fewer h = record {
 -- what holds of each ACE of a list holds of that at a place
 pub ace_at : (xs : List AceRef) (x : AceRef) (i : ℕ) → i < length xs → x ≡ slice_index_or xs i x
     → IsWithinAs (aces_in xs) (ace x)
-ace_at xs x i lt is = λ q h. go q xs i lt is h
-  where
-    go : (q : Profile) (xs : List AceRef) (i : ℕ) → i < length xs → x ≡ slice_index_or xs i x
-        → AllByRecursion (IsAce q) (aces_in xs) → IsAce q (ace x)
-    go q [] i lt is h = absurd (omega (arith, lt))
-    go q (y ∷ xs) zero lt is h = subst (λ v. IsAce q (ace v)) (sym is) h.0
-    go q (y ∷ xs) (suc i) lt is h = go q xs i (omega (arith, lt)) is h.1
+ace_at xs x i lt is = λ q h. subst (λ a. IsAce q a) (get_or-map ace xs i x no_ace lt ∙ ap ace (sym is))
+    (all_at (IsAce q) (aces_in xs) i no_ace (omega (arith, lt, length-map xs ace)) h)
 
 -- one more ACE that is within what the list is within
 pub keeps_more : (whole : List Ace) (kept : List AceRef) (x : AceRef) → KeepsProfiles whole (aces_in kept)

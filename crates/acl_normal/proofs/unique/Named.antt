@@ -1,9 +1,10 @@
 -- The principals of an irreducible column have names.
-use Rattle.acl_normal.proofs.Common.{[], AllByRecursion, append_assoc, Bool, bytes_eq, Column, everyone, false, group, group_named, HasName, HaveNames, IsIrreducible, IsName, Kind, length, List, nat_lt, or_cases, owner, Principal, refl, subst, sym, true, user, ℕ, ⊎_elim, ◌&&◌, ◌++◌, ◌<◌, ◌∙◌, ◌∷◌, ◌≡◌}
+use Rattle.acl_normal.proofs.Common.{[], AllByRecursion, Bool, bytes_eq, Column, everyone, false, group, group_named, HasName, HaveNames, IsIrreducible, IsName, Kind, length, List, nat_lt, or_cases, owner, Principal, refl, subst, sym, true, user, ℕ, ⊎_elim, ◌&&◌, ◌++◌, ◌<◌, ◌∷◌, ◌≡◌}
 use Rattle.std.specs.Bool.{Decides}
 use Rattle.std.proofs.lemmas.List.Elements.{recursion_from_All}
 use Rattle.std.proofs.lemmas.Bool.Decides.{Decides-by_and, Decides-ltb, Decides-and, not_from_Decides}
 use Rattle.acl_perm.specs.Situation.{is_one_of}
+use Rattle.acl_normal.proofs.Each.{from_splits}
 use Rattle.acl_normal.proofs.unique.Names.{bytes_eq_same}
 use Rattle.acl_normal.proofs.unique.Irreducible.{not_needless}
 
@@ -44,11 +45,6 @@ key_named c l r (group_named a) k irr is =
     (λ s valid none at. absurd (e
     (one_of_names a s.groups (recursion_from_All IsName s.groups valid.groups) at))))
 
-named_after : (c l d : Column) → IsIrreducible c → c ≡ l ++ d → HaveNames d
-named_after c l [] irr is = tt
-named_after c l ((p, k) ∷ r) irr is =
-    (key_named c l r p k irr is, named_after c (l ++ (p, k) ∷ []) r irr (is ∙ sym (append_assoc l ((p, k) ∷ []) r)))
-
 -- the principals of an irreducible column have names that a situation may have
 pub irreducible_named : (c : Column) → IsIrreducible c → HaveNames c
-irreducible_named c irr = named_after c [] c irr refl
+irreducible_named c irr = from_splits (λ e. HasName e.0) c (λ l e r is. key_named c l r e.0 e.1 irr is)

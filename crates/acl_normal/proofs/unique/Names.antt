@@ -1,9 +1,8 @@
 -- When two principals are the same, and when they overlap.
-use Rattle.acl_normal.proofs.Common.{Allow, ap, arith, Bool, bytes_eq, Deny, everyone, group, group_named, is_either, is_either_or_everyone, Kind, kind_eq, List, matches, may_overlap, or_cases, or_left, or_right, owner, Principal, principal_eq, refl, Situation, subst, sym, true, user, ℕ, ⊎_elim, ◌≡◌}
+use Rattle.acl_normal.proofs.Common.{ap, arith, Bool, bytes_eq, everyone, group, group_named, is_either, is_either_or_everyone, List, matches, may_overlap, or_left, or_right, owner, Principal, principal_eq, refl, Situation, sym, true, user, ℕ, ◌≡◌}
 use Rattle.std.proofs.lemmas.Slice.Eq.{bytes_eq-Decides}
 use Rattle.acl_perm.proofs.Meetings.{overlap_is}
 use Rattle.acl_perm.proofs.Bools.{same_answers}
-use Rattle.acl_perm.specs.Kind.{is_allow}
 use Rattle.acl_perm.specs.Principal.{is_everyone}
 
 -- the test for everyone is that for the same principal

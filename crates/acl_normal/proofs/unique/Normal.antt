@@ -1,50 +1,29 @@
 -- Lists whose columns are irreducible, and normal forms.
-use Rattle.acl_normal.proofs.Common.{[], Ace, ace_key, all_rights, ap, arith, bit_at-zero, Bool, Column, column, default, Deny, false, first_kind, has_bit, HasMasks, HasName, HasNames, HasNoEmptyMask, HasNormalFlags, HaveNames, is_either, is_inherit_only, IsAlike, IsEmission, IsIrreducible, IsIrreducibleList, IsNormal, IsQuiet, IsSubset, Kind, List, matches, not, Principal, principal_of, reduced, refl, SameGrants, Situation, Some, subst, sym, true, unshadowed, unwrap_or, verdict, without_bit, ℕ, ◌&&◌, ◌++◌, ◌==◌, ◌∙◌, ◌∷◌, ◌≡◌}
+use Rattle.acl_normal.proofs.Common.{[], Ace, ace_key, all_rights, ap, arith, bit_at-zero, Column, column, default, Deny, false, false≢true, first_kind, has_bit, HasMasks, HasName, HasNames, HasNoEmptyMask, HasNormalFlags, HaveNames, is_either, is_inherit_only, IsAlike, IsEmission, IsIrreducible, IsIrreducibleList, IsNormal, IsQuiet, IsSubset, Kind, List, matches, None, not, Option, Principal, principal_of, reduced, refl, SameGrants, Some, subst, sym, true, unshadowed, unwrap_or, verdict, without_bit, ℕ, ◌&&◌, ◌++◌, ◌∙◌, ◌∷◌, ◌≡◌}
 use mathlib.Core.Logic.Iff.{trans}
-use Rattle.acl_normal.proofs.unique.Names.{overlaps_itself, matches_overlap, either_first}
-use Rattle.acl_normal.proofs.unique.FirstKind.{IsClique, alike_agree}
+use Rattle.acl_normal.proofs.Each.{at_split, from_splits}
+use Rattle.acl_normal.proofs.unique.Names.{overlaps_itself, either_first}
+use Rattle.acl_normal.proofs.unique.FirstKind.{alike_agree, clique_of, only_at}
 use Rattle.acl_normal.proofs.unique.ListColumns.{column-append, column_without, irreducible_column, same_grants_from_columns, same_verdicts, names_in_column}
 use Rattle.acl_normal.proofs.unique.Unique.{no_inherit_only}
-use Rattle.acl_normal.proofs.unique.SameKeys.{named_at}
 use Rattle.acl_normal.proofs.unique.SameOrder.{has_once}
+use Rattle.acl_normal.proofs.unique.Shorter.{first_kind_after}
 use Rattle.acl_normal.proofs.unique.Settled.{settled_alike, settled_irreducible}
 use Rattle.acl_normal.proofs.unique.Invariant.{irreducible_alike, same_by_alike}
 use Rattle.acl_normal.proofs.plain.Reduced.{same_reduced, reduced_settled}
 
 -- the principals of a column that is alike another are among those of the other
-names_alike : (c d : Column) → HaveNames c
-    → ((p : Principal) (k : Kind) → first_kind (is_either p p) d ≡ Some k → (j : Kind)
-    × (first_kind (is_either p p) c ≡ Some j)) → (e : Column)
-    → ((p : Principal) → (k : Kind) × (first_kind (is_either p p) e ≡ Some k) → (k : Kind)
-    × (first_kind (is_either p p) d ≡ Some k)) → HaveNames e
-names_alike c d names back [] within = tt
-names_alike c d names back ((p, k) ∷ e) within = (name, names_alike c d names back e (λ q h. within q (later q h)))
-  where
-    later : (q : Principal) → (j : Kind) × (first_kind (is_either q q) e ≡ Some j)
-        → (j : Kind) × (first_kind (is_either q q) ((p, k) ∷ e) ≡ Some j)
-    later q (j, h) = go (is_either q q p) refl
-      where
-        go : (b : Bool) → is_either q q p ≡ b → (j : Kind) × (first_kind (is_either q q) ((p, k) ∷ e) ≡ Some j)
-        go true f = (k, rw f refl)
-        go false f = (j, rw f h)
-
-    name : HasName p
-    name = from (within p (k, rw (either_first p p) refl))
-      where
-        from : (j : Kind) × (first_kind (is_either p p) d ≡ Some j) → HasName p
-        from (j, h) = at (back p j h)
-          where
-            at : (i : Kind) × (first_kind (is_either p p) c ≡ Some i) → HasName p
-            at (i, g) =
-                let has = has_once c p i g in
-                named_at has.before has.after p i (subst (λ v. HaveNames v) has.is names)
-
 named_alike : (c d : Column) → HaveNames c → IsAlike c d → HaveNames d
-named_alike c d names a = names_alike c d names (λ p k h. (k, a p p (overlaps_itself p) ∙ h)) d (λ p h. h)
-
-mask_at : (l : List Ace) (a : Ace) (r : List Ace) → HasMasks (l ++ a ∷ r) → IsSubset a.mask all_rights
-mask_at [] a r h = h.0
-mask_at (b ∷ l) a r h = mask_at l a r h.1
+named_alike c d names a =
+    from_splits (λ e. HasName e.0) d (λ l e r is. at l e.0 e.1 r is (first_kind (is_either e.0 e.0) d) refl)
+  where
+    at : (l : Column) (p : Principal) (k : Kind) (r : Column) → d ≡ l ++ (p, k) ∷ r → (o : Option Kind)
+        → first_kind (is_either p p) d ≡ o → HasName p
+    at l p k r is None h =
+        let lacks = first_kind_after (is_either p p) l p k r (sym (ap (first_kind (is_either p p)) is) ∙ h) in
+        absurd (false≢true (sym lacks ∙ either_first p p))
+    at l p k r is (Some j) h = let has = has_once c p j (a p p (overlaps_itself p) ∙ h) in
+        only_at HasName c has.before has.after p j has.is names
 
 -- an ACE of a quiet list that takes no part has no bit
 pub quiet_at : (l : List Ace) (a : Ace) (r : List Ace) → IsQuiet (l ++ a ∷ r) → is_inherit_only a ≡ true → a.mask ≡ 0
@@ -81,16 +60,12 @@ irreducible_list xs full masks quiet irr = record {
       ∙ ap (λ c. column l b ++ c) (column_quiet b a r (quiet_at l a r (subst (λ v. IsQuiet v) is quiet)) has) in
       let less : column (l ++ without_bit a b ∷ r) b ≡ column l b ++ column r b =
       column-append b l (without_bit a b ∷ r) ∙ ap (λ c. column l b ++ c) (column_without b a r) in
-      let inside = mask_at l a r (subst (λ v. HasMasks v) is masks) b has in
+      let inside = at_split (λ v. IsSubset v.mask all_rights) xs l a r is masks b has in
       irr b (column l b) (ace_key a) (column r b) whole
       (λ s valid. same_verdicts xs (l ++ without_bit a b ∷ r)
       (subst (λ v. SameGrants all_rights v (l ++ without_bit a b ∷ r)) (sym is) same) b inside s valid
       ∙ ap (verdict (matches s)) less);
 }
-
--- principals that match in one situation overlap
-pub clique_of : (s : Situation) → IsClique (matches s)
-clique_of s p q h i = matches_overlap s p q h i
 
 -- what is emitted of the reduced columns of a list is its normal form
 pub emitted_is_normal : (xs rest ns : List Ace) → ((b : ℕ) → column rest b ≡ reduced (column xs b)) → HasNames rest

@@ -1,6 +1,6 @@
 -- Lists that fit a profile grant nothing outside it.
 use Rattle.std.proofs.Common.{◌≡◌, ℕ, Bool, true, false, List, [], ◌∷◌, refl}
-use Rattle.acl_normal.proofs.Common.{Ace, all_rights, ap, arith, bits_from_mask, column, Fits, has_bit, has_bit-and, is_allow, IsProfile, IsTrue, IsWithin, matches, Profile, SameGrants, SameVerdicts, Situation, sym, verdict, ◌&&◌, ◌↔◌, ◌∙◌}
+use Rattle.acl_normal.proofs.Common.{Ace, all_rights, ap, arith, bits_from_mask, column, Fits, has_bit, has_bit-and, is_allow, IsProfile, IsTrue, IsWithin, matches, Profile, SameGrants, SameVerdicts, Situation, verdict, ◌↔◌, ◌∙◌}
 use Rattle.acl_eval.specs.Grant.{grants_bit}
 use Rattle.acl_eval.proofs.Same.{by_columns}
 use Rattle.acl_normal.proofs.unique.Columns.{column_lacks}

@@ -1,5 +1,5 @@
 -- The small situations: which principals match in them.
-use Rattle.acl_normal.proofs.Common.{[], AllByRecursion, ap, arith, Bool, bytes_eq, Column, cond, Deny, everyone, false, false_from_ne_true, false≢true, first_kind, group, group_named, HasName, inl, inr, is_among, is_either_or_everyone, IsName, IsSituation, length, length-replicate, List, lit<, longest_name, matches, max, may_overlap, None, Option, or_cases, or_from, or_left, owner, Principal, principal_eq, principal_name, refl, replicate, SameVerdicts, small_situation, Some, subst, suc, sym, true, unwrap_or, user, verdict, zero, ℕ, ⊎_elim, ◌<◌, ◌||◌, ◌∙◌, ◌∷◌, ◌≡◌, ◌⊎◌}
+use Rattle.acl_normal.proofs.Common.{[], AllByRecursion, ap, arith, Bool, bytes_eq, Column, cond, Deny, everyone, false, false_from_ne_true, first_kind, group, group_named, HasName, inl, inr, is_among, is_either_or_everyone, IsName, IsSituation, length, length-replicate, List, lit<, longest_name, matches, max, may_overlap, None, Option, or_from, or_left, owner, Principal, principal_eq, principal_name, refl, replicate, same_Some, SameVerdicts, small_situation, Some, subst, suc, sym, true, unwrap_or, user, verdict, zero, ℕ, ◌<◌, ◌||◌, ◌∙◌, ◌∷◌, ◌≡◌, ◌⊎◌}
 use Rattle.std.proofs.lemmas.List.Elements.{All-replicate, All-from_recursion}
 use Rattle.std.proofs.lemmas.Slice.Eq.{bytes_eq-Decides}
 pub use Rattle.acl_perm.proofs.Bools.{same_answers}
@@ -13,8 +13,7 @@ other_length a b h = false_from_ne_true (bytes_eq a b) (λ e. h (ap (λ x. lengt
 
 -- of the names below n bytes
 abbrev pub AreShort : ℕ → List Principal → Type 0
-AreShort n [] = Unit {0}
-AreShort n (p ∷ ps) = (length (principal_name p) < n) × AreShort n ps
+AreShort n ps = AllByRecursion (λ p. length (principal_name p) < n) ps
 
 -- at most one user name
 abbrev pub HasOneUser : List Principal → Type 0
@@ -22,29 +21,23 @@ HasOneUser ps = (a b : List ℕ) → is_among (user a) ps ≡ true → is_among 
 
 user_is_among : (ps : List Principal) (b : List ℕ) → first_user ps ≡ Some b → is_among (user b) ps ≡ true
 user_is_among [] b h = cc
-user_is_among (user a ∷ ps) b h = or_left _ _ ((bytes_eq-Decides b a).1 (grind arith))
-user_is_among (owner ∷ ps) b h = user_is_among ps b h
-user_is_among (_ ∷ ps) b h = user_is_among ps b h
+user_is_among (p ∷ ps) b h = grind (arith, user_is_among ps b, bytes_eq_itself b)
 
 no_user_among : (ps : List Principal) (a : List ℕ) → first_user ps ≡ None → is_among (user a) ps ≡ false
 no_user_among [] a h = refl
-no_user_among (user b ∷ ps) a h = cc
-no_user_among (owner ∷ ps) a h = no_user_among ps a h
-no_user_among (_ ∷ ps) a h = no_user_among ps a h
+no_user_among (p ∷ ps) a h = grind (arith, no_user_among ps a)
 
-user_is_short : (n : ℕ) (ps : List Principal) (b : List ℕ) → AreShort n ps → first_user ps ≡ Some b → length b < n
-user_is_short n [] b s h = cc
-user_is_short n (user a ∷ ps) b s h =
-    let same : a ≡ b = grind arith in
-    subst (λ v. length v < n) same s.0
-user_is_short n (owner ∷ ps) b s h = user_is_short n ps b s.1 h
-user_is_short n (_ ∷ ps) b s h = user_is_short n ps b s.1 h
+-- what holds of each principal holds of the user
+first_user_has : (P : Principal → Type 0) (ps : List Principal) (b : List ℕ) → AllByRecursion P ps
+    → first_user ps ≡ Some b → P (user b)
+first_user_has P [] b s h = cc
+first_user_has P (user a ∷ ps) b s h = subst (λ v. P (user v)) (same_Some a b h) s.0
+first_user_has P (owner ∷ ps) b s h = first_user_has P ps b s.1 h
+first_user_has P (_ ∷ ps) b s h = first_user_has P ps b s.1 h
 
 group_names_are : (ps : List Principal) (a : List ℕ) → is_one_of a (group_names ps) ≡ is_among (group_named a) ps
 group_names_are [] a = refl
-group_names_are (group_named b ∷ ps) a = ap (λ t. bytes_eq a b || t) (group_names_are ps a)
-group_names_are (owner ∷ ps) a = group_names_are ps a
-group_names_are (_ ∷ ps) a = group_names_are ps a
+group_names_are (p ∷ ps) a = grind (arith, group_names_are ps a)
 
 stranger_is_none : (n : ℕ) (ps : List Principal) (a : List ℕ) → AreShort n ps → length a ≡ n
     → is_one_of a (group_names ps) ≡ false
@@ -83,7 +76,11 @@ owner_matches n ps s h = go (is_among owner ps) refl (first_user ps) refl
     go false e None i = rw (e, i) (strangers_differ n h)
     go false e (Some b) i =
         rw (e, i) (other_length b (replicate n 111)
-        (λ same. absurd (omega (arith, same ∙ length-replicate n 111, user_is_short n ps b s i))))
+        (λ same. absurd (omega (
+          arith,
+          same ∙ length-replicate n 111,
+          first_user_has (λ p. length (principal_name p) < n) ps b s i,
+        ))))
 
 group_matches : (n : ℕ) (ps : List Principal) → AreShort n ps → matches (small_situation n ps) group ≡ is_among group ps
 group_matches n ps s = go (is_among group ps) refl (group_names ps) refl
@@ -135,16 +132,7 @@ AreNames names = AllByRecursion IsName names
 
 -- each has a name, where it is a user or a group name
 abbrev pub AllNamed : List Principal → Type 0
-AllNamed [] = Unit {0}
-AllNamed (p ∷ ps) = HasName p × AllNamed ps
-
-user_is_name : (ps : List Principal) (b : List ℕ) → AllNamed ps → first_user ps ≡ Some b → IsName b
-user_is_name [] b s h = cc
-user_is_name (user a ∷ ps) b s h =
-    let same : a ≡ b = grind arith in
-    subst (λ v. IsName v) same s.0
-user_is_name (owner ∷ ps) b s h = user_is_name ps b s.1 h
-user_is_name (_ ∷ ps) b s h = user_is_name ps b s.1 h
+AllNamed ps = AllByRecursion HasName ps
 
 group_names_named : (ps : List Principal) → AllNamed ps → AreNames (group_names ps)
 group_names_named [] s = tt
@@ -160,7 +148,8 @@ names_or_named : (names : List (List ℕ)) (x : List ℕ) → AreNames names →
 names_or_named [] x s h = (h, tt)
 names_or_named (y ∷ names) x s h = s
 
-cond_holds : {A : Type 0} (P : A → Type 0) (b : Bool) (x y : A) → P x → P y → P (cond b x y)
+-- what holds of both holds of either
+pub cond_holds : {A : Type 0} (P : A → Type 0) (b : Bool) (x y : A) → P x → P y → P (cond b x y)
 cond_holds P true x y h i = h
 cond_holds P false x y h i = i
 
@@ -174,12 +163,13 @@ pub small_is_situation : (n : ℕ) (ps : List Principal) → 0 < n → AllNamed 
 small_is_situation n ps h s =
     let stranger = stranger_is_name n 103 h (lit< tt) in
     let asking =
-    unwrap_named (first_user ps) (replicate n 117) (λ b e. user_is_name ps b s e)
+    unwrap_named (first_user ps) (replicate n 117) (λ b e. first_user_has HasName ps b s e)
     (stranger_is_name n 117 h (lit< tt)) in
     let groups = group_names_named ps s in
     record {
       owner_name = cond_holds IsName (is_among owner ps) _ _ asking (stranger_is_name n 111 h (lit< tt));
-      owning_group = cond_holds IsName (is_among group ps) _ _ (first_or_named (group_names ps) _ groups stranger) stranger;
+      owning_group = cond_holds IsName (is_among group ps) _ _
+          (first_or_named (group_names ps) _ groups stranger) stranger;
       user_name = asking;
       groups = All-from_recursion IsName _
           (cond_holds AreNames (is_among group ps) _ _ (names_or_named (group_names ps) _ groups stranger) groups);
@@ -192,18 +182,15 @@ reorder a b e = grind arith
 among_two : (p q r : Principal) → is_among r (p ∷ q ∷ []) ≡ true → (r ≡ p) ⊎ (r ≡ q)
 among_two p q r h = grind (arith, principal_eq_same)
 
-same_user : (p q : Principal) (a b : List ℕ) → may_overlap p q ≡ true → user a ≡ p → user b ≡ q → a ≡ b
-same_user p q a b o e f =
-    let second : may_overlap p (user b) ≡ true = subst (λ w. may_overlap p w ≡ true) (sym f) o in
-    bytes_eq_same a b (subst (λ v. may_overlap v (user b) ≡ true) (sym e) second)
-
 -- of two that overlap at most one is a user name
 pub one_user : (p q : Principal) → may_overlap p q ≡ true → HasOneUser (p ∷ q ∷ [])
-one_user p q o a b h i =
-    ⊎_elim
-    (λ e. ⊎_elim (λ f. ap principal_name (e ∙ sym f)) (λ f. same_user p q a b o e f) (among_two p q (user b) i))
-    (λ e. ⊎_elim (λ f. sym (same_user p q b a o f e)) (λ f. ap principal_name (e ∙ sym f)) (among_two p q (user b) i))
-    (among_two p q (user a) h)
+one_user p q o a b h i = go (among_two p q (user a) h) (among_two p q (user b) i)
+  where
+    go : (user a ≡ p) ⊎ (user a ≡ q) → (user b ≡ p) ⊎ (user b ≡ q) → a ≡ b
+    go (inl e) (inl f) = ap principal_name (e ∙ sym f)
+    go (inr e) (inr f) = ap principal_name (e ∙ sym f)
+    go (inl e) (inr f) = bytes_eq_same a b (rw (← e, ← f) at o)
+    go (inr e) (inl f) = sym (bytes_eq_same b a (rw (← e, ← f) at o))
 
 -- columns that decide alike in every situation do so for two principals that overlap, and everyone
 pub pairs_from_situations : (c d : Column) (p q : Principal) → SameVerdicts c d → HasName p → HasName q

@@ -1,30 +1,13 @@
 -- Irreducible lists that grant the same: the same bits, in the same order.
-use Rattle.acl_normal.proofs.Common.{[], Ace, all_rights, and_parts, ap, append_assoc, arith, Bool, Column, column, conflicts, false, false_from_ne_true, first_kind, Has, is_either, IsAlike, IsIrreducibleList, IsOnce, Key, Kind, kind_eq, List, may_overlap, None, not, Option, or_from, or_right, Principal, principal_eq, refl, SameGrants, Some, subst, sym, true, ℕ, ⊎_elim, ◌++◌, ◌∙◌, ◌∷◌, ◌≡◌}
+use Rattle.acl_normal.proofs.Common.{[], Ace, all_rights, and_parts, ap, append_assoc, arith, Bool, Column, column, conflicts, false, false_from_ne_true, first_kind, Has, is_either, IsAlike, IsIrreducibleList, IsOnce, Key, Kind, kind_eq, List, may_overlap, None, not, or_right, Principal, principal_eq, refl, SameGrants, Some, subst, sym, true, ℕ, ⊎_elim, ◌++◌, ◌∙◌, ◌∷◌, ◌≡◌}
 use Rattle.acl_normal.specs.Laws.{Precedes}
-use Rattle.acl_normal.proofs.unique.Names.{principal_eq_same, principal_eq_itself, either_first, overlaps_itself}
+use Rattle.acl_normal.proofs.unique.Names.{principal_eq_itself, either_first, overlaps_itself}
 use Rattle.acl_normal.proofs.unique.FirstKind.{SplitsAt, splits_at, none_within}
 use Rattle.acl_normal.proofs.unique.Irreducible.{clean, either_is, either_same}
+use Rattle.acl_normal.proofs.unique.Shorter.{once_before}
 use Rattle.acl_normal.proofs.unique.Free.{once_from_clean, kind_eq_itself, some_same}
 use Rattle.acl_normal.proofs.unique.SameKeys.{skip_to, stop_at}
 use Rattle.acl_normal.proofs.unique.ListColumns.{irreducible_column, alike_columns}
-
-first_kind_after : (m : Principal → Bool) (l : Column) (p : Principal) (k : Kind) (r : Column)
-    → first_kind m (l ++ (p, k) ∷ r) ≡ None → m p ≡ false
-first_kind_after m [] p k r h = grind arith
-first_kind_after m ((q, j) ∷ l) p k r h = grind (arith, first_kind_after m l p k r)
-
--- before its own key, and after it, a column without repetition lacks the principal
-pub once_before : (l : Column) (p : Principal) (k : Kind) (r : Column) → IsOnce (l ++ (p, k) ∷ r)
-    → first_kind (is_either p p) l ≡ None
-once_before [] p k r h = refl
-once_before ((q, j) ∷ l) p k r h =
-    grind (
-      arith,
-      once_before l p k r h.1,
-      first_kind_after (is_either q q) l p k r h.0,
-      principal_eq_same q p,
-      principal_eq_itself,
-    )
 
 -- a key of a column without repetition is the first of its principal
 pub once_has : (c : Column) (p : Principal) (k : Kind) → IsOnce c → Has c (p, k) → first_kind (is_either p p) c ≡ Some k

@@ -1,13 +1,11 @@
 -- Settled columns, and that they are irreducible.
-use Rattle.acl_normal.proofs.Common.{[], Allow, ap, arith, Bool, Column, Deny, everyone, false, false_from_ne_true, first_kind, HasName, HaveNames, inl, inr, is_either, is_either_or_everyone, IsAlike, IsIrreducible, IsOnce, Kind, may_overlap, None, Option, or_from, Principal, principal_eq, refl, Some, subst, sym, true, unwrap_or, verdict, ◌++◌, ◌||◌, ◌∙◌, ◌∷◌, ◌≡◌, ◌⊎◌}
-use Rattle.acl_normal.proofs.unique.Names.{principal_eq_same, overlaps_itself, overlaps_everyone, either_first, or_everyone_first}
-use Rattle.acl_normal.proofs.unique.FirstKind.{append_none, append_some}
-use Rattle.acl_normal.proofs.unique.Irreducible.{first_kind_without}
-pub use Rattle.acl_normal.proofs.unique.Irreducible.{alone}
+use Rattle.acl_normal.proofs.Common.{[], Allow, ap, arith, Bool, Column, Deny, everyone, false, false_from_ne_true, first_kind, HasName, HaveNames, inl, inr, is_either, is_either_or_everyone, IsAlike, IsIrreducible, IsOnce, Kind, may_overlap, None, Option, Principal, principal_eq, refl, Some, subst, sym, true, unwrap_or, verdict, without_principal, ◌++◌, ◌||◌, ◌∙◌, ◌∷◌, ◌≡◌, ◌⊎◌}
+use Rattle.acl_normal.proofs.unique.Names.{principal_eq_same, overlaps_itself, overlaps_everyone}
 use Rattle.acl_normal.proofs.unique.Free.{some_same}
-use Rattle.acl_normal.proofs.unique.SameKeys.{named_at, skip_to, stop_at, thrice}
-use Rattle.acl_normal.proofs.unique.FirstAndRest.{first_kind_same}
-use Rattle.acl_normal.proofs.unique.SameOrder.{once_before, once_has, has_once}
+use Rattle.acl_normal.proofs.unique.FirstKind.{first_kind_same, only_at}
+use Rattle.acl_normal.proofs.unique.Shorter.{without_key, without_other}
+use Rattle.acl_normal.proofs.unique.Irreducible.{first_kind_without}
+use Rattle.acl_normal.proofs.unique.SameOrder.{once_has, has_once}
 use Rattle.acl_normal.proofs.unique.Realised.{pairs_from_situations}
 
 -- the other kind
@@ -49,223 +47,99 @@ settled_alike c e d a h = record {
       record {
         not_everyone = w.not_everyone;
         overlap = w.overlap;
-        kind = sym (a q q (overlaps_itself q))
-            ∙ w.kind;
+        kind = sym (a q q (overlaps_itself q)) ∙ w.kind;
         after = sym (a p q w.overlap) ∙ w.after;
       },
     )
 
--- behind its own key a column without repetition lacks the principal
-pub once_after : (l : Column) (p : Principal) (k : Kind) (r : Column) → IsOnce (l ++ (p, k) ∷ r)
-    → first_kind (is_either p p) r ≡ None
-once_after [] p k r h = h.0
-once_after ((q, j) ∷ l) p k r h = once_after l p k r h.1
+-- where each of two tests finds an ALLOW first, so do both together
+both_allow : (m n : Principal → Bool) (c : Column) → first_kind m c ≡ Some Allow → first_kind n c ≡ Some Allow
+    → verdict (λ z. m z || n z) c ≡ Allow
+both_allow m n [] h i = cc
+both_allow m n ((x, k) ∷ c) h i = grind (arith, both_allow m n c)
 
-among_both : (x y : Principal) (c : Column) → first_kind (is_either x x) c ≡ None
-    → first_kind (is_either_or_everyone x y) c ≡ first_kind (is_either y everyone) c
-among_both x y c none =
-    first_kind_without (is_either_or_everyone x y) (is_either y everyone) x c none (λ z e. grind arith)
+-- the kind of the default decides, with everyone
+default_decides : (p q : Principal) (c : Column) (d : Kind) → first_kind (is_either p q) c ≡ Some d
+    → first_kind (is_either everyone everyone) c ≡ everyone_for d → verdict (is_either_or_everyone p q) c ≡ d
+default_decides p q c Deny h i = ap (λ o. unwrap_or o Deny) (first_kind_without (is_either_or_everyone p q)
+    (is_either p q) everyone c i (λ z e. grind arith) ∙ h)
+default_decides p q c Allow h i = ap (λ o. unwrap_or o Deny) (first_kind_same (is_either_or_everyone p q)
+    (λ z. is_either p q z || is_either everyone everyone z) c (λ z. grind arith))
+    ∙ both_allow (is_either p q) (is_either everyone everyone) c h i
 
-of_everyone : (c : Column)
-    → first_kind (is_either_or_everyone everyone everyone) c ≡ first_kind (is_either everyone everyone) c
-of_everyone c = first_kind_same _ _ c (λ z. thrice (principal_eq z everyone))
+-- and the other kind decides, since everyone comes after a denial
+other_decides : (c : Column) (d : Kind) (q : Principal) → IsSettled c d
+    → first_kind (is_either q q) c ≡ Some (opposite d) → verdict (is_either_or_everyone q q) c ≡ opposite d
+other_decides c Allow q s h = ap (λ o. unwrap_or o Deny)
+    (first_kind_same (is_either_or_everyone q q) (is_either q everyone) c (λ z. grind arith) ∙ s.deny_first q h)
+other_decides c Deny q s h = ap (λ o. unwrap_or o Deny) (first_kind_without (is_either_or_everyone q q)
+    (is_either q q) everyone c s.everyone_is (λ z e. grind arith) ∙ h)
+
+-- without a principal, another and everyone decide alone
+without_first : (p q : Principal) (c : Column) → principal_eq p everyone ≡ false → principal_eq p q ≡ false
+    → verdict (is_either_or_everyone p q) (without_principal p c) ≡ verdict (is_either_or_everyone q q) c
+without_first p q c n o = ap (λ o. unwrap_or o Deny) (without_other (is_either_or_everyone p q)
+    (is_either_or_everyone q q) p c (grind arith) (λ z e. grind arith))
+
+-- without the only one, everyone does
+without_one : (p : Principal) (c : Column) → principal_eq p everyone ≡ false
+    → verdict (is_either_or_everyone p p) (without_principal p c) ≡ verdict (is_either everyone everyone) c
+without_one p c n = ap (λ o. unwrap_or o Deny) (without_other (is_either_or_everyone p p)
+    (is_either everyone everyone) p c (grind arith) (λ z e. grind arith))
+
+-- without everyone, nobody is allowed
+without_everyone : (c : Column)
+    → verdict (is_either_or_everyone everyone everyone) (without_principal everyone c) ≡ Deny
+without_everyone [] = refl
+without_everyone ((x, k) ∷ c) = grind (arith, without_everyone c)
+
+-- a key of everyone allows
+everyone_allows : (c : Column) (d k : Kind) → first_kind (is_either everyone everyone) c ≡ everyone_for d
+    → first_kind (is_either everyone everyone) c ≡ Some k
+    → verdict (is_either_or_everyone everyone everyone) c ≡ Deny → ⊥
+everyone_allows c Deny k i h v = cc
+everyone_allows c Allow k i h v = let allowed = default_decides everyone everyone c Allow i i in cc
 
 settled_default : (c : Column) (d : Kind) → IsSettled c d → verdict (is_either everyone everyone) c ≡ d
 settled_default c d h = grind (arith, h.everyone_is)
 
--- a key of a settled column, what is before and after it
-pub record Place (c : Column) (d : Kind) (l : Column) (p : Principal) (k : Kind) (r : Column) : Type 0 where
-  pub once : IsOnce c
-  pub settled : IsSettled c d
-  pub is : c ≡ l ++ (p, k) ∷ r
-  pub not_everyone : principal_eq p everyone ≡ false
-
-place_before : (c : Column) (d : Kind) (l : Column) (p : Principal) (k : Kind) (r : Column) → Place c d l p k r
-    → first_kind (is_either p p) l ≡ None
-place_before c d l p k r h = once_before l p k r (subst (λ v. IsOnce v) h.is h.once)
-
-place_kind : (c : Column) (d : Kind) (l : Column) (p : Principal) (k : Kind) (r : Column) → Place c d l p k r
-    → first_kind (is_either p p) c ≡ Some k
-place_kind c d l p k r h =
-    ap (first_kind (is_either p p)) h.is ∙ stop_at (is_either p p) l r p k (place_before c d l p k r h)
-    (either_first p p)
-
--- what is found before the key is found in the column
-found_before : (m : Principal → Bool) (c l r : Column) (p : Principal) (k j : Kind) → c ≡ l ++ (p, k) ∷ r
-    → first_kind m l ≡ Some j → first_kind m c ≡ Some j
-found_before m c l r p k j is h = ap (first_kind m) is ∙ append_some m l ((p, k) ∷ r) j h
-
--- everyone stands after each other key
-place_no_everyone : (c : Column) (d : Kind) (l : Column) (p : Principal) (k : Kind) (r : Column) → Place c d l p k r
-    → first_kind (is_either everyone everyone) l ≡ None
-place_no_everyone c d l p k r h = go (first_kind (is_either everyone everyone) l) refl
-  where
-    lack : first_kind (is_either p p) l ≡ None
-    lack = place_before c d l p k r h
-
-    of_allow : (d : Kind) → IsSettled c d → first_kind (is_either everyone everyone) l ≡ Some Allow → (k : Kind)
-        → c ≡ l ++ (p, k) ∷ r → first_kind (is_either p p) c ≡ Some k → ⊥
-    of_allow d s e Deny is at =
-        let first = found_before (is_either p everyone) c l r p Deny Allow is (alone p everyone l lack ∙ e) in
-        let second = s.deny_first p at in
-        cc
-    of_allow Deny s e Allow is at =
-        let first = found_before (is_either everyone everyone) c l r p Allow Allow is e in
-        let second = s.everyone_is in
-        cc
-    of_allow Allow s e Allow is at = by (s.needed p h.not_everyone at)
-      where
-        by : (q : Principal) × IsWitness c Allow p q → ⊥
-        by (q, w) = split (first_kind (is_either q q) l) refl
-          where
-            split : (o : Option Kind) → first_kind (is_either q q) l ≡ o → ⊥
-            split None n =
-                let first = found_before (is_either q everyone) c l r p Allow Allow is (alone q everyone l n ∙ e) in
-                let second = s.deny_first q w.kind in
-                cc
-            split (Some j) n =
-                let first = found_before (is_either q q) c l r p Allow j is n in
-                let second = found_before (is_either p q) c l r p Allow j is (alone p q l lack ∙ n) in
-                let third = w.kind in
-                let fourth = w.after in
-                cc
-
-    go : (o : Option Kind) → first_kind (is_either everyone everyone) l ≡ o
-        → first_kind (is_either everyone everyone) l ≡ None
-    go None e = e
-    go (Some Allow) e = absurd (of_allow d h.settled e k h.is (place_kind c d l p k r h))
-    go (Some Deny) e = absurd (denied d h.settled.everyone_is)
-      where
-        denied : (d : Kind) → first_kind (is_either everyone everyone) c ≡ everyone_for d → ⊥
-        denied Deny i =
-            let first = found_before (is_either everyone everyone) c l r p k Deny h.is e in
-            cc
-        denied Allow i =
-            let first = found_before (is_either everyone everyone) c l r p k Deny h.is e in
-            cc
-
-kinds_clash : (k : Kind) → opposite k ≡ k → ⊥
-kinds_clash k h = grind arith
-
--- one kind or the other
+-- one kind or the other, and never both
 pub two_kinds : (j k : Kind) → (j ≡ k) ⊎ (j ≡ opposite k)
 two_kinds j k = grind arith
 
--- of a needed key of the default kind: the witness and everyone
-witness_first : (c : Column) (d : Kind) (p q : Principal) → IsSettled c d → IsWitness c d p q
-    → first_kind (is_either q everyone) c ≡ Some (opposite d)
-witness_first c Allow p q s w = s.deny_first q w.kind
-witness_first c Deny p q s w =
-    first_kind_without (is_either q everyone) (is_either q q) everyone c s.everyone_is (λ z e. grind arith) ∙ w.kind
-
-place_after : (c : Column) (d : Kind) (l : Column) (p : Principal) (k : Kind) (r : Column) → Place c d l p k r
-    → first_kind (is_either p p) r ≡ None
-place_after c d l p k r h = once_after l p k r (subst (λ v. IsOnce v) h.is h.once)
-
--- among its principal, everyone and another that is not before it, the key is first, and without it what is after it
-found_first : (c : Column) (d : Kind) (l : Column) (p : Principal) (k : Kind) (r : Column) → Place c d l p k r
-    → (q : Principal) → first_kind (is_either q q) l ≡ None
-    → (first_kind (is_either_or_everyone p q) c ≡ Some k)
-    × (first_kind (is_either_or_everyone p q) (l ++ r) ≡ first_kind (is_either q everyone) r)
-found_first c d l p k r h q q_lack =
-    let front : first_kind (is_either_or_everyone p q) l ≡ None =
-    among_both p q l (place_before c d l p k r h) ∙ alone q everyone l q_lack ∙ place_no_everyone c d l p k r h in (
-      ap (first_kind (is_either_or_everyone p q)) h.is ∙ stop_at (is_either_or_everyone p q) l r p k front
-          (or_everyone_first p q),
-      append_none (is_either_or_everyone p q) l r front ∙ among_both p q r (place_after c d l p k r h),
-    )
-
--- at a key of the other kind than the default the column without it decides otherwise
-other_kind_needed : (c : Column) (d : Kind) (l : Column) (p : Principal) (k : Kind) (r : Column) → Place c d l p k r
-    → verdict (is_either_or_everyone p p) c ≡ verdict (is_either_or_everyone p p) (l ++ r) → k ≡ d
-other_kind_needed c d l p k r h same =
-    let none_all = place_no_everyone c d l p k r h in
-    let found = found_first c d l p k r h p (place_before c d l p k r h) in
-    let skip : is_either everyone everyone p ≡ false = or_from _ _ h.not_everyone h.not_everyone in
-    let rest = found.1 ∙ alone p everyone r (place_after c d l p k r h) in
-    let whole =
-    ap (first_kind (is_either everyone everyone)) h.is ∙ skip_to (is_either everyone everyone) l r p k none_all
-    skip in
-    ap (λ o. unwrap_or o Deny) (sym found.0) ∙ same ∙ ap (λ o. unwrap_or o Deny) (rest ∙ sym whole)
-    ∙ settled_default c d h.settled
-
-default_kind_needed : (c : Column) (d : Kind) (l : Column) (p : Principal) (r : Column) → Place c d l p d r
-    → (q : Principal) → IsWitness c d p q
-    → verdict (is_either_or_everyone p q) c ≡ verdict (is_either_or_everyone p q) (l ++ r) → ⊥
-default_kind_needed c d l p r h q w same =
-    let none_all = place_no_everyone c d l p d r h in
-    let found = found_first c d l p d r h q q_lack in
-    let skip : is_either q everyone p ≡ false = or_from _ _ apart h.not_everyone in
-    let whole =
-    ap (first_kind (is_either q everyone)) h.is
-    ∙ skip_to (is_either q everyone) l r p d (alone q everyone l q_lack ∙ none_all) skip in
-    kinds_clash d (sym (ap (λ o. unwrap_or o Deny) (sym found.0) ∙ same
-    ∙ ap (λ o. unwrap_or o Deny) (found.1 ∙ sym whole ∙ witness_first c d p q h.settled w)))
-  where
-    q_lack : first_kind (is_either q q) l ≡ None
-    q_lack = go (first_kind (is_either q q) l) refl
-      where
-        go : (o : Option Kind) → first_kind (is_either q q) l ≡ o → first_kind (is_either q q) l ≡ None
-        go None e = e
-        go (Some j) e =
-            let first = found_before (is_either q q) c l r p d j h.is e in
-            let second = found_before (is_either p q) c l r p d j h.is (alone p q l (place_before c d l p d r h) ∙ e) in
-            absurd (kinds_clash d (some_same (sym w.kind ∙ first ∙ sym second ∙ w.after)))
-
-    apart : principal_eq p q ≡ false
-    apart =
-        false_from_ne_true _ (λ e. kinds_clash d
-        (some_same (sym w.kind ∙ ap (λ v. first_kind (is_either v v) c) (sym (principal_eq_same p q e))
-        ∙ place_kind c d l p d r h)))
+kinds_clash : {P : Type 0} (k : Kind) → opposite k ≡ k → P
+kinds_clash k h = absurd (grind arith)
 
 -- a settled column without repetition is irreducible
 pub settled_irreducible : (c : Column) (d : Kind) → IsOnce c → HaveNames c → IsSettled c d → IsIrreducible c
-settled_irreducible c d once names s l (p, k) r is same = go (principal_eq p everyone) refl
+settled_irreducible c d once names s l (p, k) r is same = go (principal_eq p everyone) refl (two_kinds k d)
   where
+    at_p : first_kind (is_either p p) c ≡ Some k
+    at_p = once_has c p k once (record { before = l; after = r; is = is })
+
     named : HasName p
-    named = named_at l r p k (subst (λ v. HaveNames v) is names)
+    named = only_at HasName c l r p k is names
 
-    at_everyone : (j : Kind) → p ≡ everyone → first_kind (is_either everyone everyone) c ≡ everyone_for j → ⊥
-    at_everyone j e i =
-        let none_l =
-        subst (λ v. first_kind (is_either v v) l ≡ None) e (once_before l p k r (subst (λ v. IsOnce v) is once)) in
-        let none_r =
-        subst (λ v. first_kind (is_either v v) r ≡ None) e (once_after l p k r (subst (λ v. IsOnce v) is once)) in
-        let both = pairs_from_situations c (l ++ r) everyone everyone same tt tt refl in
-        let left = ap (λ o. unwrap_or o Deny) (of_everyone c ∙ i) in
-        let right =
-        ap (λ o. unwrap_or o Deny) (of_everyone (l ++ r) ∙ append_none (is_either everyone everyone) l r none_l
-        ∙ none_r) in
-        let here : first_kind (is_either p p) c ≡ Some k =
-        once_has c p k once (record { before = l; after = r; is = is }) in
-        clash j (subst (λ v. first_kind (is_either v v) c ≡ Some k) e here) i (sym left ∙ both ∙ right)
-      where
-        clash : (j : Kind) → first_kind (is_either everyone everyone) c ≡ Some k
-            → first_kind (is_either everyone everyone) c ≡ everyone_for j → unwrap_or (everyone_for j) Deny ≡ Deny → ⊥
-        clash Deny h i o = cc
-        clash Allow h i o = cc
+    agree : (q : Principal) → HasName q → may_overlap p q ≡ true
+        → verdict (is_either_or_everyone p q) c ≡ verdict (is_either_or_everyone p q) (without_principal p c)
+    agree q q_named over = pairs_from_situations c (l ++ r) p q same named q_named over
+        ∙ ap (verdict (is_either_or_everyone p q)) (sym (without_key c l r p k once is))
 
-    needed : (j : Kind) → k ≡ j → d ≡ j → IsSettled c j → Place c j l p j r → ⊥
-    needed j e f t place = by (t.needed p place.not_everyone (place_kind c j l p j r place))
-      where
-        by : (q : Principal) × IsWitness c j p q → ⊥
-        by (q, w) =
-            let has = has_once c q (opposite j) w.kind in
-            let q_named : HasName q =
-            named_at has.before has.after q (opposite j) (subst (λ v. HaveNames v) has.is names) in
-            default_kind_needed c j l p r place q w (pairs_from_situations c (l ++ r) p q same named q_named w.overlap)
+    by_witness : principal_eq p everyone ≡ false → k ≡ d → (q : Principal) × IsWitness c d p q → ⊥
+    by_witness e f (q, w) =
+        let has = has_once c q (opposite d) w.kind in
+        let q_named = only_at HasName c has.before has.after q (opposite d) has.is names in
+        let apart : principal_eq p q ≡ false = false_from_ne_true _ (λ t. kinds_clash d (some_same (sym w.kind
+        ∙ ap (λ v. first_kind (is_either v v) c) (sym (principal_eq_same p q t)) ∙ at_p ∙ ap Some f))) in
+        kinds_clash d (sym (other_decides c d q s w.kind) ∙ sym (without_first p q c e apart)
+        ∙ sym (agree q q_named w.overlap) ∙ default_decides p q c d w.after s.everyone_is)
 
-    go : (b : Bool) → principal_eq p everyone ≡ b → ⊥
-    go true e = at_everyone d (principal_eq_same p everyone e) s.everyone_is
-    go false e =
-        let place : Place c d l p k r = record { once = once; settled = s; is = is; not_everyone = e } in
-        let same_kind : k ≡ d =
-        other_kind_needed c d l p k r place
-        (pairs_from_situations c (l ++ r) p p same named named (overlaps_itself p)) in
-        needed d same_kind refl s (record {
-          once = once;
-          settled = s;
-          is = is
-              ∙ ap (λ v. l ++ (p, v) ∷ r) same_kind;
-          not_everyone = e;
-        })
+    go : (b : Bool) → principal_eq p everyone ≡ b → (k ≡ d) ⊎ (k ≡ opposite d) → ⊥
+    go true e f =
+        let is_all = principal_eq_same p everyone e in
+        everyone_allows c d k s.everyone_is (subst (λ v. first_kind (is_either v v) c ≡ Some k) is_all at_p)
+        (subst (λ v. verdict (is_either_or_everyone v v) c ≡ verdict (is_either_or_everyone v v)
+        (without_principal v c)) is_all (agree p named (overlaps_itself p)) ∙ without_everyone c)
+    go false e (inl f) = by_witness e f (s.needed p e (at_p ∙ ap Some f))
+    go false e (inr f) = kinds_clash d (sym (other_decides c d p s (at_p ∙ ap Some f))
+        ∙ agree p named (overlaps_itself p) ∙ without_one p c e ∙ settled_default c d s)

@@ -1,6 +1,7 @@
--- A column without a principal.
-use Rattle.std.proofs.Common.{◌≡◌, ◌≤◌, ◌<◌, Bool, true, false, suc, [], ◌∷◌, length, refl}
-use Rattle.acl_normal.proofs.Common.{arith, Column, first_kind, is_either, Kind, Principal, principal_eq, Some, without_principal}
+-- A column without a principal, and a column in which each principal is at most once.
+use Rattle.acl_normal.proofs.Common.{[], AllByRecursion, ap, arith, Bool, Column, false, first_kind, is_either, IsOnce, Kind, length, None, Principal, principal_eq, refl, Some, subst, without_principal, ◌++◌, ◌<◌, ◌∙◌, ◌∷◌, ◌≡◌, ◌≤◌}
+use Rattle.std.proofs.lemmas.Bool.{cond_both}
+use Rattle.acl_normal.proofs.unique.Names.{principal_eq_itself, principal_eq_same}
 
 -- no column grows
 pub without_no_longer : (p : Principal) (c : Column) → length (without_principal p c) ≤ length c
@@ -12,3 +13,61 @@ pub without_shorter : (p : Principal) (c : Column) (k : Kind) → first_kind (is
     → length (without_principal p c) < length c
 without_shorter p [] k h = cc
 without_shorter p ((s, i) ∷ c) k h = grind (arith, without_shorter p c k, without_no_longer p c)
+
+-- a test that doesn't pass a principal finds without it what another does that differs at this principal alone
+pub without_other : (m n : Principal → Bool) (x : Principal) (c : Column) → n x ≡ false
+    → ((z : Principal) → principal_eq z x ≡ false → m z ≡ n z)
+    → first_kind m (without_principal x c) ≡ first_kind n c
+without_other m n x [] h same = refl
+without_other m n x ((q, j) ∷ c) h same =
+    grind (arith, without_other m n x c h same, principal_eq_same q x, same q)
+
+-- where a test finds nothing, it passes no key
+pub first_kind_after : (m : Principal → Bool) (l : Column) (p : Principal) (k : Kind) (r : Column)
+    → first_kind m (l ++ (p, k) ∷ r) ≡ None → m p ≡ false
+first_kind_after m [] p k r h = grind arith
+first_kind_after m ((q, j) ∷ l) p k r h = grind (arith, first_kind_after m l p k r)
+
+-- before its own key, and after it, a column without repetition lacks the principal
+pub once_before : (l : Column) (p : Principal) (k : Kind) (r : Column) → IsOnce (l ++ (p, k) ∷ r)
+    → first_kind (is_either p p) l ≡ None
+once_before [] p k r h = refl
+once_before ((q, j) ∷ l) p k r h =
+    grind (
+      arith,
+      once_before l p k r h.1,
+      first_kind_after (is_either q q) l p k r h.0,
+      principal_eq_same q p,
+      principal_eq_itself,
+    )
+
+-- behind its own key a column without repetition lacks the principal
+pub once_after : (l : Column) (p : Principal) (k : Kind) (r : Column) → IsOnce (l ++ (p, k) ∷ r)
+    → first_kind (is_either p p) r ≡ None
+once_after [] p k r h = h.0
+once_after ((q, j) ∷ l) p k r h = once_after l p k r h.1
+
+-- a column without p is itself where it lacks p
+pub without_absent : (p : Principal) (c : Column) → first_kind (is_either p p) c ≡ None → without_principal p c ≡ c
+without_absent p [] h = refl
+without_absent p ((q, j) ∷ c) h = grind (arith, without_absent p c)
+
+without_split : (l : Column) (p : Principal) (k : Kind) (r : Column) → first_kind (is_either p p) l ≡ None
+    → first_kind (is_either p p) r ≡ None → without_principal p (l ++ (p, k) ∷ r) ≡ l ++ r
+without_split [] p k r h i = grind (arith, principal_eq_itself, without_absent p r i)
+without_split ((q, j) ∷ l) p k r h i =
+    grind (arith, λ (n : first_kind (is_either p p) l ≡ None). without_split l p k r n i)
+
+-- a column without repetition, without a principal, lacks just its key
+pub without_key : (c l r : Column) (p : Principal) (k : Kind) → IsOnce c → c ≡ l ++ (p, k) ∷ r
+    → without_principal p c ≡ l ++ r
+without_key c l r p k once is =
+    let h = subst (λ v. IsOnce v) is once in
+    ap (without_principal p) is ∙ without_split l p k r (once_before l p k r h) (once_after l p k r h)
+
+-- what holds of each principal holds of the others
+pub names_without : (P : Principal → Type 0) (x : Principal) (c : Column) → AllByRecursion (λ e. P e.0) c
+    → AllByRecursion (λ e. P e.0) (without_principal x c)
+names_without P x [] h = tt
+names_without P x ((q, j) ∷ c) h = cond_both (principal_eq q x) _ _ (AllByRecursion (λ e. P e.0))
+    (λ e. names_without P x c h.1) (λ e. (h.0, names_without P x c h.1))

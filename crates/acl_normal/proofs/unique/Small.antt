@@ -1,60 +1,8 @@
 -- Small situations suffice to compare columns.
-use Rattle.acl_normal.proofs.Common.{[], ap, arith, Bool, Column, Deny, Equal, everyone, false, false≢true, first_kind, Greater, inl, inr, is_among, is_either_or_everyone, Kind, length, Less, List, longest_name, matches, may_overlap, None, Option, or_cases, or_left, Ordering, ordering_reverse, Principal, principal_cmp, principal_eq, principal_exact, principal_name, principal_total, refl, SameVerdicts, small_situation, Some, subst, sym, true, unwrap_or, user, verdict, ℕ, ⊎_elim, ◌++◌, ◌<◌, ◌||◌, ◌∙◌, ◌∷◌, ◌≡◌, ◌⊎◌}
-use Rattle.acl_normal.proofs.unique.Names.{principal_eq_same, overlaps_itself, overlaps_back, matches_overlap, or_everyone_first, or_everyone_second, either_or_everyone_within}
-use Rattle.acl_normal.proofs.unique.FirstAndRest.{or_swap}
-use Rattle.acl_normal.proofs.unique.FirstKind.{IsWithin, IsClique, none_within, SplitsAt, splits_at, first_within}
+use Rattle.acl_normal.proofs.Common.{[], ap, arith, Bool, Column, Deny, Equal, everyone, false, false≢true, Greater, inl, inr, is_among, is_either_or_everyone, length, Less, List, longest_name, matches, may_overlap, or_cases, or_left, Ordering, ordering_reverse, Principal, principal_cmp, principal_eq, principal_exact, principal_name, principal_total, refl, SameVerdicts, small_situation, sym, true, unwrap_or, user, verdict, ℕ, ⊎_elim, ◌<◌, ◌∙◌, ◌∷◌, ◌≡◌, ◌⊎◌}
+use Rattle.acl_normal.proofs.unique.Names.{principal_eq_same, overlaps_itself, overlaps_back}
+use Rattle.acl_normal.proofs.unique.FirstKind.{HasOnly, clique_of, cliques_agree}
 use Rattle.acl_normal.proofs.unique.Realised.{AreShort, one_user, small_matches, first_kind_alike, HasOneUser, reorder}
-
--- the columns agree at each two principals of which P holds that overlap
-abbrev pub AgreeWhere : (Principal → Type 0) → Column → Column → Type 0
-AgreeWhere P c d =
-    (p q : Principal) → P p → P q → may_overlap p q ≡ true → verdict (is_either_or_everyone p q) c ≡ verdict
-    (is_either_or_everyone p q) d
-
--- P holds of each principal of the column
-abbrev pub HasOnly : (Principal → Type 0) → Column → Type 0
-HasOnly P [] = Unit {0}
-HasOnly P ((p, k) ∷ c) = P p × HasOnly P c
-
-only_at : (P : Principal → Type 0) (l r : Column) (p : Principal) (k : Kind) → HasOnly P (l ++ (p, k) ∷ r) → P p
-only_at P [] r p k h = h.0
-only_at P ((q, j) ∷ l) r p k h = only_at P l r p k h.1
-
-only_split : (P : Principal → Type 0) (m : Principal → Bool) (c : Column) (k : Kind) (s : SplitsAt m c k)
-    → HasOnly P c → P s.principal
-only_split P m c k s h = only_at P s.before s.after s.principal k (subst (λ v. HasOnly P v) s.is h)
-
--- where one of them has a key that passes and the other has none, its own principal is such a pair
-one_found : (P : Principal → Type 0) (m : Principal → Bool) (c d : Column) (k : Kind) → m everyone ≡ true
-    → HasOnly P c → AgreeWhere P c d → first_kind m c ≡ Some k → first_kind m d ≡ None → verdict m c ≡ verdict m d
-one_found P m c d k e oc a h i =
-    let s = splits_at m c k h in
-    let p : Principal = s.principal in
-    let w : IsWithin (is_either_or_everyone p p) m = either_or_everyone_within m p p s.passes s.passes e in
-    let found = first_within m (is_either_or_everyone p p) c k s (or_everyone_first p p) w in
-    let missed = none_within m (is_either_or_everyone p p) d i w in
-    let both = a p p (only_split P m c k s oc) (only_split P m c k s oc) (overlaps_itself p) in
-    grind arith
-
--- columns that agree at their own pairs agree at every clique with everyone
-own_pairs_agree : (P : Principal → Type 0) (m : Principal → Bool) (c d : Column) → IsClique m → m everyone ≡ true
-    → HasOnly P c → HasOnly P d → AgreeWhere P c d → verdict m c ≡ verdict m d
-own_pairs_agree P m c d q e oc od a = go (first_kind m c) (first_kind m d) refl refl
-  where
-    go : (x y : Option Kind) → first_kind m c ≡ x → first_kind m d ≡ y → verdict m c ≡ verdict m d
-    go None None h i = grind arith
-    go (Some j) None h i = one_found P m c d j e oc a h i
-    go None (Some k) h i = sym (one_found P m d c k e od (λ p r hp hr o. sym (a p r hp hr o)) i h)
-    go (Some j) (Some k) h i =
-        let s = splits_at m c j h in
-        let t = splits_at m d k i in
-        let p : Principal = s.principal in
-        let r : Principal = t.principal in
-        let w : IsWithin (is_either_or_everyone p r) m = either_or_everyone_within m p r s.passes t.passes e in
-        let left = first_within m (is_either_or_everyone p r) c j s (or_everyone_first p r) w in
-        let right = first_within m (is_either_or_everyone p r) d k t (or_everyone_second p r) w in
-        let both = a p r (only_split P m c j s oc) (only_split P m d k t od) (q p r s.passes t.passes) in
-        grind arith
 
 -- none, one, or two overlapping principals, the lesser first, of which P holds, everyone excepted
 pub data IsSmallSet (P : Principal → Type 0) : List Principal → Type 0 where
@@ -149,7 +97,7 @@ pub small_suffice : (P : Principal → Type 0) (n : ℕ) (c d : Column) → HasO
     → ((ps : List Principal) → IsSmallSet P ps → verdict (matches (small_situation n ps)) c ≡ verdict
     (matches (small_situation n ps)) d) → SameVerdicts c d
 small_suffice P n c d oc od pos lc ld short small s valid =
-    own_pairs_agree P (matches s) c d (λ p q h i. matches_overlap s p q h i) refl oc od
+    cliques_agree P (matches s) c d (clique_of s) refl oc od
     (λ p q hp hq o. at p q (covers P p q n hp hq (short p hp) (short q hq) o))
   where
     at : (p q : Principal) → Covers P p q n

@@ -1,8 +1,7 @@
 -- Normal forms have equal spellings exactly if their sources grant the same.
 use Rattle.std.proofs.Common.{◌≡◌, List, [], refl}
 use Rattle.acl_normal.proofs.Common.{Ace, ap, append-nil, equivalence, Fits, IsAccepted, IsEquivalence, IsNormal, IsNormalFormOf, IsProfile, Profile, SameGrants, spelling, subst, sym, ◌↔◌, ◌∙◌}
-use Rattle.acl_nfs4.proofs.Body.{one}
-use Rattle.acl_nfs4.proofs.Within.{accepted_where_it_fits}
+use Rattle.acl_nfs4.proofs.Exports.{accepted_where_it_fits, one}
 use Rattle.acl_normal.proofs.unique.Unique.{unique}
 use Rattle.acl_normal.proofs.unique.Profiles.{same_within}
 

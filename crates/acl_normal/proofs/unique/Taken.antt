@@ -8,7 +8,8 @@ use Rattle.acl_normal.proofs.emit.Leaving.{alike_length, column_left, masks_of_q
 use Rattle.acl_normal.proofs.unique.ListColumns.{alike_columns, irreducible_column, no_other_bits}
 use Rattle.acl_normal.proofs.unique.Names.{overlaps_itself}
 use Rattle.acl_normal.proofs.unique.Normal.{quiet_flags}
-use Rattle.acl_normal.proofs.reduce.Reducing.{below, grants_back, grants_through}
+use Rattle.acl_normal.proofs.reduce.Reducing.{grants_back, grants_through}
+use Rattle.acl_normal.proofs.unique.Bits.{below}
 use Rattle.acl_normal.proofs.plain.Shorter.{reduced_shorter}
 use Rattle.acl_normal.proofs.unique.SameOrder.{has_once, once_has}
 use Rattle.acl_normal.proofs.unique.Weights.{weight_falls}

@@ -1,9 +1,8 @@
 -- Normal lists that grant the same are equal.
-use Rattle.acl_normal.proofs.Common.{[], Ace, ace_key, all_rights, and_from, ap, arith, Bool, bytes_eq, Column, column, compare_keys, cond, everyone_name, false, false_from_ne_true, false≢true, first_kind, flags_for, group_name, group_named, has_bit, HasNoEmptyMask, HasNormalFlags, identifier_group, is_either, is_free, is_le, IsAlike, IsNormal, IsOnce, Key, List, None, not, or_left, owner, owner_name, Principal, principal_eq, principal_of, refl, same_set, SameGrants, Some, subst, sym, true, who_for, ℕ, ◌&&◌, ◌∙◌, ◌∷◌, ◌≡◌}
+use Rattle.acl_normal.proofs.Common.{[], Ace, ace_key, all_rights, and_from, ap, arith, Bool, Column, column, compare_keys, cond, false, false_from_ne_true, false≢true, first_kind, flags_for, has_bit, HasNoEmptyMask, HasNormalFlags, is_either, is_free, is_le, IsAlike, IsNormal, IsOnce, Key, List, None, or_left, Principal, principal_eq, principal_of, refl, same_set, SameGrants, Some, subst, sym, true, who_for, ℕ, ◌∙◌, ◌∷◌, ◌≡◌}
 use Rattle.std.proofs.lemmas.Bool.{true_from_ne_false}
 use Rattle.acl_normal.specs.Normal.{IsOrdered}
 use Rattle.acl_normal.proofs.unique.Names.{bytes_eq_same, either_first, principal_eq_itself, overlaps_itself}
-use Rattle.acl_normal.proofs.unique.Columns.{column_first}
 use Rattle.acl_normal.proofs.unique.Bits.{no_bits}
 use Rattle.acl_normal.proofs.unique.Irreducible.{clean}
 use Rattle.acl_normal.proofs.unique.Free.{once_from_clean, kind_eq_itself, same_free, alike_rest}

@@ -1,12 +1,12 @@
 -- The weight of a list, bit by bit.
 use Rattle.std.specs.Prelude.{count_ones}
-use Rattle.acl_normal.proofs.Common.{[], Ace, all_rights, ap, arith, bit_at, bit_at-lt, bit_at_above, Bool, cases_eq, column, cond, count_left, eqb-true, false, false_from_ne_true, false≢true, has_bit, HasMasks, HasNoEmptyMask, inl, inr, is_inherit_only, IsQuiet, length, List, lit<, not, refl, subst, suc, sym, true, weight, zero, ℕ, ◌%◌, ◌&&◌, ◌+◌, ◌/◌, ◌<◌, ◌==◌, ◌∙◌, ◌∷◌, ◌≡◌, ◌≢◌, ◌≤◌}
+use Rattle.acl_normal.proofs.Common.{[], Ace, all_rights, ap, arith, bit_at-lt, bit_at_above, Bool, cases_eq, column, cond, count_left, false, false_from_ne_true, false≢true, has_bit, HasMasks, HasNoEmptyMask, inl, inr, is_inherit_only, IsQuiet, length, List, lit<, not, refl, subst, suc, sym, true, weight, zero, ℕ, ◌%◌, ◌&&◌, ◌+◌, ◌/◌, ◌<◌, ◌==◌, ◌∙◌, ◌∷◌, ◌≡◌, ◌≢◌, ◌≤◌}
 use Rattle.std.specs.Int.Count.{ones_step}
 use Rattle.std.proofs.lemmas.Nat.{ones_le_self, zero_from_ones}
 use Rattle.std.proofs.lemmas.Nat.Bits.{bit_at-suc, bit_at_lowest}
 use Rattle.acl_normal.proofs.unique.Columns.{counts, column_lacks}
-use Rattle.acl_nfs4.proofs.Lists.{weight-cons}
-use Rattle.acl_normal.proofs.unique.Bits.{no_bit, no_bits}
+use Rattle.acl_nfs4.proofs.Exports.{weight-cons}
+use Rattle.acl_normal.proofs.unique.Bits.{no_bits}
 use Rattle.acl_normal.proofs.unique.Normal.{counts_mask}
 
 -- ---- the bits of a mask, one by one

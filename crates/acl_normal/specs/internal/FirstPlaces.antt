@@ -68,10 +68,10 @@ hits (One i) k = k == i
 hits Everyone k = true
 
 -- a number that is named is less than n
-abbrev pub IsWithin : Whom → ℕ → Type 0
-IsWithin Nobody n = Unit {0}
-IsWithin (One i) n = i < n
-IsWithin Everyone n = Unit {0}
+abbrev pub IsWhomWithin : Whom → ℕ → Type 0
+IsWhomWithin Nobody n = Unit {0}
+IsWhomWithin (One i) n = i < n
+IsWhomWithin Everyone n = Unit {0}
 
 -- someone is named
 abbrev pub names_any : Whom → Bool
@@ -95,7 +95,7 @@ same_whom _ _ = false
 -- of the principals, by their numbers, just those are named that the ACE is of; nobody is named if it takes no part, and
 -- everyone if it is of everyone
 pub record IsWhom (whole : List Principal) (a : Ace) (w : Whom) : Type 0 where
-  pub within : IsWithin w (length whole)
+  pub within : IsWhomWithin w (length whole)
   pub part : takes_part a ≡ names_any w
   pub all : (takes_part a && principal_eq (principal_of a) everyone) ≡ names_all w
   pub hit : (k : ℕ) → k < length whole → is_of a (slice_index_or whole k everyone) ≡ hits w k

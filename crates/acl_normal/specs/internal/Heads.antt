@@ -1,20 +1,31 @@
 -- Heads of principals (this library's own): a number each, of which two are compared in place of two names.
-use Rattle.std.specs.Prelude.{◌≡◌, ℕ, ◌+◌, ◌*◌, ◌<◌, zero, suc, List, drop, get_or, length, take, Option, Some, None}
+use Rattle.std.specs.Prelude.{◌≡◌, ℕ, ◌+◌, ◌*◌, ◌%◌, ◌<◌, zero, suc, Bool, nat_lt, List, [], ◌∷◌, drop, get_or, length, take, Option, Some, None}
 use Rattle.acl_perm.specs.Order.{principal_name, principal_rank}
 use Rattle.acl_perm.specs.Principal.{Principal, owner, user, group, group_named, everyone, principal}
 use Rattle.acl_perm.specs.declared.principal.Principal.{Principal as PrincipalRef}
 use Rattle.acl_nfs4.specs.Ace.{Ace}
 use Rattle.acl_nfs4.specs.internal.Progress.{IsBytes}
-use Rattle.acl_normal.specs.Places.{principal_here}
+use Rattle.acl_normal.specs.internal.Places.{principal_here}
 
--- a number, and behind it so many bytes, the first of them the highest; past the last stand zeros
-abbrev pub head_from : ℕ → ℕ → List ℕ → ℕ
-head_from before zero bytes = before
-head_from before (suc n) bytes = head_from (before * 256 + get_or bytes 0 0) n (drop 1 bytes)
+-- the length of a list, or the number if that is less
+abbrev pub count_to : ℕ → List ℕ → ℕ
+count_to zero bytes = 0
+count_to (suc n) [] = 0
+count_to (suc n) (b ∷ bytes) = suc (count_to n bytes)
 
--- the rank, and behind it seven bytes of the name, without the first ones
+-- a number, behind it so many bytes, the first of them the highest, with zeros past the last, and behind them a count
+abbrev pub head_from : ℕ → ℕ → List ℕ → ℕ → ℕ
+head_from before zero bytes count = before * 256 + count
+head_from before (suc n) bytes count = head_from (before * 256 + get_or bytes 0 0) n (drop 1 bytes) count
+
+-- the rank, behind it six bytes of the name, without the first ones, and how many bytes those are, where 7 is for more
 abbrev pub principal_head : ℕ → Principal → ℕ
-principal_head common p = head_from (principal_rank p) 7 (drop common (principal_name p))
+principal_head common p =
+    head_from (principal_rank p) 6 (drop common (principal_name p)) (count_to 7 (drop common (principal_name p)))
+
+-- the head has the whole name
+abbrev pub is_whole : ℕ → Bool
+is_whole head = nat_lt (head % 256) 7
 
 -- the number is the head of the principal, whose name is of bytes
 pub record IsHeadOf (common head : ℕ) (p : Principal) : Type 0 where

@@ -16,8 +16,8 @@ abbrev pub times : ℕ → List (Reverse ℕ) → ℕ
 times n = sum_by (λ r. cond (r.0 == n) 1 0)
 
 -- the bits by number
-abbrev pub bits_of : Inside → List ℕ
-bits_of a = a.bits.items
+abbrev pub heaped_bits : Inside → List ℕ
+heaped_bits a = a.bits.items
 
 -- a heap in which each number with bits stands once, and no other
 pub record IsHeapOf (bits : List ℕ) (heap : List (Reverse ℕ)) : Type 0 where

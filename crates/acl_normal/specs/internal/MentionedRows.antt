@@ -12,8 +12,8 @@ use Rattle.acl_normal.specs.declared.comparison.mentioned.Mentions.{Mentions}
 use Rattle.acl_normal.specs.declared.comparison.standing.Whom.{Whom}
 use Rattle.acl_normal.specs.declared.comparison.standing.Whom.TheVariants.{Everyone, Nobody, One}
 use Rattle.acl_normal.specs.internal.FirstPlaces.{AreWhoms, no_ace}
-use Rattle.acl_normal.specs.internal.Rows.{is_named, row_of}
-use Rattle.acl_normal.specs.internal.SetSearch.{IsRising, principals}
+use Rattle.acl_normal.specs.internal.Rows.{is_principal_of, row_of}
+use Rattle.acl_normal.specs.internal.SetSearch.{IsRisingSet, principals}
 use Rattle.acl_normal.specs.internal.TwoLists.{TwoLists, all_mentioned}
 
 -- whom the ACE mentions, if it mentions anyone
@@ -27,7 +27,7 @@ at_row table row = option_map principal (slice_index_or table row None)
 -- a list mentions the principal, whose row this is
 pub record IsMentionedAt (xs : List Ace) (row : ℕ) (p : Principal) : Type 0 where
   pub row_is : row ≡ row_of p xs
-  pub named : is_named p xs ≡ true
+  pub named : is_principal_of p xs ≡ true
   pub mentioned : is_among p (mentioned_with [] xs) ≡ true
 
 -- by row, just the principals that the first n ACEs of a list mention, and others that it mentions
@@ -55,7 +55,7 @@ held (None ∷ table) = held table
 held (Some p ∷ table) = principal p ∷ held table
 
 -- those of the first n rows, and how many stand before each of these rows
-pub record AreNumbers (table : List (Option PrincipalRef)) (n : ℕ) (whole : List Principal) (numbers : List ℕ) :
+pub record AreMentionedNumbers (table : List (Option PrincipalRef)) (n : ℕ) (whole : List Principal) (numbers : List ℕ) :
     Type 0 where
   pub whole_is : whole ≡ held (take n table)
   pub count : length numbers ≡ n
@@ -73,7 +73,7 @@ pub record HasNumber (whole : List Principal) (p : Principal) (number : ℕ) : T
 
 -- by place, a row each, and by row the number of the principal whom the ACE mentions
 pub record AreMentionedRows (xs : List Ace) (rows : List ℕ) (whole : List Principal) (numbers : List ℕ) : Type 0 where
-  pub rising : IsRising whole
+  pub rising : IsRisingSet whole
   pub count : length rows ≡ length xs
   pub within : (i : ℕ) → i < length xs → slice_index_or rows i 0 < length numbers
   pub number : (i : ℕ) → i < length xs → is_mentioning (slice_index_or xs i no_ace) ≡ true

@@ -38,7 +38,7 @@ most_at camp side k (r ∷ standings) =
     (most_at camp side k standings)
 
 -- places within lists of this length
-pub record HasPlaces (size : ℕ) (r : Standing) : Type 0 where
+pub record IsStandingWithin (size : ℕ) (r : Standing) : Type 0 where
   pub here : r.here.place ≤ size
   pub there : r.there.place ≤ size
 

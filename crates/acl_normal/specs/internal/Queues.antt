@@ -7,7 +7,8 @@ use Rattle.std.specs.Ordering.{nat_cmp}
 use Rattle.acl_perm.specs.Bits.{has_bit}
 use Rattle.acl_perm.specs.declared.kind.Kind.{Kind}
 use Rattle.acl_nfs4.specs.Ace.{Ace}
-use Rattle.acl_normal.specs.Places.{mask_here, slot_of, waits}
+use Rattle.acl_normal.specs.Places.{waits}
+use Rattle.acl_normal.specs.internal.Places.{bit_count, mask_here, slot_count, slot_of}
 use Rattle.acl_normal.specs.internal.Remaining.{IsQueue}
 use Rattle.acl_normal.specs.declared.emit.queues.Link.{Link}
 use Rattle.acl_normal.specs.declared.emit.queues.Queues.{Queues}
@@ -44,8 +45,8 @@ place_in queues at = (link_in queues.links.items at).place
 
 -- the queues of all kinds, classes and rights
 pub record AreQueues (xs : List Ace) (queues : Queues) : Type 0 where
-  pub slots : length queues.heads.items ≡ 84
-  pub each : (k : Kind) (users : Bool) (b : ℕ) → b < 21
+  pub slots : length queues.heads.items ≡ slot_count
+  pub each : (k : Kind) (users : Bool) (b : ℕ) → b < bit_count
       → IsQueueAt k users b xs queues.links.items (head_in queues (slot_of k users b))
 
 -- the queue of a kind, a class and a bit begins where a place has the bit, or at its end
@@ -60,7 +61,7 @@ pub record MovesOn (k : Kind) (users : Bool) (b : ℕ) (xs : List Ace) (old new 
   pub others : (slot : ℕ) → slot ≢ slot_of k users b → head_in new slot ≡ head_in old slot
 
 -- a place was put at the front of the queue of a slot
-pub record Puts (place slot : ℕ) (old new : Queues) : Type 0 where
+pub record PutsPlace (place slot : ℕ) (old new : Queues) : Type 0 where
   pub links : new.links.items ≡ old.links.items ++ record { place = place; next = head_in old slot } ∷ []
   pub heads : new.heads.items ≡ slice_set old.heads.items slot (length old.links.items)
 
@@ -80,7 +81,7 @@ pub record IsNotedAt (k : Kind) (users : Bool) (b : ℕ) (xs : List Ace) (n m : 
 
 -- the queues of what is noted, where the first link is none
 pub record AreNoted (xs : List Ace) (n m : ℕ) (queues : Queues) : Type 0 where
-  pub slots : length queues.heads.items ≡ 84
+  pub slots : length queues.heads.items ≡ slot_count
   pub some : 0 < length queues.links.items
-  pub each : (k : Kind) (users : Bool) (b : ℕ) → b < 21
+  pub each : (k : Kind) (users : Bool) (b : ℕ) → b < bit_count
       → IsNotedAt k users b xs n m queues.links.items (head_in queues (slot_of k users b))

@@ -7,11 +7,12 @@ use Rattle.acl_perm.specs.Bits.{has_bit}
 use Rattle.acl_nfs4.specs.Ace.{Ace}
 use Rattle.acl_nfs4.specs.Who.{owner_name, group_name, everyone_name}
 use Rattle.acl_eval.specs.Column.{column}
+use Rattle.acl_normal.specs.internal.Places.{bit_count}
 use Rattle.acl_normal.specs.Keys.{principal_eq, Key, compare_keys, kind_eq}
 use Rattle.acl_perm.specs.Kind.{other_kind}
 use Rattle.acl_normal.specs.Normal.{is_free, flags_for}
 use Rattle.acl_normal.specs.Places.{nothing_left}
-use Rattle.acl_normal.specs.internal.Rows.{IsRowOf, is_named, key_number}
+use Rattle.acl_normal.specs.internal.Rows.{IsRowOf, is_principal_of, key_number}
 
 -- the marked bits of each key of a column
 abbrev pub Marked : Type 0
@@ -23,12 +24,12 @@ key_eq k l = principal_eq k.0 l.0 && kind_eq k.1 l.1
 
 -- what bits by number mark, where the keys are numbered by a list
 abbrev pub marks : List Ace → List ℕ → Marked
-marks outline bits k = cond (is_named k.0 outline) (slice_index_or bits (key_number k outline) 0) 0
+marks outline bits k = cond (is_principal_of k.0 outline) (slice_index_or bits (key_number k outline) 0) 0
 
 -- the number of a key whose principal the list names
 pub record IsKeyNumber (outline : List Ace) (number : ℕ) : Type 0 where
   pub key : Key
-  pub named : is_named key.0 outline ≡ true
+  pub named : is_principal_of key.0 outline ≡ true
   pub is : number ≡ key_number key outline
 
 -- bits by number have room for the keys of a list, and only those have some
@@ -43,7 +44,7 @@ pub record IsLeastReady (bits : List ℕ) (number found : ℕ) : Type 0 where
   pub least : (n : ℕ) → slice_index_or bits n 0 ≢ 0 → number ≤ n
 
 -- a bit of a key was marked
-pub record Adds (k : Key) (bit : ℕ) (old new : Marked) : Type 0 where
+pub record AddsMark (k : Key) (bit : ℕ) (old new : Marked) : Type 0 where
   pub bits : (l : Key) (b : ℕ) → has_bit (new l) b ≡ (has_bit (old l) b || (key_eq l k && (b == bit)))
 
 -- only free bits were added
@@ -61,7 +62,7 @@ pub record Enters (kind : Kind) (users : Bool) (bit : ℕ) (xs : List Ace) (old 
 -- all of the other kind that overlap the key are there, at some bits
 pub record Frees (k : Key) (bits : ℕ) (xs : List Ace) (old new : Marked) : Type 0 where
   pub grows : Grows xs old new
-  pub all : (q : Principal) (b : ℕ) → b < 21 → has_bit bits b ≡ true → (is_user k.0 && is_user q) ≡ false
+  pub all : (q : Principal) (b : ℕ) → b < bit_count → has_bit bits b ≡ true → (is_user k.0 && is_user q) ≡ false
       → is_free (column xs b) (q, other_kind k.1) ≡ true → has_bit (new (q, other_kind k.1)) b ≡ true
 
 -- what is marked is what is free
@@ -76,7 +77,7 @@ pub record Popped (old : Marked) (k : Key) (bits : ℕ) (new : Marked) : Type 0 
   pub least : (l : Key) → old l ≢ 0 → is_le (compare_keys k l) ≡ true
 
 -- the least of the marked keys was taken, with its bits, and it is a key of that row
-pub record Takes (xs : List Ace) (old new : List ℕ) (row : ℕ) (k : Key) (bits : ℕ) : Type 0 where
+pub record TakesBits (xs : List Ace) (old new : List ℕ) (row : ℕ) (k : Key) (bits : ℕ) : Type 0 where
   pub at_row : IsRowOf row k.0 xs
   pub popped : Popped (marks (nothing_left xs) old) k bits (marks (nothing_left xs) new)
   pub fits : FitsKeys (nothing_left xs) new

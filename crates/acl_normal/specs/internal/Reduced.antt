@@ -4,7 +4,9 @@ use Rattle.acl_perm.specs.Bits.{all_rights, has_bit}
 use Rattle.acl_eval.specs.Column.{column}
 use Rattle.acl_eval.specs.Grant.{SameGrants}
 use Rattle.acl_nfs4.specs.Ace.{Ace}
-use Rattle.acl_normal.specs.Left.{IsTidy, KeepsFirsts, left}
+use Rattle.acl_normal.specs.internal.Places.{bit_count}
+use Rattle.acl_normal.specs.Left.{KeepsFirsts, left}
+use Rattle.acl_normal.specs.internal.Tidy.{IsTidy}
 use Rattle.acl_normal.specs.Normal.{IsIrreducibleList}
 use Rattle.acl_normal.specs.Places.{nothing_left}
 use Rattle.acl_normal.specs.internal.Plain.{reduced}
@@ -19,6 +21,6 @@ pub record IsThinned (source list : List Ace) : Type 0 where
 pub record IsReducedOf (source list : List Ace) : Type 0 where
   pub thinned : IsThinned source list
   pub rights : (b : ℕ) → has_bit all_rights b ≡ false → column list b ≡ []
-  pub columns : (b : ℕ) → b < 21 → column list b ≡ reduced (column source b)
+  pub columns : (b : ℕ) → b < bit_count → column list b ≡ reduced (column source b)
   pub grants : SameGrants all_rights source list
   pub irreducible : IsIrreducibleList (left list)

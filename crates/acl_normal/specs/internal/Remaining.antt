@@ -8,9 +8,10 @@ use Rattle.acl_perm.specs.Bits.{all_rights, has_bit}
 use Rattle.acl_perm.specs.declared.kind.Kind.{Kind}
 use Rattle.acl_nfs4.specs.Ace.{Ace}
 use Rattle.acl_eval.specs.Column.{column}
-use Rattle.acl_normal.specs.Left.{IsTidy}
-use Rattle.acl_normal.specs.internal.Shown.{bits_in, with_masks}
-use Rattle.acl_normal.specs.Places.{mask_here, waits}
+use Rattle.acl_normal.specs.internal.Tidy.{IsTidy}
+use Rattle.acl_normal.specs.internal.Shown.{mask_numbers, with_masks}
+use Rattle.acl_normal.specs.Places.{waits}
+use Rattle.acl_normal.specs.internal.Places.{mask_here}
 use Rattle.acl_normal.specs.internal.Rows.{AreRowNumbers, IsByPrincipal}
 use Rattle.acl_normal.specs.declared.rows.remaining.Remaining.TheInside.{Inside}
 
@@ -23,7 +24,7 @@ masks_left (m ∷ masks) (r ∷ rows) left = bit_and m (slice_index_or left r 0)
 -- the keys with the masks that are left of them
 abbrev pub remaining_of : Inside → List Ace
 remaining_of a =
-    with_masks a.aces.items (masks_left (bits_in a.masks.items) a.rows.items (bits_in a.left.items))
+    with_masks a.aces.items (masks_left (mask_numbers a.masks.items) a.rows.items (mask_numbers a.left.items))
 
 -- the places, in order, are those of ACEs of the kind and the class; all that wait with the bit are among them, and of
 -- these each waits whose mask still has the bit

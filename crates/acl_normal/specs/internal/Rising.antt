@@ -5,7 +5,7 @@ use Rattle.acl_nfs4.specs.Ace.{Ace}
 use Rattle.acl_nfs4.specs.Who.{principal_of}
 use Rattle.acl_normal.specs.Keys.{ace_key, compare_keys}
 use Rattle.acl_normal.specs.Normal.{flags_for}
-use Rattle.acl_normal.specs.Places.{key_here, mask_here}
+use Rattle.acl_normal.specs.internal.Places.{key_here, mask_here}
 use Rattle.acl_normal.specs.internal.Rows.{key_number}
 
 -- each key is less than those behind it

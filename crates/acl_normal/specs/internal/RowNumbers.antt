@@ -1,5 +1,5 @@
 -- Rows of principals by number (this library's own): what is sorted for them.
-use Rattle.std.specs.Prelude.{◌≡◌, ℕ, ◌+◌, ◌<◌, zero, suc, false, List, [], ◌∷◌, length, map}
+use Rattle.std.specs.Prelude.{◌≡◌, ℕ, ◌+◌, ◌<◌, zero, suc, false, if◌then◌else◌, List, [], ◌∷◌, length, map}
 use Rattle.std.specs.List.{Contains}
 use Rattle.std.specs.List.Sorted.{IsPermutation, IsSortedByKey}
 use Rattle.std.specs.Cmp.Lexicographic.{slice_cmp}
@@ -9,7 +9,8 @@ use Rattle.acl_perm.specs.Order.{principal_cmp}
 use Rattle.acl_perm.specs.Principal.{Principal}
 use Rattle.acl_nfs4.specs.Ace.{Ace}
 use Rattle.acl_nfs4.specs.Who.{principal_of}
-use Rattle.acl_normal.specs.Places.{principal_here}
+use Rattle.acl_normal.specs.internal.Places.{principal_here}
+use Rattle.acl_normal.specs.internal.Heads.{is_whole}
 use Rattle.acl_normal.specs.declared.rows.numbers.HeadedPlace.{HeadedPlace}
 
 -- no ACE names a principal below that of the one before it
@@ -37,14 +38,18 @@ who_here [] i = []
 who_here (a ∷ xs) zero = a.who
 who_here (a ∷ xs) (suc i) = who_here xs i
 
+-- the who of the ACE at a place, and no bytes if the head has the whole name
+abbrev pub tail_here : List Ace → HeadedPlace → List ℕ
+tail_here xs n = if is_whole n.head then [] else who_here xs n.place
+
 -- of two places, that with the lesser head is of an ACE that names the lesser principal, and where the heads are the
--- same, the whos say how the principals stand to each other
+-- same, what they leave of the whos says how the principals stand to each other
 pub record DoHeadsTell (xs : List Ace) (places : List HeadedPlace) : Type 0 where
   pub lesser : (m n : HeadedPlace) → Contains places m → Contains places n → m.head < n.head
       → principal_cmp (principal_here xs m.place) (principal_here xs n.place) ≡ Less
   pub same : (m n : HeadedPlace) → Contains places m → Contains places n → m.head ≡ n.head
       → principal_cmp (principal_here xs m.place) (principal_here xs n.place)
-      ≡ slice_cmp nat_cmp (who_here xs m.place) (who_here xs n.place)
+      ≡ slice_cmp nat_cmp (tail_here xs m) (tail_here xs n)
 
 -- each place in turn, with a head
 pub record AreHeaded (xs : List Ace) (places : List HeadedPlace) : Type 0 where

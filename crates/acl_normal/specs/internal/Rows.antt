@@ -6,12 +6,13 @@ use Rattle.acl_perm.specs.Principal.{Principal}
 use Rattle.acl_nfs4.specs.Ace.{Ace}
 use Rattle.acl_nfs4.specs.Who.{principal_of}
 use Rattle.acl_normal.specs.Keys.{Key, principal_eq}
-use Rattle.acl_normal.specs.Places.{first_at, key_here}
+use Rattle.acl_normal.specs.Places.{first_at}
+use Rattle.acl_normal.specs.internal.Places.{key_here}
 
 -- an ACE of the list names the principal
-abbrev pub is_named : Principal → List Ace → Bool
-is_named p [] = false
-is_named p (a ∷ xs) = principal_eq (principal_of a) p || is_named p xs
+abbrev pub is_principal_of : Principal → List Ace → Bool
+is_principal_of p [] = false
+is_principal_of p (a ∷ xs) = principal_eq (principal_of a) p || is_principal_of p xs
 
 -- the number of a principal's row: how many ACEs of the list name a principal below it
 abbrev pub row_of : Principal → List Ace → ℕ
@@ -24,11 +25,11 @@ key_number k xs = 2 * row_of k.0 xs + kind_rank k.1
 
 -- if a key of the list has the number, it is this
 abbrev pub IsNumberOf : List Ace → ℕ → Key → Type 0
-IsNumberOf xs number found = (k : Key) → is_named k.0 xs ≡ true → number ≡ key_number k xs → found ≡ k
+IsNumberOf xs number found = (k : Key) → is_principal_of k.0 xs ≡ true → number ≡ key_number k xs → found ≡ k
 
 -- the principal is named, and this is its row
 pub record IsRowOf (row : ℕ) (p : Principal) (xs : List Ace) : Type 0 where
-  pub named : is_named p xs ≡ true
+  pub named : is_principal_of p xs ≡ true
   pub is : row ≡ row_of p xs
 
 -- by place, the row of the principal that the ACE names
@@ -44,7 +45,7 @@ pub record IsByPrincipal (xs : List Ace) (order : List ℕ) : Type 0 where
       → is_le (principal_cmp (key_here xs (slice_index_or order i 0)).0
       (key_here xs (slice_index_or order j 0)).0) ≡ true
   -- the row of each principal begins with it
-  pub first : (p : Principal) → is_named p xs ≡ true → (key_here xs (slice_index_or order (row_of p xs) 0)).0 ≡ p
+  pub first : (p : Principal) → is_principal_of p xs ≡ true → (key_here xs (slice_index_or order (row_of p xs) 0)).0 ≡ p
   -- and all places that name it stand from there on
   pub whole : (i : ℕ) → i < length xs
       → (k : ℕ) × (row_of (key_here xs i).0 xs ≤ k) × (k < length xs) × (slice_index_or order k 0 ≡ i)

@@ -17,9 +17,9 @@ abbrev pub principals : List PrincipalRef → List Principal
 principals names = map principal names
 
 -- each is below those after it
-abbrev pub IsRising : List Principal → Type 0
-IsRising [] = Unit {0}
-IsRising (p ∷ rest) = AllByRecursion (λ q. principal_cmp p q ≡ Less) rest × IsRising rest
+abbrev pub IsRisingSet : List Principal → Type 0
+IsRisingSet [] = Unit {0}
+IsRisingSet (p ∷ rest) = AllByRecursion (λ q. principal_cmp p q ≡ Less) rest × IsRisingSet rest
 
 -- what the list grants where just these principals match, and everyone
 abbrev pub is_granted_to : List Ace → List Principal → ℕ → Bool
@@ -38,7 +38,7 @@ FindsFirst list other (set ∷ sets) found = (GrantAlikeTo list other set × Fin
 
 -- what `FindsFirst` says, as a record, which stays one fact where the sets are known and `FindsFirst` unfolds into its
 -- cases
-pub record Finds (list other : List Ace) (sets : List (List Principal)) (found : Option (List Principal)) : Type 0 where
+pub record FindsSet (list other : List Ace) (sets : List (List Principal)) (found : Option (List Principal)) : Type 0 where
   pub first : FindsFirst list other sets found
 
 -- the bits of an ACE that takes part, if its principal is of the set or everyone
@@ -52,7 +52,7 @@ differ true b = not b
 differ false b = b
 
 -- the rights that the list grants where just these principals match, and everyone
-pub record AreGranted (list : List Ace) (set : List Principal) (mask : ℕ) : Type 0 where
+pub record IsGrantedTo (list : List Ace) (set : List Principal) (mask : ℕ) : Type 0 where
   pub bits : (bit : ℕ) → has_bit mask bit ≡ is_granted_to list set bit
 
 -- the rights on which the lists differ there

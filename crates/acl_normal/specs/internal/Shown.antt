@@ -9,8 +9,8 @@ abbrev pub aces_in : List AceRef → List Ace
 aces_in = map ace
 
 -- the masks as numbers
-abbrev pub bits_in : List Mask → List ℕ
-bits_in = map (λ m. m.bits)
+abbrev pub mask_numbers : List Mask → List ℕ
+mask_numbers = map (λ m. m.bits)
 
 -- the ACEs with the masks that are left of them
 abbrev pub with_masks : List AceRef → List ℕ → List Ace

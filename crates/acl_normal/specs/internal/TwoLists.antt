@@ -5,11 +5,11 @@ use Rattle.acl_nfs4.specs.Ace.{Ace}
 use Rattle.acl_perm.specs.Principal.{Principal, everyone}
 use Rattle.acl_perm.specs.Situation.{Situation}
 use Rattle.acl_normal.specs.Difference.{situation_of}
-use Rattle.acl_normal.specs.Normal.{HasNames}
+use Rattle.acl_normal.specs.internal.Tidy.{HasNames}
 use Rattle.acl_normal.specs.SmallSets.{mentioned, small_sets, strange_length}
 use Rattle.acl_normal.specs.SmallSituations.{small_situation}
 use Rattle.acl_normal.specs.internal.FirstPlaces.{AlikeAlone, AlikeWith, AlikeWithAll, AreStandings, IsLeast, OnAll}
-use Rattle.acl_normal.specs.internal.SetSearch.{Finds, GrantAlikeTo, IsLowestDifference}
+use Rattle.acl_normal.specs.internal.SetSearch.{FindsSet, GrantAlikeTo, IsLowestDifference}
 use Rattle.acl_normal.specs.declared.comparison.Difference.{Difference}
 use Rattle.acl_normal.specs.declared.comparison.standing.Standing.{Standing}
 
@@ -89,7 +89,7 @@ IsFirstPartner both at least = IsLeast (OnAll (AlikeToPair both at)) (length (la
 
 -- what is found is the first small set at which the lists grant otherwise, if there is one
 abbrev pub FindSet : TwoLists → Option (List Principal) → Type 0
-FindSet both found = Finds both.first both.second (small_sets (all_mentioned both)) found
+FindSet both found = FindsSet both.first both.second (small_sets (all_mentioned both)) found
 
 -- the small situation of a set of the mentioned principals
 abbrev pub situation_at : TwoLists → List Principal → Situation

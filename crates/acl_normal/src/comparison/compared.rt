@@ -8,7 +8,7 @@ ghost use Rattle.acl_normal.specs.internal.Shown.{aces_in};
 ghost use Rattle.acl_normal.specs.internal.CodeSets.{set_of};
 ghost use Rattle.acl_normal.specs.internal.Members.{AreNumbered, members_of};
 ghost use Rattle.acl_normal.specs.internal.MentionedRows.{AreMentioned};
-ghost use Rattle.acl_normal.specs.internal.SetSearch.{AreGranted};
+ghost use Rattle.acl_normal.specs.internal.SetSearch.{IsGrantedTo};
 ghost use Rattle.acl_normal.specs.internal.TwoLists.{AreAlikeTo, AreWithin, HaveSameColumn, StandAs, all_mentioned, principal_at, two_lists};
 
 use super::apart::rights_apart;
@@ -72,6 +72,18 @@ impl<'a, 'b> Compared<'a, 'b> {
         }
     }
 
+    /// The small set of the principals of some numbers.
+    pub(crate) fn set(&self, members: Members) -> SmallSet<'a>
+        requires { AreNumbered (all_mentioned self.now) members }
+        ensures { set_of result ≡ members_of (all_mentioned self.now) members }
+    {
+        match members {
+            Members::Nobody => SmallSet::Empty,
+            Members::One(i) => SmallSet::One(self.principal(i)),
+            Members::Two(i, j) => SmallSet::Two(self.principal(i), self.principal(j)),
+        }
+    }
+
     /// How many principals the lists mention.
     pub(crate) fn count(&self) -> usize
         ensures { result ≡ length (all_mentioned self.now) }
@@ -96,42 +108,12 @@ impl<'a, 'b> Compared<'a, 'b> {
         self.first.len().max(self.second.len())
     }
 
-    /// The small set of the principals of some numbers.
-    pub(crate) fn set(&self, members: Members) -> SmallSet<'a>
-        requires { AreNumbered (all_mentioned self.now) members }
-        ensures { set_of result ≡ members_of (all_mentioned self.now) members }
-    {
-        match members {
-            Members::Nobody => SmallSet::Empty,
-            Members::One(i) => SmallSet::One(self.principal(i)),
-            Members::Two(i, j) => SmallSet::Two(self.principal(i), self.principal(j)),
-        }
-    }
-
     /// Whether the lists may differ on a right. Where they can't, they have the same ACEs with it.
     pub(crate) fn may_differ(&self, right: Bit) -> bool
         ensures right { result ≡ true → has_bit all_rights right.bit ≡ true }
         ensures same { result ≡ false → HaveSameColumn self.now right.bit }
     {
         right.is_in(self.apart)
-    }
-
-    /// The rights that the first list grants where just the principals of some numbers match, and everyone.
-    pub(crate) fn granted_by_first(&self, members: Members) -> Mask
-        requires { AreNumbered (all_mentioned self.now) members }
-        ensures { AreGranted self.now.first
-            (members_of (all_mentioned self.now) members) result.bits }
-    {
-        granted_to(self.first, self.first_whoms, members)
-    }
-
-    /// The same of the second list.
-    pub(crate) fn granted_by_second(&self, members: Members) -> Mask
-        requires { AreNumbered (all_mentioned self.now) members }
-        ensures { AreGranted self.now.second
-            (members_of (all_mentioned self.now) members) result.bits }
-    {
-        granted_to(self.second, self.second_whoms, members)
     }
 
     /// Whether the lists grant alike where everyone matches, and no principal that they mention.
@@ -146,6 +128,24 @@ impl<'a, 'b> Compared<'a, 'b> {
         )
         .bits()
             == 0
+    }
+
+    /// The rights that the first list grants where just the principals of some numbers match, and everyone.
+    pub(crate) fn granted_by_first(&self, members: Members) -> Mask
+        requires { AreNumbered (all_mentioned self.now) members }
+        ensures { IsGrantedTo self.now.first
+            (members_of (all_mentioned self.now) members) result.bits }
+    {
+        granted_to(self.first, self.first_whoms, members)
+    }
+
+    /// The same of the second list.
+    pub(crate) fn granted_by_second(&self, members: Members) -> Mask
+        requires { AreNumbered (all_mentioned self.now) members }
+        ensures { IsGrantedTo self.now.second
+            (members_of (all_mentioned self.now) members) result.bits }
+    {
+        granted_to(self.second, self.second_whoms, members)
     }
 
     /// Where each principal stands in both lists, on a right.

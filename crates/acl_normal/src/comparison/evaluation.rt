@@ -9,7 +9,7 @@ ghost use Rattle.acl_normal.specs.internal.Shown.{aces_in};
 ghost use Rattle.acl_normal.specs.internal.CodeSets.{set_of};
 ghost use Rattle.acl_normal.specs.internal.FirstPlaces.{AreWhoms};
 ghost use Rattle.acl_normal.specs.internal.Members.{AreNumbered, is_matched, members_of};
-ghost use Rattle.acl_normal.specs.internal.SetSearch.{AreGranted, AreRightsOf, GrantAlikeTo, HasBitsOf, IsLowestBit, differ};
+ghost use Rattle.acl_normal.specs.internal.SetSearch.{IsGrantedTo, AreRightsOf, GrantAlikeTo, HasBitsOf, IsLowestBit, differ};
 
 use super::members::Members;
 use super::small_set::SmallSet;
@@ -37,7 +37,7 @@ pub(crate) fn unlike(here: Mask, there: Mask) -> Mask
 
 /// The rights that a list grants where just the principals of a set match, and everyone.
 pub(crate) fn granted(list: &[AceRef<'_>], set: SmallSet<'_>) -> Mask
-    ensures { AreGranted (aces_in list.now) (set_of set.entry) result.bits }
+    ensures { IsGrantedTo (aces_in list.now) (set_of set.entry) result.bits }
 {
     let mut decided = Mask::NONE;
     let mut granted = Mask::NONE;
@@ -56,7 +56,7 @@ pub(crate) fn granted(list: &[AceRef<'_>], set: SmallSet<'_>) -> Mask
 pub(crate) fn granted_to(list: &[AceRef<'_>], whoms: &[Whom], set: Members) -> Mask
     requires { length whoms.now ≡ length list.now }
     ensures { (whole : List Principal) → AreWhoms whole (aces_in list.now) whoms.now
-        → AreNumbered whole set → AreGranted (aces_in list.now) (members_of whole set) result.bits }
+        → AreNumbered whole set → IsGrantedTo (aces_in list.now) (members_of whole set) result.bits }
 {
     let mut decided = Mask::NONE;
     let mut granted = Mask::NONE;

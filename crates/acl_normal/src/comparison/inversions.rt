@@ -1,9 +1,9 @@
-//! Which principals two lists name in opposite orders, told by tables in place of going over all pairs.
+//! Which principals two lists name in opposite orders, found by tables instead of a test of each pair.
 ghost use Rattle.std.specs.Prelude.{◌≡◌, ◌&&◌, ◌+◌, ◌<◌, ◌≤◌, ◌^◌, IfOk, length, not, true, vec_len};
 ghost use Rattle.std.specs.List.{AllByRecursion};
 ghost use Rattle.acl_normal.specs.internal.Classes.{is_users};
 ghost use Rattle.acl_normal.specs.internal.FirstPlaces.{IsFirstInverted, IsFirstInverting, IsFirstUnlike, inverts};
-ghost use Rattle.acl_normal.specs.internal.PlaceTables.{HasNone, HasPlaces, IsFirstOf, IsScattered, IsPlaceTable, Raises, is_counted, is_of_camp, is_told, other_place, place_of};
+ghost use Rattle.acl_normal.specs.internal.PlaceTables.{HasNone, IsStandingWithin, IsFirstOf, IsScattered, IsPlaceTable, Raises, is_counted, is_of_camp, is_told, other_place, place_of};
 
 use super::standing::Standing;
 use crate::class::Class;
@@ -32,7 +32,7 @@ pub(crate) fn first_inverting(
     limit: usize,
 ) -> Result<usize, AllocError>
     requires limit { limit ≤ length standings.now }
-    requires places { AllByRecursion (HasPlaces size) standings.now }
+    requires places { AllByRecursion (IsStandingWithin size) standings.now }
     requires size { size < 2 ^ 63 }
     ensures { IfOk result (IsFirstInverting standings.now limit) }
 {
@@ -51,7 +51,7 @@ fn first_of(
     camp: Camp,
 ) -> Result<usize, AllocError>
     requires limit { limit ≤ length standings.now }
-    requires places { AllByRecursion (HasPlaces size) standings.now }
+    requires places { AllByRecursion (IsStandingWithin size) standings.now }
     requires size { size < 2 ^ 63 }
     ensures { IfOk result (λ v. IsFirstOf camp standings.now limit v) }
 {
@@ -78,14 +78,6 @@ fn is_empty_camp(standings: &[Standing], camp: Camp) -> bool
         }
     }
     true
-}
-
-// Whether a principal is of a camp.
-fn is_of_camp(standing: Standing, camp: Camp) -> bool
-    ensures { result ≡ is_of_camp camp standing }
-{
-    standing.here.allows() == camp.kind.is_allow()
-        && standing.class.is_users() == camp.class.is_users()
 }
 
 /// A camp of principals: those of a class whose first ACE is of a kind.
@@ -126,7 +118,7 @@ fn table(
     camp: Camp,
     side: Side,
 ) -> Result<Vec<usize>, AllocError>
-    requires places { AllByRecursion (HasPlaces size) standings.now }
+    requires places { AllByRecursion (IsStandingWithin size) standings.now }
     requires size { size < 2 ^ 63 }
     ensures { IfOk result (λ v. IsPlaceTable camp side size standings.now v.items) }
 {
@@ -155,7 +147,7 @@ fn scattered(
     camp: Camp,
     side: Side,
 ) -> Result<Vec<usize>, AllocError>
-    requires places { AllByRecursion (HasPlaces size) standings.now }
+    requires places { AllByRecursion (IsStandingWithin size) standings.now }
     requires size { size < 2 ^ 63 }
     ensures { IfOk result (λ v. IsScattered camp side size standings.now v.items) }
 {
@@ -216,6 +208,14 @@ fn is_told(standing: Standing, camp: Camp, forward: &[usize], back: &[usize]) ->
     is_of_camp(standing, camp)
         && (standing.there.place < forward[standing.here.place]
             || standing.here.place < back[standing.there.place])
+}
+
+// Whether a principal is of a camp.
+fn is_of_camp(standing: Standing, camp: Camp) -> bool
+    ensures { result ≡ is_of_camp camp standing }
+{
+    standing.here.allows() == camp.kind.is_allow()
+        && standing.class.is_users() == camp.class.is_users()
 }
 
 /// The first of the others, below a limit, that the principal inverts.

@@ -13,17 +13,6 @@ pub(crate) enum Members {
 }
 
 impl Members {
-    // Whether the principal of a number is of the set.
-    fn has(self, number: usize) -> bool
-        ensures { result ≡ has_number self number }
-    {
-        match self {
-            Members::Nobody => false,
-            Members::One(i) => i == number,
-            Members::Two(i, j) => i == number || j == number,
-        }
-    }
-
     /// Whether an ACE names a principal of the set, or everyone.
     pub(crate) fn matches(self, whom: Whom) -> bool
         ensures { result ≡ is_matched self whom }
@@ -32,6 +21,17 @@ impl Members {
             Whom::Nobody => false,
             Whom::One(number) => self.has(number),
             Whom::Everyone => true,
+        }
+    }
+
+    // Whether the principal of a number is of the set.
+    fn has(self, number: usize) -> bool
+        ensures { result ≡ has_number self number }
+    {
+        match self {
+            Members::Nobody => false,
+            Members::One(i) => i == number,
+            Members::Two(i, j) => i == number || j == number,
         }
     }
 }

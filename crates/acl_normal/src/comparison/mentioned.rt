@@ -6,7 +6,7 @@ ghost use Rattle.acl_nfs4.specs.Ace.{ace};
 ghost use Rattle.acl_normal.specs.SmallSets.{longest};
 ghost use Rattle.acl_normal.specs.internal.Shown.{aces_in};
 ghost use Rattle.acl_normal.specs.internal.FirstPlaces.{AreWhoms};
-ghost use Rattle.acl_normal.specs.internal.MentionedRows.{AreByRow, AreMentioned, AreMentionedRows, AreMentionsOf, AreNumbers, mentioned_by, noted, whom_of, with_found};
+ghost use Rattle.acl_normal.specs.internal.MentionedRows.{AreByRow, AreMentioned, AreMentionedRows, AreMentionsOf, AreMentionedNumbers, mentioned_by, noted, whom_of, with_found};
 ghost use Rattle.acl_normal.specs.internal.Rows.{AreRowNumbers};
 ghost use Rattle.acl_normal.specs.internal.SamePlaces.{with_copies};
 ghost use Rattle.acl_normal.specs.internal.SetSearch.{principals};
@@ -126,7 +126,7 @@ fn mentioned_by<'a>(item: &AceRef<'a>) -> Option<Principal<'a>>
 
 // The principals of a table, by number.
 fn numbers_of<'a>(alloc: Global, table: &[Option<Principal<'a>>]) -> Result<Numbers<'a>, AllocError>
-    ensures { IfOk result (λ n. AreNumbers table.now (length table.now)
+    ensures { IfOk result (λ n. AreMentionedNumbers table.now (length table.now)
         (principals n.whole.items) n.by_row.items) }
 {
     let mut whole = Vec::new(alloc);

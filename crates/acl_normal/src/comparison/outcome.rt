@@ -5,7 +5,7 @@ ghost use Rattle.acl_normal.specs.Difference.{IsComparison};
 ghost use Rattle.acl_normal.specs.SmallSets.{strange_length};
 ghost use Rattle.acl_normal.specs.internal.CodeSets.{set_of, set_or_none};
 ghost use Rattle.acl_normal.specs.internal.Members.{AreNumbered, members_of, members_or_none};
-ghost use Rattle.acl_normal.specs.internal.SetSearch.{AreGranted};
+ghost use Rattle.acl_normal.specs.internal.SetSearch.{IsGrantedTo};
 ghost use Rattle.acl_normal.specs.internal.TwoLists.{AreAlikeTo, AreNamed, DifferLowestOn, FindSet, ShowsSituation, all_mentioned, situation_at};
 
 use super::Difference;
@@ -19,41 +19,6 @@ use acl_perm::Mask;
 use std::alloc::{AllocError, Global};
 
 impl Compared<'_, '_> {
-    // The length of the names of strangers: more than that of any name that the lists mention.
-    fn strange_length(&self) -> usize
-        ensures { result ≡ strange_length self.now.first self.now.second }
-    {
-        longest_of(self.mentioned) + 1
-    }
-
-    // The small situation of a set at which the lists grant otherwise, and the lowest right on which they do, by what
-    // each of them grants there.
-    fn difference_at(
-        &self,
-        alloc: Global,
-        set: SmallSet<'_>,
-        here: Mask,
-        there: Mask,
-    ) -> Result<Difference, AllocError>
-        requires differ { AreAlikeTo self.now (set_of set) → ⊥ }
-        requires named { IsSituation (situation_at self.now (set_of set)) }
-        requires here { AreGranted self.now.first (set_of set) here.bits }
-        requires there { AreGranted self.now.second (set_of set) there.bits }
-        ensures situation { IfOk result (ShowsSituation self.now (set_of set.entry)) }
-        ensures bit { IfOk result (DifferLowestOn self.now (set_of set.entry)) }
-    {
-        let n = self.strange_length();
-        let bit = lowest(unlike(here, there));
-        Ok(Difference {
-            owner: owner_in(alloc, set, n)?,
-            group: owning_group_in(alloc, set, n)?,
-            user: user_in(alloc, set, n)?,
-            groups: groups_in(alloc, set, n)?,
-            bit,
-            first_grants: here.contains(bit),
-        })
-    }
-
     /// What a comparison tells, by the first small set at which the lists grant otherwise.
     pub(crate) fn difference(
         &self,
@@ -93,5 +58,40 @@ impl Compared<'_, '_> {
                 Ok(Some(self.difference_at(alloc, self.set(members), here, there)?))
             }
         }
+    }
+
+    // The small situation of a set at which the lists grant otherwise, and the lowest right on which they do, by what
+    // each of them grants there.
+    fn difference_at(
+        &self,
+        alloc: Global,
+        set: SmallSet<'_>,
+        here: Mask,
+        there: Mask,
+    ) -> Result<Difference, AllocError>
+        requires differ { AreAlikeTo self.now (set_of set) → ⊥ }
+        requires named { IsSituation (situation_at self.now (set_of set)) }
+        requires here { IsGrantedTo self.now.first (set_of set) here.bits }
+        requires there { IsGrantedTo self.now.second (set_of set) there.bits }
+        ensures situation { IfOk result (ShowsSituation self.now (set_of set.entry)) }
+        ensures bit { IfOk result (DifferLowestOn self.now (set_of set.entry)) }
+    {
+        let n = self.strange_length();
+        let bit = lowest(unlike(here, there));
+        Ok(Difference {
+            owner: owner_in(alloc, set, n)?,
+            group: owning_group_in(alloc, set, n)?,
+            user: user_in(alloc, set, n)?,
+            groups: groups_in(alloc, set, n)?,
+            bit,
+            first_grants: here.contains(bit),
+        })
+    }
+
+    // The length of the names of strangers: more than that of any name that the lists mention.
+    fn strange_length(&self) -> usize
+        ensures { result ≡ strange_length self.now.first self.now.second }
+    {
+        longest_of(self.mentioned) + 1
     }
 }

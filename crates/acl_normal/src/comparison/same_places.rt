@@ -1,5 +1,5 @@
-//! Where a list names the same as another does, looked for near the place that was found before. Lists that are compared
-//! mostly name the same in nearly the same order, and then only one of them is sorted.
+//! Where a list names the same as another does. Each search begins near the place that was found before: lists that are
+//! compared mostly name the same in nearly the same order, and then only one of them is sorted.
 ghost use Rattle.std.specs.Prelude.{◌≡◌, IfOk, IfSome, length, true};
 ghost use Rattle.acl_normal.specs.internal.SamePlaces.{ArePlacesOf, HasSameWho, HaveOneWho};
 

@@ -1,5 +1,5 @@
-//! The search for the first small set at which two lists grant otherwise. To go over all pairs of principals would take
-//! time in the square of them, so one of the pair is found first, and then the other.
+//! The search for the first small set for which two lists differ. A test of each pair of principals would take time in
+//! the square of their number, so the search finds one of the pair first, and then the other.
 ghost use Rattle.std.specs.Prelude.{◌<◌, IfOk, IfSome, length};
 ghost use Rattle.acl_normal.specs.internal.Members.{AreNumbered, members_or_none};
 ghost use Rattle.acl_normal.specs.internal.TwoLists.{AreAlikeAlone, FindSet, IsFirstMember, IsFirstPartner, IsFirstSingle, all_mentioned};
@@ -11,6 +11,29 @@ use acl_perm::internal::Bit;
 use std::alloc::{AllocError, Global};
 
 impl Compared<'_, '_> {
+    /// The first small set at which the lists differ. The first pair has as its lesser member the least principal of
+    /// any pair at which they differ, whether the other comes before or behind it, and the least later one as the
+    /// other.
+    pub(crate) fn first_set(&self, alloc: Global) -> Result<Option<Members>, AllocError>
+        ensures found { IfOk result (λ r.
+            FindSet self.now (members_or_none (all_mentioned self.now) r)) }
+        ensures within { IfOk result (λ r. IfSome r (AreNumbered (all_mentioned self.now))) }
+    {
+        if !self.grant_strangers_alike() {
+            return Ok(Some(Members::Nobody));
+        }
+        let single = self.least_single(alloc)?;
+        if single < self.count() {
+            return Ok(Some(Members::One(single)));
+        }
+        let member = self.least_member(alloc)?;
+        if member == self.count() {
+            return Ok(None);
+        }
+        let partner = self.least_partner(alloc, member)?;
+        Ok(Some(Members::Two(member, member + 1 + partner)))
+    }
+
     // The first principal at which alone the lists differ, or the number of principals.
     #[tactic(auto, using(crate::proofs::comparison::RowFacts::least_start))]
     fn least_single(&self, alloc: Global) -> Result<usize, AllocError>
@@ -62,28 +85,5 @@ impl Compared<'_, '_> {
             }
         }
         Ok(least)
-    }
-
-    /// The first small set at which the lists differ. The first pair has as its lesser member the least principal of
-    /// any pair at which they differ, whether the other comes before or behind it, and the least later one as the
-    /// other.
-    pub(crate) fn first_set(&self, alloc: Global) -> Result<Option<Members>, AllocError>
-        ensures found { IfOk result (λ r.
-            FindSet self.now (members_or_none (all_mentioned self.now) r)) }
-        ensures within { IfOk result (λ r. IfSome r (AreNumbered (all_mentioned self.now))) }
-    {
-        if !self.grant_strangers_alike() {
-            return Ok(Some(Members::Nobody));
-        }
-        let single = self.least_single(alloc)?;
-        if single < self.count() {
-            return Ok(Some(Members::One(single)));
-        }
-        let member = self.least_member(alloc)?;
-        if member == self.count() {
-            return Ok(None);
-        }
-        let partner = self.least_partner(alloc, member)?;
-        Ok(Some(Members::Two(member, member + 1 + partner)))
     }
 }

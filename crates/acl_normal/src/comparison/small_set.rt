@@ -15,15 +15,15 @@ pub(crate) enum SmallSet<'a> {
     Two(Principal<'a>, Principal<'a>),
 }
 
-// Whether both are one principal.
-#[tactic(auto, using(crate::proofs::comparison::SameTests::same_test))]
-pub(crate) fn is_same(p: Principal<'_>, q: Principal<'_>) -> bool
-    ensures { result ≡ principal_eq (principal p.entry) (principal q.entry) }
-{
-    p == q
-}
-
 impl<'a> SmallSet<'a> {
+    /// Whether the principal is of the set, or everyone.
+    #[tactic(auto, using(crate::proofs::unique::Names::everyone_test))]
+    pub(crate) fn matches(self, p: Principal<'_>) -> bool
+        ensures { result ≡ is_among (principal p.entry) (everyone ∷ set_of self.entry) }
+    {
+        p.is_everyone() || self.has(p)
+    }
+
     /// Whether the principal is of the set.
     pub(crate) fn has(self, p: Principal<'_>) -> bool
         ensures { result ≡ is_among (principal p.entry) (set_of self.entry) }
@@ -33,14 +33,6 @@ impl<'a> SmallSet<'a> {
             SmallSet::One(q) => is_same(p, q),
             SmallSet::Two(q, r) => is_same(p, q) || is_same(p, r),
         }
-    }
-
-    /// Whether the principal is of the set, or everyone.
-    #[tactic(auto, using(crate::proofs::unique::Names::everyone_test))]
-    pub(crate) fn matches(self, p: Principal<'_>) -> bool
-        ensures { result ≡ is_among (principal p.entry) (everyone ∷ set_of self.entry) }
-    {
-        p.is_everyone() || self.has(p)
     }
 
     /// The user name of the set, if it has one.
@@ -54,4 +46,12 @@ impl<'a> SmallSet<'a> {
             _ => None,
         }
     }
+}
+
+// Whether both are one principal.
+#[tactic(auto, using(crate::proofs::comparison::SameTests::same_test))]
+pub(crate) fn is_same(p: Principal<'_>, q: Principal<'_>) -> bool
+    ensures { result ≡ principal_eq (principal p.entry) (principal q.entry) }
+{
+    p == q
 }

@@ -3,7 +3,7 @@ ghost use Rattle.std.specs.Prelude.{◌≡◌, ◌<◌, ◌≤◌, ℕ, IfOk, fa
 ghost use Rattle.acl_perm.specs.Kind.{is_allow};
 ghost use Rattle.acl_nfs4.specs.Ace.{ace};
 ghost use Rattle.acl_normal.specs.internal.Shown.{aces_in};
-ghost use Rattle.acl_normal.specs.internal.FirstPlaces.{AreFirstFrom, AreWhoms, IsWithin, no_ace, put, same_whom, stops, stops_at};
+ghost use Rattle.acl_normal.specs.internal.FirstPlaces.{AreFirstFrom, AreWhoms, IsWhomWithin, no_ace, put, same_whom, stops, stops_at};
 ghost use Rattle.acl_normal.specs.internal.SetSearch.{principals};
 
 use crate::class::Class;
@@ -122,7 +122,7 @@ fn kind_at(list: &[AceRef<'_>], place: usize) -> Kind
 
 // What an ACE of a principal that has the right says comes before what the later ones say.
 fn put_first(out: &mut Vec<First>, item: &AceRef<'_>, whom: Whom, place: usize, right: Bit)
-    requires { IsWithin whom (vec_len out.old) }
+    requires { IsWhomWithin whom (vec_len out.old) }
     ensures { out.new.items ≡ put out.old.items (ace item.now) whom place right.bit }
 {
     if let Whom::One(i) = whom {

@@ -11,9 +11,10 @@ ghost use Rattle.acl_normal.specs.internal.Emitted.{StandInRows, emitted_aces};
 ghost use Rattle.acl_normal.specs.Keys.{plain_key};
 ghost use Rattle.acl_normal.specs.Left.{left};
 ghost use Rattle.acl_normal.specs.Normal.{IsIrreducibleList, IsNormal};
-ghost use Rattle.acl_normal.specs.Places.{key_here, kind_here, nothing_left};
+ghost use Rattle.acl_normal.specs.Places.{nothing_left};
+ghost use Rattle.acl_normal.specs.internal.Places.{bit_count, key_here, kind_here};
 ghost use Rattle.acl_normal.specs.internal.Queues.{AreQueues, BeginsWaiting};
-ghost use Rattle.acl_normal.specs.internal.Ready.{Adds, Enters, FitsKeys, Frees, HoldsFree, Takes, marks};
+ghost use Rattle.acl_normal.specs.internal.Ready.{AddsMark, Enters, FitsKeys, Frees, HoldsFree, TakesBits, marks};
 ghost use Rattle.acl_normal.specs.internal.Counts.{count_left};
 
 use crate::bits::next_right;
@@ -45,8 +46,8 @@ pub(crate) fn normalize_left<'a>(
         → SameGrants all_rights rows.old ns
         → ns ≡ emitted_aces v.items) }
     ensures rows { IfOk result (λ v. StandInRows rows.old v.items) }
-    ensures weight { IfOk result (λ v. count_left 21 (emitted_aces v.items)
-        ≡ count_left 21 rows.old) }
+    ensures weight { IfOk result (λ v. count_left bit_count (emitted_aces v.items)
+        ≡ count_left bit_count rows.old) }
 {
     // The look at a field gives the proof the invariant of `rows`, here and in the bodies below. It does nothing.
     let _ = &rows.masks;
@@ -100,7 +101,7 @@ fn pop<'a>(rows: &Remaining<'a>, ready: &mut Ready) -> Option<Emitted<'a>>
     requires keys { FitsKeys (nothing_left rows.now) ready.old }
     requires free { HoldsFree (marks (nothing_left rows.now) ready.old) rows.now }
     ensures some { IfSome result (λ e.
-        Takes rows.now ready.old ready.new e.row (plain_key e.key) e.mask.bits) }
+        TakesBits rows.now ready.old ready.new e.row (plain_key e.key) e.mask.bits) }
     ensures none { IfNone result ((n : ℕ) → slice_index_or ready.old n 0 ≡ 0) }
 {
     let _ = &rows.masks;
@@ -155,6 +156,7 @@ fn free_after<'a>(
 }
 
 /// Marks what is free of the ACEs that wait in a kind and a class with a right.
+#[inline(always)]
 fn enter(
     rows: &Remaining<'_>,
     queues: &Queues,
@@ -222,7 +224,7 @@ fn add(
     requires kind { kind_here rows.now place ≡ kind }
     requires keys { FitsKeys (nothing_left rows.now) ready.old }
     ensures keys { OnOk result (FitsKeys (nothing_left rows.now) ready.new) }
-    ensures marks { OnOk result (Adds (key_here rows.now place) right.bit
+    ensures marks { OnOk result (AddsMark (key_here rows.now place) right.bit
         (marks (nothing_left rows.now) ready.old)
         (marks (nothing_left rows.now) ready.new)) }
 {

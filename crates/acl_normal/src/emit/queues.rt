@@ -2,9 +2,9 @@
 ghost use Rattle.std.specs.Prelude.{◌≡◌, ◌≢◌, ℕ, ◌+◌, ◌<◌, ◌≤◌, ◌^◌, List, IfOk, OnOk, false, true, length, vec_len};
 ghost use Rattle.acl_nfs4.specs.Ace.{Ace};
 ghost use Rattle.acl_perm.specs.Bits.{has_bit};
-ghost use Rattle.acl_normal.specs.Places.{is_blocked, mask_here, slot_of, waits_before};
+ghost use Rattle.acl_normal.specs.internal.Places.{is_blocked, mask_here, slot_count, slot_of, waits_before};
 ghost use Rattle.acl_normal.specs.internal.Classes.{is_users};
-ghost use Rattle.acl_normal.specs.internal.Queues.{AreNoted, AreQueues, IsQueueAt, MovesOn, Puts, head_in, place_in};
+ghost use Rattle.acl_normal.specs.internal.Queues.{AreNoted, AreQueues, IsQueueAt, MovesOn, PutsPlace, head_in, place_in};
 
 use crate::bits::next_right;
 use crate::class::Class;
@@ -78,7 +78,7 @@ impl Queues {
     /// Puts a place at the front of the queue of a slot.
     fn put(&mut self, place: usize, slot: usize) -> Result<(), AllocError>
         requires { slot < vec_len self.old.heads }
-        ensures { OnOk result (Puts place slot self.old self.new) }
+        ensures { OnOk result (PutsPlace place slot self.old self.new) }
     {
         let next = self.heads[slot];
         let at = self.links.len();
@@ -88,8 +88,9 @@ impl Queues {
     }
 
     /// The number of the first link of the queue of a kind, a class and a right.
+    #[inline(always)]
     pub(crate) fn head(&self, kind: Kind, class: Class, right: Bit) -> usize
-        requires { vec_len self.now.heads ≡ 84 }
+        requires { vec_len self.now.heads ≡ slot_count }
         ensures { result ≡ head_in self.now (slot_of kind (is_users class) right.bit) }
     {
         self.heads[slot(kind, class, right)]

@@ -28,9 +28,9 @@ impl Model for Ready {
 
     ghost Value = { List ℕ };
 
-    ghost use Rattle.acl_normal.specs.internal.Heaped.{bits_of, IsHeaped};
+    ghost use Rattle.acl_normal.specs.internal.Heaped.{heaped_bits, IsHeaped};
 
-    ghost view = { bits_of };
+    ghost view = { heaped_bits };
 
     ghost invariant = { IsHeaped };
 }

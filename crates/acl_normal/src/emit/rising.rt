@@ -6,7 +6,7 @@ ghost use Rattle.acl_perm.specs.Profile.{full};
 ghost use Rattle.acl_normal.specs.Left.{left};
 ghost use Rattle.acl_normal.specs.internal.Rising.{IsRising, all_cleared, cleared};
 ghost use Rattle.acl_normal.specs.internal.Rows.{AreRowNumbers};
-ghost use Rattle.acl_normal.specs.internal.Shown.{bits_in, with_masks};
+ghost use Rattle.acl_normal.specs.internal.Shown.{mask_numbers, with_masks};
 
 use crate::emit::emission::rank;
 use crate::normal_form::flags_of;
@@ -18,8 +18,8 @@ use std::alloc::{AllocError, Global};
 pub(crate) fn rises(aces: &[AceRef<'_>], masks: &[Mask], rows: &[usize]) -> bool
     requires few { length aces.now < 2 ^ 32 }
     requires masks { length masks.now ≡ length aces.now }
-    requires rows { AreRowNumbers (with_masks aces.now (bits_in masks.now)) rows.now }
-    ensures { IsTrue result → IsRising (left (with_masks aces.now (bits_in masks.now))) }
+    requires rows { AreRowNumbers (with_masks aces.now (mask_numbers masks.now)) rows.now }
+    ensures { IsTrue result → IsRising (left (with_masks aces.now (mask_numbers masks.now))) }
 {
     let mut bound = 0;
     for place in 0..aces.len() {
@@ -39,9 +39,9 @@ pub(crate) fn rises(aces: &[AceRef<'_>], masks: &[Mask], rows: &[usize]) -> bool
 pub(crate) fn cleared(alloc: Global, aces: &[AceRef<'_>], masks: &[Mask]) -> Result<Acl, AllocError>
     requires masks { length masks.now ≡ length aces.now }
     requires accepted { IsAccepted full
-        (all_cleared (left (with_masks aces.now (bits_in masks.now)))) }
+        (all_cleared (left (with_masks aces.now (mask_numbers masks.now)))) }
     ensures { IfOk result (λ list. list
-        ≡ all_cleared (left (with_masks aces.now (bits_in masks.now)))) }
+        ≡ all_cleared (left (with_masks aces.now (mask_numbers masks.now)))) }
 {
     let mut list = Acl::new(alloc);
     for place in 0..aces.len() {

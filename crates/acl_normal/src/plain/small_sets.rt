@@ -4,10 +4,10 @@ ghost use Rattle.std.specs.Bool.{OnFalse, OnTrue};
 ghost use Rattle.acl_perm.specs.Overlap.{may_overlap};
 ghost use Rattle.acl_perm.specs.Principal.{principal};
 ghost use Rattle.acl_normal.specs.Difference.{IsComparison};
-ghost use Rattle.acl_normal.specs.SmallSets.{pairs, partners, singles, small_sets};
+ghost use Rattle.acl_normal.specs.SmallSets.{principal_pairs, partners, singles, small_sets};
 ghost use Rattle.acl_normal.specs.internal.Shown.{aces_in};
 ghost use Rattle.acl_normal.specs.internal.CodeSets.{set_or_none};
-ghost use Rattle.acl_normal.specs.internal.SetSearch.{Finds, GrantAlikeTo, principals};
+ghost use Rattle.acl_normal.specs.internal.SetSearch.{FindsSet, GrantAlikeTo, principals};
 
 use crate::comparison::Difference;
 use crate::comparison::compared::Compared;
@@ -50,7 +50,7 @@ fn first_set<'a>(
     other: &[AceRef<'_>],
     whole: &[Principal<'a>],
 ) -> Option<SmallSet<'a>>
-    ensures { Finds (aces_in list.now) (aces_in other.now) (small_sets (principals whole.now))
+    ensures { FindsSet (aces_in list.now) (aces_in other.now) (small_sets (principals whole.now))
         (set_or_none result) }
 {
     if !grant_alike(list, other, SmallSet::Empty) {
@@ -69,7 +69,7 @@ fn first_single<'a>(
     other: &[AceRef<'_>],
     whole: &[Principal<'a>],
 ) -> Option<SmallSet<'a>>
-    ensures { Finds (aces_in list.now) (aces_in other.now) (singles (principals whole.now))
+    ensures { FindsSet (aces_in list.now) (aces_in other.now) (singles (principals whole.now))
         (set_or_none result) }
 {
     for p in whole {
@@ -88,7 +88,7 @@ fn first_pair<'a>(
     other: &[AceRef<'_>],
     whole: &[Principal<'a>],
 ) -> Option<SmallSet<'a>>
-    ensures { Finds (aces_in list.now) (aces_in other.now) (pairs (principals whole.now))
+    ensures { FindsSet (aces_in list.now) (aces_in other.now) (principal_pairs (principals whole.now))
         (set_or_none result) }
 {
     for i in 0..whole.len() {
@@ -108,7 +108,7 @@ fn first_partner<'a>(
     p: Principal<'a>,
     rest: &[Principal<'a>],
 ) -> Option<SmallSet<'a>>
-    ensures { Finds (aces_in list.now) (aces_in other.now)
+    ensures { FindsSet (aces_in list.now) (aces_in other.now)
         (partners (principal p.entry) (principals rest.now)) (set_or_none result) }
 {
     for q in rest {

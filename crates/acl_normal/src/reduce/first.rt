@@ -6,7 +6,7 @@ ghost use Rattle.acl_eval.specs.Column.{column};
 ghost use Rattle.acl_normal.specs.internal.Plain.{unshadowed};
 ghost use Rattle.acl_normal.specs.internal.Reduced.{IsThinned};
 ghost use Rattle.acl_normal.specs.internal.Rows.{AreRowNumbers};
-ghost use Rattle.acl_normal.specs.internal.Shown.{aces_in, bits_in, with_masks};
+ghost use Rattle.acl_normal.specs.internal.Shown.{aces_in, mask_numbers, with_masks};
 
 use crate::bits::{active, of_everyone};
 use acl_nfs4::AceRef;
@@ -24,9 +24,9 @@ pub(crate) fn first_masks(
     requires rows { AreRowNumbers (aces_in aces.now) rows.now }
     ensures places { IfOk result (λ masks. vec_len masks ≡ length aces.now) }
     ensures thinned { IfOk result (λ masks. IsThinned (aces_in aces.now)
-        (with_masks aces.now (bits_in masks.items))) }
+        (with_masks aces.now (mask_numbers masks.items))) }
     ensures columns { IfOk result (λ masks. (b : ℕ)
-        → column (with_masks aces.now (bits_in masks.items)) b
+        → column (with_masks aces.now (mask_numbers masks.items)) b
         ≡ unshadowed [] (column (aces_in aces.now) b)) }
 {
     let mut seen = vec![in alloc; Mask::NONE; aces.len()]?;

@@ -3,7 +3,8 @@ ghost use Rattle.std.specs.Prelude.{◌≡◌, ℕ, ◌<◌, Bool, true, false, 
 ghost use Rattle.acl_perm.specs.Bits.{has_bit};
 ghost use Rattle.acl_perm.specs.declared.kind.Kind.{Kind as Sort};
 ghost use Rattle.acl_eval.specs.Column.{column};
-ghost use Rattle.acl_normal.specs.Left.{IsTidy};
+ghost use Rattle.acl_normal.specs.internal.Places.{bit_count};
+ghost use Rattle.acl_normal.specs.internal.Tidy.{IsTidy};
 ghost use Rattle.acl_normal.specs.Keys.{kind_eq, plain_key, principal_eq};
 ghost use Rattle.acl_normal.specs.internal.Classes.{is_users};
 ghost use Rattle.acl_normal.specs.internal.Needed.{class_mask, default_at, is_kept, is_of_kind_and_class, later_mask, opposes};
@@ -14,7 +15,7 @@ ghost use Rattle.acl_nfs4.specs.Ace.{ace};
 ghost use Rattle.acl_nfs4.specs.Who.{principal_of};
 ghost use Rattle.acl_normal.specs.internal.Plain.{default, needed_keys};
 ghost use Rattle.acl_normal.specs.internal.Reduced.{IsThinned};
-ghost use Rattle.acl_normal.specs.internal.Shown.{bits_in, with_masks};
+ghost use Rattle.acl_normal.specs.internal.Shown.{mask_numbers, with_masks};
 
 use crate::bits::of_everyone;
 use crate::class::Class;
@@ -76,13 +77,13 @@ pub(crate) struct Later {
 /// Drops the bits that no situation needs from the masks of first ACEs: one pass, from the last ACE to the first.
 pub(crate) fn drop_needless(aces: &[AceRef<'_>], masks: &mut [Mask])
     requires places { length masks.old ≡ length aces.now }
-    requires tidy { IsTidy (with_masks aces.now (bits_in masks.old)) }
+    requires tidy { IsTidy (with_masks aces.now (mask_numbers masks.old)) }
     ensures places { length masks.new ≡ length aces.now }
-    ensures thinned { IsThinned (with_masks aces.now (bits_in masks.old))
-        (with_masks aces.now (bits_in masks.new)) }
-    ensures columns { (b : ℕ) → b < 21 → column (with_masks aces.now (bits_in masks.new)) b
-        ≡ needed_keys (default (column (with_masks aces.now (bits_in masks.old)) b))
-        (column (with_masks aces.now (bits_in masks.old)) b) }
+    ensures thinned { IsThinned (with_masks aces.now (mask_numbers masks.old))
+        (with_masks aces.now (mask_numbers masks.new)) }
+    ensures columns { (b : ℕ) → b < bit_count → column (with_masks aces.now (mask_numbers masks.new)) b
+        ≡ needed_keys (default (column (with_masks aces.now (mask_numbers masks.old)) b))
+        (column (with_masks aces.now (mask_numbers masks.old)) b) }
 {
     let allowed = allowed_to_everyone(aces, masks);
     let mut later = no_later();
@@ -100,9 +101,9 @@ pub(crate) fn drop_needless(aces: &[AceRef<'_>], masks: &mut [Mask])
 /// The bits that everyone is allowed by the ACEs, with these masks.
 fn allowed_to_everyone(aces: &[AceRef<'_>], masks: &[Mask]) -> Mask
     requires places { length masks.now ≡ length aces.now }
-    requires tidy { IsTidy (with_masks aces.now (bits_in masks.now)) }
+    requires tidy { IsTidy (with_masks aces.now (mask_numbers masks.now)) }
     ensures { (b : ℕ) → default_at result.bits b
-        ≡ default (column (with_masks aces.now (bits_in masks.now)) b) }
+        ≡ default (column (with_masks aces.now (mask_numbers masks.now)) b) }
 {
     let mut allowed = Mask::NONE;
     for place in 0..aces.len() {

@@ -3,7 +3,7 @@ ghost use Rattle.std.specs.Prelude.{◌≡◌, drop, get_or, length, option_map,
 ghost use Rattle.acl_perm.specs.Order.{principal_cmp};
 ghost use Rattle.acl_perm.specs.Principal.{principal};
 ghost use Rattle.acl_nfs4.specs.internal.Progress.{IsBytes};
-ghost use Rattle.acl_normal.specs.internal.Heads.{AllBegin, BeginsWith, HasHead, IsHeadOf, given_name, head_from};
+ghost use Rattle.acl_normal.specs.internal.Heads.{AllBegin, BeginsWith, HasHead, IsHeadOf, count_to, given_name, head_from, is_whole};
 ghost use Rattle.acl_normal.specs.internal.Shown.{aces_in};
 
 use crate::whom::whom;
@@ -11,7 +11,7 @@ use acl_nfs4::AceRef;
 use acl_perm::Principal;
 use std::cmp::Ordering;
 
-/// A principal, and its head: the rank in the highest byte, and below it the first seven bytes of the name.
+/// A principal, and its head: the rank in the highest byte, below it the first six bytes of the name, and a count.
 #[derive(Clone, Copy)]
 pub(crate) struct HeadedPrincipal<'a> {
     pub(crate) principal: Principal<'a>,
@@ -37,16 +37,26 @@ impl<'a> HeadedPrincipal<'a> {
         if self.head != other.head {
             return self.head.cmp(&other.head);
         }
+        if is_whole(self.head) {
+            return Ordering::Equal;
+        }
         self.principal.cmp(&other.principal)
     }
 }
 
-/// The head of a principal: the rank in the highest byte, and below it seven bytes of the name, after the first
-/// `common` bytes.
+/// The head of a principal: the rank in the highest byte, below it six bytes of the name, after the first `common`
+/// bytes, and in the lowest byte how many bytes the name has there. Seven stands for more than six.
 pub(crate) fn head(p: Principal<'_>, common: usize) -> u64
     ensures { IsHeadOf common result (principal p.entry) }
 {
     packed(p.rank(), behind(p.name(), common))
+}
+
+/// Whether a head has the whole name.
+pub(crate) fn is_whole(head: u64) -> bool
+    ensures { result ≡ is_whole head }
+{
+    head % 256 < 7
 }
 
 // The bytes of a name behind the first ones.
@@ -60,9 +70,9 @@ fn behind(name: &[u8], count: usize) -> &[u8]
     }
 }
 
-// A rank in the highest byte, and below it seven bytes.
+// A rank in the highest byte, below it six bytes, and in the lowest byte how many there are.
 fn packed(rank: u8, bytes: &[u8]) -> u64
-    ensures { result ≡ head_from rank 7 bytes.now }
+    ensures { result ≡ head_from rank 6 bytes.now (count_to 7 bytes.now) }
 {
     u64::from_be_bytes([
         rank,
@@ -72,8 +82,19 @@ fn packed(rank: u8, bytes: &[u8]) -> u64
         byte(bytes, 3),
         byte(bytes, 4),
         byte(bytes, 5),
-        byte(bytes, 6),
+        count(bytes),
     ])
+}
+
+// How many bytes there are, where 7 stands for more than six.
+fn count(bytes: &[u8]) -> u8
+    ensures { result ≡ count_to 7 bytes.now }
+{
+    if bytes.len() < 7 {
+        bytes.len() as u8
+    } else {
+        7
+    }
 }
 
 // The byte of a name at a place, and zero past its end.
@@ -90,7 +111,7 @@ pub(crate) fn common_start<'a>(aces: &[AceRef<'a>]) -> &'a [u8]
     let names = aces.iter().find_map(|ace| given_name(whom(ace)));
     let mut start = names.unwrap_or(&[]);
     for ace in aces {
-        // The seven bytes of a head are then mostly enough.
+        // The bytes of a head are then mostly enough.
         if start.len() < 4 {
             return &[];
         }

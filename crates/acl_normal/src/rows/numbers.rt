@@ -5,12 +5,12 @@ ghost use Rattle.std.specs.Cmp.Lexicographic.{slice_cmp};
 ghost use Rattle.std.specs.Ordering.{nat_cmp, ordering_then};
 ghost use Rattle.std.specs.Str.{bytes_eq};
 ghost use Rattle.acl_perm.specs.Principal.{principal};
-ghost use Rattle.acl_normal.specs.Places.{principal_here};
-ghost use Rattle.acl_normal.specs.internal.RowNumbers.{AreHeaded, AreSorted, DoNotFall, who_here};
-ghost use Rattle.acl_normal.specs.internal.Rows.{AreRowNumbers, IsByPrincipal, IsRowOf, is_named};
+ghost use Rattle.acl_normal.specs.internal.Places.{principal_here};
+ghost use Rattle.acl_normal.specs.internal.RowNumbers.{AreHeaded, AreSorted, DoNotFall, tail_here, who_here};
+ghost use Rattle.acl_normal.specs.internal.Rows.{AreRowNumbers, IsByPrincipal, IsRowOf, is_principal_of};
 ghost use Rattle.acl_normal.specs.internal.Shown.{aces_in};
 
-use super::heads::{HeadedPrincipal, common_start, head};
+use super::heads::{HeadedPrincipal, common_start, head, is_whole};
 use crate::whom::whom;
 use acl_nfs4::AceRef;
 use acl_perm::Principal;
@@ -117,14 +117,18 @@ fn headed_places(alloc: Global, aces: &[AceRef<'_>]) -> Result<Vec<HeadedPlace>,
     Ok(places)
 }
 
-// How whom the ACEs at two places name stand to each other: by the heads, and where these are the same, by the whos.
+// How whom the ACEs at two places name stand to each other: by the heads, and where these are the same and do not have
+// the whole names, by the whos.
 fn headed_compared(aces: &[AceRef<'_>], at: &HeadedPlace, other: &HeadedPlace) -> Ordering
     ensures { result ≡ ordering_then (nat_cmp at.now.head other.now.head)
-        (slice_cmp nat_cmp (who_here (aces_in aces.now) at.now.place)
-        (who_here (aces_in aces.now) other.now.place)) }
+        (slice_cmp nat_cmp (tail_here (aces_in aces.now) at.now)
+        (tail_here (aces_in aces.now) other.now)) }
 {
     if at.head != other.head {
         return at.head.cmp(&other.head);
+    }
+    if is_whole(at.head) {
+        return Ordering::Equal;
     }
     who_at(aces, at.place).cmp(who_at(aces, other.place))
 }
@@ -132,10 +136,10 @@ fn headed_compared(aces: &[AceRef<'_>], at: &HeadedPlace, other: &HeadedPlace) -
 // Whether the ACEs at two places name one principal.
 fn is_same(aces: &[AceRef<'_>], at: HeadedPlace, other: HeadedPlace) -> bool
     ensures { result ≡ ((at.head == other.head)
-        && bytes_eq (who_here (aces_in aces.now) at.place)
-        (who_here (aces_in aces.now) other.place)) }
+        && bytes_eq (tail_here (aces_in aces.now) at) (tail_here (aces_in aces.now) other)) }
 {
-    at.head == other.head && who_at(aces, at.place) == who_at(aces, other.place)
+    at.head == other.head
+        && (is_whole(at.head) || who_at(aces, at.place) == who_at(aces, other.place))
 }
 
 // The who of the ACE at a place. A comparison may ask of any place: past the last it is empty.
@@ -185,7 +189,7 @@ pub(crate) fn find_row(
     requires rows { AreRowNumbers (aces_in aces.now) rows.now }
     requires order { IsByPrincipal (aces_in aces.now) order.now }
     ensures found { IfSome result (λ row. IsRowOf row (principal p.entry) (aces_in aces.now)) }
-    ensures missing { IfNone result (is_named (principal p.entry) (aces_in aces.now) ≡ false) }
+    ensures missing { IfNone result (is_principal_of (principal p.entry) (aces_in aces.now) ≡ false) }
 {
     match order.binary_search_by(|place| named_at(aces, *place).cmp(&p)) {
         Ok(found) => Some(rows[order[found]]),

@@ -4,19 +4,28 @@ ghost use Rattle.acl_perm.specs.Bits.{has_bit};
 ghost use Rattle.acl_perm.specs.Principal.{Principal as Who, is_user, principal};
 ghost use Rattle.acl_normal.specs.internal.Classes.{is_users};
 ghost use Rattle.acl_normal.specs.Keys.{plain_key};
-ghost use Rattle.acl_normal.specs.Places.{first_at, kind_here, mask_here, principal_here, take_out};
+ghost use Rattle.acl_normal.specs.Places.{first_at, take_out};
+ghost use Rattle.acl_normal.specs.internal.Places.{kind_here, mask_here, principal_here};
 ghost use Rattle.acl_normal.specs.internal.Remaining.{IsNumbered};
-ghost use Rattle.acl_normal.specs.internal.Rows.{IsNumberOf, IsRowOf, first_place_of, is_named};
-ghost use Rattle.acl_normal.specs.internal.Shown.{bits_in, with_masks};
+ghost use Rattle.acl_normal.specs.internal.Rows.{IsNumberOf, IsRowOf, first_place_of, is_principal_of};
+ghost use Rattle.acl_normal.specs.internal.Shown.{mask_numbers, with_masks};
 
 use crate::class::Class;
-use crate::reduce::Reduced;
 use crate::rows::numbers::{RowNumbers, find_row};
+use crate::whom::whom;
 use acl_nfs4::AceRef;
 use acl_perm::internal::Bit;
 use acl_perm::{Key, Kind, Mask, Principal};
 use std::alloc::{AllocError, Global};
 use std::marker::Model;
+
+/// The ACEs of a list, the masks that are left of them, and the rows of their principals.
+#[derive(Drop)]
+pub(crate) struct Reduced<'a> {
+    pub(crate) aces: Vec<AceRef<'a>>,
+    pub(crate) masks: Vec<Mask>,
+    pub(crate) numbers: RowNumbers,
+}
 
 /// What is left of a list while its normal form is emitted. No place is ever moved: a right that is emitted leaves the
 /// mask of its row.
@@ -51,10 +60,10 @@ impl<'a> Remaining<'a> {
     pub(crate) fn of(alloc: Global, reduced: Reduced<'a>) -> Result<Remaining<'a>, AllocError>
         requires few { vec_len reduced.aces < 2 ^ 32 }
         requires places { vec_len reduced.masks ≡ vec_len reduced.aces }
-        requires reduced { IsNumbered (with_masks reduced.aces.items (bits_in reduced.masks.items))
+        requires reduced { IsNumbered (with_masks reduced.aces.items (mask_numbers reduced.masks.items))
             reduced.numbers.rows.items reduced.numbers.order.items }
         ensures { IfOk result (λ r. r
-            ≡ with_masks reduced.entry.aces.items (bits_in reduced.entry.masks.items)) }
+            ≡ with_masks reduced.entry.aces.items (mask_numbers reduced.entry.masks.items)) }
     {
         let Reduced {
             aces,
@@ -101,7 +110,7 @@ impl<'a> Remaining<'a> {
             Kind::Allow
         };
         Key {
-            principal: aces[place].principal(),
+            principal: whom(&aces[place]),
             kind,
         }
     }
@@ -109,7 +118,7 @@ impl<'a> Remaining<'a> {
     /// The row of a principal, if an ACE names it.
     pub(crate) fn row_named(&self, p: Principal<'_>) -> Option<usize>
         ensures found { IfSome result (λ row. IsRowOf row (principal p.entry) self.now) }
-        ensures missing { IfNone result (is_named (principal p.entry) self.now ≡ false) }
+        ensures missing { IfNone result (is_principal_of (principal p.entry) self.now ≡ false) }
     {
         find_row(&self.aces, &self.rows, &self.order, p)
     }
@@ -129,7 +138,7 @@ impl<'a> Remaining<'a> {
         ensures { is_users result ≡ is_user (principal_here self.now place) }
     {
         let aces = &self.aces;
-        Class::of(aces[place].principal())
+        Class::of(whom(&aces[place]))
     }
 
     /// The place of the ACE of a row that still has a right. The places of a row stand together in the order of the

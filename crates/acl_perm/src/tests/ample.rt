@@ -1,4 +1,4 @@
-//! What is answered where memory is ample.
+//! The answers with enough memory.
 
 use super::harness::Slip;
 use super::whole::{read_ended, write_ended};

@@ -8,7 +8,7 @@ use std::io;
 use std::io::Read;
 use std::process::Abort;
 
-// Whether the next call of a reader fails. The source gives the same.
+// Returns whether the next call of a reader fails. The source must give the same.
 fn fails<R: Read, S: Source>(rt: &impl Abort, plain: &mut R, counted: &mut S, calls: u64) -> bool {
     let mut first = [0u8; 4];
     let mut second = [0u8; 4];
@@ -21,7 +21,7 @@ fn fails<R: Read, S: Source>(rt: &impl Abort, plain: &mut R, counted: &mut S, ca
     read.is_none()
 }
 
-// A source gives what its reader gives, call by call, and counts just the calls that fail.
+// A source gives what its reader gives, call by call, and counts only the calls that fail.
 #[test]
 fn a_counted_reader_gives_the_same(rt: HostRuntime) {
     for calls in [0u64, 1, 5] {
@@ -39,7 +39,7 @@ fn a_counted_reader_gives_the_same(rt: HostRuntime) {
     }
 }
 
-// How many of four pieces a sink takes, or none where memory is wanting.
+// Returns how many of four pieces a sink takes, or `None` if memory runs out.
 fn pieces_taken<S: Sink>(sink: &mut S) -> Option<u64> {
     let mut taken = 0u64;
     for _ in 0..4 {
@@ -53,7 +53,7 @@ fn pieces_taken<S: Sink>(sink: &mut S) -> Option<u64> {
     Some(taken)
 }
 
-// Puts to a sink of so many calls, of which so many take a piece.
+// Calls of a sink: their number, and how many of them take a piece.
 fn puts(rt: &impl Abort, alloc: Global, calls: u64, step: usize, pieces: u64) {
     let mut counted = Counted::new(Fused::new(Vec::new(alloc), calls, step));
     let Some(taken) = pieces_taken(&mut counted) else {
@@ -65,7 +65,7 @@ fn puts(rt: &impl Abort, alloc: Global, calls: u64, step: usize, pieces: u64) {
     assert!(rt; counted.into_inner().into_inner().len() as u64 == pieces.saturating_mul(2));
 }
 
-// A sink takes what its writer takes; an end of input is no failure, a put that takes no byte of some is one.
+// A sink takes what its writer takes. An end of input is not a failure; a put of some bytes that takes none is one.
 #[test]
 fn a_counted_writer_takes_the_same(rt: HostRuntime) {
     for (calls, step, pieces) in [(0u64, 2usize, 0u64), (1, 2, 1), (2, 2, 2), (3, 0, 0)] {
@@ -76,7 +76,7 @@ fn a_counted_writer_takes_the_same(rt: HostRuntime) {
     assert!(rt; ended.failures() == 0);
 }
 
-// A call of a device, and the one that fails, by their numbers.
+// The number of a call of a device, and the number of the call that fails.
 #[derive(Clone, Copy)]
 struct Call {
     number: u64,
@@ -84,7 +84,7 @@ struct Call {
 }
 
 impl Call {
-    // What it answers: the count of bytes taken.
+    // The answer: the number of bytes that were taken.
     fn answer(self, bytes: &[u8]) -> Option<usize>
         ensures { IfSome result (λ n. (n ≤ 2) × (n ≤ length bytes.now)) }
     {
@@ -95,13 +95,13 @@ impl Call {
         }
     }
 
-    // How many failures are counted then.
+    // The number of failures after the call.
     fn failures(self) -> u64 {
         u64::from(self.number >= self.failing)
     }
 }
 
-// A pull, and the bytes that are left then.
+// A pull, and the bytes that are left after it.
 fn pull<'a, S: Source>(rt: &impl Abort, source: &mut S, bytes: &'a [u8], call: Call) -> &'a [u8] {
     let answer = call.answer(bytes);
     let mut buf = [0u8; 4];
@@ -116,7 +116,7 @@ fn pull<'a, S: Source>(rt: &impl Abort, source: &mut S, bytes: &'a [u8], call: C
     rest
 }
 
-// A put, and the bytes that are left then.
+// A put, and the bytes that are left after it.
 fn put<'a, S: Sink>(rt: &impl Abort, sink: &mut S, bytes: &'a [u8], call: Call) -> &'a [u8] {
     let answer = call.answer(bytes);
     let put = sink.put(bytes).ok();
@@ -147,7 +147,7 @@ fn puts_but_one(rt: &impl Abort, failing: u64) {
     assert!(rt; room == *b"granted");
 }
 
-// Each pull and each put is one call of the device, the one that it fails too, and just that one is counted.
+// Each pull and each put is one call of the device, also if the call fails, and only the call that fails is counted.
 #[test]
 fn a_failed_call_is_not_made_again(rt: HostRuntime) {
     for failing in 1..5u64 {

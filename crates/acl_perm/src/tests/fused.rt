@@ -1,4 +1,4 @@
-//! Devices that are spent after some calls.
+//! Devices that stop after some calls.
 
 use crate::*;
 use std::io::{Read, Write};
@@ -24,14 +24,14 @@ fn two_writes(rt: &impl Abort) {
     assert!(rt; room == *b"abc\0\0\0\0\0");
 }
 
-// What no clause of `Fused` can say: that the calls before the last are passed on.
+// No clause of `Fused` can say this: the calls before the last one are passed on.
 #[test]
 fn a_fused_device_passes_its_first_calls(rt: HostRuntime) {
     three_reads(&rt);
     two_writes(&rt);
 }
 
-// A write of a whole buffer to a device that passes so many calls, and so many bytes.
+// Writes a whole buffer to a device that allows this many calls and this many bytes.
 fn whole_write(rt: &impl Abort, calls: u64, passed: usize) {
     let mut room = [0u8; 5];
     let mut writer = Fused::new(room.as_mut_slice(), calls, 2);
@@ -46,7 +46,7 @@ fn whole_read(rt: &impl Abort, calls: u64, passed: usize) {
     assert!(rt; reader.into_inner().len() == 5usize.saturating_sub(passed));
 }
 
-// The calls for a whole buffer that std's traits have fail where the device is spent before its end. It still flushes.
+// The calls of std's traits for a whole buffer fail if the device stops before the end of the buffer. It still flushes.
 #[test]
 fn a_spent_device_fails_whole_buffers(rt: HostRuntime) {
     for (calls, passed) in [(0u64, 0usize), (1, 2), (2, 4), (3, 5)] {

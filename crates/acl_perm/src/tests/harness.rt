@@ -4,7 +4,7 @@ ghost use Rattle.std.specs.Prelude.{◌≡◌, IfOk};
 use std::io;
 use std::io::{Read, Write};
 
-/// What a device answers at the one call that it fails.
+/// The answer of a device to the one call that fails.
 #[derive(Clone, Copy)]
 pub enum Slip {
     Error,
@@ -22,7 +22,7 @@ impl Slip {
     }
 }
 
-/// A device that fails one call, and passes each other call, two bytes at a time. It counts its calls.
+/// A device with one call that fails. Every other call takes or gives two bytes. It counts its calls.
 #[derive(Drop)]
 pub struct FailsOnce<T> {
     inner: T,

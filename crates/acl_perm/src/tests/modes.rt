@@ -2,7 +2,7 @@
 
 use crate::*;
 
-// A mode, and what the owner, the group and others have of read 4, write 2 and execute 1.
+// A mode, and the permissions of the owner, the group and others: read is 4, write 2 and execute 1.
 static MODES: [(u16, u8, u8, u8); 5] = [
     (0o400, 4, 0, 0),
     (0o020, 0, 2, 0),
@@ -34,7 +34,7 @@ fn a_mode_is_made_of_three_digits(rt: HostRuntime) {
     }
 }
 
-// A number, what is shown of it as permissions, and as the mode in which the group alone has them.
+// A number, its text as permissions, and its text as the mode in which only the group has these permissions.
 static SHOWN: [(u8, &str, &str); 4] = [
     (0, "---", "000"),
     (5, "r-x", "050"),

@@ -1,4 +1,4 @@
-//! Principals and types: their order, what tells them apart, and which principals overlap.
+//! Principals and types: their order, when they are equal, and which principals overlap.
 
 use crate::*;
 
@@ -50,7 +50,7 @@ fn principals_and_keys_stand_in_rising_order(rt: HostRuntime) {
     }
 }
 
-// The users stand at 1, 2 and 3, and `EVERYONE@` at 6.
+// The users are at the places 1, 2 and 3, and `EVERYONE@` is at place 6.
 fn is_user(i: usize) -> bool {
     1 <= i && i <= 3
 }

@@ -22,7 +22,7 @@ fn is_flag(number: u32, is_inherit_only: bool, is_group: bool) -> bool {
     flag.is_inherit_only() == is_inherit_only && flag.is_group() == is_group
 }
 
-// A flag is one of the narrow profile's, which lacks INHERITED alone.
+// The narrow profile has all flags except INHERITED.
 fn is_flag_of_profiles(number: u32) -> bool {
     let Some(flag) = Flags::new(number) else {
         return false;
@@ -144,7 +144,7 @@ fn types_and_rights_are_shown_by_name(rt: HostRuntime) {
     }
 }
 
-// Each set, and what it lacks of all.
+// Each set, and the set of the others.
 #[test]
 fn the_complement_of_a_set_stays_within_all(rt: HostRuntime) {
     for (perm, lacks) in [

@@ -1,12 +1,12 @@
-//! Whole reads and whole writes over devices that fail.
+//! Whole reads and whole writes with devices that fail.
 
 use super::harness::{FailsOnce, Slip};
 use crate::*;
 use std::alloc::Global;
 use std::process::Abort;
 
-// A whole write to a sink that passes so many calls, and then fails: the answer, how many failures were counted, and
-// how many bytes went out.
+// A whole write to a sink that allows this many calls and then fails: the answer, the number of failures, and the
+// number of bytes that were written.
 fn stopped_write(calls: u64) -> (Result<(), WriteFault>, u64, usize) {
     let mut room = [0u8; 7];
     let mut sink = Counted::new(Fused::new(room.as_mut_slice(), calls, 2));
@@ -16,7 +16,7 @@ fn stopped_write(calls: u64) -> (Result<(), WriteFault>, u64, usize) {
     (answer, failures, written)
 }
 
-// A whole read of a source that passes so many calls, and then fails.
+// A whole read of a source that allows this many calls and then fails.
 fn read_stopped(rt: &impl Abort, alloc: Global, calls: u64) {
     let mut source = Counted::new(Fused::new(b"granted".as_slice(), calls, 2));
     match read_all(alloc, &mut source) {
@@ -43,12 +43,12 @@ fn whole_reads_and_writes_stop_at_the_first_failure(rt: HostRuntime) {
     }
 }
 
-// What so many calls take of these bytes, two bytes each.
+// Returns the part of these bytes that this many calls take, two bytes each.
 fn first(bytes: &[u8], calls: u64) -> &[u8] {
     &bytes[..bytes.len().min(calls.saturating_mul(2) as usize)]
 }
 
-/// A whole write to a sink whose call `failing` fails, after so many that passed.
+/// A whole write to a sink whose call `failing` fails, after this many calls that succeeded.
 pub fn write_ended(rt: &impl Abort, failing: u64, passed: u64, slip: Slip) {
     let mut room = [0u8; 7];
     let mut sink = Counted::new(FailsOnce::new(room.as_mut_slice(), failing, slip));
@@ -59,7 +59,7 @@ pub fn write_ended(rt: &impl Abort, failing: u64, passed: u64, slip: Slip) {
     assert!(rt; room.starts_with(first(b"granted", passed)));
 }
 
-/// A whole read of a source whose call `failing` fails, after so many that passed.
+/// A whole read of a source whose call `failing` fails, after this many calls that succeeded.
 pub fn read_ended(rt: &impl Abort, alloc: Global, failing: u64, passed: u64, slip: Slip) {
     let mut source = Counted::new(FailsOnce::new(b"granted".as_slice(), failing, slip));
     match (read_all(alloc, &mut source), slip) {

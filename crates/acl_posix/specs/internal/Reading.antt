@@ -128,9 +128,9 @@ abbrev pub read_entries : Table → Lists → ℕ → List ℕ → Result Lists 
 read_entries names lists number line = read_pieces names lists (numbered number (line_pieces line))
 
 -- the fault of the code is the fault that is reported, unless memory ran out
-abbrev pub Fails : {Y : Type 0} → TextFault → Result Y TextFault → Type 0
-Fails faults.Memory read = Unit {0}
-Fails fault read = read ≡ Err fault
+abbrev pub FailsWith : {Y : Type 0} → TextFault → Result Y TextFault → Type 0
+FailsWith faults.Memory read = Unit {0}
+FailsWith fault read = read ≡ Err fault
 
 -- after the first line of a text, which has this number, the reading of the rest gives what the reading of the whole
 -- gives

@@ -5,7 +5,7 @@ use Rattle.std.specs.declared.cmp.Ordering.TheVariants.{Less, Greater}
 use Rattle.acl_posix.specs.Tag.{Tag, tag_cmp}
 
 -- the tag is at a place
-pub record IsAt (tags : List Tag) (tag : Tag) (place : ℕ) : Type 0 where
+pub record IsTagAt (tags : List Tag) (tag : Tag) (place : ℕ) : Type 0 where
   pub in_range : place < length tags
   pub has : get_or tags place tag ≡ tag
 
@@ -17,4 +17,4 @@ pub record IsGap (tags : List Tag) (tag : Tag) (place : ℕ) : Type 0 where
 
 -- the place of a tag, or else the place where it would go
 abbrev pub IsPlaceOf : List Tag → Tag → Result ℕ ℕ → Type 0
-IsPlaceOf tags tag answer = MatchResult answer (IsAt tags tag) (IsGap tags tag)
+IsPlaceOf tags tag answer = MatchResult answer (IsTagAt tags tag) (IsGap tags tag)

@@ -12,6 +12,38 @@ use Rattle.acl_posix.specs.Entries.{Entries}
 use Rattle.acl_posix.specs.Mask.{effective_of}
 use Rattle.acl_posix.specs.Texts.{long_word, short_word, entry_text, mark_text}
 
+-- the bytes of a line of the code: room for the longest text of an entry
+abbrev pub line_room : ℕ
+line_room = 64
+
+-- the bytes of a colon and permissions
+abbrev pub perm_room : ℕ
+perm_room = 4
+
+-- the most bytes of a qualifier: the digits of the greatest id
+abbrev pub qualifier_room : ℕ
+qualifier_room = 10
+
+-- the most bytes of the word of a tag and a colon: those of `group:`
+abbrev pub word_room : ℕ
+word_room = 6
+
+-- the most bytes of the fields of an entry
+abbrev pub fields_room : ℕ
+fields_room = word_room + qualifier_room + perm_room
+
+-- the bytes of a mark: a tab, `#effective`, a colon and permissions
+abbrev pub mark_room : ℕ
+mark_room = 15
+
+-- the most bytes after an entry: those of a mark and a line feed
+abbrev pub ending_room : ℕ
+ending_room = mark_room + 1
+
+-- the most bytes before an entry: those of `default:`
+abbrev pub lead_room : ℕ
+lead_room = 8
+
 -- bytes are put in front of those from a place on
 pub record IsPut (bytes old new : List ℕ) (end start : ℕ) : Type 0 where
   pub begins : start + length bytes ≡ end
@@ -23,13 +55,13 @@ masked_by mask entry = if is_masked entry.0 then bit_and entry.1 (unwrap_or mask
 
 -- the bytes before an entry: a comma before each entry of a short text except the first, and the mark of a default
 -- entry
-abbrev pub lead : Form → Part → Bool → List ℕ
-lead Canonical Access first = []
-lead Canonical Default first = codes "default:"
-lead Shown Access first = []
-lead Shown Default first = codes "default:"
-lead Short Access first = if first then [] else codes ","
-lead Short Default first = if first then codes "d:" else codes ",d:"
+abbrev pub entry_lead : Form → Part → Bool → List ℕ
+entry_lead Canonical Access first = []
+entry_lead Canonical Default first = codes "default:"
+entry_lead Shown Access first = []
+entry_lead Shown Default first = codes "default:"
+entry_lead Short Access first = if first then [] else codes ","
+entry_lead Short Default first = if first then codes "d:" else codes ",d:"
 
 -- the word of a tag, in full or as its first letter
 abbrev pub form_word : Form → Tag → List ℕ
@@ -46,7 +78,7 @@ ending Short effective perm = []
 -- what is written for an entry: the bytes before it, its fields, and the bytes behind it
 unfoldable pub entry_out : Form → Part → Bool → ℕ → Tag × ℕ → List ℕ
 entry_out form part first effective entry =
-    lead form part first ++ (entry_text (form_word form entry.0) entry ++ ending form effective entry.1)
+    entry_lead form part first ++ (entry_text (form_word form entry.0) entry ++ ending form effective entry.1)
 
 -- what is written for the entries of a part
 abbrev pub part_out : Form → Part → Entries → Bool → List (Tag × ℕ) → List ℕ

@@ -1,4 +1,4 @@
-//! What is answered where memory is ample: no call is refused.
+//! The tables again with ample memory: no call fails for lack of memory.
 
 use super::faults::{FAULTS, is_judged, is_refused, is_refused_repeated, zeros_are_read};
 use super::harness::Who::{Group, Mask, Other, Owner};
@@ -25,7 +25,7 @@ fn worked_lists_are_answered(rt: HostRuntime) {
     creation::new_files(&rt, memory);
 }
 
-// A list of a hundred entries.
+// Makes a list of a hundred entries.
 fn hundred(memory: Memory) -> Result<PosixAcl, AclFault> {
     let mut entries = memory.entries(DEFAULT)?;
     for value in 0..95 {
@@ -37,7 +37,7 @@ fn hundred(memory: Memory) -> Result<PosixAcl, AclFault> {
     PosixAcl::from_entries(memory.alloc, entries)
 }
 
-// A copy, which gets a mask.
+// Makes a copy of a list, and calculates its mask.
 fn masked(memory: Memory) -> Result<PosixAcl, Fail> {
     let acl = memory.acl(NO_OWNER)?;
     let mut added = acl.copy(memory.alloc)?;
@@ -45,7 +45,7 @@ fn masked(memory: Memory) -> Result<PosixAcl, Fail> {
     Ok(added)
 }
 
-// Each copy of a list of any length is made, and a mask is added to it.
+// A list of a hundred entries is copied, and a mask is added to a copy of a short list.
 #[test]
 fn copies_are_made_and_masks_added(rt: HostRuntime) -> Result<(), Fail> {
     let memory = Memory::ample(rt.alloc());
@@ -91,7 +91,8 @@ fn each_beginning_of_a_text_is_judged(rt: HostRuntime) -> Result<(), Fail> {
     Ok(())
 }
 
-// An id may have a thousand zeros in front, and not a thousand digits; a million commas are refused at the first.
+// An id may begin with a thousand zeros, and a thousand nines are not an id. A text of a million commas is refused at
+// the first comma.
 #[test]
 fn long_texts_are_judged(rt: HostRuntime) {
     let alloc = rt.alloc();

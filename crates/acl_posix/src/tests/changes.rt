@@ -1,4 +1,4 @@
-//! The mode and the mask of a list, and what they are after it is changed.
+//! The mode and the mask of a list, before and after a change.
 
 use super::harness::Who::{Amy, Bob, Eve, Group, Guests, Mask, Other, Owner, Staff};
 use super::harness::{
@@ -8,7 +8,7 @@ use crate::*;
 use acl_perm::{Mode, Perm};
 use std::process::Abort;
 
-// Entries, their permissions, and what the mask leaves of them.
+// Entries with their permissions, and the permissions that the mask leaves.
 const EFFECTIVE: [(Who, u8, u8); 6] = [
     (Owner, 6, 6),
     (Amy, 6, 4),
@@ -25,7 +25,7 @@ fn is_effective(acl: &PosixAcl, tag: Tag, perm: u8, effective: u8) -> bool {
     }
 }
 
-/// What the mask leaves of the entries of a list.
+/// The mask limits the entries of a list.
 pub fn effective_permissions<A: Abort>(rt: &A, memory: Memory) {
     let acl = match memory.acl(SHARED) {
         Ok(acl) => acl,
@@ -50,7 +50,7 @@ fn has_mode(memory: Memory, rows: Rows, mode: u16) -> bool {
     }
 }
 
-/// The modes of lists with a mask and without one.
+/// Lists with a mask and without one have these modes.
 pub fn modes<A: Abort>(rt: &A, memory: Memory) {
     let table: [(Rows, u16); 4] = [
         (SHARED, 0o644),
@@ -63,7 +63,7 @@ pub fn modes<A: Abort>(rt: &A, memory: Memory) {
     }
 }
 
-/// A list after its mode is set, and after its mask is calculated.
+/// A list has these entries after its mode is set, and after its mask is calculated.
 pub fn changed_lists<A: Abort>(rt: &A, memory: Memory) {
     match memory.acl(SHARED) {
         Ok(mut acl) => {
@@ -77,8 +77,9 @@ pub fn changed_lists<A: Abort>(rt: &A, memory: Memory) {
     }
 }
 
-// A list, an entry of it with the digit to set, or without one where it is to be removed, and the list or the fault that
-// `setfacl -n` leaves. A list that lacks its mask is refused: setfacl calls it malformed, acl_check "Missing entries".
+// A list, an entry with the digit to set, or without a digit if the entry is to be removed, and the resulting list or
+// fault of `setfacl -n`. A list without the mask that it needs is refused: setfacl reports that it is malformed, and
+// acl_check reports "Missing entries".
 const ONE_ENTRY: [(Rows, Who, Option<u8>, Result<Rows, AclFault>); 9] = [
     (
         NO_OWNER,
@@ -118,7 +119,8 @@ fn change(acl: &mut PosixAcl, who: Who, digit: Option<u8>) -> Result<(), AclFaul
     }
 }
 
-// Whether a changed list has these rows, and the entry has what was set; and a list that is not changed those before.
+// Returns whether a changed list has these rows and the entry has the permissions that were set. A call that fails must
+// leave the rows as they were.
 fn is_changed(
     memory: Memory,
     (rows, who, digit, wanted): (Rows, Who, Option<u8>, Result<Rows, AclFault>),
@@ -137,7 +139,7 @@ fn is_changed(
     }
 }
 
-/// Lists of which one entry is set or removed.
+/// One entry of a list is set or removed.
 pub fn changed_entries<A: Abort>(rt: &A, memory: Memory) {
     for row in ONE_ENTRY {
         assert!(rt; is_changed(memory, row));
@@ -156,7 +158,7 @@ fn modes_and_masks_are_set_or_memory_is_wanting(rt: HostRuntime) {
 #[test]
 fn a_mask_is_added_or_nothing_is(rt: HostRuntime) {
     let memory = Memory::scarce(rt.alloc());
-    // A copy has no room to spare.
+    // A copy has no spare room, so another entry takes memory.
     let Ok(Ok(mut acl)) = memory.acl(NO_OWNER).map(|acl| acl.copy(memory.alloc)) else {
         return;
     };

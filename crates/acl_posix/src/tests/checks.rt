@@ -1,4 +1,4 @@
-//! What a list grants to an owner, a user and members of groups.
+//! The access check for an owner, for users and for members of groups.
 
 use super::harness::Who::{Group, Other, Owner};
 use super::harness::{MASKED, Memory, NO_OWNER, Rows, SHARED, TWO_GROUPS};
@@ -9,7 +9,7 @@ use std::process::Abort;
 // `u::rwx,g::---,o::rwx`
 const NO_GROUP: Rows = (&[Owner, Group, Other], b"707");
 
-// Of the files that are asked for.
+// The owner and the group of each file.
 const OWNER: Id = Id { value: 1 };
 
 const OWNING_GROUP: Id = Id { value: 2 };
@@ -37,9 +37,9 @@ fn is_answered(
     }
 }
 
-/// Requests of an owner, a user and members of groups.
+/// Requests of an owner, of users and of members of groups are granted or denied.
 pub fn requests<A: Abort>(rt: &A, memory: Memory) {
-    // Entries, who asks, in which groups, for what, and whether it is granted.
+    // The entries, the user who asks, the groups of that user, the request, and whether it is granted.
     let table: [(Rows, Id, &[Id], u8, bool); 13] = [
         (TWO_GROUPS, USER_3, &BOTH, 6, false),
         (TWO_GROUPS, USER_3, &BOTH, 4, true),

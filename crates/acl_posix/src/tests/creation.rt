@@ -18,7 +18,7 @@ fn is_made(file: &PosixFile, access: Rows, is_inherited: bool) -> bool {
         }
 }
 
-// What a file gets in a directory with the default ACL `DEFAULT`, or with none.
+// Makes the ACLs of a new file in a directory with the default ACL `DEFAULT`, or without a default ACL.
 fn new_file(
     memory: Memory,
     has_default: bool,
@@ -34,9 +34,10 @@ fn new_file(
     }
 }
 
-/// The ACLs of a new file or directory, with a umask that has no part where there is a default ACL.
+/// A new file or directory gets these ACLs. With a default ACL the umask is ignored.
 pub fn new_files<A: Abort>(rt: &A, memory: Memory) {
-    // Whether there is a default ACL, mode and umask, whether a directory is made, and the access ACL of what is made.
+    // Whether there is a default ACL, the mode and the umask, whether a directory is made, and the access ACL of the
+    // new file or directory.
     let table: [(bool, u16, u16, bool, Rows); 4] = [
         (true, 0o640, 0o077, false, CUT),
         (true, 0o640, 0o077, true, CUT),

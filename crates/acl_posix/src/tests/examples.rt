@@ -1,4 +1,4 @@
-//! The examples of the doc comments: the lines of each stand here, in order, in a test of their own.
+//! The examples of the doc comments: one test per example, with the same lines in the same order.
 
 use crate::*;
 use acl_perm::{Counted, Mode, Perm};

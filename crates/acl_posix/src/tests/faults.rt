@@ -4,12 +4,12 @@ use super::samples::{holds, write};
 use crate::*;
 use std::alloc::{AllocError, Global};
 
-/// Whether a text is refused by this fault.
+/// Returns whether a text is refused with this fault.
 pub fn is_refused(alloc: Global, names: &Names, text: &[u8], wanted: TextFault) -> bool {
     parse(alloc, text, names).err() == Some(wanted)
 }
 
-/// Texts that are refused, and the fault of each.
+/// Each of these texts is refused with its fault.
 pub const FAULTS: [(&[u8], TextFault); 30] = [
     (
         b"u::rw-,u:7:r--,g::r--,o::---",
@@ -85,7 +85,7 @@ pub const FAULTS: [(&[u8], TextFault); 30] = [
     (b"u:\xff:r", TextFault::UnknownName { line: 1, column: 3 }),
 ];
 
-/// Whether what a text of twelve lines is refused for, if it is, is an invalid list or stands in one of its lines.
+/// Returns whether a fault of a text of twelve lines is in one of the lines, or is an invalid list.
 pub fn is_judged(fault: Option<TextFault>) -> bool {
     match fault {
         None | Some(TextFault::Invalid(..)) => true,
@@ -102,7 +102,7 @@ pub fn is_judged(fault: Option<TextFault>) -> bool {
     }
 }
 
-// A text with one byte so many times over in it.
+// Makes a text that repeats one byte this many times.
 fn repeated(
     alloc: Global,
     before: &[u8],
@@ -114,7 +114,7 @@ fn repeated(
     [before, &part, after].concat(alloc)
 }
 
-/// Whether this text, which has a byte so many times over in it, is refused so.
+/// Returns whether a text that repeats a byte this many times is refused with this fault.
 pub fn is_refused_repeated(
     alloc: Global,
     before: &[u8],
@@ -130,7 +130,7 @@ pub fn is_refused_repeated(
     }
 }
 
-/// Whether an id with a thousand zeros in front is read as what is left without them.
+/// Returns whether an id that begins with a thousand zeros is read as the id without them.
 pub fn zeros_are_read(alloc: Global) -> bool {
     let names = Names::new(alloc);
     let after = b"7:rw-,g::r--,g:50:rw-,m::r--,o::r--".as_slice();

@@ -1,11 +1,11 @@
-//! What the tests of this crate share: entries by rows of a table, and where the calls get their memory.
+//! Code that the tests of this crate share: entries from the rows of a table, and the allocator of the calls.
 
 use crate::*;
 use Who::{Amy, Bob, Eve, Group, Guests, Mask, Ops, Other, Owner, Staff};
 use acl_perm::Perm;
 use std::alloc::Global;
 
-/// Whom an entry speaks of; the named users have the ids 5, 7 and 1001, and the named groups 5, 50 and 60.
+/// Whom an entry is for. The named users have the ids 5, 7 and 1001, and the named groups have the ids 5, 50 and 60.
 #[derive(Clone, Copy, Debug)]
 pub enum Who {
     Owner,
@@ -37,13 +37,13 @@ impl Who {
     }
 }
 
-/// Whom a list speaks of, and a digit of permissions for each.
+/// The rows of a list: whom each entry is for, and a digit of permissions.
 pub type Rows = (&'static [Who], &'static [u8]);
 
 /// `u::rw-,u:1001:rw-,g::r--,g:50:rw-,m::r--,o::r--`, in another order
 pub const SHARED: Rows = (&[Other, Mask, Staff, Owner, Amy, Group], b"446664");
 
-/// Whom it speaks of, in canonical order
+/// The entries of that list in canonical order, without their permissions
 pub const ORDERED: &[Who] = &[Owner, Amy, Group, Staff, Mask, Other];
 
 /// `u::rwx,g::---,g:50:r--,g:60:-w-,m::rw-,o::---`
@@ -58,12 +58,12 @@ pub const NO_OWNER: Rows = (&[Owner, Group, Other], b"077");
 /// `u::rwx,g::rwx,m::r--,o::rwx`
 pub const MASKED: Rows = (&[Owner, Group, Mask, Other], b"7747");
 
-/// The permissions of a digit in ASCII.
+/// Returns the permissions of a digit in ASCII.
 pub fn perm_of(digit: u8) -> Option<Perm> {
     Perm::new(digit.wrapping_sub(b'0'))
 }
 
-/// Where the calls get their memory, and whether it may be wanting, which is then an answer to every row.
+/// The allocator of the calls, and whether memory may run out. If it may, that is an accepted answer for every row.
 #[derive(Clone, Copy)]
 pub struct Memory {
     pub alloc: Global,
@@ -81,7 +81,7 @@ impl Memory {
         Memory { alloc, is_ample }
     }
 
-    /// The entries of some rows.
+    /// Makes the entries of some rows.
     pub fn entries(self, (names, digits): Rows) -> Result<Vec<Entry>, AclFault> {
         let mut entries = Vec::new(self.alloc);
         for (who, digit) in names.iter().zip(digits) {
@@ -95,18 +95,18 @@ impl Memory {
         Ok(entries)
     }
 
-    /// The list of some rows, in any order.
+    /// Makes the list of some rows, which may be in any order.
     pub fn acl(self, rows: Rows) -> Result<PosixAcl, AclFault> {
         PosixAcl::from_entries(self.alloc, self.entries(rows)?)
     }
 
-    /// Whether a call may have been refused with this fault.
+    /// Returns whether a call may fail with this fault because memory ran out.
     pub fn may_want(self, fault: Option<AclFault>) -> bool {
         !self.is_ample && fault == Some(AclFault::Memory)
     }
 }
 
-/// Whether a list has these rows, in this order.
+/// Returns whether a list has these rows in this order.
 pub fn has_rows(acl: &PosixAcl, (names, digits): Rows) -> bool {
     let entries = acl.entries();
     entries.len() == names.len()

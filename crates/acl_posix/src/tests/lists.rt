@@ -28,7 +28,7 @@ fn is_judged(memory: Memory, rows: Rows, fault: Option<AclFault>) -> bool {
     found == fault || memory.may_want(found)
 }
 
-/// Valid lists, and the fault of each that is not.
+/// Valid lists are accepted, and each other list is refused with its fault.
 pub fn whole_lists<A: Abort>(rt: &A, memory: Memory) {
     let table: [(Rows, Option<AclFault>); 12] = [
         (SHARED, None),
@@ -49,7 +49,7 @@ pub fn whole_lists<A: Abort>(rt: &A, memory: Memory) {
     }
 }
 
-/// Lists of which entries are left out.
+/// A list without an entry that it needs is refused.
 pub fn cut_lists<A: Abort>(rt: &A, memory: Memory) {
     let table: [(Rows, Tag); 6] = [
         ((&[Other, Mask, Staff], b"446"), Tag::UserObj),
@@ -82,7 +82,7 @@ fn is_told(memory: Memory, fault: AclFault, message: &str) -> bool {
     }
 }
 
-/// What each fault says.
+/// Each fault has this message.
 pub fn messages<A: Abort>(rt: &A, memory: Memory) {
     for (fault, message) in MESSAGES {
         assert!(rt; is_told(memory, fault, message), "of {message}");

@@ -1,4 +1,4 @@
-//! Tables of names, and texts with names where memory may be wanting.
+//! Tables of names, and texts with names if memory may run out.
 
 use super::samples::{
     LISTED_CANONICAL, LISTED_SHORT, SHORT, SHOWN, TWO_MASKS, TWO_MASKS_SHOWN, is_written,
@@ -7,7 +7,7 @@ use crate::*;
 use std::alloc::Global;
 use std::process::Abort;
 
-/// Adds names to both halves of a table: which are added, and that a refused one changes nothing.
+/// Names are added to both halves of a table, and a refused name changes nothing.
 pub fn add_each(rt: &impl Abort, names: &mut Names, one: Id, two: Id) {
     assert!(rt; names.add_user(b"", one) == Err(NameFault::EmptyName));
     assert!(rt; names.add_user(b"007", one) == Err(NameFault::DigitsOnly));
@@ -17,8 +17,8 @@ pub fn add_each(rt: &impl Abort, names: &mut Names, one: Id, two: Id) {
     assert!(rt; names.add_group(b"7a", two) == Err(NameFault::Taken));
 }
 
-// Adds a name of each half of the table. A call that is refused memory leaves the table as it was, so that it can be
-// made again.
+// Adds a name to each half of the table. A call that runs out of memory leaves the table as it was, so that the call
+// can be made again.
 fn add_names(rt: &impl Abort, names: &mut Names) -> Option<()> {
     let id = Id::new(1002)?;
     let added = names.add_user(b"bob", id);
@@ -53,7 +53,7 @@ const ROWS: [(&[u8], Form, &[u8]); 4] = [
     ),
 ];
 
-// Whether a text is read and written, or memory wanted, or a name that is not there.
+// Returns whether a text is read and written, or memory ran out, or a name is not in the table.
 fn may_be_read(
     alloc: Global,
     names: &Names,
@@ -67,7 +67,7 @@ fn may_be_read(
     }
 }
 
-// Names, a text with them, and its forms, where memory may be wanting: it is an answer then, and no other is.
+// Names, a text with these names, and its forms. If memory runs out, that is the only other accepted answer.
 #[test]
 fn texts_are_read_and_written_or_memory_is_wanting(rt: HostRuntime) {
     let mut names = Names::new(rt.alloc());

@@ -1,4 +1,4 @@
-//! Texts of worked examples, the names that they have, and how the tests write and compare them.
+//! Texts of worked examples with their names, and functions that write and compare texts.
 
 use crate::*;
 use acl_perm::Counted;
@@ -15,7 +15,7 @@ pub const CANONICAL: &[u8] =
 pub const SHOWN: &[u8] =
     b"user::rw-\nuser:1001:rw-\t#effective:r--\ngroup::r--\ngroup:50:rw-\t#effective:r--\nmask::r--\nother::r--\n";
 
-/// What getfacl prints of a directory (getfacl(1)).
+/// The output of getfacl for a directory (getfacl(1)).
 pub const LISTED: &[u8] =
     b"# file: reports\n# owner: alice\n# group: staff\nuser::rw-\nuser:bob:rwx\t#effective:r--\ngroup::r--\n\
     mask::r--\nother::---\ndefault:user::rwx\ndefault:group::r-x\ndefault:other::---\n\n";
@@ -29,7 +29,7 @@ pub const LISTED_CANONICAL: &[u8] =
 pub const LISTED_SHORT: &[u8] =
     b"u::rw-,u:1002:rwx,g::r--,m::r--,o::---,d:u::rwx,d:g::r-x,d:o::---";
 
-/// A list whose default part has a mask of its own, in no order.
+/// A list whose default part has its own mask, in no order.
 pub const TWO_MASKS: &[u8] =
     b"u::rwx,g::rwx,m::rwx,o::---,d:g:7:rwx,d:u::rwx,d:m::-w-,d:g::r-x,d:o::---";
 
@@ -38,7 +38,7 @@ pub const TWO_MASKS_SHOWN: &[u8] =
     b"user::rwx\ngroup::rwx\nmask::rwx\nother::---\ndefault:user::rwx\ndefault:group::r-x\t#effective:---\n\
     default:group:7:rwx\t#effective:-w-\ndefault:mask::-w-\ndefault:other::---\n";
 
-/// The names that the texts have.
+/// Makes the table of the names in the texts.
 pub fn names_of(alloc: Global) -> Option<Names> {
     let mut names = Names::new(alloc);
     names.add_user(b"bob", Id::new(1002)?).ok()?;
@@ -46,7 +46,7 @@ pub fn names_of(alloc: Global) -> Option<Names> {
     Some(names)
 }
 
-/// Writes a text into a room, and tells how many bytes went in and what the call answered.
+/// Writes a text into a buffer, and returns how many bytes were written and the result of the call.
 pub fn write(file: &PosixFile, form: Form, room: &mut [u8]) -> (usize, Option<u64>) {
     let size = room.len();
     let mut sink = Counted::new(room);
@@ -58,19 +58,19 @@ pub fn write(file: &PosixFile, form: Form, room: &mut [u8]) -> (usize, Option<u6
     )
 }
 
-/// Whether a room begins with the text, and has nothing behind it.
+/// Returns whether a buffer begins with the text and has only zeros after it.
 pub fn holds(room: &[u8], text: &[u8]) -> bool {
     room.starts_with(text) && room.iter().skip(text.len()).all(|byte| *byte == 0)
 }
 
-/// Whether a file is written so in a form.
+/// Returns whether a file has this text in a form.
 pub fn is_written(file: &PosixFile, form: Form, wanted: &[u8]) -> bool {
     let mut room = [0u8; 512];
     let (size, fault) = write(file, form, &mut room);
     fault.is_none() && size == wanted.len() && holds(&room, wanted)
 }
 
-/// Whether a text is read, and written so in a form.
+/// Returns whether a text is read, and its file has this text in a form.
 pub fn is_read(alloc: Global, names: &Names, text: &[u8], form: Form, wanted: &[u8]) -> bool {
     match parse(alloc, text, names) {
         Ok(file) => is_written(&file, form, wanted),

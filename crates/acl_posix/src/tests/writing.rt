@@ -1,4 +1,4 @@
-//! Texts in their three forms: what is read is written again, and each write fails in turn.
+//! Texts in their three forms: a text that is read is written again, and each write fails in turn.
 
 use super::samples::{
     CANONICAL, LISTED, LISTED_CANONICAL, LISTED_SHORT, SHORT, SHOWN, TWO_MASKS, TWO_MASKS_SHOWN,
@@ -7,7 +7,7 @@ use super::samples::{
 use crate::*;
 use acl_perm::Counted;
 
-/// Texts, with the form in which each is written again.
+/// Each text is read and written again in a form.
 pub const TEXTS: [(&[u8], Form, &[u8]); 13] = [
     (SHORT, Form::Canonical, CANONICAL),
     (SHORT, Form::Shown, SHOWN),
@@ -36,7 +36,7 @@ pub const TEXTS: [(&[u8], Form, &[u8]); 13] = [
     ),
 ];
 
-// A room of n bytes: the fault tells n, and the room holds the first n bytes of the text.
+// Writes into a buffer of n bytes: the fault reports n, and the buffer holds the first n bytes of the text.
 fn is_cut(file: &PosixFile, form: Form, text: &[u8], size: usize) -> bool {
     let mut room = [0u8; 128];
     let (part, _) = room.split_at_mut(size.min(128));
@@ -61,7 +61,7 @@ fn each_write_fails_in_turn(rt: HostRuntime) {
     }
 }
 
-// How many bytes the three texts of an ACL take of a room.
+// Returns how many bytes the three texts of an ACL have.
 fn written_thrice(acl: &PosixAcl, room: &mut [u8]) -> Option<usize> {
     let size = room.len();
     let mut sink = Counted::new(room);
@@ -72,7 +72,7 @@ fn written_thrice(acl: &PosixAcl, room: &mut [u8]) -> Option<usize> {
     is_written.then_some(size.saturating_sub(left))
 }
 
-// The texts of an ACL are those of a file without a default ACL.
+// An ACL has the texts of a file with this access ACL and without a default ACL.
 #[test]
 fn an_acl_is_written_as_a_file(rt: HostRuntime) {
     let names = Names::new(rt.alloc());

@@ -1,11 +1,9 @@
--- What the program holds of a command: its word and its arguments (this library's own).
-use Rattle.std.specs.Prelude.{◌≡◌, ◌∷◌, [], List, Bool, false, if◌then◌else◌, map, not, true}
+-- What the program holds of a command: its arguments (this library's own).
+use Rattle.std.specs.Prelude.{◌∷◌, [], List, Bool, false, if◌then◌else◌, not, true}
 use Rattle.std.specs.List.{list_any}
-use Rattle.aclck.specs.Definition.{Definition}
 use Rattle.aclck.specs.Line.{Term, any_words, default, flag, optional, required}
 use Rattle.aclck.specs.declared.line.Argument.{Argument}
 use Rattle.aclck.specs.declared.line.Argument.TheVariants as argument
-use Rattle.aclck.specs.declared.task.Definition.{Definition as HeldDefinition}
 
 -- an argument that the program holds
 abbrev pub term : Argument → Term
@@ -27,9 +25,3 @@ is_rest any_words = true
 abbrev pub is_sound : List Term → Bool
 is_sound [] = true
 is_sound (t ∷ ts) = if is_rest t then not (list_any is_rest ts) else is_sound ts
-
--- the program holds the word and the arguments of the command, of which at most one takes words
-pub record Defines (d : Definition) (held : HeldDefinition) : Type 0 where
-  pub word : held.word.now ≡ d.word
-  pub terms : map term held.arguments.now ≡ d.terms
-  pub sound : is_sound d.terms ≡ true

@@ -2,7 +2,7 @@
 use Rattle.std.specs.Prelude.{◌≡◌, ◌⊎◌, List, ℕ, Option, None, Bool, false, true, if◌then◌else◌, IfErr, IsSomeAnd, OnOk, Result, Ok, Err}
 use Rattle.std.specs.Io.KnownBytes.{IsAtEnd}
 use Rattle.acl_perm.specs.Devices.{failures_after}
-use Rattle.aclck.specs.Answer.{Fails, is_read, is_refusal, is_write}
+use Rattle.aclck.specs.Answer.{Fails, is_read, is_input_fault, is_write}
 use Rattle.aclck.specs.Task.{Answers, Task}
 use Rattle.aclck.specs.declared.answer.Outcome.{Outcome}
 use Rattle.aclck.specs.declared.answer.RunFault.TheVariants as fault
@@ -20,7 +20,7 @@ command_fault_of line.Memory = command.Run fault.Memory
 -- 2 for a refused input, 3 for usage, 4 for a device or memory
 abbrev pub status_of : CommandFault → ℕ
 status_of command.Usage = 3
-status_of (command.Run f) = if is_refusal f then 2 else 4
+status_of (command.Run f) = if is_input_fault f then 2 else 4
 
 -- the result of a command whose words ask for this task
 abbrev pub Performs : Option Task → Option (List ℕ) → Option (List ℕ) → Option (List ℕ)

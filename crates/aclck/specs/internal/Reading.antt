@@ -8,7 +8,7 @@ use Rattle.acl_nfs4.specs.Ace.{Ace}
 use Rattle.acl_nfs4.specs.Fault.{IsFirstFault}
 use Rattle.acl_nfs4.specs.Spelling.{Xdr}
 use Rattle.acl_nfs4.specs.internal.Progress.{IsBytes}
-use Rattle.acl_nfs4.specs.Stream.{IsCut}
+use Rattle.acl_nfs4.specs.Stream.{IsCutShort}
 use Rattle.acl_nfs4.specs.declared.xdr.fault.Fault.{Fault}
 use Rattle.acl_nfs4.specs.declared.xdr.fault.Reason.TheVariants.{Memory, TrailingBytes, Truncated}
 use Rattle.aclck.specs.Answer.{IsXdrFault, cause_of, has_read_failed, is_read}
@@ -72,22 +72,22 @@ Unread Refused (cause.Sink w) = ⊥
 Unread Refused cause.Memory = Unit {0}
 
 -- what kind an input is: which faults it may have, where it ends, and which beginnings of it may continue
-pub record Kind : Type 1 where
+pub record InputKind : Type 1 where
   pub HasFault : List ℕ → RunFault → Type 0
   pub EndsAt : List ℕ → ℕ → Type 0
   pub MayGoOn : List ℕ → Type 0
 
 -- one list
-abbrev pub one_list : Profile → Kind
-one_list p = record { HasFault = IsXdrFault p; EndsAt = ListEnds p; MayGoOn = IsOpen p }
+abbrev pub one_list_input : Profile → InputKind
+one_list_input p = record { HasFault = IsXdrFault p; EndsAt = ListEnds p; MayGoOn = IsOpen p }
 
 -- two lists
-abbrev pub two_lists : Profile → Kind
-two_lists p = record { HasFault = IsRefusedTwo p; EndsAt = TwoEnd p; MayGoOn = AreOpen p }
+abbrev pub two_list_input : Profile → InputKind
+two_list_input p = record { HasFault = IsRefusedTwo p; EndsAt = TwoEnd p; MayGoOn = AreOpen p }
 
 -- an input of a kind was read from a source, or not: the bytes that the source has left before and after, and how many
 -- of its calls failed
-pub record ReadsInput {X : Type 0} (k : Kind) (Is : X → List ℕ → Type 0) (known left : Option (List ℕ))
+pub record ReadsInput {X : Type 0} (k : InputKind) (Is : X → List ℕ → Type 0) (known left : Option (List ℕ))
     (failed failed_after : ℕ) (r : Result X RunFault) : Type 0 where
   -- what was found is the input
   pub found : IfOk r (λ x. HasInput (Is x) known)
@@ -141,7 +141,7 @@ pub record ReadsLittle (p : Profile) (left : List ℕ) (known now_known : Option
 pub record ReadsPart (p : Profile) (left : List ℕ) (known now_known : Option (List ℕ)) : Type 0 where
   pub given : List ℕ
   pub taken : Consumes known now_known given
-  pub cut : IsCut p (left ++ given)
+  pub cut : IsCutShort p (left ++ given)
 
 -- why a value was not read
 abbrev pub ReadsNone : Profile → List ℕ → Option (List ℕ) → Option (List ℕ) → ListFault → Type 0

@@ -4,10 +4,10 @@ ghost use Rattle.std.specs.Io.KnownBytes.{Consumes, IsAtEnd, Keeps};
 ghost use Rattle.acl_perm.specs.Devices.{failures_after};
 ghost use Rattle.acl_perm.specs.Profile.{profile_of};
 ghost use Rattle.acl_nfs4.specs.Spelling.{Xdr};
-ghost use Rattle.acl_nfs4.specs.Stream.{Finishes};
+ghost use Rattle.acl_nfs4.specs.Stream.{FinishesStream};
 ghost use Rattle.aclck.specs.Compare.{AreTwo};
 ghost use Rattle.aclck.specs.ListInput.{piece_len};
-ghost use Rattle.aclck.specs.internal.Reading.{EndsNot, ReadsInput, ReadsNone, ReadsValue, StandsBelow, has_pull_failed, later, one_list, two_lists};
+ghost use Rattle.aclck.specs.internal.Reading.{EndsNot, ReadsInput, ReadsNone, ReadsValue, StandsBelow, has_pull_failed, later, one_list_input, two_list_input};
 ghost use Rattle.acl_nfs4.specs.internal.Progress.{IsBytes};
 
 use crate::answer::RunFault;
@@ -61,7 +61,7 @@ pub(crate) fn read_list<S: Source>(
     source: &mut S,
     profile: Profile,
 ) -> Result<Acl, RunFault>
-    ensures { ReadsInput (one_list (profile_of profile)) (Xdr (profile_of profile))
+    ensures { ReadsInput (one_list_input (profile_of profile)) (Xdr (profile_of profile))
         (S.remaining source.old) (S.remaining source.new)
         (S.failure_count source.old) (S.failure_count source.new) result }
 {
@@ -85,7 +85,7 @@ pub(crate) fn read_two<S: Source>(
     source: &mut S,
     profile: Profile,
 ) -> Result<TwoLists, RunFault>
-    ensures { ReadsInput (two_lists (profile_of profile))
+    ensures { ReadsInput (two_list_input (profile_of profile))
         (λ (two : TwoLists). AreTwo (profile_of profile) two.first two.second)
         (S.remaining source.old) (S.remaining source.new)
         (S.failure_count source.old) (S.failure_count source.new) result }
@@ -163,9 +163,9 @@ pub(crate) fn read_value<S: Source>(
 
 // What a feed is if it gets no more bytes.
 fn finish(feed: Feed, len: u64) -> Result<Value, ListFault>
-    ensures list { IfOk result (λ value. (value.len ≡ len) × Finishes feed (Ok value.list)) }
+    ensures list { IfOk result (λ value. (value.len ≡ len) × FinishesStream feed (Ok value.list)) }
     ensures fault { IfErr result (λ e. (e ≡ ListFault.Memory)
-        ⊎ ((fault : Fault) × (e ≡ ListFault.Refused fault) × Finishes feed (Err fault))) }
+        ⊎ ((fault : Fault) × (e ≡ ListFault.Refused fault) × FinishesStream feed (Err fault))) }
 {
     Ok(Value {
         list: feed.finish()?,
@@ -173,7 +173,7 @@ fn finish(feed: Feed, len: u64) -> Result<Value, ListFault>
     })
 }
 
-/// Whether the input ends behind a value of so many bytes. The last pull may have given more.
+/// Fails unless the input ends behind a value of so many bytes. The last pull may have given more.
 pub(crate) fn read_end<S: Source>(
     source: &mut S,
     pulled: &mut Pulled,

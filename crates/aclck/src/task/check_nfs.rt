@@ -1,17 +1,18 @@
 //! `check-nfs`: whether a list grants a request.
-ghost use Rattle.std.specs.Prelude.{◌≡◌, ◌↔◌, IfOk, option_and_then, option_map};
+ghost use Rattle.std.specs.Prelude.{◌≡◌, ◌↔◌, IfOk, IsTrue, option_and_then, option_map};
 ghost use Rattle.acl_perm.specs.Profile.{profile_of};
 ghost use Rattle.aclck.specs.Run.{Runs, of_list};
-ghost use Rattle.aclck.specs.Line.{Reads, rows_in, text_if_any, texts};
+ghost use Rattle.aclck.specs.Line.{ReadsValues, rows_in, text_if_any, texts};
 ghost use Rattle.aclck.specs.Values.{mask_value, mask_within};
 ghost use Rattle.acl_eval.specs.Grant.{Grant};
 ghost use Rattle.acl_eval.specs.Situation.{situation};
-ghost use Rattle.aclck.specs.CheckNfs.{CheckNfsAnswer, check_nfs_held, check_nfs_in, object_named, object_names, requester_named, requester_names, values_of};
+ghost use Rattle.aclck.specs.Answer.{is_yes};
+ghost use Rattle.aclck.specs.CheckNfs.{CheckNfsAnswer, check_nfs_held, check_nfs_in, object_named, object_names, requester_named, requester_names};
 
 use crate::answer::{Outcome, RunFault, decision_line};
 use crate::input::xdr::read_list;
 use crate::line::{Argument, LineFault, text_of};
-use crate::words::profile::profile_in;
+use crate::words::profile::{PROFILE, profile_in};
 use acl_eval::{Object, Requester, grants_by_table};
 use acl_nfs4::{Acl, read_mask};
 use acl_perm::{Mask, Profile, Sink, Source, put_all};
@@ -27,7 +28,7 @@ pub(crate) const ARGUMENTS: [Argument; 6] = [
     Argument::Required("group"),
     Argument::Required("user"),
     Argument::Required("mask"),
-    Argument::Default("profile", "full"),
+    PROFILE,
     Argument::Words,
 ];
 
@@ -46,7 +47,7 @@ pub(crate) fn read<'a, 'w: 'a>(
     matches: &ArgMatches<'w>,
     groups: &'a [&'a [u8]],
 ) -> Result<CheckNfs<'a>, LineFault>
-    ensures { Reads check_nfs_held (check_nfs_in (rows_in matches.now)
+    ensures { ReadsValues check_nfs_held (check_nfs_in (rows_in matches.now)
         (texts groups.entry.now)) result }
 {
     let Some(object) = object_of(text_of(matches, "owner"), text_of(matches, "group")) else {
@@ -119,40 +120,31 @@ fn mask_value(word: &str) -> Option<Mask>
     }
 }
 
-/// Writes whether the list that the whole input spells grants the requester the mask on the object (RFC 8881, section
-/// 6.2.1): `granted`, or `denied` and No. Nothing is written before the input is accepted as a list of the profile.
-/// Nothing is read after a refusal.
+/// Writes whether the list that the whole input spells grants the requester of the task the mask on its object (RFC
+/// 8881, section 6.2.1): `granted`, or `denied` and No. Nothing is written before the input is accepted as a list of
+/// the profile. Nothing is read after a refusal.
 pub fn run_check_nfs<S: Source, K: Sink>(
     alloc: Global,
     source: &mut S,
     sink: &mut K,
-    object: &Object<'_>,
-    requester: &Requester<'_>,
-    mask: Mask,
-    profile: Profile,
+    task: &CheckNfs<'_>,
 ) -> Result<Outcome, RunFault>
-    ensures { Runs (CheckNfsAnswer (values_of object.now requester.now mask profile))
-        (of_list (profile_of profile))
+    ensures { Runs (CheckNfsAnswer (check_nfs_held task.now)) (of_list (profile_of task.now.profile))
         S.remaining S.failure_count source.old source.new
         K.contents K.failure_count sink.old sink.new result }
 {
-    let list = read_list(alloc, source, profile)?;
-    let outcome = decide(alloc, &list, object, requester, mask)?;
+    let list = read_list(alloc, source, task.profile)?;
+    let outcome = decide(alloc, &list, task)?;
     put_all(sink, decision_line(outcome))?;
     Ok(outcome)
 }
 
 // Whether the list grants the request.
-fn decide(
-    alloc: Global,
-    list: &Acl,
-    object: &Object<'_>,
-    requester: &Requester<'_>,
-    mask: Mask,
-) -> Result<Outcome, AllocError>
-    ensures { IfOk result (λ outcome. (outcome ≡ Outcome.Yes)
-        ↔ Grant list.now (situation object.now requester.now) mask.bits) }
+fn decide(alloc: Global, list: &Acl, task: &CheckNfs<'_>) -> Result<Outcome, AllocError>
+    ensures { IfOk result (λ outcome. IsTrue (is_yes outcome)
+        ↔ Grant list.now (situation task.now.object task.now.requester) task.now.mask.bits) }
 {
-    let granted = grants_by_table(alloc, &list.view(), object, requester, mask)?;
+    let mask = task.mask;
+    let granted = grants_by_table(alloc, &list.view(), &task.object, &task.requester, mask)?;
     Ok(Outcome::of(granted))
 }

@@ -4,9 +4,9 @@ ghost use Rattle.std.specs.List.{list_all, slice_split};
 ghost use Rattle.acl_posix.specs.Check.{ids};
 ghost use Rattle.acl_posix.specs.Grammar.{comma};
 ghost use Rattle.aclck.specs.Run.{Runs, of_text};
-ghost use Rattle.aclck.specs.Line.{Reads, rows_in, text_if_any, texts};
+ghost use Rattle.aclck.specs.Line.{ReadsValues, rows_in, text_if_any, texts};
 ghost use Rattle.aclck.specs.Values.{each_value, id_value, ids_value, is_letter, letters_value, want_value};
-ghost use Rattle.aclck.specs.CheckPosix.{CheckPosixAnswer, check_posix_held, check_posix_in, groups_value, values_of};
+ghost use Rattle.aclck.specs.CheckPosix.{CheckPosixAnswer, check_posix_held, check_posix_in, groups_value};
 
 use crate::answer::{Outcome, RunFault, decision_line, tell};
 use crate::input::posix::read_file;
@@ -31,7 +31,8 @@ pub(crate) const ARGUMENTS: [Argument; 6] = [
     Argument::Words,
 ];
 
-/// The requester, the object, the permissions that are requested, and which names a text may have.
+/// The object by its owner and its owning group, the requester, the permissions that are requested, and which names a
+/// text may have.
 #[derive(Drop)]
 pub struct CheckPosix {
     pub owner: Id,
@@ -45,7 +46,7 @@ pub struct CheckPosix {
 /// Returns the values that the words give.
 #[tactic(auto, unfolding(crate::specs::CheckPosix::check_posix_in))]
 pub(crate) fn read(alloc: Global, matches: &ArgMatches<'_>) -> Result<CheckPosix, LineFault>
-    ensures { Reads check_posix_held (check_posix_in (rows_in matches.now)) result }
+    ensures { ReadsValues check_posix_held (check_posix_in (rows_in matches.now)) result }
 {
     Ok(CheckPosix {
         owner: id_in(text_of(matches, "owner"))?,
@@ -60,13 +61,13 @@ pub(crate) fn read(alloc: Global, matches: &ArgMatches<'_>) -> Result<CheckPosix
 }
 
 fn id_in(word: Option<&str>) -> Result<Id, LineFault>
-    ensures { Reads (λ id. id.value) (option_and_then id_value (text_if_any word.entry)) result }
+    ensures { ReadsValues (λ id. id.value) (option_and_then id_value (text_if_any word.entry)) result }
 {
     word.and_then(id_value).ok_or(LineFault::Usage)
 }
 
 fn groups_in(alloc: Global, word: Option<&str>) -> Result<Vec<Id>, LineFault>
-    ensures { Reads (λ v. ids v.items) (groups_value (text_if_any word.entry)) result }
+    ensures { ReadsValues (λ v. ids v.items) (groups_value (text_if_any word.entry)) result }
 {
     match word {
         Some(word) => ids_value(alloc, word),
@@ -77,7 +78,7 @@ fn groups_in(alloc: Global, word: Option<&str>) -> Result<Vec<Id>, LineFault>
 // The value of `--groups`: IDs with commas between them.
 #[tactic(auto, unfolding(crate::specs::Values::ids_value))]
 fn ids_value(alloc: Global, word: &str) -> Result<Vec<Id>, LineFault>
-    ensures { Reads (λ v. ids v.items) (ids_value word.now) result }
+    ensures { ReadsValues (λ v. ids v.items) (ids_value word.now) result }
 {
     let items = items_of(alloc, word)?;
     each_id(alloc, items.as_slice())
@@ -91,7 +92,7 @@ fn items_of<'a>(alloc: Global, word: &'a str) -> Result<Vec<&'a str>, AllocError
 }
 
 fn each_id(alloc: Global, items: &[&str]) -> Result<Vec<Id>, LineFault>
-    ensures { Reads (λ v. ids v.items) (each_value id_value (texts items.now)) result }
+    ensures { ReadsValues (λ v. ids v.items) (each_value id_value (texts items.now)) result }
 {
     let mut all = Vec::new(alloc);
     for item in items {
@@ -138,25 +139,22 @@ fn count(bytes: &[u8], letter: u8) -> usize
     bytes.iter().filter(|b| **b == letter).count()
 }
 
-/// Writes whether the access ACL of a file, of which the input is the text, grants the user, who is in these groups,
-/// the permissions on an object of this owner and group (acl(5), "ACCESS CHECK ALGORITHM"; POSIX.1e draft 17, section
-/// 23): `granted`, or `denied` and No. Nothing is written before the input is accepted, also its default part.
+/// Writes whether the access ACL of a file, of which the input is the text, grants the requester of the task the
+/// permissions on its object (acl(5), "ACCESS CHECK ALGORITHM"; POSIX.1e draft 17, section 23): `granted`, or `denied`
+/// and No. Nothing is written before the input is accepted, also its default part.
 pub fn run_check_posix<S: Source, K: Sink>(
     alloc: Global,
     source: &mut S,
     sink: &mut K,
-    owner: Id,
-    group: Id,
-    user: Id,
-    groups: &[Id],
-    want: Perm,
-    names: &Names,
+    task: &CheckPosix,
 ) -> Result<Outcome, RunFault>
-    ensures { Runs (CheckPosixAnswer (values_of owner group user groups.now want names.now)) of_text
+    ensures { Runs (CheckPosixAnswer (check_posix_held task.now)) of_text
         S.remaining S.failure_count source.old source.new
         K.contents K.failure_count sink.old sink.new result }
 {
-    let file = read_file(alloc, source, names)?;
-    let outcome = Outcome::of(file.access.check(owner, group, user, groups, want));
+    let file = read_file(alloc, source, &task.names)?;
+    let acl = &file.access;
+    let granted = acl.check(task.owner, task.group, task.user, &task.groups, task.want);
+    let outcome = Outcome::of(granted);
     tell(sink, outcome, decision_line(outcome))
 }

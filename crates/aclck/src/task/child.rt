@@ -2,13 +2,13 @@
 ghost use Rattle.std.specs.Prelude.{◌≡◌};
 ghost use Rattle.acl_perm.specs.Profile.{profile_of};
 ghost use Rattle.aclck.specs.Run.{Runs, of_list};
-ghost use Rattle.aclck.specs.Line.{Reads, rows_in};
+ghost use Rattle.aclck.specs.Line.{ReadsValues, rows_in};
 ghost use Rattle.aclck.specs.Child.{ChildAnswer, child_held, child_in, kind_value};
 
 use crate::answer::{Outcome, RunFault};
 use crate::input::xdr::read_list;
 use crate::line::{Argument, LineFault, text_of};
-use crate::words::profile::profile_in;
+use crate::words::profile::{PROFILE, profile_in};
 use acl_eval::{ChildKind, child};
 use acl_perm::{Profile, Sink, Source};
 use clap::ArgMatches;
@@ -18,10 +18,7 @@ use std::alloc::Global;
 pub(crate) const WORD: &str = "child";
 
 /// The arguments of `child`.
-pub(crate) const ARGUMENTS: [Argument; 2] = [
-    Argument::Required("kind"),
-    Argument::Default("profile", "full"),
-];
+pub(crate) const ARGUMENTS: [Argument; 2] = [Argument::Required("kind"), PROFILE];
 
 /// What is created, and the profile.
 #[derive(Clone, Copy, Debug)]
@@ -33,7 +30,7 @@ pub struct Child {
 /// Returns the values that the words give.
 #[tactic(auto, unfolding(crate::specs::Child::child_in))]
 pub(crate) fn read(matches: &ArgMatches<'_>) -> Result<Child, LineFault>
-    ensures { Reads child_held (child_in (rows_in matches.now)) result }
+    ensures { ReadsValues child_held (child_in (rows_in matches.now)) result }
 {
     let kind = text_of(matches, "kind")
         .and_then(kind_value)

@@ -1,6 +1,6 @@
 //! `chmod`: the canonical text of a file with its mode set.
 ghost use Rattle.aclck.specs.Run.{Runs, of_text};
-ghost use Rattle.aclck.specs.Line.{Reads, rows_in};
+ghost use Rattle.aclck.specs.Line.{ReadsValues, rows_in};
 ghost use Rattle.aclck.specs.Chmod.{ChmodAnswer, chmod_held, chmod_in};
 
 use crate::answer::{Outcome, RunFault};
@@ -29,7 +29,7 @@ pub struct Chmod {
 /// Returns the values that the words give.
 #[tactic(auto, unfolding(crate::specs::Chmod::chmod_in))]
 pub(crate) fn read(alloc: Global, matches: &ArgMatches<'_>) -> Result<Chmod, LineFault>
-    ensures { Reads chmod_held (chmod_in (rows_in matches.now)) result }
+    ensures { ReadsValues chmod_held (chmod_in (rows_in matches.now)) result }
 {
     let mode = mode_in(text_of(matches, "mode"))?;
     Ok(Chmod {

@@ -5,7 +5,7 @@ ghost use Rattle.acl_nfs4.specs.BitNames.{first_name};
 ghost use Rattle.acl_nfs4.specs.Rights.{rights};
 ghost use Rattle.acl_normal.specs.Difference.{situation_of};
 ghost use Rattle.aclck.specs.Run.{Runs, of_two};
-ghost use Rattle.aclck.specs.Compare.{CompareAnswer, Compares, decision, difference_text, line};
+ghost use Rattle.aclck.specs.Compare.{CompareAnswer, Compares, decision, difference_text, compare_line};
 ghost use Rattle.aclck.specs.internal.Compared.{compared_outcome, compared_text};
 
 use crate::answer::{Outcome, RunFault};
@@ -83,7 +83,7 @@ fn text_of_difference(alloc: Global, found: &Difference) -> Result<Vec<u8>, Allo
 // A line for each group.
 fn add_members(text: &mut Vec<u8>, groups: &[Vec<u8>]) -> Result<(), AllocError>
     ensures { OnOk result (text.new.items
-        ≡ text.old.items ++ flat_map (line (codes "member")) (map (λ g. g.items) groups.now)) }
+        ≡ text.old.items ++ flat_map (compare_line (codes "member")) (map (λ g. g.items) groups.now)) }
 {
     for group in groups {
         add_line(text, b"member", group)?;
@@ -93,7 +93,7 @@ fn add_members(text: &mut Vec<u8>, groups: &[Vec<u8>]) -> Result<(), AllocError>
 
 // A line of a word and what follows it.
 fn add_line(text: &mut Vec<u8>, word: &[u8], value: &[u8]) -> Result<(), AllocError>
-    ensures { OnOk result (text.new.items ≡ text.old.items ++ line word.now value.now) }
+    ensures { OnOk result (text.new.items ≡ text.old.items ++ compare_line word.now value.now) }
 {
     text.extend_from_slice(word)?;
     text.push(b' ')?;

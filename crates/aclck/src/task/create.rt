@@ -1,6 +1,6 @@
 //! `create`: the canonical text of a new object.
 ghost use Rattle.aclck.specs.Run.{Runs, of_text};
-ghost use Rattle.aclck.specs.Line.{Reads, rows_in};
+ghost use Rattle.aclck.specs.Line.{ReadsValues, rows_in};
 ghost use Rattle.aclck.specs.Create.{CreateAnswer, create_held, create_in};
 
 use crate::answer::{Outcome, RunFault};
@@ -36,7 +36,7 @@ pub struct Create {
 /// Returns the values that the words give.
 #[tactic(auto, unfolding(crate::specs::Create::create_in))]
 pub(crate) fn read(alloc: Global, matches: &ArgMatches<'_>) -> Result<Create, LineFault>
-    ensures { Reads create_held (create_in (rows_in matches.now)) result }
+    ensures { ReadsValues create_held (create_in (rows_in matches.now)) result }
 {
     Ok(Create {
         mode: mode_in(text_of(matches, "mode"))?,
@@ -47,28 +47,21 @@ pub(crate) fn read(alloc: Global, matches: &ArgMatches<'_>) -> Result<Create, Li
 }
 
 /// Writes the canonical text of a new object in a directory, of which the input is the text. The object is a file, or a
-/// directory if `dir` is true (acl(5), "OBJECT CREATION AND DEFAULT ACLs"). The umask is ignored if the directory has a
-/// default ACL. Nothing is written before the input is accepted.
+/// directory if `dir` of the task is true (acl(5), "OBJECT CREATION AND DEFAULT ACLs"). The umask is ignored if the
+/// directory has a default ACL. Nothing is written before the input is accepted.
 pub fn run_create<S: Source, K: Sink>(
     alloc: Global,
     source: &mut S,
     sink: &mut K,
-    mode: Mode,
-    umask: Mode,
-    dir: bool,
-    names: &Names,
+    task: &Create,
 ) -> Result<Outcome, RunFault>
-    ensures { Runs (CreateAnswer (record {
-      mode = mode.bits;
-      umask = umask.bits;
-      is_directory = dir;
-      names = names.now;
-    })) of_text
+    ensures { Runs (CreateAnswer (create_held task.now)) of_text
         S.remaining S.failure_count source.old source.new
         K.contents K.failure_count sink.old sink.new result }
 {
-    let parent = read_file(alloc, source, names)?;
-    let file = create(alloc, parent.default.as_ref(), mode, umask, dir)?;
+    let parent = read_file(alloc, source, &task.names)?;
+    let default = parent.default.as_ref();
+    let file = create(alloc, default, task.mode, task.umask, task.dir)?;
     drop(parent);
     write_file(alloc, sink, file, Form::Canonical)
 }

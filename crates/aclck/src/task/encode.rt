@@ -3,7 +3,7 @@ ghost use Rattle.std.specs.Prelude.{◌≡◌, ◌⊎◌, IfErr, IfOk, true};
 ghost use Rattle.acl_perm.specs.Profile.{profile_of};
 ghost use Rattle.acl_nfs4.specs.AceText.{IsAceText};
 ghost use Rattle.aclck.specs.Run.{Runs, of_text};
-ghost use Rattle.aclck.specs.Answer.{is_refusal};
+ghost use Rattle.aclck.specs.Answer.{is_input_fault};
 ghost use Rattle.aclck.specs.Encode.{EncodeAnswer, IsNfsTextFault};
 
 use crate::answer::{Outcome, RunFault};
@@ -37,7 +37,7 @@ pub fn run_encode<S: Source, K: Sink>(
 fn list_of_text(alloc: Global, input: Vec<u8>, profile: Profile) -> Result<Acl, RunFault>
     ensures read { IfOk result (λ list. IsAceText (profile_of profile) list input.items) }
     ensures refused { IfErr result (λ e. (e ≡ RunFault.Memory)
-        ⊎ ((is_refusal e ≡ true) × IsNfsTextFault (profile_of profile) input.items e)) }
+        ⊎ ((is_input_fault e ≡ true) × IsNfsTextFault (profile_of profile) input.items e)) }
 {
     match parse_text_with(alloc, &input, profile) {
         Ok(list) => Ok(list),

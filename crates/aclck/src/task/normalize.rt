@@ -2,13 +2,13 @@
 ghost use Rattle.std.specs.Prelude.{◌≡◌};
 ghost use Rattle.acl_perm.specs.Profile.{profile_of};
 ghost use Rattle.aclck.specs.Run.{Runs, of_list};
-ghost use Rattle.aclck.specs.Line.{Reads, rows_in};
+ghost use Rattle.aclck.specs.Line.{ReadsValues, rows_in};
 ghost use Rattle.aclck.specs.Normalize.{NormalizeAnswer, NormalizeInheritAnswer, NormalizedAnswer, normalize_held, normalize_in};
 
 use crate::answer::{Outcome, RunFault};
 use crate::input::xdr::read_list;
 use crate::line::{Argument, LineFault, is_set};
-use crate::words::profile::profile_in;
+use crate::words::profile::{PROFILE, profile_in};
 use acl_normal::{normalize, normalize_inherit};
 use acl_perm::{Profile, Sink, Source};
 use clap::ArgMatches;
@@ -18,10 +18,7 @@ use std::alloc::Global;
 pub(crate) const WORD: &str = "normalize";
 
 /// The arguments of `normalize`.
-pub(crate) const ARGUMENTS: [Argument; 2] = [
-    Argument::Flag("inherit"),
-    Argument::Default("profile", "full"),
-];
+pub(crate) const ARGUMENTS: [Argument; 2] = [Argument::Flag("inherit"), PROFILE];
 
 /// Whether inheritance counts, and the profile.
 #[derive(Clone, Copy, Debug)]
@@ -33,7 +30,7 @@ pub struct Normalize {
 /// Returns the values that the words give.
 #[tactic(auto, unfolding(crate::specs::Normalize::normalize_in))]
 pub(crate) fn read(matches: &ArgMatches<'_>) -> Result<Normalize, LineFault>
-    ensures { Reads normalize_held (normalize_in (rows_in matches.now)) result }
+    ensures { ReadsValues normalize_held (normalize_in (rows_in matches.now)) result }
 {
     let inherit = is_set(matches, "inherit");
     let profile = profile_in(matches)?;

@@ -1,7 +1,7 @@
 //! `show-posix`: the text of a file in a form.
 ghost use Rattle.std.specs.Prelude.{◌≡◌};
 ghost use Rattle.aclck.specs.Run.{Runs, of_text};
-ghost use Rattle.aclck.specs.Line.{Reads, rows_in};
+ghost use Rattle.aclck.specs.Line.{ReadsValues, rows_in};
 ghost use Rattle.aclck.specs.ShowPosix.{ShowPosixAnswer, form_value, show_posix_held, show_posix_in};
 
 use crate::answer::{Outcome, RunFault};
@@ -32,7 +32,7 @@ pub struct ShowPosix {
 /// Returns the values that the words give.
 #[tactic(auto, unfolding(crate::specs::ShowPosix::show_posix_in))]
 pub(crate) fn read(alloc: Global, matches: &ArgMatches<'_>) -> Result<ShowPosix, LineFault>
-    ensures { Reads show_posix_held (show_posix_in (rows_in matches.now)) result }
+    ensures { ReadsValues show_posix_held (show_posix_in (rows_in matches.now)) result }
 {
     let form = text_of(matches, "form")
         .and_then(form_value)

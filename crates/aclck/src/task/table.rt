@@ -1,31 +1,25 @@
 //! `table`: what the normal form of a list says about one right.
-ghost use Rattle.std.specs.Prelude.{◌≡◌, ◌++◌, ◌∷◌, [], IfOk, List, OnOk, map, option_and_then, option_map};
+ghost use Rattle.std.specs.Prelude.{◌≡◌, option_and_then, option_map};
 ghost use Rattle.acl_perm.specs.Profile.{profile_of};
-ghost use Rattle.acl_nfs4.specs.AceText.{kind_name, space};
-ghost use Rattle.acl_normal.specs.Tables.{TableRow, of_borrowed};
 ghost use Rattle.aclck.specs.Run.{Runs, of_list};
-ghost use Rattle.aclck.specs.Line.{Reads, rows_in, text_if_any};
-ghost use Rattle.aclck.specs.BitTable.{AreTableOf, TableAnswer, bit_value, group_word, right_named, row_line, rows_text, table_held, table_in};
+ghost use Rattle.aclck.specs.Line.{ReadsValues, rows_in, text_if_any};
+ghost use Rattle.aclck.specs.BitTable.{TableAnswer, bit_value, right_named, table_held, table_in};
 
 use crate::answer::{Outcome, RunFault};
 use crate::input::xdr::read_list;
 use crate::line::{Argument, LineFault, text_of};
-use crate::words::profile::profile_in;
-use acl_nfs4::{Acl, read_mask};
-use acl_normal::{BorrowedRow, borrowed_rows};
-use acl_perm::{Kind, Mask, Profile, Sink, Source, put_all};
+use crate::words::profile::{PROFILE, profile_in};
+use acl_nfs4::read_mask;
+use acl_normal::table_text;
+use acl_perm::{Mask, Profile, Sink, Source, put_all};
 use clap::ArgMatches;
-use itoa::Buffer;
-use std::alloc::{AllocError, Global};
+use std::alloc::Global;
 
 /// The word that names the command.
 pub(crate) const WORD: &str = "table";
 
 /// The arguments of `table`.
-pub(crate) const ARGUMENTS: [Argument; 2] = [
-    Argument::Required("bit"),
-    Argument::Default("profile", "full"),
-];
+pub(crate) const ARGUMENTS: [Argument; 2] = [Argument::Required("bit"), PROFILE];
 
 /// The mask of the one right that is asked for, and the profile.
 #[derive(Clone, Copy, Debug)]
@@ -37,7 +31,7 @@ pub struct BitTable {
 /// Returns the values that the words give.
 #[tactic(auto, unfolding(crate::specs::BitTable::table_in))]
 pub(crate) fn read(matches: &ArgMatches<'_>) -> Result<BitTable, LineFault>
-    ensures { Reads table_held (table_in (rows_in matches.now)) result }
+    ensures { ReadsValues table_held (table_in (rows_in matches.now)) result }
 {
     let profile = profile_in(matches)?;
     let bit = bit_in(text_of(matches, "bit"), profile.masks).ok_or(LineFault::Usage)?;
@@ -95,49 +89,4 @@ pub fn run_table<S: Source, K: Sink>(
     drop(list);
     put_all(sink, text.as_slice())?;
     Ok(Outcome::Yes)
-}
-
-// The text of the rows of a list at a right.
-fn table_text(alloc: Global, list: &Acl, bit: Mask) -> Result<Vec<u8>, AllocError>
-    ensures { IfOk result (λ text.
-        (rows : List TableRow) × AreTableOf bit.bits list.now rows × (text.items ≡ rows_text rows)) }
-{
-    let view = list.view();
-    let rows = borrowed_rows(alloc, &view, bit)?;
-    text_of_rows(alloc, &rows)
-}
-
-// The lines of the rows.
-fn text_of_rows(alloc: Global, rows: &[BorrowedRow<'_>]) -> Result<Vec<u8>, AllocError>
-    ensures { IfOk result (λ text. text.items ≡ rows_text (map of_borrowed rows.now)) }
-{
-    let mut text = Vec::new(alloc);
-    for row in rows {
-        add_line(&mut text, *row)?;
-    }
-    Ok(text)
-}
-
-fn add_line(text: &mut Vec<u8>, row: BorrowedRow<'_>) -> Result<(), AllocError>
-    ensures { OnOk result (text.new.items ≡ text.old.items ++ row_line (of_borrowed row.entry)) }
-{
-    let mut buffer = Buffer::new();
-    text.extend_from_slice(buffer.format(row.source).as_bytes())?;
-    text.extend_from_slice(words_between(row.kind, row.group))?;
-    text.extend_from_slice(row.who)?;
-    text.push(b'\n')?;
-    Ok(())
-}
-
-// What is between the place and the who: the two words, with a space before, between and behind them.
-fn words_between(kind: Kind, group: bool) -> &'static [u8]
-    ensures { result.now
-        ≡ space ∷ (kind_name kind ++ space ∷ (group_word group ++ space ∷ [])) }
-{
-    match (kind, group) {
-        (Kind::Allow, true) => b" ALLOW GROUP ",
-        (Kind::Allow, false) => b" ALLOW - ",
-        (Kind::Deny, true) => b" DENY GROUP ",
-        (Kind::Deny, false) => b" DENY - ",
-    }
 }

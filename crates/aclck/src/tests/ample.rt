@@ -1,4 +1,4 @@
-//! What every command answers where memory is ample. What one command alone is asked stands in its own file.
+//! What every command answers if there is enough memory. What only one command is asked is in the file of that command.
 
 use crate::tests::harness::{Trial, Way};
 use crate::tests::{

@@ -18,7 +18,7 @@ const PLAIN_LIST: &[u8] = b"\0\0\0\x05\
     \0\0\0\x01\0\0\0\0\0\0\0\x26\0\0\0\x06GROUP@\0\0\
     \0\0\0\0\0\0\0\0\0\0\0\x01\0\0\0\x09EVERYONE@\0\0\0";
 
-// Two groups that have read and write apart, and what each lacks denied after both.
+// Two groups, one with read and one with write; what each lacks is denied after both.
 const GROUPS_LIST: &[u8] = b"\0\0\0\x06\
     \0\0\0\0\0\0\0\0\0\0\0\x27\0\0\0\x06OWNER@\0\0\
     \0\0\0\0\0\0\0\x40\0\0\0\x01\0\0\0\x0250\0\0\
@@ -27,7 +27,7 @@ const GROUPS_LIST: &[u8] = b"\0\0\0\x06\
     \0\0\0\x01\0\0\0\x40\0\0\0\x26\0\0\0\x0250\0\0\
     \0\0\0\x01\0\0\0\x40\0\0\0\x21\0\0\0\x0260\0\0";
 
-// The least and the greatest id, and what a mask leaves of them.
+// The least and the greatest id, and what a mask leaves of their permissions.
 const IDS_LIST: &[u8] = b"\0\0\0\x05\
     \0\0\0\x01\0\0\0\0\0\0\0\x27\0\0\0\x06OWNER@\0\0\
     \0\0\0\0\0\0\0\0\0\0\0\x01\0\0\0\x010\0\0\0\
@@ -37,7 +37,7 @@ const IDS_LIST: &[u8] = b"\0\0\0\x05\
 
 // ---- rows
 
-// Texts with the lists that mean the same; and lines that are refused, or ask for nothing.
+// Texts with the lists that mean the same; lines whose input is refused; and lines that ask for nothing.
 static TABLE: Table = Table {
     answers: &[
         (
@@ -65,14 +65,14 @@ static TABLE: Table = Table {
     unread: PLAIN,
 };
 
-/// Each row is answered or refused as it says.
+/// Tests that each row is answered or refused as it says.
 pub fn holds<A: Abort>(rt: &A, trial: Trial) {
     TABLE.holds(rt, trial);
 }
 
 // ---- many users
 
-// The text of an ACL of so many users, each of which costs four of the 65,536 mask bits of a list, as USER_OBJ and
+// The text of an ACL with so many users. Each user costs four of the 65,536 mask bits of a list, as USER_OBJ and
 // GROUP_OBJ do.
 fn users(alloc: Global, count: u32, other: &str) -> Result<Vec<u8>, AllocError> {
     let mut text = Vec::new(alloc);
@@ -102,12 +102,12 @@ fn bridged(alloc: Global, input: &[u8], err: &mut [u8]) -> (u8, Vec<u8>) {
     (status, out.into_inner())
 }
 
-// The text that a room begins with, and nothing behind it.
+// The text at the front of a buffer, without what is behind it.
 fn is_line(room: &[u8], text: &str) -> bool {
     room.starts_with(text.as_bytes()) && room.iter().skip(text.len()).all(|byte| *byte == 0)
 }
 
-// Whether `bridge` answers a text of so many users with this status.
+// Whether `bridge` gives this status for a text with so many users.
 fn bridges_users(
     alloc: Global,
     count: u32,
@@ -121,7 +121,7 @@ fn bridges_users(
     Ok(answer == status && written.is_empty() == (status == 2) && is_line(&err, told))
 }
 
-// What is answered where memory is ample.
+// What is answered if there is enough memory.
 mod ample {
     use super::*;
 

@@ -39,8 +39,8 @@ const NARROW: &str =
 // `READ_OF_ALL` without its last two bytes.
 const CUT: &[u8; 30] = b"\0\0\0\x01\0\0\0\0\0\0\0\0\0\0\0\x01\0\0\0\x09EVERYONE@\0";
 
-// Lists that grant what the line asks for, and lists that do not; faults of the input; and lines that ask for nothing,
-// in their first words or in their last.
+// Lists that grant what the line asks for, and lists that do not; faults of the input; and lines that ask for nothing
+// because of their first or their last words.
 static TABLE: Table = Table {
     answers: &[
         (
@@ -138,7 +138,7 @@ static TABLE: Table = Table {
     unread: READ_OF_ALL,
 };
 
-// A byte of a list changed, and the fault of the first field that has one then.
+// A byte of a list that is changed, and the fault of the first field that then has one.
 static FAULTS: [(usize, u8, &str); 11] = [
     (1, 1, "TooManyAces at byte 0"),
     (7, 2, "AuditOrAlarm at byte 4"),
@@ -153,7 +153,7 @@ static FAULTS: [(usize, u8, &str); 11] = [
     (31, 1, "Padding at byte 29"),
 ];
 
-/// Each row is answered or refused as it says.
+/// Tests that each row is answered or refused as it says.
 pub fn holds<A: Abort>(rt: &A, trial: Trial) {
     TABLE.holds(rt, trial);
     for (place, byte, fault) in FAULTS {
@@ -171,7 +171,7 @@ const ALL_RIGHTS: &[u8; 28] = b"\0\0\0\0\0\0\0\0\0\x1f\x07\xff\0\0\0\x09EVERYONE
 // ALLOW - all rights of the narrow profile EVERYONE@.
 const NARROW_RIGHTS: &[u8; 28] = b"\0\0\0\0\0\0\0\0\0\x1f\x01\xff\0\0\0\x09EVERYONE@\0\0\0";
 
-// So many of an ACE, behind a line that reads a list of them, and what is answered.
+// A line, an ACE, how many times the list has it, and what is answered.
 type Heavy = (u32, &'static str, &'static [u8], Answer<'static>);
 
 // The weight of a list is at most 65,536.
@@ -203,7 +203,7 @@ fn is_answered(alloc: Global, (count, line, ace, answer): Heavy) -> Result<bool,
     Ok(Trial::new(alloc, Way::Ample).passes(line, &input, answer))
 }
 
-// What is answered where memory is ample.
+// What is answered if there is enough memory.
 mod ample {
     use super::*;
 

@@ -1,7 +1,7 @@
-//! `check-nfs` over devices that fail once and then work, or fail for good.
+//! `check-nfs` over devices that fail once and then work, or that fail at every later call.
 
 use crate::answer::{Outcome, RunFault};
-use crate::task::check_nfs::run_check_nfs;
+use crate::task::check_nfs::{CheckNfs, run_check_nfs};
 use crate::tests::check_nfs::changed;
 use crate::tests::harness::{Calls, Devices, FINE, fails_at_read, fails_at_write, run};
 use crate::tests::lists::READ_OF_ALL;
@@ -10,7 +10,7 @@ use acl_nfs4::{Fault, Reason};
 use acl_perm::{Counted, Fused, Mask, Profile, Source};
 use std::alloc::Global;
 
-// The words of a check, of which the last names the rights.
+// The words of a check; the last one names the rights.
 fn asking(mask: &'static str) -> [&'static str; 9] {
     [
         "check-nfs",
@@ -25,7 +25,7 @@ fn asking(mask: &'static str) -> [&'static str; 9] {
     ]
 }
 
-// The rights that are asked for, the write that fails, and what has gone out.
+// The rights that are asked for, the write that fails, and what was written before.
 const WRITES: [(&str, u64, &[u8]); 6] = [
     ("READ_DATA", 1, b""),
     ("READ_DATA", 2, b"gra"),
@@ -35,7 +35,7 @@ const WRITES: [(&str, u64, &[u8]); 6] = [
     ("WRITE_DATA", 3, b"denied"),
 ];
 
-// The rights that are asked for, the byte at place 3 of a list, the read that fails, the status, and what goes out.
+// The rights that are asked for, the byte at place 3 of a list, the read that fails, the status, and what is written.
 const STATUSES: [(&str, u8, u64, u8, &[u8]); 5] = [
     ("READ_DATA", 1, 10, 0, b"granted\n"),
     ("WRITE_DATA", 1, 10, 1, b"denied\n"),
@@ -44,7 +44,7 @@ const STATUSES: [(&str, u8, u64, u8, &[u8]); 5] = [
     ("READ_DATA", 1, 9, 4, b""),
 ];
 
-// The first and the last call of `err` that fail, and how many bytes the others take.
+// The first and the last call of `err` that fails, and how many bytes the other calls take.
 const ERRS: [(u64, u64, usize); 5] = [
     (1, 1, 4),
     (2, 2, 4),
@@ -53,7 +53,7 @@ const ERRS: [(u64, u64, usize); 5] = [
     (1, u64::MAX, 1),
 ];
 
-// Whether a status stays what it is over such an `err`, and nothing is told again.
+// Whether a status stays the same over such an `err`, and nothing is reported again.
 fn keeps_status(
     alloc: Global,
     mask: &'static str,
@@ -92,7 +92,7 @@ const TRAILING: RunFault = RunFault::Nfs(Fault {
     reason: Reason::TrailingBytes,
 });
 
-// An input, the reads of how many bytes that pass, the fault that is told, and how many reads fail.
+// An input, how many reads work, how many bytes each gives, the fault that is reported, and how many reads fail.
 const FAULTS: [(&[u8], u64, usize, RunFault, u64); 6] = [
     (b"\0\0\0\x01\0\0\0\x02", 1, 64, AUDIT, 0),
     (b"\0\0\0\x01\0\0\0\x02", 2, 4, AUDIT, 0),
@@ -102,25 +102,21 @@ const FAULTS: [(&[u8], u64, usize, RunFault, u64); 6] = [
     (b"\0\0\0\x01\0\0", 2, 4, RunFault::Read, 1),
 ];
 
-// A check of no rights by bob, of what alice owns.
+// A check of no rights for bob, on an object that alice owns.
 fn run_check<S: Source>(alloc: Global, source: &mut S) -> Option<Result<Outcome, RunFault>> {
-    let object = Object::new(b"alice", b"staff")?;
-    let requester = Requester::new(b"bob", &[])?;
+    let task = CheckNfs {
+        object: Object::new(b"alice", b"staff")?,
+        requester: Requester::new(b"bob", &[])?,
+        mask: Mask::NONE,
+        profile: Profile::FULL,
+    };
     let mut room = [0u8; 16];
     let mut out = Counted::new(room.as_mut_slice());
-    let answer = run_check_nfs(
-        alloc,
-        source,
-        &mut out,
-        &object,
-        &requester,
-        Mask::NONE,
-        Profile::FULL,
-    );
+    let answer = run_check_nfs(alloc, source, &mut out, &task);
     Some(answer)
 }
 
-// What is answered where memory is ample.
+// What is answered if there is enough memory.
 mod ample {
     use super::*;
 
@@ -136,7 +132,7 @@ mod ample {
         }
     }
 
-    // The sink would go on after it, or takes no byte.
+    // The sink works again after the failure, or it takes no byte at all.
     #[test]
     fn check_nfs_tells_of_a_write_that_fails_and_writes_no_more(rt: HostRuntime) {
         for (mask, failing, gone) in &WRITES {
@@ -159,7 +155,7 @@ mod ample {
         assert!(rt; fails_at_write(rt.alloc(), &asking("READ_DATA"), READ_OF_ALL, none, b""));
     }
 
-    // At each call, or at one alone and then it works.
+    // `err` fails at each call, or at one call and then works.
     #[test]
     fn a_status_stays_and_nothing_is_told_again_where_err_fails(rt: HostRuntime) {
         for (mask, byte, reads, status, line) in &STATUSES {
@@ -177,7 +173,7 @@ mod ample {
         }
     }
 
-    // What is cut short is a failed read.
+    // An input that is cut short gives a failed read.
     #[test]
     fn a_refusal_is_told_before_a_read_that_would_fail(rt: HostRuntime) {
         for (input, reads, step, fault, failures) in &FAULTS {

@@ -4,7 +4,7 @@ use crate::tests::harness::{Asked, Table, Trial, lines_hold};
 use crate::tests::texts::{GROUPS, PLAIN};
 use std::process::Abort;
 
-// A text of which `check-posix` is asked.
+// A text, and what `check-posix` answers about it.
 static CHECKS: [Asked; 1] = [(
     GROUPS,
     &[
@@ -52,7 +52,7 @@ static TABLE: Table = Table {
     unread: PLAIN,
 };
 
-/// Each check is answered or refused as it says.
+/// Tests that each check is answered or refused as its row says.
 pub fn holds<A: Abort>(rt: &A, trial: Trial) {
     lines_hold(rt, trial, &CHECKS);
     TABLE.holds(rt, trial);

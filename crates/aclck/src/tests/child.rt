@@ -29,7 +29,7 @@ const OF_STAFF: &[u8] = b"\0\0\0\x01\0\0\0\x01\0\0\0\x52\0\0\0\x02\0\0\0\x05staf
 
 // ---- rows
 
-// Lists with the list that a child has; and lines that are refused, or ask for nothing.
+// Lists with the list that a child gets; lines whose input is refused; and lines that ask for nothing.
 static TABLE: Table = Table {
     answers: &[
         (
@@ -83,7 +83,7 @@ static TABLE: Table = Table {
     unread: EMPTY,
 };
 
-/// Each row is answered or refused as it says.
+/// Tests that each row is answered or refused as it says.
 pub fn holds<A: Abort>(rt: &A, trial: Trial) {
     TABLE.holds(rt, trial);
 }

@@ -4,7 +4,7 @@ use crate::tests::harness::{Table, Trial};
 use crate::tests::texts::{MASKED, PLAIN};
 use std::process::Abort;
 
-// A text whose mask the mode sets, and a line with a digit too many.
+// A text in which the mode sets the mask, and a line whose mode has one digit too many.
 static TABLE: Table = Table {
     answers: &[(
         "chmod --mode 660",
@@ -19,7 +19,7 @@ static TABLE: Table = Table {
     unread: PLAIN,
 };
 
-/// Each row is answered or refused as it says.
+/// Tests that each row is answered or refused as it says.
 pub fn holds<A: Abort>(rt: &A, trial: Trial) {
     TABLE.holds(rt, trial);
 }

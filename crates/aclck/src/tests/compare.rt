@@ -53,13 +53,13 @@ const BEGUN: &[u8] = b"\0\0\0\x01\0\0\0\0\0\0";
 
 // ---- rows
 
-// Two lists, with the status and what `compare` writes of them.
+// Two lists, with the status and what `compare` writes about them.
 type Pair = (&'static [u8], &'static [u8], u8, &'static [u8]);
 
-// A line of words and two lists, with the fault of them.
+// A line of words and two lists, with the fault of the input.
 type RefusedPair = (&'static str, &'static [u8], &'static [u8], &'static str);
 
-// Lists that are the same, or differ first in a situation.
+// Lists that grant the same, and lists with the first situation in which they differ.
 static COMPARISONS: [Pair; 11] = [
     (WITHOUT_BOB, BEHIND_ALICE, 0, b"same\n"),
     (
@@ -93,7 +93,7 @@ static COMPARISONS: [Pair; 11] = [
         1,
         b"differ\nowner bob\ngroup gggg\nuser bob\nmask READ_DATA\nfirst granted\nsecond denied\n",
     ),
-    // Strange names are by one byte longer than the longest mentioned one.
+    // Strange names are one byte longer than the longest name that the lists mention.
     (
         READ_OF_ALICE,
         EMPTY,
@@ -101,21 +101,22 @@ static COMPARISONS: [Pair; 11] = [
         b"differ\nowner oooooo\ngroup gggggg\nuser alice\nmask READ_DATA\nfirst granted\n\
         second denied\n",
     ),
-    // Without a name they are of one byte; the strange group is that of the object and of the user.
+    // If the lists mention no name, strange names have one byte. The strange group is that of the object and of the
+    // user.
     (
         READ_OF_THE_GROUP,
         EMPTY,
         1,
         b"differ\nowner o\ngroup g\nuser u\nmember g\nmask READ_DATA\nfirst granted\nsecond denied\n",
     ),
-    // An object's owner in its group.
+    // The owner of an object, who is in its group.
     (
         OWNER_FIRST,
         OWNER_LAST,
         1,
         b"differ\nowner u\ngroup g\nuser u\nmember g\nmask EXECUTE\nfirst denied\nsecond granted\n",
     ),
-    // A user in two groups, and of these neither is the object's.
+    // A user in two groups, neither of which is the group of the object.
     (
         ENG_FIRST,
         ENG_LAST,
@@ -123,7 +124,8 @@ static COMPARISONS: [Pair; 11] = [
         b"differ\nowner oooooo\ngroup gggggg\nuser uuuuuu\nmember eng\nmember staff\nmask READ_DATA\n\
         first denied\nsecond granted\n",
     ),
-    // For a user amy in the group staff they differ on READ_DATA, but nobody by name comes first.
+    // The lists differ on READ_DATA for a user amy in the group staff, but the situation with no mentioned name comes
+    // first.
     (
         AMY_INHERITED,
         AMY_AND_ALL,
@@ -132,7 +134,7 @@ static COMPARISONS: [Pair; 11] = [
     ),
 ];
 
-// Lists of which the second is refused.
+// Pairs of lists whose second list is refused.
 static REFUSALS: [RefusedPair; 4] = [
     ("compare", READ_OF_ALL, BEGUN, "Truncated at byte 40"),
     (
@@ -150,7 +152,7 @@ static REFUSALS: [RefusedPair; 4] = [
     ("compare", EMPTY, b"", "Truncated at byte 4"),
 ];
 
-/// Each pair of lists is answered or refused as it says.
+/// Tests that each pair of lists is answered or refused as its row says.
 pub fn holds<A: Abort>(rt: &A, trial: Trial) {
     for (first, second, status, text) in &COMPARISONS {
         let answer = Answer::Text(*status, text);

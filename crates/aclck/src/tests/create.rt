@@ -7,7 +7,7 @@ use std::process::Abort;
 // A directory with a default ACL.
 const PARENT: &[u8] = b"u::rwx,g::r-x,o::---,d:u::rwx,d:u:5:rwx,d:g::r-x,d:m::rwx,d:o::r-x";
 
-// Directories with a default ACL and without, and a line that lacks the umask.
+// Directories with a default ACL and without one, and a line that lacks the umask.
 static TABLE: Table = Table {
     answers: &[
         (
@@ -43,7 +43,7 @@ static TABLE: Table = Table {
     unread: PLAIN,
 };
 
-/// Each row is answered or refused as it says.
+/// Tests that each row is answered or refused as it says.
 pub fn holds<A: Abort>(rt: &A, trial: Trial) {
     TABLE.holds(rt, trial);
 }

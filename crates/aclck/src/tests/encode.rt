@@ -4,7 +4,7 @@ use crate::tests::harness::{Table, Trial};
 use crate::tests::lists::{BLANKS, GROUP_FLAGGED, INHERITED_OF_BOB, NO_RIGHTS};
 use std::process::Abort;
 
-// Texts with their lists; and lines that are refused, or ask for nothing.
+// Texts with their lists; lines whose input is refused; and lines that ask for nothing.
 static TABLE: Table = Table {
     answers: &[
         (
@@ -52,7 +52,7 @@ static TABLE: Table = Table {
     unread: b"",
 };
 
-/// Each row is answered or refused as it says.
+/// Tests that each row is answered or refused as it says.
 pub fn holds<A: Abort>(rt: &A, trial: Trial) {
     TABLE.holds(rt, trial);
 }

@@ -1,4 +1,4 @@
-//! Runs of commands over devices in memory, and what each test file holds its rows against.
+//! Runs of commands over devices in memory, and what each test file compares its rows with.
 
 mod devices;
 mod failures;

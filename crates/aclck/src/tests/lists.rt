@@ -1,4 +1,4 @@
-//! Lists that the tests of more than one command read, each with its text.
+//! Lists that the tests of several commands read, each with its text.
 
 /// No ACE.
 pub const EMPTY: &[u8] = b"\0\0\0\0";

@@ -21,7 +21,7 @@ const OF_ALL: &[u8] = b"\0\0\0\x04\
 
 // ---- rows
 
-// Lists with their modes; and lines that are refused, or ask for nothing.
+// Lists with their modes; lines whose input is refused; and lines that ask for nothing.
 static TABLE: Table = Table {
     answers: &[
         (
@@ -50,7 +50,7 @@ static TABLE: Table = Table {
     unread: EMPTY,
 };
 
-/// Each row is answered or refused as it says.
+/// Tests that each row is answered or refused as it says.
 pub fn holds<A: Abort>(rt: &A, trial: Trial) {
     TABLE.holds(rt, trial);
 }

@@ -49,6 +49,21 @@ const AMY_FIRST: &[u8] = b"\0\0\0\x02\
     \0\0\0\0\0\0\0\0\0\0\0\x01\0\0\0\x03amy\0\
     \0\0\0\0\0\0\0\0\0\0\0\x01\0\0\0\x03zoe\0";
 
+// ALLOW - READ_DATA frontend2, and the same of amy, of frontend1 and of fronte: three names that begin with the same six
+// bytes.
+const FRONTEND_FIRST: &[u8] = b"\0\0\0\x04\
+    \0\0\0\0\0\0\0\0\0\0\0\x01\0\0\0\x09frontend2\0\0\0\
+    \0\0\0\0\0\0\0\0\0\0\0\x01\0\0\0\x03amy\0\
+    \0\0\0\0\0\0\0\0\0\0\0\x01\0\0\0\x09frontend1\0\0\0\
+    \0\0\0\0\0\0\0\0\0\0\0\x01\0\0\0\x06fronte\0\0";
+
+// The same in the order of the names.
+const FRONTEND_LAST: &[u8] = b"\0\0\0\x04\
+    \0\0\0\0\0\0\0\0\0\0\0\x01\0\0\0\x03amy\0\
+    \0\0\0\0\0\0\0\0\0\0\0\x01\0\0\0\x06fronte\0\0\
+    \0\0\0\0\0\0\0\0\0\0\0\x01\0\0\0\x09frontend1\0\0\0\
+    \0\0\0\0\0\0\0\0\0\0\0\x01\0\0\0\x09frontend2\0\0\0";
+
 // ALLOW - READ_DATA amy.
 const READ_OF_AMY: &[u8] = b"\0\0\0\x01\0\0\0\0\0\0\0\0\0\0\0\x01\0\0\0\x03amy\0";
 
@@ -57,7 +72,7 @@ const ALL_OF_ALL: &[u8] = b"\0\0\0\x01\0\0\0\0\0\0\0\0\0\x1f\x07\xff\0\0\0\x09EV
 
 // ---- rows
 
-// Lists with their normal forms; and lines that are refused, or ask for nothing.
+// Lists with their normal forms; lines whose input is refused; and lines that ask for nothing.
 static TABLE: Table = Table {
     answers: &[
         (
@@ -75,6 +90,7 @@ static TABLE: Table = Table {
                 (OPS_LAST, OPS_LAST),
                 (AMY_AND_ALL, AMY_READS),
                 (ZOE_FIRST, AMY_FIRST),
+                (FRONTEND_FIRST, FRONTEND_LAST),
                 (AMY_INHERITED, READ_OF_AMY),
             ],
         ),
@@ -97,12 +113,12 @@ static TABLE: Table = Table {
     unread: EMPTY,
 };
 
-/// Each row is answered or refused as it says.
+/// Tests that each row is answered or refused as it says.
 pub fn holds<A: Abort>(rt: &A, trial: Trial) {
     TABLE.holds(rt, trial);
 }
 
-// Each form that a line writes is its own.
+// Each normal form that a line writes is its own normal form.
 fn forms_stay<A: Abort>(rt: &A, trial: Trial, line: &str, rows: &[(&[u8], &[u8])]) {
     for (_, form) in rows {
         let is_left = trial.passes(line, form, Answer::Text(0, form));
@@ -119,7 +135,7 @@ fn damaged(place: usize) -> [u8; 32] {
     bytes
 }
 
-// What is answered where memory is ample.
+// What is answered if there is enough memory.
 mod ample {
     use super::*;
 
@@ -131,7 +147,7 @@ mod ample {
         }
     }
 
-    // The heaviest list of one ACE is that ACE once; a heavier one is none.
+    // The heaviest list that repeats one ACE has that ACE as its normal form; a heavier list is refused.
     #[test]
     fn normalize_merges_one_ace_many_times(rt: HostRuntime) -> Result<(), Fail> {
         let trial = Trial::new(rt.alloc(), Way::Ample);

@@ -16,14 +16,14 @@ const ROOM: usize = 192;
 // ALLOW INHERITED READ_DATA alice.
 const INHERITED: &[u8] = b"\0\0\0\x01\0\0\0\0\0\0\0\x80\0\0\0\x01\0\0\0\x05alice\0\0\0";
 
-// That alice may read, with these flags.
+// The list of one ACE which says that alice may read, with these flags.
 fn inherited(flags: u8) -> [u8; 28] {
     let mut bytes = *READ_OF_ALICE;
     bytes[11] = flags;
     bytes
 }
 
-// Flags of that ACE, and in which of the five forms it stands; each other form is empty.
+// Flags of that ACE, and which of the five forms have it; each other form is empty.
 static FORMS: [(u8, &[u8; 5]); 8] = [
     (0x06, b"x.x.."),
     (0x01, b"xx.x."),
@@ -87,7 +87,7 @@ fn is_outside(line: &str, flags: u8) -> bool {
     flags == 0x80 && line.contains("narrow")
 }
 
-// The line that is refused, and lines that ask for nothing: no other command takes the flag.
+// A line whose input is refused, and lines that ask for nothing: no other command takes the flag.
 static TABLE: Table = Table {
     answers: &[],
     refusals: &[(
@@ -119,7 +119,7 @@ fn gives_forms(trial: Trial, line: &str, flags: u8, stands: &[u8; 5]) -> bool {
     trial.passes(line, &inherited(flags), Answer::Text(0, answer.bytes()))
 }
 
-/// Each list has the five forms that it says, and each other line is refused.
+/// Tests that each list has the five forms of its row, and that each other line is refused.
 pub fn holds<A: Abort>(rt: &A, trial: Trial) {
     for line in LINES {
         for (flags, stands) in &FORMS {
@@ -149,7 +149,7 @@ fn engine_writes_forms<A: Abort>(rt: &A, alloc: Global, profile: Profile) {
     }
 }
 
-// What is answered where memory is ample.
+// What is answered if there is enough memory.
 mod ample {
     use super::*;
 

@@ -1,5 +1,5 @@
-//! What every command answers where memory may be wanting, which is then an answer to each line. A test each, since
-//! each request that a test makes is refused in turn.
+//! What every command answers if memory may run out, which is then an accepted answer to each line. Each command has a
+//! test of its own, because each request for memory that a test makes is refused in turn.
 
 use crate::tests::harness::{Trial, Way};
 use crate::tests::{

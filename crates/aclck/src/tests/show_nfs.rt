@@ -4,7 +4,7 @@ use crate::tests::harness::{Table, Trial};
 use crate::tests::lists::{BLANKS, EMPTY, GROUP_FLAGGED, INHERITED_OF_BOB, NO_RIGHTS, WITH_A_BYTE};
 use std::process::Abort;
 
-// Lists with their texts; and lines that are refused, or ask for nothing.
+// Lists with their texts; lines whose input is refused; and lines that ask for nothing.
 static TABLE: Table = Table {
     answers: &[
         (
@@ -43,7 +43,7 @@ static TABLE: Table = Table {
     unread: EMPTY,
 };
 
-/// Each row is answered or refused as it says.
+/// Tests that each row is answered or refused as it says.
 pub fn holds<A: Abort>(rt: &A, trial: Trial) {
     TABLE.holds(rt, trial);
 }

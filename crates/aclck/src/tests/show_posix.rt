@@ -62,7 +62,7 @@ static SHOWN: [Asked; 5] = [
     ),
 ];
 
-// Names that nothing gives an id, texts that have a fault, and words that ask for nothing.
+// Texts with names that have no id, texts that have a fault, and words that ask for nothing.
 static TABLE: Table = Table {
     answers: &[],
     refusals: &[
@@ -105,7 +105,7 @@ static TABLE: Table = Table {
     unread: PLAIN,
 };
 
-/// Each text is shown or refused as it says.
+/// Tests that each text is shown or refused as its row says.
 pub fn holds<A: Abort>(rt: &A, trial: Trial) {
     lines_hold(rt, trial, &SHOWN);
     TABLE.holds(rt, trial);
@@ -113,7 +113,7 @@ pub fn holds<A: Abort>(rt: &A, trial: Trial) {
 
 // ---- texts that are cut short or very long
 
-// What is answered where memory is ample.
+// What is answered if there is enough memory.
 mod ample {
     use super::*;
 
@@ -126,7 +126,8 @@ mod ample {
         }
     }
 
-    // An id may have a thousand zeros in front, and not a thousand digits; a million commas are refused at the first.
+    // An id may begin with a thousand zeros, but may not have a thousand other digits. A million commas are refused at
+    // the first one.
     #[test]
     fn show_posix_judges_long_texts(rt: HostRuntime) -> Result<(), Fail> {
         let after = b"7:rw-,g::r--,g:50:rw-,m::r--,o::r--".as_slice();

@@ -6,7 +6,7 @@ use crate::tests::lists::{
 };
 use std::process::Abort;
 
-// Lists, with the rows of a bit in them.
+// Lists, with their rows for a right.
 static ROWS: [Asked; 5] = [
     (
         BOB_AND_OWNER,
@@ -49,7 +49,7 @@ static ROWS: [Asked; 5] = [
     ),
 ];
 
-// Lines that are refused, or ask for nothing.
+// Lines whose input is refused, and lines that ask for nothing.
 static TABLE: Table = Table {
     answers: &[],
     refusals: &[
@@ -73,7 +73,7 @@ static TABLE: Table = Table {
     unread: EMPTY,
 };
 
-/// Each row is answered or refused as it says.
+/// Tests that each row is answered or refused as it says.
 pub fn holds<A: Abort>(rt: &A, trial: Trial) {
     lines_hold(rt, trial, &ROWS);
     TABLE.holds(rt, trial);

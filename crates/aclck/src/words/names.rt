@@ -1,8 +1,8 @@
 //! Words that name users and groups: `u:NAME=ID` and `g:NAME=ID`.
 ghost use Rattle.std.specs.Prelude.{◌≡◌, [], None, Some, option_map, unwrap_or};
 ghost use Rattle.acl_posix.specs.Grammar.{colon};
-ghost use Rattle.acl_posix.specs.Names.{no_names};
-ghost use Rattle.aclck.specs.Line.{Reads, rows_in, texts, words_of};
+ghost use Rattle.acl_posix.specs.Names.{empty_table};
+ghost use Rattle.aclck.specs.Line.{ReadsValues, rows_in, texts, words_of};
 ghost use Rattle.aclck.specs.NameWords.{equals_sign, first_cut, last_cut, named_id, names_in, with_words};
 ghost use Rattle.aclck.specs.internal.Adding.{cut_of, named_of, Adds};
 
@@ -47,7 +47,7 @@ struct NamedId<'a> {
 /// Returns the table of the words that are no option.
 #[tactic(auto, unfolding(crate::specs::NameWords::names_value))]
 pub(crate) fn names_in(alloc: Global, matches: &ArgMatches<'_>) -> Result<Names, LineFault>
-    ensures { Reads (λ n. n) (names_in (rows_in matches.now)) result }
+    ensures { ReadsValues (λ n. n) (names_in (rows_in matches.now)) result }
 {
     names_given(alloc, given(matches))
 }
@@ -61,7 +61,7 @@ fn given<'a, 'm>(matches: &'m ArgMatches<'a>) -> Option<&'m [&'a str]>
 }
 
 fn names_given(alloc: Global, words: Option<&[&str]>) -> Result<Names, LineFault>
-    ensures { Reads (λ n. n) (with_words no_names
+    ensures { ReadsValues (λ n. n) (with_words empty_table
         (unwrap_or (option_map (λ ws. texts ws.now) words.entry) [])) result }
 {
     match words {
@@ -71,7 +71,7 @@ fn names_given(alloc: Global, words: Option<&[&str]>) -> Result<Names, LineFault
 }
 
 fn names_of(alloc: Global, words: &[&str]) -> Result<Names, LineFault>
-    ensures { Reads (λ n. n) (with_words no_names (texts words.now)) result }
+    ensures { ReadsValues (λ n. n) (with_words empty_table (texts words.now)) result }
 {
     let mut names = Names::new(alloc);
     for word in words {

@@ -1,20 +1,23 @@
 //! `--profile`, and the words of the commands that take it and no other word.
 ghost use Rattle.std.specs.Prelude.{◌≡◌, option_map};
 ghost use Rattle.acl_perm.specs.Profile.{profile_of};
-ghost use Rattle.aclck.specs.Line.{Reads, rows_in};
+ghost use Rattle.aclck.specs.Line.{ReadsValues, rows_in};
 ghost use Rattle.aclck.specs.ProfileArgument.{profile_in, profile_value};
 
 use crate::line::{Argument, LineFault, text_of};
 use acl_perm::Profile;
 use clap::ArgMatches;
 
+/// `--profile`, an argument of several commands.
+pub(crate) const PROFILE: Argument = Argument::Default("profile", "full");
+
 /// The arguments of a command that takes `--profile` and no other word.
-pub(crate) const ARGUMENTS: [Argument; 1] = [Argument::Default("profile", "full")];
+pub(crate) const ARGUMENTS: [Argument; 1] = [PROFILE];
 
 /// Returns the profile that the words give.
 #[tactic(auto, unfolding(crate::specs::ProfileArgument::profile_in))]
 pub(crate) fn profile_in(matches: &ArgMatches<'_>) -> Result<Profile, LineFault>
-    ensures { Reads profile_of (profile_in (rows_in matches.now)) result }
+    ensures { ReadsValues profile_of (profile_in (rows_in matches.now)) result }
 {
     text_of(matches, "profile")
         .and_then(profile_value)

@@ -3,8 +3,8 @@ ghost use Rattle.std.specs.Prelude.{◌≡◌, ◌≤◌, ◌^◌, MatchResult, 
 ghost use Rattle.std.specs.Char.{is_digit};
 ghost use Rattle.std.specs.List.{list_all};
 ghost use Rattle.std.specs.Str.Parse.{digits_value};
-ghost use Rattle.aclck.specs.Line.{Reads, text_if_any};
-ghost use Rattle.aclck.specs.Values.{are_digits, id_value, mode_value};
+ghost use Rattle.aclck.specs.Line.{ReadsValues, text_if_any};
+ghost use Rattle.aclck.specs.Values.{IsDigitRadix, IsRadix, are_digits, id_value, mode_value};
 
 use crate::line::LineFault;
 use acl_perm::Mode;
@@ -31,7 +31,7 @@ pub(crate) fn id_value(word: &str) -> Option<Id>
 
 /// Returns the mode that an option's value spells.
 pub(crate) fn mode_in(word: Option<&str>) -> Result<Mode, LineFault>
-    ensures { Reads (λ mode. mode.bits)
+    ensures { ReadsValues (λ mode. mode.bits)
         (option_and_then mode_value (text_if_any word.entry)) result }
 {
     word.and_then(mode_value).ok_or(LineFault::Usage)
@@ -50,14 +50,14 @@ fn mode_value(word: &str) -> Option<Mode>
 
 // Whether there are digits alone, and at least one.
 fn are_digits(word: &str, radix: u32) -> bool
-    requires { (2 ≤ radix) × (radix ≤ 36) }
+    requires { IsRadix radix }
     ensures { result ≡ are_digits radix word.now }
 {
     !word.is_empty() && all_digits(word.as_bytes(), radix)
 }
 
 fn all_digits(bytes: &[u8], radix: u32) -> bool
-    requires { (2 ≤ radix) × (radix ≤ 36) }
+    requires { IsRadix radix }
     ensures { result ≡ list_all (λ b. is_digit b radix) bytes.now }
 {
     bytes.iter().all(|b| char::from(*b).is_digit(radix))
@@ -65,7 +65,7 @@ fn all_digits(bytes: &[u8], radix: u32) -> bool
 
 // The number that digits spell.
 fn digits(word: &str, radix: u32) -> Result<u32, ParseIntError>
-    requires radix { (2 ≤ radix) × (radix ≤ 10) }
+    requires radix { IsDigitRadix radix }
     requires digits { are_digits radix word.now ≡ true }
     ensures { MatchResult result (λ n. n ≡ digits_value radix word.now)
         (λ _. 2 ^ 32 ≤ digits_value radix word.now) }

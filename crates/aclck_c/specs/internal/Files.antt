@@ -1,6 +1,6 @@
 -- Why a call over the text of POSIX ACLs fails (what only the code needs).
 use Rattle.std.specs.Prelude.{◌≡◌, ℕ, List, None, Option, Some, Result, Ok, Err}
-use Rattle.acl_posix.specs.Names.{Table, no_names}
+use Rattle.acl_posix.specs.Names.{Table, empty_table}
 use Rattle.acl_posix.specs.TextFault.{IsTextFault}
 use Rattle.acl_posix.specs.declared.names.NameFault.{NameFault}
 use Rattle.acl_posix.specs.declared.names.NameFault.TheVariants as names
@@ -8,9 +8,9 @@ use Rattle.acl_posix.specs.declared.text_fault.TextFault.{TextFault}
 use Rattle.acl_posix.specs.declared.text_fault.TextFault.TheVariants as text
 use Rattle.aclck_c.specs.Names.{name_added, names_added}
 use Rattle.aclck_c.specs.Posix.{HasFault, posix_refusal}
-use Rattle.aclck_c.specs.declared.file_fault.FileFault.{FileFault}
-use Rattle.aclck_c.specs.declared.file_fault.FileFault.TheVariants as file
-use Rattle.aclck_c.specs.declared.names.Name.{Name}
+use Rattle.aclck_c.specs.declared.posix.file_fault.FileFault.{FileFault}
+use Rattle.aclck_c.specs.declared.posix.file_fault.FileFault.TheVariants as file
+use Rattle.aclck_c.specs.declared.posix.names.Name.{Name}
 use Rattle.aclck_c.specs.declared.refusal.Refusal.{Refusal}
 
 -- the fault of a name as a fault of a call
@@ -28,15 +28,15 @@ ReadsTable expected (Err (file.Refused f)) = ⊥
 ReadsTable expected (Err file.Memory) = Unit {0}
 
 -- the table after a call that adds a name to it: the expected table, or a bad name if there is none
-abbrev pub AddsName : Option Table → Table → Result (Unit {0}) FileFault → Type 0
-AddsName expected after (Ok done) = expected ≡ Some after
-AddsName expected after (Err file.Names) = expected ≡ None
-AddsName expected after (Err (file.Refused f)) = ⊥
-AddsName expected after (Err file.Memory) = Unit {0}
+abbrev pub AddsFileName : Option Table → Table → Result (Unit {0}) FileFault → Type 0
+AddsFileName expected after (Ok done) = expected ≡ Some after
+AddsFileName expected after (Err file.Names) = expected ≡ None
+AddsFileName expected after (Err (file.Refused f)) = ⊥
+AddsFileName expected after (Err file.Memory) = Unit {0}
 
 -- the names and the text have the fault; `Memory` says nothing about them
 abbrev pub IsFileFault : List Name → List ℕ → FileFault → Type 0
-IsFileFault given bytes file.Names = names_added no_names given ≡ None
+IsFileFault given bytes file.Names = names_added empty_table given ≡ None
 IsFileFault given bytes (file.Refused f) = HasFault given bytes f
 IsFileFault given bytes file.Memory = Unit {0}
 

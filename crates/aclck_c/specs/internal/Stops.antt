@@ -9,14 +9,14 @@ use Rattle.acl_eval.specs.Deciding.{deciding_kind, deciding_place}
 use Rattle.acl_eval.specs.declared.deciding.Decision.{Decision}
 use Rattle.aclck_c.specs.Lists.{AreList}
 use Rattle.aclck_c.specs.Refusal.{in_list}
-use Rattle.aclck_c.specs.declared.list_fault.ListFault.{ListFault}
-use Rattle.aclck_c.specs.declared.list_fault.ListFault.TheVariants as stop
+use Rattle.aclck_c.specs.declared.nfs4.list_fault.ListFault.{ListFault}
+use Rattle.aclck_c.specs.declared.nfs4.list_fault.ListFault.TheVariants as stop
 use Rattle.aclck_c.specs.declared.refusal.Refusal.{Refusal}
 
 -- the bytes have the fault; `Memory` is never returned for bytes with a fault
-abbrev pub IsListFault : Profile → List ℕ → ListFault → Type 0
-IsListFault p bytes (stop.Refused f) = IsWholeFault p bytes f.offset f.reason
-IsListFault p bytes stop.Memory = AreList p bytes
+abbrev pub HasListFault : Profile → List ℕ → ListFault → Type 0
+HasListFault p bytes (stop.Refused f) = IsWholeFault p bytes f.offset f.reason
+HasListFault p bytes stop.Memory = AreList p bytes
 
 -- the status of a fault, and its effect on the refusal that a caller sees
 abbrev pub Tells : ListFault → ℕ → ℕ → Refusal → Refusal → Type 0

@@ -10,7 +10,7 @@ use Rattle.acl_nfs4.specs.Spelling.{Xdr}
 use Rattle.acl_eval.specs.Grant.{SameGrants}
 use Rattle.acl_normal.specs.SmallSets.{IsFirstDifference}
 use Rattle.aclck_c.specs.Compare.{distinction, names_text}
-use Rattle.aclck_c.specs.declared.compare.Named.{Named}
+use Rattle.aclck_c.specs.declared.nfs4.compare.Named.{Named}
 
 -- the situation's names, the right, and what the first list grants
 pub record TellsOf (s : Situation) (right : ℕ) (first_grants : Bool) (found : Named) : Type 0 where
@@ -18,7 +18,7 @@ pub record TellsOf (s : Situation) (right : ℕ) (first_grants : Bool) (found : 
   pub names : found.names.items ≡ names_text s
 
 -- the report is the first difference of two lists
-pub record IsTold (list other : List Ace) (found : Named) : Type 0 where
+pub record IsToldDifference (list other : List Ace) (found : Named) : Type 0 where
   pub situation : Situation
   pub right : ℕ
   pub first_grants : Bool
@@ -28,4 +28,4 @@ pub record IsTold (list other : List Ace) (found : Named) : Type 0 where
 -- nothing if two lists grant the same, and otherwise their first difference
 abbrev pub Told : List Ace → List Ace → Option Named → Type 0
 Told list other None = SameGrants all_rights list other
-Told list other (Some found) = IsTold list other found
+Told list other (Some found) = IsToldDifference list other found

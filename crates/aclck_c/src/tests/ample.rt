@@ -1,4 +1,4 @@
-//! Calls that take memory, where there is enough.
+//! Calls that take memory, with enough of it.
 use super::{LIST, no_fault};
 use crate::{Name, aclck_check_posix, aclck_normalize};
 use std::test::Fail;

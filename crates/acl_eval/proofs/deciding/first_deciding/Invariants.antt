@@ -4,7 +4,7 @@ use Rattle.acl_eval.specs.Situation.{situation}
 use Rattle.acl_eval.specs.internal.DecidingBody.{decision_from}
 use Rattle.acl_eval.proofs.deciding.first_deciding.Given as goal
 
--- the rest of the list has the decision of all of it
+-- the rest of the list gives the decision of the whole list
 abbrev pub invariant-loop-ace : goal.invariant-loop-ace
 invariant-loop-ace l =
     (goal.iterator-loop-ace).can_next l.ace-iterator ×

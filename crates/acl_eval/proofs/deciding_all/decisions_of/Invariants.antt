@@ -5,7 +5,7 @@ use Rattle.acl_eval.specs.Situation.{situation}
 use Rattle.acl_eval.specs.internal.DecidingBody.{decision_from, found_in}
 use Rattle.acl_eval.proofs.deciding_all.decisions_of.Given as goal
 
--- what was found, and what the rest of the list has for the rights that are left, is what the whole list has
+-- what was found, with what the rest of the list decides for the rights that are left, is what the whole list decides
 abbrev pub invariant-loop-ace : goal.invariant-loop-ace
 invariant-loop-ace l =
     (goal.iterator-loop-ace).can_next l.ace-iterator ×

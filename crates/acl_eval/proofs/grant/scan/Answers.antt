@@ -6,7 +6,7 @@ use Rattle.acl_eval.specs.Grant.{is_allow}
 use Rattle.acl_eval.specs.Scan.{scan}
 use Rattle.acl_eval.proofs.Scans.{passes, silent, last_allowed, denied}
 use Rattle.acl_eval.proofs.grant.scan.Goals.{else-common-ne0-via-then-common-ne0+else-is_meant_by, else-common-ne0-via-else-common-ne0}
-use Rattle.acl_nfs4.proofs.Fields.{who_bounds}
+use Rattle.acl_nfs4.proofs.Exports.{who_bounds}
 use Rattle.acl_eval.proofs.grant.scan.Goals as goal
 
 pub loop-ace-preserved : goal.loop-ace-preserved

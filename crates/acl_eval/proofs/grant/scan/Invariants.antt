@@ -3,7 +3,7 @@ use Rattle.acl_eval.specs.Situation.{situation}
 use Rattle.acl_eval.specs.Scan.{scan}
 use Rattle.acl_eval.proofs.grant.scan.Given as goal
 
--- what is left is decided by the rest of the list as the request is by all of it
+-- the rest of the list decides what is left of the request as the whole list decides the request
 abbrev pub invariant-loop-ace : goal.invariant-loop-ace
 invariant-loop-ace l =
     (goal.iterator-loop-ace).can_next l.ace-iterator ×

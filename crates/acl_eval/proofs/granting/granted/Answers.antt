@@ -8,7 +8,7 @@ use Rattle.acl_eval.specs.Grant.{Grant, grants_bit}
 use Rattle.acl_eval.specs.Situation.{situation}
 use Rattle.acl_eval.proofs.granting.granted.Goals as goal
 
--- a request within the mask is granted exactly if it lies within what is granted
+-- a request within the mask is granted if and only if it is within the rights that are granted
 within_granted : (list : List Ace) (s : Situation) (mask granted : ℕ)
     → ((bit : ℕ) → has_bit granted bit ≡ (has_bit mask bit && grants_bit list s bit))
     → (request : ℕ) → IsSubset request mask → Grant list s request ↔ IsSubset request granted

@@ -5,7 +5,8 @@ use Rattle.acl_eval.specs.Situation.{situation}
 use Rattle.acl_eval.specs.internal.GrantingBody.{granted_in}
 use Rattle.acl_eval.proofs.granting.granted_to.Given as goal
 
--- what is granted so far, and by the rest of the list of what is left, is what the whole list grants of the mask
+-- what is granted so far, with what the rest of the list grants of the rights that are left, is what the whole list
+-- grants of the mask
 abbrev pub invariant-loop-ace : goal.invariant-loop-ace
 invariant-loop-ace l =
     (goal.iterator-loop-ace).can_next l.ace-iterator ×

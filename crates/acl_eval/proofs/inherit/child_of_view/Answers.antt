@@ -1,12 +1,9 @@
-use Rattle.std.proofs.Common.{◌≡◌, [], ◌∷◌, ◌++◌, refl, sym, ap, subst, ◌∙◌}
+use Rattle.std.proofs.Common.{◌++◌, refl, sym, ap, ◌∙◌}
 use Rattle.std.specs.Prelude.{option_map}
-use Rattle.std.proofs.lemmas.List.{append-nil}
 use Rattle.acl_perm.specs.Profile.{full}
-use Rattle.acl_nfs4.specs.Ace.{Ace, ace}
-use Rattle.acl_nfs4.specs.Spelling.{IsAccepted}
-use Rattle.acl_nfs4.proofs.Lists.{front_accepted}
+use Rattle.acl_nfs4.specs.Ace.{ace}
 use Rattle.acl_eval.specs.Inheritance.{children, with_flags}
-use Rattle.acl_eval.proofs.Children.{child_has, child_lacks, child_accepted, child_fits, moved}
+use Rattle.acl_eval.proofs.Children.{all_done, child_accepted, child_fits, no_more_of, one_more, one_more_accepted}
 use Rattle.acl_eval.proofs.inherit.child_of_view.Goals as goal
 
 pub loop-ace-init : goal.loop-ace-init
@@ -20,52 +17,34 @@ loop-ace-init c = (
 
 pub push_accepted-requires : goal.push_accepted-requires
 push_accepted-requires c =
-    let item : Ace = with_flags (ace c.in-Some.ace) c.in-Some-inherited.flags.bits in
-    let more = children c.args.kind c.next.new.self in
-    let whole : (c.loop-ace.list ++ item ∷ []) ++ more ≡ children c.args.kind c.args.parent.now =
-    moved c.loop-ace.list more item
-    ∙ ap (λ list. c.loop-ace.list ++ list) (sym (child_has c.args.kind (ace c.in-Some.ace) c.next.new.self
-    c.in-Some-inherited.flags.bits (sym c.in-Some-inherited.ensures)))
-    ∙ ap (λ list. c.loop-ace.list ++ children c.args.kind list) (sym c.in-Some.ensures.steps.0)
-    ∙ c.loop-ace.invariant.3 in
-    front_accepted full (c.loop-ace.list ++ item ∷ []) more
-    (subst (IsAccepted full) (sym whole) c.loop-ace.invariant.2)
+    let flags = c.in-Some-inherited.flags.bits in
+    one_more_accepted c.args.kind c.loop-ace.list (with_flags (ace c.in-Some.ace) flags) c.next.new.self _
+    (one_more c.args.kind c.loop-ace.list (ace c.in-Some.ace) flags _ c.next.new.self _ c.in-Some.ensures.steps.0
+    (sym c.in-Some-inherited.ensures) c.loop-ace.invariant.3) c.loop-ace.invariant.2
 
 pub loop-ace-preserved-in-Continue-1 : goal.loop-ace-preserved-in-Continue-1
-loop-ace-preserved-in-Continue-1 c =
-    let item : Ace = with_flags (ace c.in-Some.ace) c.in-Some-inherited.flags.bits in
-    let more = children c.args.kind c.next.new.self in (
-      tt,
-      tt,
-      c.loop-ace.invariant.2,
-      ap (λ list. list ++ more) c.in_ok-push_accepted.ensures.ok
-          ∙ moved c.loop-ace.list more item
-          ∙ ap (λ list. c.loop-ace.list ++ list) (sym (child_has c.args.kind (ace c.in-Some.ace) c.next.new.self
-          c.in-Some-inherited.flags.bits (sym c.in-Some-inherited.ensures)))
-          ∙ ap (λ list. c.loop-ace.list ++ children c.args.kind list) (sym c.in-Some.ensures.steps.0)
-          ∙ c.loop-ace.invariant.3,
-    )
+loop-ace-preserved-in-Continue-1 c = (
+  tt,
+  tt,
+  c.loop-ace.invariant.2,
+  ap (λ list. list ++ children c.args.kind c.next.new.self) c.in_ok-push_accepted.ensures.ok
+      ∙ one_more c.args.kind c.loop-ace.list (ace c.in-Some.ace) c.in-Some-inherited.flags.bits _ c.next.new.self _
+      c.in-Some.ensures.steps.0 (sym c.in-Some-inherited.ensures) c.loop-ace.invariant.3,
+)
 
 pub loop-ace-preserved : goal.loop-ace-preserved
 loop-ace-preserved c = (
   tt,
   tt,
   c.loop-ace.invariant.2,
-  ap (λ list. c.loop-ace.list ++ list) (sym (child_lacks c.args.kind (ace c.in-Some.ace) c.next.new.self
-      (sym c.inherited.ensures ∙ ap (option_map (λ f. f.bits)) c.in_default.is)))
-      ∙ ap (λ list. c.loop-ace.list ++ children c.args.kind list) (sym c.in-Some.ensures.steps.0)
-      ∙ c.loop-ace.invariant.3,
+  no_more_of c.args.kind c.loop-ace.list (ace c.in-Some.ace) _ c.next.new.self _ c.in-Some.ensures.steps.0
+      (sym c.inherited.ensures ∙ ap (option_map (λ f. f.bits)) c.in_default.is) c.loop-ace.invariant.3,
 )
 
 pub returns-clause-ok : goal.returns-clause-ok
-returns-clause-ok c =
-    sym (append-nil c.loop-ace.list)
-    ∙ ap (λ list. c.loop-ace.list ++ children c.args.kind list) (sym c.in-None.ensures.steps.0.0)
-    ∙ c.loop-ace.invariant.3
+returns-clause-ok c = all_done c.args.kind c.loop-ace.list _ _ c.in-None.ensures.steps.0.0 c.loop-ace.invariant.3
 
 pub returns-clause-fits : goal.returns-clause-fits
 returns-clause-fits c = λ p h fits.
-    let ok = sym (append-nil c.loop-ace.list)
-    ∙ ap (λ list. c.loop-ace.list ++ children c.args.kind list) (sym c.in-None.ensures.steps.0.0)
-    ∙ c.loop-ace.invariant.3 in
-    rw ok (child_fits p c.args.kind c.args.parent.now h fits)
+    rw (all_done c.args.kind c.loop-ace.list _ _ c.in-None.ensures.steps.0.0 c.loop-ace.invariant.3)
+    (child_fits p c.args.kind c.args.parent.now h fits)

@@ -4,7 +4,7 @@ use Rattle.acl_nfs4.specs.Spelling.{IsAccepted}
 use Rattle.acl_eval.specs.Inheritance.{children}
 use Rattle.acl_eval.proofs.inherit.child_of_view.Given as goal
 
--- the ACEs so far and those of what is left are the child, which is accepted
+-- the ACEs so far and the child of the rest are the whole child, which is accepted
 abbrev pub invariant-loop-ace : goal.invariant-loop-ace
 invariant-loop-ace l =
     (goal.iterator-loop-ace).can_next l.ace-iterator ×

@@ -4,7 +4,7 @@ use Rattle.acl_eval.specs.ListMode.{is_for_group, is_for_others, is_for_owner}
 use Rattle.acl_eval.specs.internal.Settled.{settled}
 use Rattle.acl_eval.proofs.mode.mode_of.Given as goal
 
--- each class, before the rest of the list, settles what it does before the whole
+-- for each class, the state so far and the rest of the list settle what the whole list settles
 abbrev pub invariant-loop-ace : goal.invariant-loop-ace
 invariant-loop-ace l =
     (goal.iterator-loop-ace).can_next l.ace-iterator ×

@@ -1,4 +1,4 @@
-use Rattle.acl_nfs4.proofs.Within.{accepted_where_it_fits}
+use Rattle.acl_nfs4.proofs.list.Within.{accepted_where_it_fits}
 use Rattle.acl_nfs4.proofs.laws.accepted_where_it_fits.Goals as goal
 
 pub returns : goal.returns

@@ -1,4 +1,4 @@
-use Rattle.acl_nfs4.proofs.Exactly.{any_cutting, each_is, nothing_cut}
+use Rattle.acl_nfs4.proofs.feed.Exactly.{any_cutting, each_is, nothing_cut}
 use Rattle.acl_nfs4.proofs.laws.any_cutting.Goals as goal
 
 pub returns-clause-together : goal.returns-clause-together

@@ -1,4 +1,4 @@
-use Rattle.acl_nfs4.proofs.Completion.{begins, fault_begins}
+use Rattle.acl_nfs4.proofs.feed.Completion.{begins, fault_begins}
 use Rattle.acl_nfs4.proofs.laws.faults_break_spellings.Goals as goal
 
 pub returns-clause-border : goal.returns-clause-border

@@ -1,4 +1,4 @@
-use Rattle.acl_nfs4.proofs.Body.{one}
+use Rattle.acl_nfs4.proofs.xdr.Body.{one}
 use Rattle.acl_nfs4.proofs.laws.one_spelling.Goals as goal
 
 pub returns : goal.returns

@@ -1,4 +1,4 @@
-use Rattle.acl_nfs4.proofs.AceLines.{no_text_fault, one_list, one_text_fault}
+use Rattle.acl_nfs4.proofs.text.AceLines.{no_text_fault, one_list, one_text_fault}
 use Rattle.acl_nfs4.proofs.laws.one_text_fault.Goals as goal
 
 pub returns-clause-list : goal.returns-clause-list

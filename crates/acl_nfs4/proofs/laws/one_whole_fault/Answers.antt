@@ -1,4 +1,4 @@
-use Rattle.acl_nfs4.proofs.OneFault.{one_whole_fault, whole_or_fault}
+use Rattle.acl_nfs4.proofs.xdr.OneFault.{one_whole_fault, whole_or_fault}
 use Rattle.acl_nfs4.proofs.laws.one_whole_fault.Goals as goal
 
 pub returns-clause-one : goal.returns-clause-one

@@ -1,4 +1,4 @@
-use Rattle.acl_nfs4.proofs.AceWritten.{reads_back}
+use Rattle.acl_nfs4.proofs.text.AceWritten.{reads_back}
 use Rattle.acl_nfs4.proofs.laws.text_reads_back.Goals as goal
 
 pub returns : goal.returns

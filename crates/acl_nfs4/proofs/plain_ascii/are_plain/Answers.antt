@@ -1,5 +1,5 @@
 use Rattle.std.proofs.lemmas.Bool.{eqb-true}
-use Rattle.acl_nfs4.proofs.PlainLanes.{plain_where_none}
+use Rattle.acl_nfs4.proofs.plain_ascii.PlainLanes.{plain_where_none}
 use Rattle.acl_nfs4.proofs.plain_ascii.are_plain.Goals as goal
 
 pub returns : goal.returns

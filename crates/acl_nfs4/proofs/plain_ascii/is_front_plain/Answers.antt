@@ -1,5 +1,5 @@
 use Rattle.std.proofs.lemmas.Bool.{leb-true}
-use Rattle.acl_nfs4.proofs.PlainLanes.{plain_front}
+use Rattle.acl_nfs4.proofs.plain_ascii.PlainLanes.{plain_front}
 use Rattle.acl_nfs4.proofs.plain_ascii.is_front_plain.Goals as goal
 
 pub returns : goal.returns

@@ -1,4 +1,4 @@
-use Rattle.acl_nfs4.proofs.PlainText.{plain_front_is_who}
+use Rattle.acl_nfs4.proofs.plain_ascii.PlainText.{plain_front_is_who}
 use Rattle.acl_nfs4.proofs.who.begins_plain_who.Goals as goal
 
 pub returns-then-begins_plain_ascii : goal.returns-then-begins_plain_ascii

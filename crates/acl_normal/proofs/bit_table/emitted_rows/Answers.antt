@@ -1,7 +1,7 @@
 use Rattle.std.proofs.Common.{◌≡◌, length}
-use Rattle.acl_normal.proofs.Common.{ap, arith, bits_in, emitted_aces, HasPlaces, IsReducedOf, map, of_borrowed, subst, sym, ◌∙◌}
+use Rattle.acl_normal.proofs.Common.{ap, arith, mask_numbers, emitted_aces, HasFirstPlaces, IsReducedOf, map, of_borrowed, subst, sym, ◌∙◌}
 use Rattle.acl_normal.proofs.Tables.{key_there, row_there, rows_from, rows_shown}
-use Rattle.acl_normal.proofs.reduce.LaterBits.{length_masks}
+use Rattle.acl_normal.proofs.rows.ByPlace.{length_masks}
 use Rattle.acl_normal.proofs.unique.Bits.{bits_length}
 use Rattle.acl_normal.proofs.unique.Forming.{form_from}
 use Rattle.acl_normal.proofs.unique.Taken.{normal_alike, normal_once, taken}
@@ -14,7 +14,7 @@ rows_of-requires c =
     omega (arith, reduced.masks.ok, reduced.aces.ok, c.requires.places) in
     let count =
     ap length c.in_ok-rows.ensures
-    ∙ length_masks reduced.aces.items (bits_in reduced.masks.items) (bits_length reduced.masks.items ∙ masks) in
+    ∙ length_masks reduced.aces.items (mask_numbers reduced.masks.items) (bits_length reduced.masks.items ∙ masks) in
     row_there c.in_ok-rows.rows c.in_ok-form.form.items _ _ c.in_ok-form.ensures.rows c.deref-5.ensures.value
     (omega (arith, c.deref-4.ensures.len, c.in_ok-places.ensures.count, ap length c.deref.ensures.value, count))
 
@@ -28,7 +28,7 @@ returns c =
     let r = subst (IsReducedOf list) (sym c.in_ok-rows.ensures) c.requires.reduced in
     let f = c.in_ok-form.ensures in
     let noted =
-    subst (λ v. HasPlaces right v c.in_ok-places.places.items) (sym c.in_ok-rows.ensures)
+    subst (λ v. HasFirstPlaces right v c.in_ok-places.places.items) (sym c.in_ok-rows.ensures)
     (rw (c.deref.ensures.value, c.deref-2.ensures.value) at c.in_ok-places.ensures.places) in
     let whole =
     form_from list ns (taken list rows ns r.columns r.irreducible r.grants f.normal f.grants)

@@ -1,4 +1,4 @@
-use Rattle.acl_normal.proofs.Common.{all_cleared, bits_in, left, map, of_borrowed, with_masks}
+use Rattle.acl_normal.proofs.Common.{all_cleared, mask_numbers, left, map, of_borrowed, with_masks}
 use Rattle.acl_normal.proofs.Tables.{rows_from}
 use Rattle.acl_normal.proofs.emit.Risen.{rising_form_of}
 use Rattle.acl_normal.proofs.bit_table.risen_rows.Goals as goal
@@ -10,7 +10,7 @@ rows_in_place-requires-clause-tidy c =
 pub returns : goal.returns
 returns c =
     let list = c.args.list.now in
-    let xs = with_masks c.args.reduced.now.aces.items (bits_in c.args.reduced.now.masks.items) in
+    let xs = with_masks c.args.reduced.now.aces.items (mask_numbers c.args.reduced.now.masks.items) in
     record {
       form = all_cleared (left xs);
       is_form = rising_form_of list xs c.requires.reduced c.requires.rising c.aces-accepted.ensures.accepted;

@@ -19,6 +19,8 @@ returns-clause-apart c p a b x y source other is at_a at_b na nb =
 
 pub returns-clause-twice : goal.returns-clause-twice
 returns-clause-twice c p a x y is na nx =
-    let same : nx.source ≡ na.form = (c.one_spelling.ensures p nx.source na.form x x [] [] is nx.read na.spelled refl).0 in
-    let settled : nx.form ≡ nx.source = nx.is_form.itself (subst (λ (l : List Ace). IsNormal l) (sym same) na.is_form.normal) in
+    let same : nx.source ≡ na.form =
+    (c.one_spelling.ensures p nx.source na.form x x [] [] is nx.read na.spelled refl).0 in
+    let settled : nx.form ≡ nx.source =
+    nx.is_form.itself (subst (λ (l : List Ace). IsNormal l) (sym same) na.is_form.normal) in
     na.spelled.spelled ∙ ap spelling (sym same ∙ sym settled) ∙ sym nx.spelled.spelled

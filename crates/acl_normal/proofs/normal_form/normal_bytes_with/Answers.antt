@@ -1,6 +1,6 @@
 use Rattle.std.proofs.Common.{arith}
 use Rattle.acl_perm.specs.Profile.{profile_of}
-use Rattle.acl_nfs4.proofs.Within.{code_profile}
+use Rattle.acl_nfs4.proofs.Exports.{code_profile}
 use Rattle.acl_normal.proofs.unique.Spelled.{form_of}
 use Rattle.acl_normal.proofs.normal_form.normal_bytes_with.Goals as goal
 

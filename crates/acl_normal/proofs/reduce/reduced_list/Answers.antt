@@ -1,4 +1,4 @@
-use Rattle.acl_normal.proofs.Common.{AceRef, aces_in, ap, bits_in, column, IsReducedOf, IsTidy, List, nothing_left, subst, sym, with_masks, ℕ, ◌∙◌, ◌≡◌}
+use Rattle.acl_normal.proofs.Common.{AceRef, aces_in, ap, mask_numbers, column, IsReducedOf, IsTidy, List, nothing_left, subst, sym, with_masks, ℕ, ◌∙◌, ◌≡◌}
 use Rattle.acl_normal.proofs.rows.Rows.{order_alike, rows_alike}
 use Rattle.acl_normal.proofs.reduce.reduced_list.Goals as goal
 
@@ -11,7 +11,7 @@ outline_left one two aces masks e f same =
 
 pub returns-clause-rows : goal.returns-clause-rows
 returns-clause-rows c =
-    let shown = ap (λ v. with_masks v (bits_in c.in_ok-masks.masks.items)) c.deref-2.ensures.value in
+    let shown = ap (λ v. with_masks v (mask_numbers c.in_ok-masks.masks.items)) c.deref-2.ensures.value in
     let kept = c.in_ok-masks.ensures.reduced in
     let outline = outline_left c.deref.result.now _ _ _ c.deref.ensures.value c.deref-2.ensures.value
     kept.thinned.outline in
@@ -25,6 +25,6 @@ returns-clause-rows c =
 pub returns-clause-left : goal.returns-clause-left
 returns-clause-left c =
     let same = ap aces_in c.deref-2.ensures.value ∙ c.in_ok-aces.ensures.aces in
-    let left = ap (λ v. with_masks v (bits_in c.in_ok-masks.masks.items)) c.deref-2.ensures.value in
-    subst (λ v. IsReducedOf v (with_masks c.in_ok-aces.aces.items (bits_in c.in_ok-masks.masks.items))) same
+    let left = ap (λ v. with_masks v (mask_numbers c.in_ok-masks.masks.items)) c.deref-2.ensures.value in
+    subst (λ v. IsReducedOf v (with_masks c.in_ok-aces.aces.items (mask_numbers c.in_ok-masks.masks.items))) same
     (subst (λ v. IsReducedOf (aces_in c.deref-2.result.now) v) left c.in_ok-masks.ensures.reduced)

@@ -1,4 +1,4 @@
-use Rattle.acl_normal.proofs.Common.{aces_in, bits_in, drop, length, sym, take, with_masks, ◌++◌, ◌∙◌, ◌≡◌}
+use Rattle.acl_normal.proofs.Common.{aces_in, mask_numbers, drop, length, sym, take, with_masks, ◌++◌, ◌∙◌, ◌≡◌}
 use Rattle.std.proofs.lemmas.List.{take_at}
 use Rattle.acl_normal.proofs.reduce.Reducing.{two_passes, reduction_grants, reduction_irreducible, reduction_rights}
 use Rattle.acl_normal.proofs.reduce.Unneeded.{firsts_through}
@@ -11,8 +11,8 @@ returns c =
     take_at c.drop_needless.new.masks _ _ (c.drop_needless.ensures.places ∙ sym c.in_ok-masks.ensures.places) in
     let first = rw c.deref_mut.ensures.value at c.drop_needless.ensures in
     let whole = aces_in c.args.aces.now in
-    let r = two_passes whole (with_masks c.args.aces.now (bits_in c.in_ok-masks.masks.items))
-    (with_masks c.args.aces.now (bits_in c.drop_needless.new.masks)) c.requires.accepted
+    let r = two_passes whole (with_masks c.args.aces.now (mask_numbers c.in_ok-masks.masks.items))
+    (with_masks c.args.aces.now (mask_numbers c.drop_needless.new.masks)) c.requires.accepted
     c.in_ok-masks.ensures.thinned.outline
     c.in_ok-masks.ensures.columns first.thinned.outline first.thinned.tidy first.columns in
     rw items (record {
@@ -22,7 +22,7 @@ returns c =
           outline = r.outline;
           tidy = r.tidy;
           firsts =
-              firsts_through whole (with_masks c.args.aces.now (bits_in c.in_ok-masks.masks.items)) _
+              firsts_through whole (with_masks c.args.aces.now (mask_numbers c.in_ok-masks.masks.items)) _
               c.in_ok-masks.ensures.thinned.firsts first.thinned.firsts;
         };
         rights = reduction_rights whole _ r;

@@ -1,11 +1,6 @@
-use Rattle.std.proofs.Common.{◌≡◌, ◌∙◌, ap, rules}
-use Rattle.std.specs.Prelude.{◌&&◌, nat_eq}
-use Rattle.std.specs.Cmp.Rules.{comparing}
+use Rattle.acl_posix.proofs.Common.{ap, nat_eq, ◌&&◌, ◌∙◌}
 use Rattle.acl_posix.specs.contracts.tag.TagOrd.TheImpl.Laws as laws
-use Rattle.acl_posix.specs.declared.entry.Entry.{Entry}
-use Rattle.acl_posix.specs.Entries.{pair_of}
-use Rattle.acl_posix.specs.Equal.{same_entry}
-use Rattle.acl_posix.proofs.Equality.{same_lists}
+use Rattle.acl_posix.proofs.sorted.Equality.{same_lists}
 use Rattle.acl_posix.proofs.acl.are_same.Goals as goal
 
 pub returns : goal.returns

@@ -1,5 +1,5 @@
-use Rattle.std.proofs.Common.{rules, arith}
-use Rattle.acl_posix.proofs.Fronts.{id_short}
+use Rattle.acl_posix.proofs.Common.{arith, rules}
+use Rattle.acl_posix.proofs.writer.Fronts.{id_short}
 use Rattle.acl_posix.proofs.entry_writer.put_qualifier.Goals as goal
 
 pub write_digits-requires : goal.write_digits-requires

@@ -1,5 +1,5 @@
-use Rattle.std.proofs.Common.{arith, ◌+◌}
-use Rattle.acl_posix.proofs.Digits.{value_more, too_large}
+use Rattle.acl_posix.proofs.Common.{arith, ◌+◌}
+use Rattle.acl_posix.proofs.field.Digits.{value_more, too_large}
 use Rattle.acl_posix.proofs.field.read_id.Goals as goal
 
 pub loop-digit-preserved : goal.loop-digit-preserved

@@ -1,4 +1,5 @@
-use Rattle.acl_posix.proofs.Whole.{back, canonical_reads}
+use Rattle.acl_posix.proofs.writer.Whole.{back}
+use Rattle.acl_posix.proofs.writer.LongTexts.{canonical_reads}
 use Rattle.acl_posix.proofs.laws.canonical_text_reads_back.Goals as goal
 
 pub returns : goal.returns

@@ -1,5 +1,6 @@
-use Rattle.acl_posix.specs.Texts.{canonical_text}
-use Rattle.acl_posix.proofs.Whole.{apart, canonical_reads}
+use Rattle.acl_posix.proofs.Common.{canonical_text}
+use Rattle.acl_posix.proofs.writer.Whole.{apart}
+use Rattle.acl_posix.proofs.writer.LongTexts.{canonical_reads}
 use Rattle.acl_posix.proofs.laws.canonical_text_tells_apart.Goals as goal
 
 pub returns : goal.returns

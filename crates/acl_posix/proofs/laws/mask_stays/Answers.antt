@@ -1,4 +1,4 @@
-use Rattle.acl_posix.proofs.ModeAndMask.{mask_again}
+use Rattle.acl_posix.proofs.laws.ModeAndMask.{mask_again}
 use Rattle.acl_posix.proofs.laws.mask_stays.Goals as goal
 
 pub returns : goal.returns

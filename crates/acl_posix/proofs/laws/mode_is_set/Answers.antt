@@ -1,4 +1,4 @@
-use Rattle.acl_posix.proofs.ModeAndMask.{mode_set}
+use Rattle.acl_posix.proofs.laws.ModeAndMask.{mode_set}
 use Rattle.acl_posix.proofs.laws.mode_is_set.Goals as goal
 
 pub returns : goal.returns

@@ -1,4 +1,4 @@
-use Rattle.acl_posix.proofs.Faults.{no_fault, one_fault}
+use Rattle.acl_posix.proofs.sorting.Faults.{no_fault, one_fault}
 use Rattle.acl_posix.proofs.laws.one_fault.Goals as goal
 
 pub returns-clause-one : goal.returns-clause-one

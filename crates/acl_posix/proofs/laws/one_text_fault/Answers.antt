@@ -1,4 +1,4 @@
-use Rattle.acl_posix.proofs.Settled.{file_or_fault, one_file, one_text_fault}
+use Rattle.acl_posix.proofs.reader.Settled.{file_or_fault, one_file, one_text_fault}
 use Rattle.acl_posix.proofs.laws.one_text_fault.Goals as goal
 
 pub returns-clause-file : goal.returns-clause-file

@@ -1,7 +1,6 @@
-use Rattle.std.proofs.Common.{ap, ◌∙◌, List, ℕ}
+use Rattle.acl_posix.proofs.Common.{ap, ids_of, List, ℕ, ◌∙◌}
 use Rattle.std.specs.FinMap as fin
-use Rattle.acl_posix.specs.internal.NameMaps.{ids_of}
-use Rattle.acl_posix.proofs.NameLemmas.{name_added}
+use Rattle.acl_posix.proofs.names.NameLemmas.{name_added}
 use Rattle.acl_posix.proofs.names.add.Goals as goal
 
 pub returns-clause-added : goal.returns-clause-added

@@ -1,5 +1,5 @@
-use Rattle.std.proofs.Common.{◌∙◌}
-use Rattle.acl_posix.proofs.NameLemmas.{has_name}
+use Rattle.acl_posix.proofs.Common.{◌∙◌}
+use Rattle.acl_posix.proofs.names.NameLemmas.{has_name}
 use Rattle.acl_posix.proofs.names.contains.Goals as goal
 
 pub returns : goal.returns

@@ -1,6 +1,4 @@
-use Rattle.std.proofs.Common.{◌≡◌, map, take}
-use Rattle.acl_posix.specs.Entries.{pairs}
-use Rattle.acl_posix.specs.internal.Packed.{packed}
+use Rattle.acl_posix.proofs.Common.{map, packed, pairs, take, ◌≡◌}
 use Rattle.acl_posix.proofs.packed.packed_entries.Given as goal
 
 -- the numbers of the entries before the place are there

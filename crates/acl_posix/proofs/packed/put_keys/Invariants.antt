@@ -1,6 +1,4 @@
-use Rattle.std.proofs.Common.{◌≡◌, map, take}
-use Rattle.acl_posix.specs.Entries.{pairs}
-use Rattle.acl_posix.specs.internal.Packed.{unpacked}
+use Rattle.acl_posix.proofs.Common.{map, pairs, take, unpacked, ◌≡◌}
 use Rattle.acl_posix.proofs.packed.put_keys.Given as goal
 
 -- the entries of the numbers before the place are written

@@ -1,5 +1,5 @@
-use Rattle.std.proofs.Common.{refl, arith}
-use Rattle.acl_posix.proofs.Packings.{keys_sorted, rising_all, sorted_keys}
+use Rattle.acl_posix.proofs.Common.{arith, refl}
+use Rattle.acl_posix.proofs.packed.Packings.{keys_sorted, rising_all, sorted_keys}
 use Rattle.acl_posix.proofs.packed.rises.Goals as goal
 
 pub returns-then-keys-place : goal.returns-then-keys-place

@@ -1,5 +1,5 @@
-use Rattle.std.proofs.Common.{length, ◌-◌, ◌<◌}
-use Rattle.acl_posix.proofs.Packings.{KeysRise}
+use Rattle.acl_posix.proofs.Common.{length, ◌-◌, ◌<◌}
+use Rattle.acl_posix.proofs.packed.Packings.{KeysRise}
 use Rattle.acl_posix.proofs.packed.rises.Given as goal
 
 -- each tag before the place is less than the next

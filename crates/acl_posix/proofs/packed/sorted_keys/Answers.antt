@@ -1,11 +1,6 @@
-use Rattle.std.proofs.Common.{List, ℕ, map, subst}
-use Rattle.std.specs.List.Sorted.{IsPermutation}
-use Rattle.std.proofs.lemmas.List.Sorted.{All-permutation, IsNonDecreasingBy-from_sort, IsPermutation-map}
-use Rattle.acl_posix.specs.Tag.{Tag}
-use Rattle.acl_posix.specs.Entries.{pairs}
-use Rattle.acl_posix.specs.internal.Packed.{packed, unpacked, IsPacked}
-use Rattle.acl_posix.proofs.Lookups.{all_entries}
-use Rattle.acl_posix.proofs.Packings.{all_packed, all_unpacked}
+use Rattle.acl_posix.proofs.Common.{All-permutation, IsNonDecreasingBy-from_sort, IsPacked, IsPermutation, IsPermutation-map, List, map, packed, pairs, subst, Tag, unpacked, ℕ}
+use Rattle.acl_posix.proofs.sorted.Lookups.{all_entries}
+use Rattle.acl_posix.proofs.packed.Packings.{all_packed, all_unpacked}
 use Rattle.acl_posix.proofs.packed.sorted_keys.Goals as goal
 
 pub returns-clause-packed : goal.returns-clause-packed

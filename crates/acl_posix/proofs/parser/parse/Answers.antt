@@ -1,4 +1,4 @@
-use Rattle.acl_posix.proofs.Settled.{only_file, only_fault}
+use Rattle.acl_posix.proofs.reader.Settled.{only_file, only_fault}
 use Rattle.acl_posix.proofs.parser.parse.Goals as goal
 
 pub returns-clause-only : goal.returns-clause-only

@@ -1,6 +1,5 @@
-use Rattle.std.proofs.lemmas.Result.{err_from_is_err_and}
-use Rattle.acl_posix.specs.internal.Reading.{lists_of}
-use Rattle.acl_posix.proofs.Settled.{file_found, text_refused, access_refused, default_refused}
+use Rattle.acl_posix.proofs.Common.{err_from_is_err_and, lists_of}
+use Rattle.acl_posix.proofs.reader.Settled.{file_found, text_refused, access_refused, default_refused}
 use Rattle.acl_posix.proofs.parser.read_file.Goals as goal
 
 pub returns-in_err-lists-clause-fault : goal.returns-in_err-lists-clause-fault

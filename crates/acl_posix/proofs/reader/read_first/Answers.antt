@@ -1,10 +1,5 @@
-use Rattle.std.proofs.Common.{List, ℕ, Some, sym, ap, subst}
-use Rattle.std.proofs.lemmas.Result.{err_from_is_err_and}
-use Rattle.acl_posix.specs.Entries.{pair_of}
-use Rattle.acl_posix.specs.Grammar.{pieces_from}
-use Rattle.acl_posix.specs.internal.Reading.{lists_of, read_pieces, Lists, ReadsOn}
-use Rattle.acl_perm.proofs.LineLemmas.{lines_left, lines_next}
-use Rattle.acl_posix.proofs.Lines.{read_lines_fault, reads_first, reads_on}
+use Rattle.acl_posix.proofs.Common.{ap, err_from_is_err_and, lines_left, lines_next, List, Lists, lists_of, pair_of, pieces_from, read_pieces, ReadsOn, Some, subst, sym, ℕ}
+use Rattle.acl_posix.proofs.reader.Lines.{read_lines_fault, reads_first, reads_on}
 use Rattle.acl_posix.proofs.reader.read_first.Goals as goal
 
 pub returns-in-Some : goal.returns-in-Some

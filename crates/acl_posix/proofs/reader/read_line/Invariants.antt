@@ -1,10 +1,8 @@
-use Rattle.std.proofs.Common.{◌≡◌}
-use Rattle.acl_posix.specs.Grammar.{numbered, line_pieces}
-use Rattle.acl_posix.specs.internal.Reading.{lists_of, read_pieces}
-use Rattle.acl_posix.proofs.Lines.{pieces_left, size_left, FitsLeft}
+use Rattle.acl_posix.proofs.Common.{line_pieces, lists_of, numbered, read_pieces, ◌≡◌}
+use Rattle.acl_posix.proofs.reader.Lines.{pieces_left, size_left, FitsLeft}
 use Rattle.acl_posix.proofs.reader.read_line.Given as goal
 
--- what is left gives what the whole line gives
+-- reading the rest of the line after the lists so far gives what reading the whole line gives
 abbrev pub invariant-loop-rest : goal.invariant-loop-rest
 invariant-loop-rest l = record {
   told : read_pieces l.names (lists_of l.lists) (numbered l.number (pieces_left l.rest))

@@ -1,8 +1,5 @@
-use Rattle.std.proofs.Common.{List, ℕ, sym, ap, ◌∙◌, subst}
-use Rattle.acl_posix.specs.Grammar.{pieces_from}
-use Rattle.acl_posix.specs.internal.Reading.{lists_of, read_pieces}
-use Rattle.acl_perm.proofs.LineLemmas.{lines_left, NumberFits, no_lines}
-use Rattle.acl_posix.proofs.Lines.{read_none, on_told, on_fits}
+use Rattle.acl_posix.proofs.Common.{ap, lines_left, List, lists_of, no_lines, NumberFits, pieces_from, read_pieces, subst, sym, ℕ, ◌∙◌}
+use Rattle.acl_posix.proofs.reader.Lines.{read_none, on_told, on_fits}
 use Rattle.acl_posix.proofs.reader.read_text.Goals as goal
 
 pub loop-rest-preserved : goal.loop-rest-preserved

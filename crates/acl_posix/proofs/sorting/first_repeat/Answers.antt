@@ -1,10 +1,5 @@
-use Rattle.std.proofs.Common.{◌≡◌, ◌∙◌, length, sym, ap, subst, arith}
-use Rattle.std.specs.Prelude.{is_some}
-use Rattle.std.proofs.lemmas.List.{length-map}
-use Rattle.acl_posix.specs.Entries.{pairs, pair_of}
-use Rattle.acl_posix.specs.Valid.{IsFaultOf}
-use Rattle.acl_posix.specs.internal.TagMap.{map_pairs}
-use Rattle.acl_posix.proofs.Repeats.{collected_all, entry_more, entry_repeat}
+use Rattle.acl_posix.proofs.Common.{ap, arith, is_some, IsFaultOf, length, length-map, map_pairs, pair_of, pairs, subst, sym, ◌∙◌, ◌≡◌}
+use Rattle.acl_posix.proofs.sorting.Repeats.{collected_all, entry_more, entry_repeat}
 use Rattle.acl_posix.proofs.sorting.first_repeat.Goals as goal
 
 pub loop-place-preserved : goal.loop-place-preserved

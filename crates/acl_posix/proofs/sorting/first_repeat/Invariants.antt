@@ -1,6 +1,5 @@
-use Rattle.acl_posix.specs.Entries.{pairs}
-use Rattle.acl_posix.proofs.Repeats.{IsCollected}
-use Rattle.acl_posix.specs.internal.TagMap.{map_pairs}
+use Rattle.acl_posix.proofs.Common.{map_pairs, pairs}
+use Rattle.acl_posix.proofs.sorting.Repeats.{IsCollected}
 use Rattle.acl_posix.proofs.sorting.first_repeat.Given as goal
 
 -- the entries up to the place are in the map, and none of them repeats one

@@ -1,6 +1,5 @@
-use Rattle.std.proofs.Common.{refl, arith, sym, ap, ◌∙◌}
-use Rattle.std.specs.Ordering.{is_lt}
-use Rattle.acl_posix.proofs.Repeats.{rising_sorted, sorted_rises}
+use Rattle.acl_posix.proofs.Common.{ap, arith, is_lt, refl, sym, ◌∙◌}
+use Rattle.acl_posix.proofs.sorting.Repeats.{rising_sorted, sorted_rises}
 use Rattle.acl_posix.proofs.sorting.is_in_order.Goals as goal
 
 pub returns-then-not-is_lt : goal.returns-then-not-is_lt

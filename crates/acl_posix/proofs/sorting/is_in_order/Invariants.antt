@@ -1,5 +1,5 @@
-use Rattle.std.proofs.Common.{length, ◌-◌, ◌<◌}
-use Rattle.acl_posix.proofs.Repeats.{IsRising}
+use Rattle.acl_posix.proofs.Common.{length, ◌-◌, ◌<◌}
+use Rattle.acl_posix.proofs.sorting.Repeats.{IsRising}
 use Rattle.acl_posix.proofs.sorting.is_in_order.Given as goal
 
 -- each tag before the place is less than the next

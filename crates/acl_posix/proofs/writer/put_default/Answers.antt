@@ -1,6 +1,5 @@
-use Rattle.std.proofs.Common.{arith, false}
-use Rattle.acl_posix.specs.declared.text_fault.Part.TheVariants.{Default}
-use Rattle.acl_posix.proofs.Bounds.{part_under}
+use Rattle.acl_posix.proofs.Common.{arith, Default, false}
+use Rattle.acl_posix.proofs.writer.Bounds.{part_under}
 use Rattle.acl_posix.proofs.writer.put_default.Goals as goal
 
 pub put_part-requires-clause-room : goal.put_part-requires-clause-room

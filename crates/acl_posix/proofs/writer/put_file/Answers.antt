@@ -1,9 +1,7 @@
-use Rattle.std.proofs.Common.{List, ℕ, Err, arith, subst, true}
-use Rattle.acl_perm.specs.Pieces.{WritesFrom}
-use Rattle.acl_posix.specs.declared.text_fault.Part.TheVariants.{Access}
-use Rattle.acl_posix.proofs.Bounds.{part_under}
-use Rattle.acl_posix.proofs.Forms.{form_is}
-use Rattle.acl_posix.proofs.Written.{cut_first}
+use Rattle.acl_posix.proofs.Common.{Access, arith, Err, List, subst, true, WritesFrom, ℕ}
+use Rattle.acl_posix.proofs.writer.Bounds.{part_under}
+use Rattle.acl_posix.proofs.writer.Forms.{form_is}
+use Rattle.acl_posix.proofs.entry_writer.Written.{cut_first}
 use Rattle.acl_perm.proofs.PieceLemmas.{written_both}
 use Rattle.acl_posix.proofs.writer.put_file.Goals as goal
 

@@ -1,12 +1,6 @@
-use Rattle.std.proofs.Common.{ℕ, List, sym, ap, refl, ◌∙◌, arith}
-use Rattle.std.proofs.lemmas.List.{drop_all}
-use Rattle.std.proofs.lemmas.Result.{err_from_is_err_and}
-use Rattle.acl_posix.specs.declared.entry.Entry.{Entry}
-use Rattle.acl_posix.specs.Tag.{Tag}
-use Rattle.acl_posix.specs.Entries.{pairs}
-use Rattle.acl_posix.specs.internal.Writing.{part_out}
+use Rattle.acl_posix.proofs.Common.{ap, arith, drop_all, Entry, err_from_is_err_and, List, pairs, part_out, refl, sym, Tag, ℕ, ◌∙◌}
 use Rattle.acl_perm.proofs.PieceLemmas.{out_none, next_fits, out_more, out_cut, out_all}
-use Rattle.acl_posix.proofs.Written.{entry_next}
+use Rattle.acl_posix.proofs.entry_writer.Written.{entry_next}
 use Rattle.acl_posix.proofs.writer.put_part.Goals as goal
 
 pub loop-entry-init : goal.loop-entry-init

@@ -1,7 +1,5 @@
-use Rattle.std.proofs.Common.{◌≡◌, drop}
+use Rattle.acl_posix.proofs.Common.{drop, pairs, part_out, ◌≡◌}
 use Rattle.std.specs.FinMap as set
-use Rattle.acl_posix.specs.Entries.{pairs}
-use Rattle.acl_posix.specs.internal.Writing.{part_out}
 use Rattle.acl_perm.proofs.PieceLemmas.{IsOut}
 use Rattle.acl_posix.proofs.writer.put_part.Given as goal
 

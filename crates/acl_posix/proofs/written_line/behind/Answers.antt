@@ -1,4 +1,4 @@
-use Rattle.acl_posix.proofs.FirstLines.{behind_is}
+use Rattle.acl_posix.proofs.written_line.FirstLines.{behind_is}
 use Rattle.acl_posix.proofs.written_line.behind.Goals as goal
 
 pub returns : goal.returns

@@ -1,7 +1,6 @@
-use Rattle.std.proofs.Common.{arith, ◌+◌, ◌<◌, ◌≤◌, length, sym, ◌∙◌}
-use Rattle.std.proofs.lemmas.List.{take_rest}
-use Rattle.acl_posix.proofs.Digits.{digit_more, ten_digits}
-use Rattle.acl_posix.proofs.FirstLines.{digits_more, id_found}
+use Rattle.acl_posix.proofs.Common.{arith, length, sym, take_rest, ◌+◌, ◌<◌, ◌∙◌, ◌≤◌}
+use Rattle.acl_posix.proofs.field.Digits.{digit_more, ten_digits}
+use Rattle.acl_posix.proofs.written_line.FirstLines.{digits_more, id_found}
 use Rattle.acl_posix.proofs.written_line.id_before.Goals as goal
 
 pub overflow_mul-value : goal.overflow_mul-value

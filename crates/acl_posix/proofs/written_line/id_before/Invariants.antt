@@ -1,7 +1,4 @@
-use Rattle.std.proofs.Common.{◌-◌, ◌≡◌, ◌≤◌, take, true}
-use Rattle.std.specs.List.{list_all}
-use Rattle.std.specs.Char.{is_ascii_digit}
-use Rattle.std.specs.Str.Parse.{digits_value}
+use Rattle.acl_posix.proofs.Common.{digits_value, is_ascii_digit, list_all, take, true, ◌-◌, ◌≡◌, ◌≤◌}
 use Rattle.acl_posix.proofs.written_line.id_before.Given as goal
 
 -- digits so far, and their number

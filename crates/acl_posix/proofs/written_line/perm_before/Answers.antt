@@ -1,4 +1,4 @@
-use Rattle.acl_posix.proofs.FirstLines.{perm_found}
+use Rattle.acl_posix.proofs.written_line.FirstLines.{perm_found}
 use Rattle.acl_posix.proofs.written_line.perm_before.Goals as goal
 
 pub returns : goal.returns

@@ -1,4 +1,4 @@
-use Rattle.acl_posix.proofs.FirstLines.{access_first, default_first}
+use Rattle.acl_posix.proofs.written_line.FirstLines.{access_first, default_first}
 use Rattle.acl_posix.proofs.written_line.written_line.Goals as goal
 
 pub returns-in-Some : goal.returns-in-Some

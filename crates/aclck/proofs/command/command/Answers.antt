@@ -1,21 +1,15 @@
-use Rattle.aclck.proofs.CommandLemmas.{below_named, done_named, refused_told, told_begun}
+use Rattle.std.proofs.Common.{arith, sym}
+use Rattle.aclck.proofs.CommandLemmas.{ended_so, failed_so}
 use Rattle.aclck.proofs.command.command.Goals as goal
 
-pub returns-in-Ok-Yes-clause-named : goal.returns-in-Ok-Yes-clause-named
-returns-in-Ok-Yes-clause-named g c = λ _. done_named _ _ _ _ _ c.in-Ok-Yes.ensures.runs.performs
+pub returns-in-Ok-Yes : goal.returns-in-Ok-Yes
+returns-in-Ok-Yes g c =
+    ended_so _ 0 (omega arith) (sym c.in-Ok-Yes.field-0-is) c.in-Ok-Yes.ensures.runs c.in-Ok-Yes.ensures.unnamed
 
-pub returns-in-Ok-No-clause-named : goal.returns-in-Ok-No-clause-named
-returns-in-Ok-No-clause-named g c = λ _. done_named _ _ _ _ _ c.in-Ok-No.ensures.runs.performs
+pub returns-in-Ok-No : goal.returns-in-Ok-No
+returns-in-Ok-No g c =
+    ended_so _ 1 (omega arith) (sym c.in-Ok-No.field-0-is) c.in-Ok-No.ensures.runs c.in-Ok-No.ensures.unnamed
 
-pub returns-in-Err-clause-named : goal.returns-in-Err-clause-named
-returns-in-Err-clause-named g c = λ below.
-    below_named _ _ _ _ c.in-Err.fault c.fail.result c.in-Err.ensures.runs.performs c.fail.ensures below
-
-pub returns-in-Err-clause-refused : goal.returns-in-Err-clause-refused
-returns-in-Err-clause-refused g c = λ two.
-    refused_told _ _ _ _ c.in-Err.fault c.fail.result c.in-Err.ensures.runs.performs c.fail.ensures two
-
-pub returns-in-Err-clause-begun : goal.returns-in-Err-clause-begun
-returns-in-Err-clause-begun g c = λ _.
-    told_begun _ _ _ _ c.in-Err.fault _ _ _ c.in-Err.ensures.runs.performs c.in-Err.ensures.runs.unwritten
-    c.in-Err.ensures.runs.writes
+pub returns-in-Err : goal.returns-in-Err
+returns-in-Err g c =
+    failed_so c.in-Err.fault c.fail.result c.fail.ensures c.in-Err.ensures.runs c.in-Err.ensures.unnamed

@@ -1,5 +1,5 @@
 use Rattle.acl_posix.specs.Texts.{canonical_text}
-use Rattle.acl_posix.proofs.Whole.{apart, back, canonical_reads}
+use Rattle.acl_posix.proofs.Exports.{apart, back, canonical_reads}
 use Rattle.aclck.proofs.NormalFormLemmas.{bytes_tell, form_grants, twice}
 use Rattle.aclck.proofs.laws.headline.Goals as goal
 

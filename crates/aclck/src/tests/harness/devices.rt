@@ -1,10 +1,10 @@
-//! Devices over memory, some calls of which fail.
+//! Devices over memory, some of whose calls fail.
 
 use std::io;
 use std::io::{Read, Write};
 
-/// The calls of a device that fail: those from the number `first` to the number `last`, counted from 1. Each other call
-/// takes a few bytes.
+/// The calls of a device that fail: those from number `first` to number `last`, counted from 1. Each other call takes a
+/// few bytes.
 #[derive(Clone, Copy)]
 pub struct Calls {
     pub first: u64,
@@ -12,7 +12,7 @@ pub struct Calls {
     pub step: usize,
 }
 
-/// No call fails, and each takes what it can.
+/// No call fails, and each takes as much as it can.
 pub const ALL_PASS: Calls = Calls {
     first: 1,
     last: 0,
@@ -20,7 +20,7 @@ pub const ALL_PASS: Calls = Calls {
 };
 
 impl Calls {
-    /// One call fails, and those behind it pass.
+    /// One call fails, and those after it work.
     pub fn one(failing: u64, step: usize) -> Calls {
         Calls {
             first: failing,
@@ -85,7 +85,7 @@ impl<W: Write> Write for Device<W> {
     }
 }
 
-/// The calls that fail of the three devices of a run.
+/// The calls that fail, for each of the three devices of a run.
 #[derive(Clone, Copy)]
 pub struct Devices {
     pub source: Calls,

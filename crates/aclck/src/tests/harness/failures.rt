@@ -1,18 +1,18 @@
-//! Runs over devices that fail, or are spent.
+//! Runs over devices that fail, or that have nothing left.
 
 use super::devices::{Calls, Devices, FINE};
 use super::runs::run;
 use super::trial::Answer;
 use std::alloc::Global;
 
-/// Whether the words tell of a source that fails at these calls as soon as it does.
+/// Returns whether the words report a source that fails at these calls as soon as it fails.
 pub fn fails_at_read(alloc: Global, words: &[&str], input: &[u8], source: Calls) -> bool {
     let ran = run(alloc, words, input, Devices { source, ..FINE });
     ran.is_failed_read(source.first)
 }
 
-/// Whether the words tell of a source that fails at each read in turn, of `step` bytes each, the one behind the input
-/// too.
+/// Returns whether the words report a source that fails at each read in turn, also at the read behind the input. Each
+/// read gives `step` bytes.
 pub fn fails_at_each_read(alloc: Global, words: &[&str], input: &[u8], step: usize) -> bool {
     let reads = input.len() / step.max(1);
     for failing in 0..=reads as u64 {
@@ -28,7 +28,7 @@ pub fn fails_at_each_read(alloc: Global, words: &[&str], input: &[u8], step: usi
     true
 }
 
-/// Whether the words tell of a sink that fails at these calls as soon as it does, when this has gone out.
+/// Returns whether the words report a sink that fails at these calls as soon as it fails, after this was written.
 pub fn fails_at_write(
     alloc: Global,
     words: &[&str],
@@ -40,7 +40,8 @@ pub fn fails_at_write(
     ran.is_failed_write(out.first, gone)
 }
 
-/// Whether the words tell of a sink that fails at each write in turn, of one byte each, with the text begun.
+/// Returns whether the words report a sink that fails at each write in turn, with a beginning of the text written. Each
+/// write takes one byte.
 pub fn fails_at_each_write(alloc: Global, words: &[&str], input: &[u8], text: &[u8]) -> bool {
     for writes in 0..text.len() {
         let out = Calls::since((writes as u64).saturating_add(1), 1);
@@ -51,21 +52,22 @@ pub fn fails_at_each_write(alloc: Global, words: &[&str], input: &[u8], text: &[
     true
 }
 
-/// Whether the words ask for nothing, over a source that fails, and read nothing.
+/// Returns whether the words ask for nothing and read nothing, over a source that fails.
 pub fn asks_for_nothing(alloc: Global, words: &[&str], input: &[u8]) -> bool {
     let source = Calls::since(1, 8);
     let ran = run(alloc, words, input, Devices { source, ..FINE });
     ran.gives(Answer::Usage) && ran.reads == 0
 }
 
-// Whether a refusal is told over a source of single bytes that fails behind so many reads, and nothing is read then.
+// Whether a refusal is reported over a source that gives single bytes and fails after so many reads, and nothing is
+// read after the refusal.
 fn refuses_by(alloc: Global, words: &[&str], input: &[u8], reads: u64, fault: &str) -> bool {
     let source = Calls::since(reads.saturating_add(1), 1);
     let ran = run(alloc, words, input, Devices { source, ..FINE });
     ran.gives(Answer::Fault(fault)) && ran.reads == reads && ran.failed_reads == 0
 }
 
-// How many bytes an input begins with that are refused so by themselves.
+// How many of the first bytes of an input are enough to be refused like this.
 fn refused_part(alloc: Global, words: &[&str], input: &[u8], fault: &str) -> usize {
     for len in 0..input.len() {
         if run(alloc, words, &input[..len], FINE).gives(Answer::Fault(fault)) {
@@ -75,8 +77,8 @@ fn refused_part(alloc: Global, words: &[&str], input: &[u8], fault: &str) -> usi
     input.len()
 }
 
-/// Whether the words refuse an input so over a source that is spent just after the refusal: behind the end of a text,
-/// or of a list that is cut short, or else behind the refused field.
+/// Returns whether the words refuse an input like this over a source that fails just after the refusal: behind the end of
+/// a text or of a list that is cut short, and otherwise behind the refused field.
 pub fn refuses_at_once(alloc: Global, words: &[&str], input: &[u8], fault: &str) -> bool {
     let is_read_whole = !fault.contains(" at byte ") || fault.contains("Truncated");
     let reads = if is_read_whole {

@@ -2,7 +2,7 @@
 
 use std::alloc::{AllocError, Global};
 
-/// A part so many times over, between what stands before and behind it.
+/// Repeats a part so many times, between what is before and behind it.
 pub fn repeated(
     alloc: Global,
     before: &[u8],
@@ -14,7 +14,7 @@ pub fn repeated(
     [before, &parts, behind].concat(alloc)
 }
 
-/// A list of one ACE so many times over.
+/// Makes the list that has one ACE so many times.
 pub fn repeated_ace(alloc: Global, count: u32, ace: &[u8]) -> Result<Vec<u8>, AllocError> {
     repeated(alloc, &count.to_be_bytes(), ace, count as usize, b"")
 }

@@ -1,16 +1,16 @@
-//! Rows of a line of words with inputs, and what is answered. The proof of a table grows with the square of its length,
-//! so rows stand together by their line, or by their input.
+//! Rows of a line of words with inputs, and what is answered. The proof of a table takes time that grows with the
+//! square of its length, so rows are grouped by their line, or by their input.
 
 use super::trial::{Answer, Trial};
 use std::process::Abort;
 
-/// A line of words, a status below 2, and inputs with what goes out.
+/// A line of words, a status below 2, and inputs with what is written.
 pub type Answered = (&'static str, u8, &'static [(&'static [u8], &'static [u8])]);
 
-/// An input, and lines of words with a status below 2 and what goes out.
+/// An input, and lines of words with a status below 2 and what is written.
 pub type Asked = (&'static [u8], &'static [(&'static str, u8, &'static [u8])]);
 
-/// A line of words, and inputs with the fault that is told.
+/// A line of words, and inputs with the fault that is reported.
 pub type Refused = (&'static str, &'static [(&'static [u8], &'static str)]);
 
 /// What a command answers, what it refuses, and the lines that ask for nothing.
@@ -19,12 +19,12 @@ pub struct Table {
     pub answers: &'static [Answered],
     pub refusals: &'static [Refused],
     pub usage: &'static [&'static str],
-    /// The input of these lines, which they leave unread.
+    /// The input of the lines that ask for nothing, which they do not read.
     pub unread: &'static [u8],
 }
 
 impl Table {
-    /// Each row gives what it says, and nothing else.
+    /// Tests that each row gives what it says, and nothing else.
     pub fn holds<A: Abort>(self, rt: &A, trial: Trial) {
         for (line, status, rows) in self.answers {
             answers_hold(rt, trial, line, *status, rows);
@@ -45,7 +45,7 @@ fn answers_hold<A: Abort>(rt: &A, trial: Trial, line: &str, status: u8, rows: &[
     }
 }
 
-/// Each line gives what it says of its input.
+/// Tests that each line gives what it says about its input.
 pub fn lines_hold<A: Abort>(rt: &A, trial: Trial, rows: &[Asked]) {
     for (input, lines) in rows {
         for (line, status, text) in *lines {

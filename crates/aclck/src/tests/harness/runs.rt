@@ -6,13 +6,13 @@ use crate::command::command;
 use acl_perm::Counted;
 use std::alloc::{AllocError, Global};
 
-// Room for what a run writes, and for what it tells.
+// Room for what a run writes, and for what it reports.
 const ROOM: usize = 256;
 
-// How many bytes the name of the program and a colon take at the beginning of a line on a fault.
+// How many bytes the name of the program and a colon take at the beginning of a line that reports a fault.
 const NAME_LEN: usize = 7;
 
-/// What a command answered, what it wrote and told, and the calls of its devices.
+/// What a command answered, what it wrote and reported, and the calls of its devices.
 #[derive(Clone, Copy)]
 pub struct Ran {
     pub status: u8,
@@ -28,12 +28,12 @@ pub struct Ran {
 }
 
 impl Ran {
-    /// Whether it is this status, with this text and this fault, which is none where it is empty.
+    /// Returns whether the answer has this status, this text and this fault; the empty fault is none.
     pub fn is(&self, status: u8, out: &[u8], fault: &str) -> bool {
         self.status == status && self.wrote(out) && self.told_fault(fault)
     }
 
-    /// Whether it is this answer.
+    /// Returns whether it is this answer.
     pub fn gives(&self, answer: Answer<'_>) -> bool {
         match answer {
             Answer::Text(status, text) => self.is(status, text, ""),
@@ -42,17 +42,17 @@ impl Ran {
         }
     }
 
-    /// Whether this went out, and nothing more.
+    /// Returns whether this was written, and nothing more.
     pub fn wrote(&self, text: &[u8]) -> bool {
         self.written == text.len() && self.out.starts_with(text)
     }
 
-    /// Whether it tells what the other does.
+    /// Returns whether it reports what the other reports.
     pub fn tells_as(&self, other: &Ran) -> bool {
         self.err == other.err
     }
 
-    /// Whether it is done, or tells a fault of its input and writes nothing.
+    /// Returns whether it is done, or reports a fault of its input and writes nothing.
     pub fn is_judged(&self) -> bool {
         match self.status {
             0 => self.told == 0,
@@ -61,7 +61,7 @@ impl Ran {
         }
     }
 
-    // Whether one line tells this fault, or none tells any.
+    // Whether one line reports this fault, or nothing is reported if the fault is empty.
     fn told_fault(&self, fault: &str) -> bool {
         if fault.is_empty() {
             return self.told == 0;
@@ -74,18 +74,18 @@ impl Ran {
             && self.told == len.saturating_add(NAME_LEN + 1)
     }
 
-    /// Whether a read failed, and nothing was read after it or written.
+    /// Returns whether a read failed, and nothing was read after it, and nothing was written.
     pub fn is_failed_read(&self, failing: u64) -> bool {
         self.is(4, b"", "read failed") && self.failed_reads == 1 && self.reads == failing
     }
 
-    /// Whether a write failed when this had gone out, and nothing was written after it.
+    /// Returns whether a write failed after this was written, and nothing was written after it.
     pub fn is_failed_write(&self, failing: u64, gone: &[u8]) -> bool {
         self.is(4, gone, "write failed") && self.failed_writes == 1 && self.writes == failing
     }
 }
 
-/// Runs a command over devices of which some calls fail.
+/// Runs a command over devices some of whose calls fail.
 pub fn run(alloc: Global, words: &[&str], input: &[u8], devices: Devices) -> Ran {
     let mut out_room = [0u8; ROOM];
     let mut err_room = [0u8; ROOM];
@@ -114,7 +114,7 @@ pub fn run(alloc: Global, words: &[&str], input: &[u8], devices: Devices) -> Ran
     }
 }
 
-/// The words of a line, cut at each space, where memory is there.
+/// Returns the words of a line, cut at each space, if there is enough memory.
 pub fn words_of<'a>(alloc: Global, line: &'a str) -> Result<Vec<&'a str>, AllocError> {
     line.split(' ').collect::<Vec<&str>>(alloc)
 }

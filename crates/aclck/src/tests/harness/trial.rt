@@ -5,12 +5,12 @@ use super::failures::{asks_for_nothing, fails_at_each_read, fails_at_each_write,
 use super::runs::{run, words_of};
 use std::alloc::Global;
 
-/// What a line is held to.
+/// What a line has to give.
 #[derive(Clone, Copy)]
 pub enum Answer<'a> {
-    /// A status below 2, and what goes out.
+    /// A status below 2, and what is written.
     Text(u8, &'a [u8]),
-    /// The fault of the input, as it is told.
+    /// The fault of the input, as it is reported.
     Fault(&'a str),
     /// The words ask for nothing.
     Usage,
@@ -19,15 +19,15 @@ pub enum Answer<'a> {
 /// The devices and the memory of a trial.
 #[derive(Clone, Copy)]
 pub enum Way {
-    /// Over devices that work, where memory is there.
+    /// Over devices that work, with enough memory.
     Ample,
-    /// Over devices that work, where want of memory is an answer to every line.
+    /// Over devices that work, where running out of memory is an accepted answer to every line.
     Scarce,
-    /// Over devices that fail at each call in turn: the reads, of four bytes each, also behind the input, and the
-    /// writes, of one byte each. A refusal is told over a source that is spent just after it.
+    /// Over devices that fail at each call in turn: the reads, also behind the input, which give four bytes each, and
+    /// the writes, which take one byte each. A refusal is reported over a source that fails just after it.
     Failing,
-    /// Over a source that fails at each read in turn, of eight bytes each, also behind the input: of a text, which is
-    /// judged when it was read to its end, no fault is told then.
+    /// Over a source that fails at each read in turn, also behind the input. Each read gives eight bytes. A text is
+    /// judged after it was read to its end, so no fault of a text is reported.
     Unread,
 }
 
@@ -43,7 +43,7 @@ impl Trial {
         Trial { alloc, way }
     }
 
-    /// Whether a line gives this answer over the input.
+    /// Returns whether a line gives this answer over the input.
     pub fn passes(self, line: &str, input: &[u8], answer: Answer<'_>) -> bool {
         match words_of(self.alloc, line) {
             Ok(words) => self.passes_at(words.as_slice(), input, answer),
@@ -51,7 +51,7 @@ impl Trial {
         }
     }
 
-    /// Whether a line gives this answer over two inputs, one behind the other.
+    /// Returns whether a line gives this answer over two inputs, one behind the other.
     pub fn passes_joined(
         self,
         line: &str,
@@ -65,7 +65,7 @@ impl Trial {
         }
     }
 
-    /// Whether words give this answer over the input.
+    /// Returns whether words give this answer over the input.
     pub fn passes_at(self, words: &[&str], input: &[u8], answer: Answer<'_>) -> bool {
         match self.way {
             Way::Ample => run(self.alloc, words, input, FINE).gives(answer),

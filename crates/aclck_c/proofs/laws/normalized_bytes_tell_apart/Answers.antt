@@ -5,16 +5,16 @@ use Rattle.acl_perm.specs.Profile.{Profile, full, narrow}
 use Rattle.acl_nfs4.specs.Ace.{Ace}
 use Rattle.acl_nfs4.specs.Spelling.{Xdr, spelling}
 use Rattle.acl_nfs4.specs.Within.{IsProfile}
-use Rattle.acl_nfs4.proofs.Body.{one}
+use Rattle.acl_nfs4.proofs.Exports.{one}
 use Rattle.acl_eval.specs.Grant.{SameGrants}
 use Rattle.acl_normal.specs.NormalForm.{Normalises}
 use Rattle.acl_normal.proofs.unique.Spelled.{IsForm, form_of, forms_tell}
-use Rattle.aclck_c.specs.Options.{profile_in}
+use Rattle.aclck_c.specs.Options.{profile_from}
 use Rattle.aclck_c.specs.Out.{HandsOut}
 use Rattle.aclck_c.proofs.laws.normalized_bytes_tell_apart.Goals as goal
 
 -- the profile of options is one
-is_profile : (options : ℕ) → IsProfile (profile_in options)
+is_profile : (options : ℕ) → IsProfile (profile_from options)
 is_profile options = elim (eqb (bit_and options 1) 1) as (λ t. IsProfile (cond t narrow full)) [
   | true ↦ record { masks = refl; flags = refl }
   | false ↦ record { masks = refl; flags = refl }
@@ -41,7 +41,7 @@ front Means buffer filled needed h =
 pub returns : goal.returns
 returns c options needed other_needed list other input other_input buffer filled other_buffer other_filled read
     read_other h k =
-    let p = profile_in options in
+    let p = profile_from options in
     let is = is_profile options in
     let tell = forms_tell p list other h.means.form k.means.form is (form_is p list input h.text is read h.means)
     (form_is p other other_input k.text is read_other k.means) in

@@ -2,7 +2,7 @@ use Rattle.std.specs.Prelude.{◌≡◌, ◌&&◌, ℕ, None, Some, if◌then◌
 use Rattle.acl_perm.specs.Bits.{has_bit}
 use Rattle.acl_eval.proofs.deciding_all.Decisions.note.Given as goal
 
--- the decision is noted for those rights that were passed, and the others are as they were
+-- of the rights so far, the decision is noted for those of the mask; the others are as they were
 abbrev pub invariant-loop-bit : goal.invariant-loop-bit
 invariant-loop-bit l =
     (length l.found-items ≡ 21) ×

@@ -1,6 +1,6 @@
 use Rattle.acl_perm.specs.Profile.{profile_of}
-use Rattle.acl_nfs4.proofs.Exactly.{fed_so}
-use Rattle.acl_nfs4.proofs.Held.{small_after}
+use Rattle.acl_nfs4.proofs.feed.Exactly.{fed_so}
+use Rattle.acl_nfs4.proofs.feed.Held.{small_after}
 use Rattle.acl_nfs4.proofs.feed.Feed.feed.Goals as goal
 
 pub returns-in-Open-clause-exactly : goal.returns-in-Open-clause-exactly

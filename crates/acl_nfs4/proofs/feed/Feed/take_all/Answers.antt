@@ -1,5 +1,5 @@
 use Rattle.std.proofs.Common.{[], arith}
-use Rattle.acl_nfs4.proofs.Pieces.{cut_up, last_part, done_piece, refused_piece, more_piece}
+use Rattle.acl_nfs4.proofs.feed.Pieces.{cut_up, last_part, done_piece, refused_piece, more_piece}
 use Rattle.acl_nfs4.proofs.feed.Feed.take_all.Goals as goal
 
 pub loop-taken-preserved : goal.loop-taken-preserved

@@ -1,5 +1,4 @@
-use Rattle.std.proofs.Common.{◌≤◌, ◌-◌, length, take}
-use Rattle.acl_nfs4.specs.internal.Progress.{HasTaken}
+use Rattle.acl_nfs4.proofs.Common.{HasTaken, length, take, ◌-◌, ◌≤◌}
 use Rattle.acl_nfs4.proofs.feed.Feed.take_all.Given as goal
 
 abbrev pub invariant-loop-taken : goal.invariant-loop-taken

@@ -1,7 +1,6 @@
-use Rattle.std.proofs.Common.{arith, refl}
-use Rattle.acl_perm.specs.Profile.{profile_of}
-use Rattle.acl_nfs4.proofs.Streaming.{text_short, no_progress}
-use Rattle.acl_nfs4.proofs.Within.{code_profile}
+use Rattle.acl_nfs4.proofs.Common.{arith, profile_of, refl}
+use Rattle.acl_nfs4.proofs.feed.Streaming.{text_short, no_progress}
+use Rattle.acl_nfs4.proofs.list.Within.{code_profile}
 use Rattle.acl_nfs4.proofs.feed.Feed.with_profile.Goals as goal
 
 pub invariant_of-result : goal.invariant_of-result

@@ -1,10 +1,6 @@
-use Rattle.std.proofs.Common.{◌∙◌, ap, arith, sym}
-use Rattle.acl_perm.specs.Profile.{profile_of}
-use Rattle.acl_nfs4.specs.Ace.{ace}
-use Rattle.acl_nfs4.specs.internal.Cursor.{place}
-use Rattle.acl_nfs4.specs.internal.Reading.{ace_at}
-use Rattle.acl_nfs4.proofs.Scanning.{scans, place_is}
-use Rattle.acl_nfs4.proofs.Within.{code_profile}
+use Rattle.acl_nfs4.proofs.Common.{ace, ace_at, ap, arith, place, profile_of, sym, ◌∙◌}
+use Rattle.acl_nfs4.proofs.feed.Scanning.{scans, place_is}
+use Rattle.acl_nfs4.proofs.list.Within.{code_profile}
 use Rattle.acl_nfs4.proofs.feed.scan.scan.Goals as goal
 
 pub overflow_sub-progress : goal.overflow_sub-progress

@@ -1,7 +1,4 @@
-use Rattle.std.proofs.Common.{◌≡◌, ◌≤◌, ◌-◌}
-use Rattle.acl_perm.specs.Profile.{profile_of}
-use Rattle.acl_nfs4.specs.internal.Cursor.{place}
-use Rattle.acl_nfs4.specs.internal.Progress.{IsScanned, behind_scanned}
+use Rattle.acl_nfs4.proofs.Common.{behind_scanned, IsScanned, place, profile_of, ◌-◌, ◌≡◌, ◌≤◌}
 use Rattle.acl_nfs4.proofs.feed.scan.scan.Given as goal
 
 abbrev pub invariant-loop-progress : goal.invariant-loop-progress

@@ -1,12 +1,7 @@
-use Rattle.std.proofs.Common.{◌≡◌, ◌≤◌, ◌+◌, ◌-◌, ◌++◌, ℕ, Some, List, length, take, ap, sym, subst, arith}
-use Rattle.acl_perm.specs.Profile.{profile_of}
-use Rattle.acl_nfs4.specs.Ace.{Ace}
-use Rattle.acl_nfs4.specs.Spelling.{Xdr}
+use Rattle.acl_nfs4.proofs.Common.{Ace, aces_of, ap, arith, body_in, IsWhole, Judged, length, List, profile_of, Some, subst, sym, take, Xdr, ℕ, ◌++◌, ◌+◌, ◌-◌, ◌≡◌, ◌≤◌}
 use Rattle.acl_nfs4.specs.Stream.{done}
-use Rattle.acl_nfs4.specs.internal.Progress.{body_in, IsWhole, Judged}
-use Rattle.acl_nfs4.specs.internal.Body.{aces_of}
-use Rattle.acl_nfs4.proofs.Streaming.{progress_grows, ended}
-use Rattle.acl_nfs4.proofs.Within.{code_profile}
+use Rattle.acl_nfs4.proofs.feed.Streaming.{progress_grows, ended}
+use Rattle.acl_nfs4.proofs.list.Within.{code_profile}
 use Rattle.acl_nfs4.proofs.feed.step.advance.Goals as goal
 
 pub judge-reach-requires : goal.judge-reach-requires

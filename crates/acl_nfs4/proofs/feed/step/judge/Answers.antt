@@ -1,11 +1,6 @@
-use Rattle.std.proofs.Common.{◌≡◌, ◌<◌, ◌≤◌, ℕ, List, length, take, drop, arith, subst, false, true, refl, inl, inr}
-use Rattle.std.proofs.lemmas.Bool.{cases_lt}
-use Rattle.acl_perm.specs.Profile.{profile_of}
-use Rattle.acl_nfs4.specs.Fields.{number}
-use Rattle.acl_nfs4.specs.Limits.{most_aces}
-use Rattle.acl_nfs4.specs.internal.Progress.{IsScanned, Ends}
-use Rattle.acl_nfs4.proofs.Streaming.{text_short, text_many, judged_is}
-use Rattle.acl_nfs4.proofs.Within.{code_profile}
+use Rattle.acl_nfs4.proofs.Common.{arith, cases_lt, drop, EndsPart, false, inl, inr, IsScanned, length, List, most_aces, number, profile_of, refl, subst, take, true, ℕ, ◌<◌, ◌≡◌, ◌≤◌}
+use Rattle.acl_nfs4.proofs.feed.Streaming.{text_short, text_many, judged_is}
+use Rattle.acl_nfs4.proofs.list.Within.{code_profile}
 use Rattle.acl_nfs4.proofs.feed.step.judge.Goals as goal
 
 pub returns-in-None-clause-judged : goal.returns-in-None-clause-judged
@@ -32,10 +27,10 @@ returns-else-count-gt-MOST_ACES-clause-judged c =
     let long : 4 ≤ length c.args.text.now = c.in-Some.ensures.whole.0 refl in
     let scanned = subst (λ (b : List ℕ). IsScanned (profile_of c.args.profile) b c.scan.result.progress) c.body.ensures
     c.scan.ensures.scanned in
-    let ends = subst (λ (b : List ℕ). Ends (profile_of c.args.profile) c.in-Some.count b c.scan.result.progress
+    let ends = subst (λ (b : List ℕ). EndsPart (profile_of c.args.profile) c.in-Some.count b c.scan.result.progress
     c.scan.result.fault) c.body.ensures c.scan.ensures.ends in
     judged_is (profile_of c.args.profile) c.args.text.now c.scan.result.progress c.scan.result.fault
     (code_profile c.args.profile (omega arith)) c.in-Some.ensures.bytes long
     (subst (λ (k : ℕ). k ≤ most_aces) n c.if-count-gt-MOST_ACES.false)
-    scanned (subst (λ (k : ℕ). Ends (profile_of c.args.profile) k (drop 4 c.args.text.now) c.scan.result.progress
+    scanned (subst (λ (k : ℕ). EndsPart (profile_of c.args.profile) k (drop 4 c.args.text.now) c.scan.result.progress
     c.scan.result.fault) n ends)

@@ -1,7 +1,5 @@
-use Rattle.std.proofs.Common.{◌≡◌, length, sym, ◌∙◌, ap, subst}
-use Rattle.acl_perm.specs.Bits.{IsMask}
-use Rattle.acl_nfs4.specs.internal.Reading.{kind_from}
-use Rattle.acl_nfs4.proofs.Body.{layout, kind_from-number, same_ace}
+use Rattle.acl_nfs4.proofs.Common.{ap, IsMask, kind_from, length, subst, sym, ◌∙◌, ◌≡◌}
+use Rattle.acl_nfs4.proofs.xdr.Body.{layout, kind_from-number, same_ace}
 use Rattle.acl_nfs4.proofs.list.aces.first_ace.Goals as goal
 
 pub invariant_of-mask : goal.invariant_of-mask

@@ -1,7 +1,5 @@
-use Rattle.std.proofs.Common.{refl}
-use Rattle.acl_perm.specs.Profile.{profile_of}
-use Rattle.acl_nfs4.specs.Ace.{ace}
-use Rattle.acl_nfs4.proofs.Within.{first_fits, first_misses}
+use Rattle.acl_nfs4.proofs.Common.{ace, profile_of, refl}
+use Rattle.acl_nfs4.proofs.list.Within.{first_fits, first_misses}
 use Rattle.acl_nfs4.proofs.list.aces.fit.Goals as goal
 
 pub returns-then-not-fits_ace : goal.returns-then-not-fits_ace

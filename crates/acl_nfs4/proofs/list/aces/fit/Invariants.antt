@@ -1,9 +1,7 @@
-use Rattle.std.specs.Prelude.{◌↔◌}
-use Rattle.acl_perm.specs.Profile.{profile_of}
-use Rattle.acl_nfs4.specs.Spelling.{Fits}
+use Rattle.acl_nfs4.proofs.Common.{Fits, profile_of, ◌↔◌}
 use Rattle.acl_nfs4.proofs.list.aces.fit.Given as goal
 
--- the list fits exactly if the ACEs that are left do
+-- the list fits if and only if the ACEs that are left fit
 abbrev pub invariant-loop-ace : goal.invariant-loop-ace
 invariant-loop-ace l =
     (goal.iterator-loop-ace).can_next l.ace-iterator ×

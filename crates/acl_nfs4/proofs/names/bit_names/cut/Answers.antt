@@ -1,6 +1,5 @@
-use Rattle.std.proofs.Common.{◌+◌, sym, subst, ◌∙◌}
-use Rattle.std.proofs.lemmas.List.{take_rest}
-use Rattle.acl_nfs4.proofs.SetFields.{Says, place, cut_none, cut_some}
+use Rattle.acl_nfs4.proofs.Common.{subst, sym, take_rest, ◌+◌, ◌∙◌}
+use Rattle.acl_nfs4.proofs.names.SetFields.{Says, place, cut_none, cut_some}
 use Rattle.acl_nfs4.proofs.names.bit_names.cut.Goals as goal
 
 pub returns-in-Some : goal.returns-in-Some

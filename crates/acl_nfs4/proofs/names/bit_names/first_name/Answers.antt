@@ -1,6 +1,5 @@
-use Rattle.std.proofs.Common.{sym, ap, ◌∙◌}
-use Rattle.std.specs.Prelude.{option_copied, option_map}
-use Rattle.acl_nfs4.proofs.Tables.{row_of_bit_found}
+use Rattle.acl_nfs4.proofs.Common.{ap, option_copied, option_map, sym, ◌∙◌}
+use Rattle.acl_nfs4.proofs.names.Tables.{row_of_bit_found}
 use Rattle.acl_nfs4.proofs.names.bit_names.first_name.Goals as goal
 
 pub returns-in-Some : goal.returns-in-Some

@@ -1,5 +1,5 @@
 use Rattle.std.proofs.Common.{sym, ◌∙◌}
-use Rattle.acl_nfs4.proofs.Tables.{mask_made, named_right}
+use Rattle.acl_nfs4.proofs.names.Tables.{mask_made, named_right}
 use Rattle.acl_nfs4.proofs.names.rights.mask_in.Goals as goal
 
 pub returns-in_err-set_in : goal.returns-in_err-set_in

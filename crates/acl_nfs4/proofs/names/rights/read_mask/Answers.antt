@@ -1,4 +1,4 @@
-use Rattle.acl_nfs4.proofs.SetFields.{answers_only, answers_spelled}
+use Rattle.acl_nfs4.proofs.names.SetFields.{answers_only, answers_spelled}
 use Rattle.acl_nfs4.proofs.names.rights.read_mask.Goals as goal
 
 pub returns-clause-named : goal.returns-clause-named

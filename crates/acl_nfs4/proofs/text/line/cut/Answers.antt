@@ -1,5 +1,5 @@
 use Rattle.std.proofs.Common.{sym}
-use Rattle.acl_nfs4.proofs.AceFields.{cut_found, cut_missed}
+use Rattle.acl_nfs4.proofs.text.AceFields.{cut_found, cut_missed}
 use Rattle.acl_nfs4.proofs.text.line.cut.Goals as goal
 
 pub returns-in_err-place : goal.returns-in_err-place

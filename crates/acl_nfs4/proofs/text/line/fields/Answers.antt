@@ -1,5 +1,5 @@
 use Rattle.std.proofs.Common.{arith}
-use Rattle.acl_nfs4.proofs.AceFields.{cut_len}
+use Rattle.acl_nfs4.proofs.text.AceFields.{cut_len}
 use Rattle.acl_nfs4.proofs.text.line.fields.Goals as goal
 
 pub returns-clause-fits : goal.returns-clause-fits

@@ -1,11 +1,4 @@
-use Rattle.std.proofs.Common.{◌≡◌, ℕ, ◌+◌, Bool, true, false, ltb, List, Option, None, Some, cond, refl, sym, ap, ◌∙◌, Err, Ok}
-use Rattle.std.specs.Prelude.{count_ones, ok_or}
-use Rattle.std.proofs.lemmas.Bool.{lt-ltb, le-ltb}
-use Rattle.acl_nfs4.specs.internal.AceReading.{if_light}
-use Rattle.acl_nfs4.specs.Limits.{most_weight}
-use Rattle.acl_nfs4.specs.internal.NameTable.{set_within}
-use Rattle.acl_perm.specs.internal.Steps.{◌>>=◌}
-use Rattle.acl_nfs4.specs.Rights.{rights}
+use Rattle.acl_nfs4.proofs.Common.{ap, Bool, cond, count_ones, Err, false, if_light, le-ltb, List, lt-ltb, ltb, most_weight, None, Ok, ok_or, Option, refl, rights, set_within, Some, sym, true, ℕ, ◌+◌, ◌>>=◌, ◌∙◌, ◌≡◌}
 use Rattle.acl_nfs4.specs.declared.text.fault.AceTextFault.TheVariants as faults
 use Rattle.acl_nfs4.proofs.text.line.mask_at.Goals as goal
 
@@ -20,7 +13,7 @@ returns-in_default-clause-exact c =
       missing None e apart = e
       missing (Some n) e apart = absurd (apart n refl)
 
--- a mask that the field names, where the list may be too heavy with it
+-- a field that names a mask, with which the list may be too heavy
 named : (whole weight line column : ℕ) (field : List ℕ) (mask : ℕ) (heavy : Bool)
     → set_within rights whole field ≡ Some mask → ltb most_weight (weight + count_ones mask) ≡ heavy
     → (ok_or (set_within rights whole field) (faults.Mask line column) >>= λ n. if_light weight line column n)

@@ -1,10 +1,5 @@
-use Rattle.std.proofs.Common.{[], sym, ap, ◌∙◌, Ok, List}
-use Rattle.std.proofs.lemmas.Result.{err_from_is_err_and}
-use Rattle.acl_perm.specs.Profile.{profile_of}
-use Rattle.acl_nfs4.specs.Ace.{Ace, ace}
-use Rattle.acl_nfs4.specs.internal.AceReading.{read_ace, read_lines}
-use Rattle.acl_nfs4.specs.Spelling.{weight}
-use Rattle.acl_nfs4.proofs.AceLines.{fails_is, line_kept, line_skipped, read_fault, read_next, read_none}
+use Rattle.acl_nfs4.proofs.Common.{[], Ace, ace, ap, err_from_is_err_and, List, Ok, profile_of, read_ace, read_lines, sym, weight, ◌∙◌}
+use Rattle.acl_nfs4.proofs.text.AceLines.{fails_is, line_kept, line_skipped, read_fault, read_next, read_none}
 use Rattle.acl_nfs4.proofs.text.reader.add_line.Goals as goal
 
 pub returns-then-is_skipped : goal.returns-then-is_skipped

@@ -1,5 +1,5 @@
 use Rattle.acl_perm.specs.Profile.{profile_of}
-use Rattle.acl_nfs4.proofs.AceLines.{only_fault, only_list, refusals, text_founds}
+use Rattle.acl_nfs4.proofs.text.AceLines.{only_fault, only_list, refusals, text_founds}
 use Rattle.acl_nfs4.proofs.text.reader.parse_text_with.Goals as goal
 
 pub returns-clause-found : goal.returns-clause-found

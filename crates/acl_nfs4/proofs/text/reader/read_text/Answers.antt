@@ -1,11 +1,5 @@
-use Rattle.std.proofs.Common.{ℕ, List, sym, ap, ◌∙◌, subst, arith}
-use Rattle.std.proofs.lemmas.Result.{err_from_is_err_and}
-use Rattle.acl_perm.specs.Profile.{profile_of}
-use Rattle.acl_perm.proofs.LineLemmas.{lines_left, lines_next, number_next, NumberFits, no_lines}
-use Rattle.acl_nfs4.specs.Ace.{Ace}
-use Rattle.acl_nfs4.specs.AceText.{ace_lines, ace_lines_from}
-use Rattle.acl_nfs4.specs.internal.AceReading.{read_lines}
-use Rattle.acl_nfs4.proofs.AceLines.{read_lines_fault, read_lines_next, read_none}
+use Rattle.acl_nfs4.proofs.Common.{Ace, ace_lines, ace_lines_from, ap, arith, err_from_is_err_and, lines_left, lines_next, List, no_lines, number_next, NumberFits, profile_of, read_lines, subst, sym, ℕ, ◌∙◌}
+use Rattle.acl_nfs4.proofs.text.AceLines.{read_lines_fault, read_lines_next, read_none}
 use Rattle.acl_nfs4.proofs.text.reader.read_text.Goals as goal
 
 pub loop-rest-init : goal.loop-rest-init

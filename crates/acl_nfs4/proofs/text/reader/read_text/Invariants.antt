@@ -1,8 +1,4 @@
-use Rattle.std.proofs.Common.{◌≡◌, []}
-use Rattle.acl_perm.specs.Profile.{profile_of}
-use Rattle.acl_perm.proofs.LineLemmas.{lines_left, text_left, NumberFits}
-use Rattle.acl_nfs4.specs.AceText.{ace_lines, ace_lines_from}
-use Rattle.acl_nfs4.specs.internal.AceReading.{read_lines}
+use Rattle.acl_nfs4.proofs.Common.{[], ace_lines, ace_lines_from, lines_left, NumberFits, profile_of, read_lines, text_left, ◌≡◌}
 use Rattle.acl_nfs4.proofs.text.reader.read_text.Given as goal
 
 -- what is left gives what the whole text gives

@@ -1,14 +1,11 @@
-use Rattle.std.proofs.Common.{◌≡◌, ◌+◌, ◌*◌, ◌≤◌, ◌++◌, drop}
-use Rattle.std.specs.List.{join_with_byte}
+use Rattle.acl_nfs4.proofs.Common.{bar, bit_names_of, drop, join_with_byte, joined_names, names_of, ◌*◌, ◌++◌, ◌+◌, ◌≡◌, ◌≤◌}
 use Rattle.arrayvec.specs.ArrayVec.{array_vec_len}
-use Rattle.acl_nfs4.specs.BitNames.{bar, names_of}
-use Rattle.acl_nfs4.specs.internal.NameTable.{joined, table_of}
 use Rattle.acl_nfs4.proofs.text.writer.add_names.Given as goal
 
--- the names of the rows from here on are still to be added
+-- the names of the rows from this one on are not added yet
 abbrev pub invariant-loop-row : goal.invariant-loop-row
 invariant-loop-row l = record {
-  text : l.line.items ++ joined l.is_first (names_of (table_of (drop l.row-index l.table)) l.set)
-      ≡ l.fn.line.items ++ join_with_byte bar (names_of (table_of l.table) l.set);
+  text : l.line.items ++ joined_names l.is_first (names_of (bit_names_of (drop l.row-index l.table)) l.set)
+      ≡ l.fn.line.items ++ join_with_byte bar (names_of (bit_names_of l.table) l.set);
   len : array_vec_len l.line ≤ array_vec_len l.fn.line + 21 * l.row-index;
 }

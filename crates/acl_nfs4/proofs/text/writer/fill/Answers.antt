@@ -1,8 +1,5 @@
-use Rattle.std.proofs.Common.{◌≡◌, ℕ, List, [], ◌∷◌, ◌++◌, ap, ◌∙◌, append_assoc}
-use Rattle.acl_nfs4.specs.AceText.{ace_line, kind_name}
-use Rattle.acl_nfs4.specs.BitNames.{set_text}
-use Rattle.acl_nfs4.specs.FlagNames.{flag_names}
-use Rattle.acl_nfs4.specs.Rights.{rights}
+use Rattle.acl_nfs4.proofs.Common.{[], ap, append_assoc, flag_names, kind_name, List, rights, set_text, ℕ, ◌++◌, ◌∙◌, ◌∷◌, ◌≡◌}
+use Rattle.acl_nfs4.specs.AceText.{ace_line}
 use Rattle.acl_nfs4.proofs.text.writer.fill.Goals as goal
 
 -- one piece after the other

@@ -1,11 +1,7 @@
-use Rattle.std.proofs.Common.{◌≡◌, ℕ, List, ◌∷◌, ◌++◌, length, sym, ap, ◌∙◌, arith}
-use Rattle.std.proofs.lemmas.List.Concat.{flat_map-cons}
-use Rattle.acl_perm.proofs.PieceLemmas.{out_more, out_cut}
-use Rattle.acl_nfs4.specs.Ace.{Ace, ace}
-use Rattle.acl_nfs4.specs.AceText.{ace_line, ace_text}
+use Rattle.acl_nfs4.proofs.Common.{Ace, ace, ace_line, ace_text, ap, arith, flat_map-cons, length, List, out_cut, out_more, sym, ℕ, ◌++◌, ◌∙◌, ◌∷◌, ◌≡◌}
 use Rattle.acl_nfs4.proofs.text.writer.put_lines.Goals as goal
 
--- the text of ACEs of which the first is known
+-- the text of ACEs whose first ACE is known
 next_line : (list rest : List Ace) (a : Ace) (line piece : List ℕ) → list ≡ a ∷ rest → line ≡ ace_line a → piece ≡ line
     → ace_text list ≡ piece ++ ace_text rest
 next_line list rest a line piece e is same =

@@ -1,6 +1,4 @@
-use Rattle.std.proofs.Common.{◌≡◌, ◌+◌, ◌*◌, ◌≤◌, length}
-use Rattle.acl_perm.proofs.PieceLemmas.{IsOut}
-use Rattle.acl_nfs4.specs.AceText.{ace_text}
+use Rattle.acl_nfs4.proofs.Common.{ace_text, IsOut, length, ◌*◌, ◌+◌, ◌≡◌, ◌≤◌}
 use Rattle.acl_nfs4.proofs.text.writer.put_lines.Given as goal
 
 -- a front of the text is out, the lines of the ACEs that are left follow it, and no put failed

@@ -1,7 +1,6 @@
-use Rattle.std.proofs.Common.{arith, refl}
-use Rattle.acl_perm.specs.Profile.{profile_of}
-use Rattle.acl_nfs4.proofs.Within.{code_profile}
-use Rattle.acl_nfs4.proofs.Decoding.{only, refused}
+use Rattle.acl_nfs4.proofs.Common.{arith, profile_of, refl}
+use Rattle.acl_nfs4.proofs.list.Within.{code_profile}
+use Rattle.acl_nfs4.proofs.xdr.Decoding.{only, refused}
 use Rattle.acl_nfs4.proofs.xdr.decoder.decode_with.Goals as goal
 
 pub returns-clause-only : goal.returns-clause-only

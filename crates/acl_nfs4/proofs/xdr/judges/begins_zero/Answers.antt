@@ -1,5 +1,5 @@
 use Rattle.std.proofs.lemmas.Bool.{eqb-true}
-use Rattle.acl_nfs4.proofs.ZeroFront.{zero_front}
+use Rattle.acl_nfs4.proofs.xdr.ZeroFront.{zero_front}
 use Rattle.acl_nfs4.proofs.xdr.judges.begins_zero.Goals as goal
 
 pub returns : goal.returns

@@ -1,7 +1,5 @@
-use Rattle.std.proofs.Common.{◌≡◌, ◌≤◌, ◌+◌, ◌-◌, ◌∙◌, ◌++◌, ℕ, length, take, ap, arith}
-use Rattle.std.proofs.lemmas.List.{length-append, length-take}
-use Rattle.std.proofs.KnownBytes.{Consumes-trans}
-use Rattle.acl_nfs4.proofs.FromSource.{field_is, filled_on, piece_bytes}
+use Rattle.acl_nfs4.proofs.Common.{ap, arith, Consumes-trans, length, length-append, length-take, take, ℕ, ◌++◌, ◌+◌, ◌-◌, ◌∙◌, ◌≡◌, ◌≤◌}
+use Rattle.acl_nfs4.proofs.xdr.FromSource.{field_is, filled_on, piece_bytes}
 use Rattle.acl_nfs4.proofs.xdr.pulling.fill.Goals as goal
 
 pub loop-filled-preserved : goal.loop-filled-preserved

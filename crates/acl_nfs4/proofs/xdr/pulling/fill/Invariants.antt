@@ -1,6 +1,4 @@
-use Rattle.std.proofs.Common.{◌≡◌, ◌+◌, ◌-◌, ◌≤◌, ◌++◌, ℕ, List, length, take}
-use Rattle.std.specs.Io.KnownBytes.{Consumes}
-use Rattle.acl_nfs4.specs.internal.Progress.{IsBytes}
+use Rattle.acl_nfs4.proofs.Common.{Consumes, IsBytes, length, List, take, ℕ, ◌++◌, ◌+◌, ◌-◌, ◌≡◌, ◌≤◌}
 use Rattle.acl_nfs4.proofs.xdr.pulling.fill.Given as goal
 
 abbrev pub invariant-loop-filled : goal.invariant-loop-filled

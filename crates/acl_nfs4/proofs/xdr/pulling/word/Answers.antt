@@ -1,5 +1,5 @@
 use Rattle.std.proofs.Common.{◌+◌, ◌-◌, arith}
-use Rattle.acl_nfs4.proofs.FromSource.{is_word}
+use Rattle.acl_nfs4.proofs.xdr.FromSource.{is_word}
 use Rattle.acl_nfs4.proofs.xdr.pulling.word.Goals as goal
 
 pub returns : goal.returns

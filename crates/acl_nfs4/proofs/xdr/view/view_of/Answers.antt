@@ -1,8 +1,5 @@
-use Rattle.std.proofs.Common.{arith, refl}
-use Rattle.std.proofs.lemmas.Result.{err_from_is_err_and}
-use Rattle.acl_perm.specs.Profile.{profile_of}
-use Rattle.acl_nfs4.specs.internal.Cursor.{place}
-use Rattle.acl_nfs4.proofs.Body.{at_start, viewed_slice, fails_at_count, fails_later, is_body, answers}
+use Rattle.acl_nfs4.proofs.Common.{arith, err_from_is_err_and, place, profile_of, refl}
+use Rattle.acl_nfs4.proofs.xdr.Body.{at_start, viewed_slice, fails_at_count, fails_later, is_body, answers}
 use Rattle.acl_nfs4.proofs.xdr.view.view_of.Goals as goal
 
 pub returns-in_err-count : goal.returns-in_err-count

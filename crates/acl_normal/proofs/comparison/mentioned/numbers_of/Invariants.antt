@@ -1,6 +1,6 @@
 use Rattle.acl_normal.proofs.comparison.mentioned.numbers_of.Given as goal
-use Rattle.acl_normal.specs.internal.MentionedRows.{AreNumbers}
+use Rattle.acl_normal.specs.internal.MentionedRows.{AreMentionedNumbers}
 use Rattle.acl_normal.specs.internal.SetSearch.{principals}
 
 abbrev pub invariant-loop-row : goal.invariant-loop-row
-invariant-loop-row l = AreNumbers l.table l.row (principals l.whole.items) l.by_row.items
+invariant-loop-row l = AreMentionedNumbers l.table l.row (principals l.whole.items) l.by_row.items

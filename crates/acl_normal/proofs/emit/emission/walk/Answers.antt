@@ -1,114 +1,55 @@
-use Rattle.acl_normal.proofs.Common.{arith, is_users, sym, ◌∙◌}
-use Rattle.acl_normal.proofs.emit.Chains.{chain_ends, chain_goes, chain_step}
+use Rattle.acl_normal.proofs.Common.{arith, sym, ◌∙◌}
+use Rattle.acl_normal.proofs.emit.Chains.{reached_blocked, reached_falls, reached_free, reached_kind, reached_link, reached_past, reached_within, walk_over}
 use Rattle.acl_normal.proofs.emit.InRemaining.{remaining_once}
 use Rattle.acl_normal.proofs.emit.Few.{remaining_few}
-use Rattle.acl_normal.proofs.emit.Walk.{head_kind, head_within, walk_done, walk_on, walk_past, walk_stops}
 use Rattle.acl_normal.proofs.emit.emission.walk.Goals as goal
 
 pub index-link-requires : goal.index-link-requires
 index-link-requires c =
-    let w = c.loop-at.invariant.0 in
-    let goes = chain_goes c.args.queues.now.links.items c.loop-at.at w.places w.chain c.loop-at-test.true in
-    omega (arith, goes.within, c.args.queues.now.links.ok)
+    omega (arith, reached_link c.loop-at.invariant.0 c.loop-at-test.true, c.args.queues.now.links.ok)
 
 pub returns-then-link-last-clause-marks : goal.returns-then-link-last-clause-marks
 returns-then-link-last-clause-marks c =
     let once = remaining_once c.rows.inside _ c.rows.invariant c.rows.view_is c.args.right.bit in
-    let w = c.loop-at.invariant.0 in
-    let l = c.index-link.result.now in
-    let step = chain_step c.args.queues.now.links.items c.loop-at.at w.places _ l w.chain c.loop-at-test.true
-    c.index-link.ensures in
-    let within = head_within c.args.kind (is_users c.args.class) c.args.right.bit c.args.rows.now
-    l.place w.places step.rest _ _ w.walks
-    step.is in
     let few = remaining_few c.rows.inside c.args.rows.now c.rows.invariant c.rows.view_is in
-    let blocked = c.last_clear-last.ensures.blocked _ c.if-link-last.true (omega (arith, within, few)) in
-    walk_stops c.args.kind (is_users c.args.class) c.args.right.bit c.args.rows.now
-    l.place w.places step.rest _ _ once w.walks
-    step.is blocked
+    let within = reached_within c.loop-at.invariant.0 _ c.loop-at-test.true c.index-link.ensures in
+    reached_blocked c.loop-at.invariant.0 _ c.loop-at-test.true c.index-link.ensures once
+    (c.last_clear-last.ensures.blocked _ c.if-link-last.true (omega (arith, within, few)))
 
 pub has-requires : goal.has-requires
-has-requires c =
-    let w = c.loop-at.invariant.0 in
-    let l = c.index-link.result.now in
-    let step = chain_step c.args.queues.now.links.items c.loop-at.at w.places _ l w.chain c.loop-at-test.true
-    c.index-link.ensures in
-    head_within c.args.kind (is_users c.args.class) c.args.right.bit c.args.rows.now
-    l.place w.places step.rest _ _ w.walks step.is
+has-requires c = reached_within c.loop-at.invariant.0 _ c.loop-at-test.true c.index-link.ensures
 
 pub add-requires-clause-place : goal.add-requires-clause-place
-add-requires-clause-place c =
-    let w = c.loop-at.invariant.0 in
-    let l = c.index-link.result.now in
-    let step = chain_step c.args.queues.now.links.items c.loop-at.at w.places _ l w.chain c.loop-at-test.true
-    c.index-link.ensures in
-    head_within c.args.kind (is_users c.args.class) c.args.right.bit c.args.rows.now
-    l.place w.places step.rest _ _ w.walks step.is
+add-requires-clause-place c = reached_within c.loop-at.invariant.0 _ c.loop-at-test.true c.index-link.ensures
 
 pub add-requires-clause-kind : goal.add-requires-clause-kind
 add-requires-clause-kind c =
-    let once = remaining_once c.rows.inside _ c.rows.invariant c.rows.view_is c.args.right.bit in
-    let w = c.loop-at.invariant.0 in
-    let l = c.index-link.result.now in
-    let step = chain_step c.args.queues.now.links.items c.loop-at.at w.places _ l w.chain c.loop-at-test.true
-    c.index-link.ensures in
-    head_kind c.args.kind (is_users c.args.class) c.args.right.bit c.args.rows.now
-    l.place w.places step.rest _ _ once w.walks
-    step.is (sym c.has.ensures ∙ c.if-has.true)
+    reached_kind c.loop-at.invariant.0 _ c.loop-at-test.true c.index-link.ensures
+    (remaining_once c.rows.inside _ c.rows.invariant c.rows.view_is c.args.right.bit)
+    (sym c.has.ensures ∙ c.if-has.true)
 
 pub loop-at-smaller-in_ok-add : goal.loop-at-smaller-in_ok-add
-loop-at-smaller-in_ok-add c =
-    let w = c.loop-at.invariant.0 in
-    let l = c.index-link.result.now in
-    let step = chain_step c.args.queues.now.links.items c.loop-at.at w.places _ l w.chain c.loop-at-test.true
-    c.index-link.ensures in
-    step.falls
+loop-at-smaller-in_ok-add c = reached_falls c.loop-at.invariant.0 _ c.loop-at-test.true c.index-link.ensures
 
 pub loop-at-preserved-in_ok-add : goal.loop-at-preserved-in_ok-add
-loop-at-preserved-in_ok-add c =
-    let once = remaining_once c.rows.inside _ c.rows.invariant c.rows.view_is c.args.right.bit in
-    let w = c.loop-at.invariant.0 in
-    let l = c.index-link.result.now in
-    let step = chain_step c.args.queues.now.links.items c.loop-at.at w.places _ l w.chain c.loop-at-test.true
-    c.index-link.ensures in
-    let clear = c.last_clear-last.ensures.clear _ c.if-link-last.false in (
-      record {
-        places = step.rest;
-        chain = step.chain;
-        walks = walk_on c.args.kind (is_users c.args.class) c.args.right.bit c.args.rows.now
-            l.place w.places step.rest _ _ _ once
-            w.walks step.is clear (sym c.has.ensures ∙ c.if-has.true) c.in_ok-add.ensures.marks;
-      },
-      c.in_ok-add.ensures.keys,
-    )
+loop-at-preserved-in_ok-add c = (
+  reached_free c.loop-at.invariant.0 _ c.loop-at-test.true c.index-link.ensures
+      (remaining_once c.rows.inside _ c.rows.invariant c.rows.view_is c.args.right.bit)
+      (c.last_clear-last.ensures.clear _ c.if-link-last.false) (sym c.has.ensures ∙ c.if-has.true)
+      c.in_ok-add.ensures.marks,
+  c.in_ok-add.ensures.keys,
+)
 
 pub loop-at-smaller : goal.loop-at-smaller
-loop-at-smaller c =
-    let w = c.loop-at.invariant.0 in
-    let l = c.index-link.result.now in
-    let step = chain_step c.args.queues.now.links.items c.loop-at.at w.places _ l w.chain c.loop-at-test.true
-    c.index-link.ensures in
-    step.falls
+loop-at-smaller c = reached_falls c.loop-at.invariant.0 _ c.loop-at-test.true c.index-link.ensures
 
 pub loop-at-preserved : goal.loop-at-preserved
-loop-at-preserved c =
-    let w = c.loop-at.invariant.0 in
-    let l = c.index-link.result.now in
-    let step = chain_step c.args.queues.now.links.items c.loop-at.at w.places _ l w.chain c.loop-at-test.true
-    c.index-link.ensures in (
-      record {
-        places = step.rest;
-        chain = step.chain;
-        walks = walk_past c.args.kind (is_users c.args.class) c.args.right.bit c.args.rows.now
-            l.place w.places step.rest _ _ w.walks
-            step.is (sym c.has.ensures ∙ c.if-has.false);
-      },
-      c.loop-at.invariant.1,
-    )
+loop-at-preserved c = (
+  reached_past c.loop-at.invariant.0 _ c.loop-at-test.true c.index-link.ensures (sym c.has.ensures ∙ c.if-has.false),
+  c.loop-at.invariant.1,
+)
 
 pub returns-clause-marks : goal.returns-clause-marks
 returns-clause-marks c =
-    let once = remaining_once c.rows.inside _ c.rows.invariant c.rows.view_is c.args.right.bit in
-    let w = c.loop-at.invariant.0 in
-    walk_done c.args.kind (is_users c.args.class) c.args.right.bit c.args.rows.now w.places _ _ once w.walks
-    (chain_ends c.args.queues.now.links.items c.loop-at.at w.places w.chain c.loop-at-test.false)
+    walk_over c.loop-at.invariant.0 (remaining_once c.rows.inside _ c.rows.invariant c.rows.view_is c.args.right.bit)
+    c.loop-at-test.false

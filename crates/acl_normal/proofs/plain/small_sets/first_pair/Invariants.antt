@@ -1,7 +1,7 @@
-use Rattle.acl_normal.proofs.Common.{aces_in, drop, pairs, principals}
+use Rattle.acl_normal.proofs.Common.{aces_in, drop, principal_pairs, principals}
 use Rattle.acl_normal.proofs.plain.small_sets.first_pair.Given as goal
 use Rattle.acl_normal.proofs.comparison.SetSearchLemmas.{GoesOn}
 
 abbrev pub invariant-loop-i : goal.invariant-loop-i
-invariant-loop-i l = GoesOn (aces_in l.list) (aces_in l.other) (pairs (principals (drop l.i l.whole)))
-    (pairs (principals l.whole))
+invariant-loop-i l = GoesOn (aces_in l.list) (aces_in l.other) (principal_pairs (principals (drop l.i l.whole)))
+    (principal_pairs (principals l.whole))

@@ -1,18 +1,18 @@
-use Rattle.acl_normal.proofs.Common.{ace, arith, bits_in, length, refl, slice_index_or, with_masks, ◌<◌, ◌∙◌, ◌≡◌}
-use Rattle.acl_normal.proofs.reduce.FirstMasks.{masked}
-use Rattle.acl_normal.proofs.reduce.LaterBits.{allows_all, allows_more, allows_start, length_masks, masked_at, quiet_index}
+use Rattle.acl_normal.proofs.Common.{ace, arith, mask_numbers, length, refl, slice_index_or, with_masks, ◌<◌, ◌∙◌, ◌≡◌}
+use Rattle.acl_normal.proofs.rows.ByPlace.{masked, length_masks, masked_at, quiet_index}
+use Rattle.acl_normal.proofs.reduce.LaterBits.{allows_all, allows_more, allows_start}
 use Rattle.acl_normal.proofs.unique.Bits.{bits_at, bits_length}
 use Rattle.acl_normal.proofs.reduce.needless.allowed_to_everyone.Goals as goal
 
 pub loop-place-init : goal.loop-place-init
 loop-place-init c = record {
   within = refl;
-  allows = allows_start (with_masks c.args.aces.now (bits_in c.args.masks.now));
+  allows = allows_start (with_masks c.args.aces.now (mask_numbers c.args.masks.now));
 }
 
 pub loop-place-preserved : goal.loop-place-preserved
 loop-place-preserved c =
-    let masks = bits_in c.args.masks.now in
+    let masks = mask_numbers c.args.masks.now in
     let place = c.loop-place.place in
     let shown = with_masks c.args.aces.now masks in
     let count : length masks ≡ length c.args.aces.now = bits_length c.args.masks.now ∙ c.requires.places in
@@ -35,7 +35,7 @@ loop-place-preserved c =
 
 pub returns : goal.returns
 returns c =
-    let masks = bits_in c.args.masks.now in
+    let masks = mask_numbers c.args.masks.now in
     allows_all (with_masks c.args.aces.now masks) c.loop-place.place _ c.loop-place.invariant.allows (omega (
       arith,
       length_masks c.args.aces.now masks (bits_length c.args.masks.now ∙ c.requires.places),

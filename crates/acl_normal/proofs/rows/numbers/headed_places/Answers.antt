@@ -1,6 +1,6 @@
 use Rattle.std.proofs.Common.{refl}
 use Rattle.std.specs.List.{All}
-use Rattle.acl_normal.proofs.Common.{aces_in, ap, arith, length, subst, sym, ◌∙◌}
+use Rattle.acl_normal.proofs.Common.{aces_in, arith, length, subst, sym}
 use Rattle.std.proofs.lemmas.List.Elements.{All-push}
 use Rattle.acl_normal.proofs.rows.Beginnings.{IsHeaded, headed_all, headed_here}
 use Rattle.acl_normal.proofs.rows.RowNumbers.{named_more}

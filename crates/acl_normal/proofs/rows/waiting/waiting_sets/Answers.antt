@@ -1,34 +1,30 @@
-use Rattle.std.proofs.Common.{[], ◌∷◌, ◌++◌, refl, length, sym, ◌∙◌, ap, subst, arith, append_assoc}
-use Rattle.acl_normal.proofs.rows.WaitingPlaces.{AreSetsOf, sets_more, sets_wait, all_yielded}
+use Rattle.acl_normal.proofs.Common.{arith, mask_numbers, refl, subst, sym, with_masks, ◌+◌}
+use Rattle.acl_normal.proofs.rows.BitTaken.{slot_below}
+use Rattle.acl_normal.proofs.rows.WaitingPlaces.{HoldWaiting, holds_more}
 use Rattle.acl_normal.proofs.rows.waiting.waiting_sets.Goals as goal
 
-pub loop-places-init : goal.loop-places-init
-loop-places-init c =
-    (subst (AreSetsOf []) (sym c.new-sets.ensures.items) (record { count = refl; each = λ i q. refl }), refl)
+pub loop-number-init : goal.loop-number-init
+loop-number-init c =
+    subst (λ v. HoldWaiting (with_masks c.args.aces.now (mask_numbers c.args.masks.now)) v 0) (sym c.new-sets.ensures.items)
+    (record { count = refl; waiting = λ k u b i l. absurd (omega (arith, l)) })
 
-pub loop-places-preserved : goal.loop-places-preserved
-loop-places-preserved c = (
-  sets_more c.loop-places.yielded c.loop-places.sets.items c.push.new.self.items c.in-Some.places
-      c.in_ok-set_of.field-0 c.loop-places.invariant.0 c.in_ok-set_of.ensures c.in_ok-push.ensures.items,
-  append_assoc c.loop-places.yielded (c.in-Some.places ∷ []) c.next.new.self.rest.items
-      ∙ ap (λ v. c.loop-places.yielded ++ v) (sym c.in-Some.ensures.steps.0) ∙ c.loop-places.invariant.1,
-)
+pub loop-number-preserved : goal.loop-number-preserved
+loop-number-preserved c =
+    let xs = with_masks c.args.aces.now (mask_numbers c.args.masks.now) in
+    subst (λ v. HoldWaiting xs v (c.loop-number.number + 1)) (sym c.in_ok-push.ensures.items)
+    (holds_more xs c.loop-number.sets.items c.in_ok-waiting_set.field-0 c.loop-number.number c.loop-number.invariant
+    c.in_ok-waiting_set.ensures)
 
 pub returns-clause-slots : goal.returns-clause-slots
 returns-clause-slots c =
-    let all = all_yielded c.loop-places.yielded c.loop-places.places-iterator.rest _ c.in-None.ensures.steps.0
-    c.loop-places.invariant.1 ∙ c.into_iter-places-iterator.ensures.into_iter_gives.0 in
     omega (
       arith,
-      c.loop-places.invariant.0.count,
-      ap length all,
-      c.in_ok-places-items.ensures.slots,
-      c.loop-places.sets.ok,
+      c.loop-number.invariant.count,
+      c.loop-number.sets.ok,
+      c.loop-number-test.false,
+      c.loop-number.auto,
     )
 
 pub returns-clause-waiting : goal.returns-clause-waiting
-returns-clause-waiting c =
-    let all = all_yielded c.loop-places.yielded c.loop-places.places-iterator.rest _ c.in-None.ensures.steps.0
-    c.loop-places.invariant.1 ∙ c.into_iter-places-iterator.ensures.into_iter_gives.0 in
-    sets_wait _ c.in_ok-places-items.places-items.items c.loop-places.sets.items c.in_ok-places-items.ensures
-    (subst (λ v. AreSetsOf v c.loop-places.sets.items) all c.loop-places.invariant.0)
+returns-clause-waiting c k users b i low =
+    c.loop-number.invariant.waiting k users b i (omega (arith, slot_below k users b low, c.loop-number-test.false))

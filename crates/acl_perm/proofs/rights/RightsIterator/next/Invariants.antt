@@ -2,7 +2,7 @@ use Rattle.std.proofs.Common.{◌-◌, ◌≡◌, ◌≤◌}
 use Rattle.acl_perm.specs.internal.RightsLeft.{rights_from}
 use Rattle.acl_perm.proofs.rights.RightsIterator.next.Given as goal
 
--- what is left is what was left, without the bits that are in no mask
+-- the rights that are left are those that were left, because the bits that were passed are in no mask
 abbrev pub invariant-loop-self : goal.invariant-loop-self
 invariant-loop-self l = record {
   within : l.self-inside.from ≤ 21;

@@ -1,9 +1,5 @@
-use Rattle.std.proofs.Common.{refl, rules}
-use Rattle.std.specs.Prelude.{IfErr, OnOk}
-use Rattle.acl_posix.specs.declared.fault.AclFault.TheVariants.{Miss}
-use Rattle.acl_posix.specs.Entries.{pairs}
-use Rattle.acl_posix.specs.Valid.{IsFaultOf, IsValidList}
-use Rattle.acl_posix.proofs.Faults.{refused_from, one_fault, no_fault}
+use Rattle.acl_posix.proofs.Common.{IfErr, IsFaultOf, IsValidList, Miss, OnOk, pairs, refl, rules}
+use Rattle.acl_posix.proofs.sorting.Faults.{refused_from, one_fault, no_fault}
 use Rattle.acl_posix.proofs.acl.PosixAcl.from_entries.Goals as goal
 
 pub returns-in_err-entries-clause-refused : goal.returns-in_err-entries-clause-refused

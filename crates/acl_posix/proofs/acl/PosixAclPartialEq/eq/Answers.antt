@@ -1,13 +1,11 @@
-use Rattle.std.proofs.Common.{◌≡◌, ℕ, List, sym, ap, ◌∙◌}
-use Rattle.std.specs.Cmp.Lexicographic.{pointwise}
-use Rattle.acl_posix.specs.Tag.{Tag}
-use Rattle.acl_posix.specs.Equal.{same_entry, same_set}
-use Rattle.acl_posix.proofs.Equality.{set_decides, by_lists}
+use Rattle.acl_posix.proofs.Common.{sym, ◌∙◌}
+use Rattle.acl_posix.proofs.sorted.Equality.{set_decides, by_lists}
 use Rattle.acl_posix.proofs.acl.PosixAclPartialEq.eq.Goals as goal
 
 pub returns-clause-value : goal.returns-clause-value
 returns-clause-value c =
-    by_lists c.args.self.now c.args.other.now _ _ _ c.entries.ensures.entries c.entries-2.ensures.entries c.are_same.ensures
+    by_lists c.args.self.now c.args.other.now _ _ _ c.entries.ensures.entries c.entries-2.ensures.entries
+    c.are_same.ensures
 
 pub returns-clause-exact : goal.returns-clause-exact
 returns-clause-exact c =

@@ -1,5 +1,5 @@
-use Rattle.std.proofs.Common.{◌≡◌, sym, ◌∙◌, rules}
-use Rattle.acl_posix.proofs.Equality.{file_decides}
+use Rattle.acl_posix.proofs.Common.{rules, sym, ◌∙◌}
+use Rattle.acl_posix.proofs.sorted.Equality.{file_decides}
 use Rattle.acl_posix.proofs.file.PosixFilePartialEq.eq.Goals as goal
 
 pub returns-then-eq-clause-value : goal.returns-then-eq-clause-value

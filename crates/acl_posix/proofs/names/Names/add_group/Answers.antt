@@ -1,4 +1,4 @@
-use Rattle.acl_posix.proofs.Limits.{table_within}
+use Rattle.acl_posix.proofs.reader.Limits.{table_within}
 use Rattle.acl_posix.proofs.names.Names.add_group.Goals as goal
 
 pub returns-clause-table : goal.returns-clause-table

@@ -1,9 +1,6 @@
-use Rattle.std.proofs.Common.{ap, ◌∙◌, Option}
-use Rattle.std.specs.Prelude.{option_map}
+use Rattle.acl_posix.proofs.Common.{ap, Id, Option, option_map, Table, ◌∙◌}
 use Rattle.std.specs.FinMap as fin
-use Rattle.acl_posix.specs.declared.id.Id.{Id}
-use Rattle.acl_posix.specs.Names.{Table}
-use Rattle.acl_posix.proofs.NameLemmas.{get_name}
+use Rattle.acl_posix.proofs.names.NameLemmas.{get_name}
 use Rattle.acl_posix.proofs.names.Names.group.Goals as goal
 
 pub returns : goal.returns

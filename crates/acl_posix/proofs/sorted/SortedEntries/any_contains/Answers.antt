@@ -1,7 +1,5 @@
-use Rattle.std.proofs.Common.{◌∙◌, sym}
-use Rattle.acl_posix.specs.Check.{ids}
-use Rattle.acl_posix.specs.internal.GroupSearch.{group_contains}
-use Rattle.acl_posix.proofs.Groups.{any_group, here_true, none_left}
+use Rattle.acl_posix.proofs.Common.{group_contains, ids, sym, ◌∙◌}
+use Rattle.acl_posix.proofs.sorted.Groups.{any_group, here_true, none_left}
 use Rattle.acl_posix.proofs.sorted.SortedEntries.any_contains.Goals as goal
 
 pub returns-then-group_contains : goal.returns-then-group_contains

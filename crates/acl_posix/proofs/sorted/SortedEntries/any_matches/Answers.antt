@@ -1,6 +1,5 @@
-use Rattle.std.proofs.Common.{◌∙◌}
-use Rattle.acl_posix.specs.Check.{ids}
-use Rattle.acl_posix.proofs.Groups.{contains_empty}
+use Rattle.acl_posix.proofs.Common.{ids, ◌∙◌}
+use Rattle.acl_posix.proofs.sorted.Groups.{contains_empty}
 use Rattle.acl_posix.proofs.sorted.SortedEntries.any_matches.Goals as goal
 
 pub returns : goal.returns

@@ -1,8 +1,6 @@
-use Rattle.std.proofs.Common.{List, sym, ◌∙◌, ap, subst}
+use Rattle.acl_posix.proofs.Common.{ap, Entries, Entry, IsSorted, List, pairs, subst, sym, ◌∙◌}
 use Rattle.std.specs.FinMap as set
-use Rattle.acl_posix.specs.declared.entry.Entry.{Entry}
-use Rattle.acl_posix.specs.Entries.{Entries, IsSorted, pairs}
-use Rattle.acl_posix.proofs.Lookups.{entries_in_order, all_entries}
+use Rattle.acl_posix.proofs.sorted.Lookups.{entries_in_order, all_entries}
 use Rattle.acl_posix.proofs.sorted.SortedEntries.as_slice.Goals as goal
 
 pub returns-clause-entries : goal.returns-clause-entries

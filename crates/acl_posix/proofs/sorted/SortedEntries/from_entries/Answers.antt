@@ -1,10 +1,6 @@
-use Rattle.std.proofs.Common.{ℕ, List, sym, ap, ◌∙◌, map, subst}
-use Rattle.acl_posix.specs.declared.entry.Entry.{Entry}
-use Rattle.acl_posix.specs.Entries.{pairs, as_set, IsSorted}
-use Rattle.acl_posix.specs.Valid.{IsDistinct}
-use Rattle.acl_posix.specs.internal.Packed.{unpacked}
-use Rattle.acl_posix.proofs.Repeats.{sorted_distinct}
-use Rattle.acl_posix.proofs.Packings.{distinct_rise, moved_distinct, same_set}
+use Rattle.acl_posix.proofs.Common.{ap, as_set, Entry, IsDistinct, IsSorted, List, map, pairs, subst, sym, unpacked, ℕ, ◌∙◌}
+use Rattle.acl_posix.proofs.sorting.Repeats.{sorted_distinct}
+use Rattle.acl_posix.proofs.packed.Packings.{distinct_rise, moved_distinct, same_set}
 use Rattle.acl_posix.proofs.sorted.SortedEntries.from_entries.Goals as goal
 
 pub returns-then-is_in_order-clause-distinct : goal.returns-then-is_in_order-clause-distinct
@@ -19,7 +15,8 @@ first_repeat-requires c = λ distinct.
     let sorted = distinct_rise _ _ distinct c.in_ok-keys.ensures.permutation c.in_ok-keys.ensures.packed
     c.in_ok-keys.ensures.sorted in
     let wrong = sym c.if-not-rises.true
-    ∙ c.rises.ensures.1 (subst (λ (keys : List ℕ). IsSorted (map unpacked keys)) (sym c.deref-3.ensures.value) sorted) in
+    ∙ c.rises.ensures.1 (subst (λ (keys : List ℕ). IsSorted (map unpacked keys)) (sym c.deref-3.ensures.value)
+    sorted) in
     absurd cc
 
 pub returns-then-not-rises-clause-accepts : goal.returns-then-not-rises-clause-accepts
@@ -28,7 +25,8 @@ returns-then-not-rises-clause-accepts c = λ distinct.
     let sorted = distinct_rise _ _ distinct c.in_ok-keys.ensures.permutation c.in_ok-keys.ensures.packed
     c.in_ok-keys.ensures.sorted in
     let wrong = sym c.if-not-rises.true
-    ∙ c.rises.ensures.1 (subst (λ (keys : List ℕ). IsSorted (map unpacked keys)) (sym c.deref-3.ensures.value) sorted) in
+    ∙ c.rises.ensures.1 (subst (λ (keys : List ℕ). IsSorted (map unpacked keys)) (sym c.deref-3.ensures.value)
+    sorted) in
     absurd cc
 
 pub returns-clause-set : goal.returns-clause-set

@@ -1,10 +1,7 @@
-use Rattle.std.proofs.Common.{◌≡◌, Some, true, refl, sym, ap, ◌∙◌, subst, inl, inr}
+use Rattle.acl_posix.proofs.Common.{ap, Entries, inl, inr, is_named, IsValid, missing, Some, subst, sym, Tag, tag_of, ◌∙◌, ◌≡◌}
 use Rattle.std.specs.FinMap as set
 use Rattle.acl_posix.specs.declared.tag.Tag.{Tag as TagOfCode}
-use Rattle.acl_posix.specs.Tag.{Tag, is_named, tag_of}
-use Rattle.acl_posix.specs.Entries.{Entries}
-use Rattle.acl_posix.specs.Valid.{IsValid, missing}
-use Rattle.acl_posix.proofs.OneEntry.{lacks_owner, lacks_class, lacks_others, unmasked, valid_unmasked, valid_without}
+use Rattle.acl_posix.proofs.one_entry.OneEntry.{lacks_owner, lacks_class, lacks_others, unmasked, valid_unmasked, valid_without}
 use Rattle.acl_posix.proofs.sorted.SortedEntries.needs.Goals as goal
 
 lacks : (E : Entries) (t s : TagOfCode) → t ≡ s → missing (set.remove E (tag_of s)) ≡ Some (tag_of s)

@@ -1,7 +1,5 @@
-use Rattle.std.proofs.Common.{sym, subst, List}
-use Rattle.acl_posix.specs.declared.entry.Entry.{Entry}
-use Rattle.acl_posix.specs.Entries.{pairs, IsSorted}
-use Rattle.acl_posix.proofs.Changes.{three_sorted}
+use Rattle.acl_posix.proofs.Common.{Entry, IsSorted, List, pairs, subst, sym}
+use Rattle.acl_posix.proofs.sorted.Changes.{three_sorted}
 use Rattle.acl_posix.proofs.sorted.SortedEntries.of_mode.Goals as goal
 
 pub invariant_of-result : goal.invariant_of-result

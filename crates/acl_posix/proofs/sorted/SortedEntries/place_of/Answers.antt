@@ -1,12 +1,6 @@
-use Rattle.std.proofs.Common.{ℕ, List, rules, arith, subst}
-use Rattle.std.specs.Prelude.{MatchResult}
-use Rattle.std.proofs.lemmas.List.Sorted.{answers_always}
-use Rattle.acl_posix.specs.declared.entry.Entry.{Entry}
+use Rattle.acl_posix.proofs.Common.{answers_always, arith, Entry, IsGap, IsTagAt, List, MatchResult, rules, subst, Tag, tag_of, tags, ℕ}
 use Rattle.acl_posix.specs.declared.tag.Tag.TheVariants.{Other}
-use Rattle.acl_posix.specs.Tag.{Tag, tag_of}
-use Rattle.acl_posix.specs.Entries.{tags}
-use Rattle.acl_posix.specs.internal.Search.{IsAt, IsGap}
-use Rattle.acl_posix.proofs.Lookups.{searched}
+use Rattle.acl_posix.proofs.sorted.Lookups.{searched}
 use Rattle.acl_posix.proofs.sorted.SortedEntries.place_of.Goals as goal
 
 pub returns : goal.returns
@@ -16,7 +10,7 @@ returns c =
     let d : Entry = record { tag = Other; perm = record { bits = 0; within = omega arith } } in
     let t : Tag = tag_of c.args.tag in
     subst
-    (λ (ps : List (Tag × ℕ)). MatchResult c.binary_search_by_key.result (IsAt (tags ps) t) (IsGap (tags ps) t))
+    (λ (ps : List (Tag × ℕ)). MatchResult c.binary_search_by_key.result (IsTagAt (tags ps) t) (IsGap (tags ps) t))
     c.as_slice.ensures.entries
     (searched c.as_slice.result.now c.args.tag d c.binary_search_by_key.result c.as_slice.ensures.sorted
     facts.bound by_key)

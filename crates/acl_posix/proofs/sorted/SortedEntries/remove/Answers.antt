@@ -1,10 +1,7 @@
-use Rattle.std.proofs.Common.{sym, subst, arith}
-use Rattle.acl_posix.specs.Tag.{tag_of}
-use Rattle.acl_posix.specs.Entries.{IsSorted, pairs}
-use Rattle.acl_posix.specs.Valid.{IsValid}
-use Rattle.acl_posix.proofs.Changes.{place_in}
-use Rattle.acl_posix.proofs.Lookups.{absent_in_gap}
-use Rattle.acl_posix.proofs.OneEntry.{removed, without_none}
+use Rattle.acl_posix.proofs.Common.{arith, IsValid, subst, sym, tag_of}
+use Rattle.acl_posix.proofs.sorted.Changes.{place_in}
+use Rattle.acl_posix.proofs.sorted.Lookups.{absent_in_gap}
+use Rattle.acl_posix.proofs.one_entry.OneEntry.{removed, without_none}
 use Rattle.acl_posix.proofs.sorted.SortedEntries.remove.Goals as goal
 
 pub returns-in_default-clause-ok : goal.returns-in_default-clause-ok

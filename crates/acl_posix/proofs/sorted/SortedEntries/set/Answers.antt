@@ -1,8 +1,6 @@
-use Rattle.std.proofs.Common.{ap, arith}
-use Rattle.acl_posix.specs.declared.entry.Entry.{Entry}
-use Rattle.acl_posix.specs.Tag.{tag_of}
-use Rattle.acl_posix.proofs.Changes.{edited, keys_kept, place_in}
-use Rattle.acl_posix.proofs.Lookups.{not_in_gap}
+use Rattle.acl_posix.proofs.Common.{ap, arith, Entry, tag_of}
+use Rattle.acl_posix.proofs.sorted.Changes.{edited, keys_kept, place_in}
+use Rattle.acl_posix.proofs.sorted.Lookups.{not_in_gap}
 use Rattle.acl_posix.proofs.sorted.SortedEntries.set.Goals as goal
 
 pub index_mut-entry-requires : goal.index_mut-entry-requires

@@ -1,8 +1,6 @@
-use Rattle.std.proofs.Common.{sym, ◌∙◌, subst}
-use Rattle.std.specs.Prelude.{IsSome}
+use Rattle.acl_posix.proofs.Common.{IsSome, other, subst, sym, Tag, tag_of, ◌∙◌}
 use Rattle.std.specs.FinMap as set
-use Rattle.acl_posix.specs.Tag.{Tag, other, tag_of}
-use Rattle.acl_posix.proofs.Changes.{has_three, class_present, present-keys, valid-keys}
+use Rattle.acl_posix.proofs.sorted.Changes.{has_three, class_present, present-keys, valid-keys}
 use Rattle.acl_posix.proofs.sorted.SortedEntries.set_mode.Goals as goal
 
 pub set-requires : goal.set-requires

@@ -19,10 +19,12 @@ returns-in-Ok g c =
 
 pub returns-in-Err-Limits : goal.returns-in-Err-Limits
 returns-in-Err-Limits g c =
-    past_limits (BridgeAnswer c.args.names.now) c.in_ok-file.ensures.found (λ input reads. inr (record {
-      file = c.in_ok-file.file;
-      read = reads;
-      is = refl;
-      past = subst (λ f. IsBridgeFault (bridge_list c.in_ok-file.file.access) f)
-          c.in-Err-Limits.field-0-is c.in-Err-Limits.ensures.fault;
-    })) c.in_ok-file.ensures.whole c.in_ok-file.ensures.reads
+    past_limits (BridgeAnswer c.args.names.now) c.in_ok-file.ensures.found (λ input reads. inr (
+      refl,
+      record {
+        file = c.in_ok-file.file;
+        read = reads;
+        past = subst (λ f. IsBridgeFault (bridge_list c.in_ok-file.file.access) f)
+            c.in-Err-Limits.field-0-is c.in-Err-Limits.ensures.fault;
+      },
+    )) c.in_ok-file.ensures.whole c.in_ok-file.ensures.reads

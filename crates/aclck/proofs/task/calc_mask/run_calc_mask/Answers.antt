@@ -1,6 +1,6 @@
 use Rattle.std.proofs.Common.{ap}
 use Rattle.acl_posix.specs.Texts.{canonical_text}
-use Rattle.aclck.specs.CalcMask.{masked_text}
+use Rattle.acl_posix.specs.Programs.{masked_text}
 use Rattle.aclck.proofs.ToldLemmas.{wrote}
 use Rattle.aclck.proofs.task.calc_mask.run_calc_mask.Goals as goal
 

@@ -1,6 +1,6 @@
 use Rattle.std.proofs.Common.{ap}
 use Rattle.acl_posix.specs.Texts.{canonical_text}
-use Rattle.aclck.specs.Chmod.{chmod_text}
+use Rattle.acl_posix.specs.Programs.{chmod_text}
 use Rattle.aclck.proofs.ToldLemmas.{wrote}
 use Rattle.aclck.proofs.task.chmod.run_chmod.Goals as goal
 

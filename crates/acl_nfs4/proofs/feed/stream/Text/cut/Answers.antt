@@ -1,4 +1,4 @@
-use Rattle.acl_nfs4.proofs.Streaming.FirstWord.{cut_text}
+use Rattle.acl_nfs4.proofs.feed.Streaming.FirstWord.{cut_text}
 use Rattle.acl_nfs4.proofs.feed.stream.Text.cut.Goals as goal
 
 pub invariant_of-self : goal.invariant_of-self

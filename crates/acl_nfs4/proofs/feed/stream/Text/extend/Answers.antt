@@ -1,6 +1,5 @@
-use Rattle.std.proofs.Common.{ℕ, List, ◌+◌, ◌-◌, length, arith, ap}
-use borrow.Rule.Slice.PartMut.{put_mid}
-use Rattle.acl_nfs4.proofs.Streaming.FirstWord.{extends}
+use Rattle.acl_nfs4.proofs.Common.{ap, arith, length, List, put_mid, ℕ, ◌+◌, ◌-◌}
+use Rattle.acl_nfs4.proofs.feed.Streaming.FirstWord.{extends}
 use Rattle.acl_nfs4.proofs.feed.stream.Text.extend.Goals as goal
 
 pub invariant_of-self-2 : goal.invariant_of-self-2

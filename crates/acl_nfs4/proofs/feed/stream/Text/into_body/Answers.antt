@@ -1,5 +1,5 @@
 use Rattle.std.proofs.Common.{◌∙◌, List, ℕ, drop, ap}
-use Rattle.acl_nfs4.proofs.Streaming.FirstWord.{behind_word}
+use Rattle.acl_nfs4.proofs.feed.Streaming.FirstWord.{behind_word}
 use Rattle.acl_nfs4.proofs.feed.stream.Text.into_body.Goals as goal
 
 pub returns : goal.returns

@@ -1,9 +1,5 @@
-use Rattle.std.proofs.Common.{◌≡◌, ◌-◌, ℕ, List, ◌∷◌, length, arith, sym, ◌∙◌, ap, subst}
-use Rattle.acl_nfs4.specs.Ace.{Ace, ace}
-use Rattle.acl_nfs4.specs.internal.Body.{aces_of, IsBody}
-use Rattle.acl_nfs4.specs.Spelling.{IsAce}
-use Rattle.acl_perm.specs.Profile.{full}
-use Rattle.acl_nfs4.proofs.Body.{splits}
+use Rattle.acl_nfs4.proofs.Common.{Ace, ace, aces_of, ap, arith, full, IsAce, IsBody, length, List, subst, sym, ℕ, ◌-◌, ◌∙◌, ◌∷◌, ◌≡◌}
+use Rattle.acl_nfs4.proofs.xdr.Body.{splits}
 use Rattle.acl_nfs4.proofs.list.aces.AcesIterator.next.Goals as goal
 
 pub first_ace-first-requires : goal.first_ace-first-requires

@@ -1,7 +1,5 @@
-use Rattle.std.proofs.Common.{◌∙◌, ◌+◌, ap, arith, List, ◌++◌, ◌∷◌, []}
-use Rattle.acl_nfs4.specs.Ace.{Ace, ace}
-use Rattle.acl_nfs4.specs.internal.Body.{aces_of}
-use Rattle.acl_nfs4.proofs.Push.{pushed_item}
+use Rattle.acl_nfs4.proofs.Common.{[], Ace, ace, aces_of, ap, arith, List, ◌++◌, ◌+◌, ◌∙◌, ◌∷◌}
+use Rattle.acl_nfs4.proofs.list.Push.{pushed_item}
 use Rattle.acl_nfs4.proofs.list.acl.Acl.append.Goals as goal
 
 pub invariant_of-self-2 : goal.invariant_of-self-2

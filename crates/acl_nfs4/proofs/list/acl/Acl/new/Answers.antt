@@ -1,4 +1,4 @@
-use Rattle.acl_nfs4.proofs.Push.{owned_none, none_is}
+use Rattle.acl_nfs4.proofs.list.Push.{owned_none, none_is}
 use Rattle.acl_nfs4.proofs.list.acl.Acl.new.Goals as goal
 
 pub invariant_of-result : goal.invariant_of-result

@@ -1,5 +1,5 @@
 use Rattle.acl_nfs4.specs.Ace.{ace}
-use Rattle.acl_nfs4.proofs.Push.{push_passes}
+use Rattle.acl_nfs4.proofs.list.Push.{push_passes}
 use Rattle.acl_nfs4.proofs.list.acl.Acl.push.Goals as goal
 
 pub returns-in_err-judge-clause-only : goal.returns-in_err-judge-clause-only

@@ -1,6 +1,5 @@
-use Rattle.acl_perm.specs.Profile.{profile_of}
-use Rattle.std.proofs.Common.{arith}
-use Rattle.acl_nfs4.proofs.Within.{fits_means, code_profile}
+use Rattle.acl_nfs4.proofs.Common.{arith, profile_of}
+use Rattle.acl_nfs4.proofs.list.Within.{fits_means, code_profile}
 use Rattle.acl_nfs4.proofs.xdr.view.AclView.fits.Goals as goal
 
 pub returns-clause-accepted : goal.returns-clause-accepted

@@ -1,9 +1,5 @@
-use Rattle.std.proofs.Common.{[], arith, refl, sym}
-use Rattle.std.proofs.lemmas.Result.{err_from_is_err_and}
-use Rattle.std.proofs.lemmas.List.{append-nil}
-use Rattle.acl_perm.specs.Profile.{profile_of}
-use Rattle.acl_nfs4.specs.Fault.IsWholeFault.{of_value}
-use Rattle.acl_nfs4.proofs.Whole.{not_whole, trails, same_list, one_of_value, one_trailing}
+use Rattle.acl_nfs4.proofs.Common.{[], append-nil, arith, err_from_is_err_and, of_value, profile_of, refl, sym}
+use Rattle.acl_nfs4.proofs.xdr.Whole.{not_whole, trails, same_list, one_of_value, one_trailing}
 use Rattle.acl_nfs4.proofs.xdr.view.AclView.parse_whole_with.Goals as goal
 
 pub returns-in_err-view-clause-only : goal.returns-in_err-view-clause-only

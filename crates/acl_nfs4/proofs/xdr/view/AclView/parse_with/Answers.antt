@@ -1,9 +1,8 @@
-use Rattle.std.proofs.Common.{arith}
-use Rattle.acl_perm.specs.Profile.{profile_of}
-use Rattle.acl_nfs4.proofs.Within.{code_profile}
-use Rattle.acl_nfs4.proofs.Body.{is_found, is_only}
-use Rattle.acl_nfs4.proofs.Faults.{is_fault}
-use Rattle.acl_nfs4.proofs.Resume.{is_refused}
+use Rattle.acl_nfs4.proofs.Common.{arith, profile_of}
+use Rattle.acl_nfs4.proofs.list.Within.{code_profile}
+use Rattle.acl_nfs4.proofs.xdr.Body.{is_found, is_only}
+use Rattle.acl_nfs4.proofs.xdr.Faults.{is_fault}
+use Rattle.acl_nfs4.proofs.xdr.Resume.{is_refused}
 use Rattle.acl_nfs4.proofs.xdr.view.AclView.parse_with.Goals as goal
 
 pub returns-clause-found : goal.returns-clause-found

@@ -1,6 +1,6 @@
 use Rattle.acl_perm.specs.Profile.{full}
-use Rattle.acl_nfs4.proofs.AceWritten.{reads_back}
-use Rattle.acl_nfs4.proofs.Within.{full_is}
+use Rattle.acl_nfs4.proofs.text.AceWritten.{reads_back}
+use Rattle.acl_nfs4.proofs.list.Within.{full_is}
 use Rattle.acl_nfs4.proofs.xdr.view.AclView.write_text.Goals as goal
 
 pub returns-in-Ok-clause-again : goal.returns-in-Ok-clause-again

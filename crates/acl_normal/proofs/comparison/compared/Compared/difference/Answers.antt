@@ -1,12 +1,13 @@
 use Rattle.acl_normal.proofs.comparison.compared.Compared.difference.Goals as goal
-use Rattle.acl_normal.proofs.Common.{AreGranted, set_of, subst}
+use Rattle.acl_normal.proofs.Common.{IsGrantedTo, set_of, subst}
 use Rattle.acl_normal.proofs.comparison.FirstSet.{differs_there, found_is, situation_there, told_none, told_some}
 
 pub returns-in-None : goal.returns-in-None
 returns-in-None c = told_none c.args.self.now (found_is c.args.self.now _ _ c.requires.found c.in-None.is)
 
 pub difference_at-requires-clause-differ : goal.difference_at-requires-clause-differ
-difference_at-requires-clause-differ c = differs_there c.args.self.now _ (found_is c.args.self.now _ _ c.requires.found c.in-Some.is)
+difference_at-requires-clause-differ c =
+    differs_there c.args.self.now _ (found_is c.args.self.now _ _ c.requires.found c.in-Some.is)
 
 pub difference_at-requires-clause-named : goal.difference_at-requires-clause-named
 difference_at-requires-clause-named c = situation_there c.args.self.now _ c.requires.named
@@ -19,10 +20,10 @@ returns-in_ok-difference_at-in-Some c = told_some c.args.self.now _ _ c.requires
 
 pub difference_at-requires-clause-here : goal.difference_at-requires-clause-here
 difference_at-requires-clause-here c =
-    subst (λ both. AreGranted both.first (set_of c.in-Some.set) c.granted-here.result.bits) c.self.view_is
+    subst (λ both. IsGrantedTo both.first (set_of c.in-Some.set) c.granted-here.result.bits) c.self.view_is
     c.granted-here.ensures
 
 pub difference_at-requires-clause-there : goal.difference_at-requires-clause-there
 difference_at-requires-clause-there c =
-    subst (λ both. AreGranted both.second (set_of c.in-Some.set) c.granted-there.result.bits) c.self.view_is
+    subst (λ both. IsGrantedTo both.second (set_of c.in-Some.set) c.granted-there.result.bits) c.self.view_is
     c.granted-there.ensures

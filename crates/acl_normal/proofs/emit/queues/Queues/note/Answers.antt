@@ -1,7 +1,7 @@
 use Rattle.std.proofs.Common.{◌≡◌, ◌+◌, true}
 use Rattle.acl_normal.proofs.Common.{ap, AreNoted, arith, has_bit, is_user, is_users, IsQuiet, mask_here, principal_here, slot_of, subst, sym, ◌∙◌}
-use Rattle.acl_normal.specs.Places.{kind_here}
-use Rattle.acl_normal.specs.internal.Queues.{Puts}
+use Rattle.acl_normal.specs.internal.Places.{kind_here}
+use Rattle.acl_normal.specs.internal.Queues.{PutsPlace}
 use Rattle.acl_normal.proofs.emit.Chains.{noted_on, noted_place, noted_skip, waits_here}
 use Rattle.acl_normal.proofs.unique.Bits.{past_absent}
 use Rattle.acl_normal.proofs.emit.queues.Queues.note.Goals as goal
@@ -24,7 +24,7 @@ loop-right-preserved c =
     ∙ ap (λ u. slot_of (kind_here xs place) u b) c.class_at-class.ensures in (
       noted_on (kind_here xs place) (is_user (principal_here xs place)) xs place b old c.put.new.self
           (waits_here b xs place quiet has) c.in-Some.right.within
-          (subst (λ v. Puts place v old c.put.new.self) slot c.in_ok-put.ensures) before,
+          (subst (λ v. PutsPlace place v old c.put.new.self) slot c.in_ok-put.ensures) before,
       omega (arith, c.in-Some.right.within),
     )
 

@@ -1,4 +1,4 @@
-use Rattle.acl_normal.proofs.Common.{ace, AceRef, ap, arith, bits_in, is_user, Key, masks_left, principal_of, ◌∙◌}
+use Rattle.acl_normal.proofs.Common.{ace, AceRef, ap, arith, mask_numbers, is_user, Key, masks_left, principal_of, ◌∙◌}
 use Rattle.acl_normal.proofs.rows.BitsTaken.{key_of_left, place_of_left}
 use Rattle.acl_normal.proofs.rows.remaining.Remaining.class_at.Goals as goal
 
@@ -8,7 +8,7 @@ index-requires c =
     omega (
       arith,
       s.aces.ok,
-      place_of_left s.aces.items (masks_left (bits_in s.masks.items) s.rows.items (bits_in s.left.items))
+      place_of_left s.aces.items (masks_left (mask_numbers s.masks.items) s.rows.items (mask_numbers s.left.items))
           c.args.place _ c.self.view_is c.requires,
     )
 
@@ -16,6 +16,6 @@ pub returns : goal.returns
 returns c =
     let s = c.self.inside in
     c.of.ensures
-    ∙ ap is_user (c.principal.ensures ∙ ap (λ (v : AceRef). principal_of (ace v)) c.index.ensures
+    ∙ ap is_user (c.whom.ensures ∙ ap (λ (v : AceRef). principal_of (ace v)) c.index.ensures
     ∙ ap (λ (k : Key). k.0) (key_of_left _
-    (masks_left (bits_in s.masks.items) s.rows.items (bits_in s.left.items)) _ _ _ c.self.view_is c.requires))
+    (masks_left (mask_numbers s.masks.items) s.rows.items (mask_numbers s.left.items)) _ _ _ c.self.view_is c.requires))

@@ -1,5 +1,5 @@
 use Rattle.std.proofs.Common.{◌≡◌, ◌+◌, ◌<◌, ◌/◌, ◌%◌, ◌*◌, ℕ, length, refl, slice_index_or}
-use Rattle.acl_normal.proofs.Common.{ace, AceRef, Allow, ap, arith, Deny, is_named, Key, key_here, Kind, kind_rank, principal, principal_of, remaining_of, row_of, subst, sym, ◌∙◌}
+use Rattle.acl_normal.proofs.Common.{ace, AceRef, Allow, ap, arith, Deny, is_principal_of, Key, key_here, Kind, kind_rank, principal, principal_of, remaining_of, row_of, subst, sym, ◌∙◌}
 use Rattle.acl_normal.proofs.emit.InRemaining.{length_remaining, order_there}
 use Rattle.acl_normal.proofs.emit.Marks.{number_rank}
 use Rattle.acl_normal.proofs.rows.BitsTaken.{key_there}
@@ -39,11 +39,11 @@ returns c = λ k named is.
     half_is k c.args.number (row_of k.0 c.args.self.now) rank is ∙ ap (row_of k.0) (sym c.self.view_is) in
     let place : c.index-place.result.now ≡ slice_index_or s.order.items (row_of k.0 xs) 0 =
     here.0 ∙ ap (λ v. slice_index_or s.order.items v 0) row in
-    let who : principal c.principal.result ≡ k.0 =
-    c.principal.ensures ∙ ap (λ (v : AceRef). principal_of (ace v)) c.index.ensures
+    let who : principal c.whom.result ≡ k.0 =
+    c.whom.ensures ∙ ap (λ (v : AceRef). principal_of (ace v)) c.index.ensures
     ∙ ap (λ (v : Key). v.0) (key_there s.aces.items _ c.index-place.result.now _ here.1)
     ∙ ap (λ v. (key_here xs v).0) place
-    ∙ c.self.invariant.list.order.first k.0 (ap (is_named k.0) c.self.view_is ∙ named) in
+    ∙ c.self.invariant.list.order.first k.0 (ap (is_principal_of k.0) c.self.view_is ∙ named) in
     let kind : c.if-number-eq0.kind ≡ k.1 = elim c.if-number-eq0.branch [
       | then-number-eq0 w ↦ w.kind-is ∙ deny_at k.1 c.args.number rank w.if-number-eq0.true
       | else-number-eq0 w ↦ w.kind-is ∙ allow_at k.1 c.args.number rank w.if-number-eq0.false

@@ -1,4 +1,4 @@
-use Rattle.acl_normal.proofs.Common.{AceRef, ap, arith, bits_in, Key, masks_left, ◌∙◌}
+use Rattle.acl_normal.proofs.Common.{AceRef, ap, arith, mask_numbers, Key, masks_left, ◌∙◌}
 use Rattle.acl_normal.proofs.rows.BitsTaken.{key_of_left, place_of_left}
 use Rattle.acl_normal.proofs.rows.remaining.Remaining.kind_at.Goals as goal
 
@@ -8,7 +8,7 @@ index-requires c =
     omega (
       arith,
       s.aces.ok,
-      place_of_left s.aces.items (masks_left (bits_in s.masks.items) s.rows.items (bits_in s.left.items))
+      place_of_left s.aces.items (masks_left (mask_numbers s.masks.items) s.rows.items (mask_numbers s.left.items))
           c.args.place _ c.self.view_is c.requires,
     )
 
@@ -17,4 +17,4 @@ returns c =
     let s = c.self.inside in
     ap (λ (v : AceRef). v.kind) c.index.ensures
     ∙ ap (λ (k : Key). k.1) (key_of_left _
-    (masks_left (bits_in s.masks.items) s.rows.items (bits_in s.left.items)) _ _ _ c.self.view_is c.requires)
+    (masks_left (mask_numbers s.masks.items) s.rows.items (mask_numbers s.left.items)) _ _ _ c.self.view_is c.requires)

@@ -1,5 +1,5 @@
 use Rattle.std.proofs.Common.{◌≡◌, ◌<◌, bit_and, length, slice_index_or}
-use Rattle.acl_normal.proofs.Common.{ap, arith, bits_in, mask_here, remaining_of, subst, sym, ◌∙◌}
+use Rattle.acl_normal.proofs.Common.{ap, arith, mask_numbers, mask_here, remaining_of, subst, sym, ◌∙◌}
 use Rattle.acl_normal.proofs.emit.InRemaining.{length_remaining, mask_remaining, row_of_place, row_there}
 use Rattle.acl_normal.proofs.unique.Bits.{bits_at}
 use Rattle.acl_normal.proofs.rows.remaining.Remaining.mask_at.Goals as goal
@@ -27,16 +27,16 @@ returns c =
     let within_masks : c.args.place < length s.masks.items =
     omega (arith, within, length_remaining s c.self.invariant, c.self.invariant.masks, s.masks.ok) in
     let row = c.index-2.ensures ∙ row_there s _ _ c.self.invariant within in
-    let mask : slice_index_or (bits_in s.masks.items) c.args.place 0 ≡ c.index.result.now.bits =
+    let mask : slice_index_or (mask_numbers s.masks.items) c.args.place 0 ≡ c.index.result.now.bits =
     bits_at s.masks.items c.args.place 0 _ within_masks c.index.ensures in
     let left_below : c.index-2.result.now < length s.left.items =
     omega (arith, row, row_of_place s c.args.place c.self.invariant within) in
-    let left : slice_index_or (bits_in s.left.items) (slice_index_or s.rows.items c.args.place 0) 0
+    let left : slice_index_or (mask_numbers s.left.items) (slice_index_or s.rows.items c.args.place 0) 0
     ≡ c.index-3.result.now.bits =
-    ap (λ v. slice_index_or (bits_in s.left.items) v 0) (sym row)
+    ap (λ v. slice_index_or (mask_numbers s.left.items) v 0) (sym row)
     ∙ bits_at s.left.items c.index-2.result.now 0 _ left_below c.index-3.ensures in
     c.intersection.ensures.value
     ∙ ap (λ v. bit_and v c.index-3.result.now.bits) (sym mask)
-    ∙ ap (bit_and (slice_index_or (bits_in s.masks.items) c.args.place 0)) (sym left)
+    ∙ ap (bit_and (slice_index_or (mask_numbers s.masks.items) c.args.place 0)) (sym left)
     ∙ sym (mask_remaining s c.args.place c.self.invariant within)
     ∙ ap (λ v. mask_here v c.args.place) c.self.view_is

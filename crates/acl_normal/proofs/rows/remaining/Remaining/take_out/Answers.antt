@@ -1,5 +1,5 @@
 use Rattle.std.proofs.Common.{◌≡◌, slice_index_or}
-use Rattle.acl_normal.proofs.Common.{ap, arith, bits_in, IsRowOf, masks_left, principal, slice_set, subst, sym, take_out, with_masks, without, ◌∙◌}
+use Rattle.acl_normal.proofs.Common.{ap, arith, mask_numbers, IsRowOf, masks_left, principal, slice_set, subst, sym, take_out, with_masks, without, ◌∙◌}
 use Rattle.acl_normal.proofs.emit.InRemaining.{row_of_named, taken_right, taken_view}
 use Rattle.acl_normal.proofs.unique.Bits.{bits_at, bits_set, difference_is}
 use Rattle.acl_normal.proofs.rows.remaining.Remaining.take_out.Goals as goal
@@ -18,7 +18,7 @@ index_mut-requires c =
 
 -- what is left of the row is without the rights
 taken : (c : goal.After-self-1) → c.difference.result.bits
-    ≡ without (slice_index_or (bits_in c.self.inside.left.items) c.args.row 0) c.args.mask.bits
+    ≡ without (slice_index_or (mask_numbers c.self.inside.left.items) c.args.row 0) c.args.mask.bits
 taken c =
     let s = c.self.inside in
     let at_row = subst (IsRowOf c.args.row (principal c.args.p)) (sym c.self.view_is) c.requires in
@@ -36,7 +36,7 @@ pub returns : goal.returns
 returns c =
     let s = c.self.inside in
     let at_row = subst (IsRowOf c.args.row (principal c.args.p)) (sym c.self.view_is) c.requires in
-    ap (λ v. with_masks s.aces.items (masks_left (bits_in s.masks.items) s.rows.items v))
-    (bits_set s.left.items c.args.row c.difference.result ∙ ap (slice_set (bits_in s.left.items) c.args.row) (taken c))
+    ap (λ v. with_masks s.aces.items (masks_left (mask_numbers s.masks.items) s.rows.items v))
+    (bits_set s.left.items c.args.row c.difference.result ∙ ap (slice_set (mask_numbers s.left.items) c.args.row) (taken c))
     ∙ taken_view s c.args.row c.args.mask.bits (principal c.args.p) c.self.invariant at_row
     ∙ ap (take_out (principal c.args.p) c.args.mask.bits) c.self.view_is

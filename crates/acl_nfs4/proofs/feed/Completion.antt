@@ -1,0 +1,220 @@
+-- The bytes before a border begin the spelling of a list: of the ACEs that are whole, of the ACE that is begun, and of
+-- further ACEs without bits, up to the number that the count says.
+use Rattle.acl_nfs4.proofs.Common.{[], Ace, All-replicate, AllByRecursion, Allow, ap, append-nil, append_assoc, arith, BeginsSpelling, Border, count_ones, counted, ends_in_at, eqb, false, flagged, flat_map, get_or, get_or-replicate, is_no_who_len, is_plain, is_unknown_special, is_utf8, is_utf8-from_IsUtf8, IsAce, IsAscii-from_all, IsFault, IsUtf8-from_ascii, IsWho, IsWithin, Kind, kind_number, le-ltb, length, length-append, length-replicate, List, list_all, longest_who, ltb, masked, measured, most_aces, most_weight, named, ones_le_self, or_from, pad_len, padded, piece, Profile, Reason, refl, replicate, Stage, start, subst, suc, sym, take, take_at, true, typed, weight, word, Xdr, zero, ℕ, ◌++◌, ◌+◌, ◌-◌, ◌<◌, ◌∙◌, ◌∷◌, ◌≡◌, ◌≤◌}
+use Rattle.acl_nfs4.specs.Fault.Stage.{count as at_count, kind as at_kind, flags as at_flags, mask as at_mask, len as at_len, who as at_who, padding as at_padding}
+use Rattle.acl_nfs4.proofs.xdr.Faults.{weight-push, regroup, border_after}
+use Rattle.acl_nfs4.proofs.list.Push.{each_push, flat_map-push}
+
+-- the ACEs that are whole, and the number of ACEs that the count says
+pub record IsBegun (profile : Profile) (n : ℕ) (list : List Ace) : Type 0 where
+  pub small : n ≤ most_aces
+  pub light : weight list ≤ most_weight
+  pub each : AllByRecursion (IsAce profile) list
+
+-- the text before the ACE that is being read
+abbrev pub head : ℕ → List Ace → List ℕ
+head n list = word n ++ flat_map piece list
+
+-- the bytes of a text before a border
+abbrev pub Shape : Profile → Stage → List ℕ → Type 0
+Shape profile at_count t = t ≡ []
+Shape profile (at_kind n list) t = IsBegun profile n list × (length list ≤ n) × (t ≡ head n list)
+Shape profile (at_flags n list k) t =
+    IsBegun profile n list × (length list < n) × (t ≡ head n list ++ word (kind_number k))
+Shape profile (at_mask n list k f) t =
+    IsBegun profile n list × (length list < n) × IsWithin profile.flags f
+    × (t ≡ (head n list ++ word (kind_number k)) ++ word f)
+Shape profile (at_len n list k f m) t =
+    IsBegun profile n list × (length list < n) × IsWithin profile.flags f × IsWithin profile.masks m
+    × (weight list + count_ones m ≤ most_weight)
+    × (t ≡ ((head n list ++ word (kind_number k)) ++ word f) ++ word m)
+Shape profile (at_who n list k f m l) t =
+    IsBegun profile n list × (length list < n) × IsWithin profile.flags f × IsWithin profile.masks m
+    × (weight list + count_ones m ≤ most_weight)
+    × (t ≡ (((head n list ++ word (kind_number k)) ++ word f) ++ word m) ++ word l)
+Shape profile (at_padding n list k f m w) t =
+    IsBegun profile n list × (length list < n) × IsWithin profile.flags f × IsWithin profile.masks m
+    × (weight list + count_ones m ≤ most_weight)
+    × IsWho w × (t ≡ ((((head n list ++ word (kind_number k)) ++ word f) ++ word m) ++ word (length w)) ++ w)
+
+abbrev onto : List ℕ → List ℕ → List ℕ
+onto more t = t ++ more
+
+head_push : (n : ℕ) (list : List Ace) (a : Ace) → head n list ++ piece a ≡ head n (list ++ a ∷ [])
+head_push n list a = append_assoc (word n) (flat_map piece list) (piece a)
+    ∙ ap (λ (t : List ℕ). word n ++ t) (sym (flat_map-push list a))
+
+begun_push : (profile : Profile) (n : ℕ) (list : List Ace) (a : Ace) → IsBegun profile n list → IsAce profile a
+    → weight list + count_ones a.mask ≤ most_weight → IsBegun profile n (list ++ a ∷ [])
+begun_push profile n list a b is light =
+    record {
+      small = b.small;
+      light = omega (arith, light, weight-push list a);
+      each = each_push profile list a b.each is;
+    }
+
+-- a text up to a border has its shape
+pub shape : (profile : Profile) (s : Stage) (t : List ℕ) → Border profile s t → Shape profile s t
+shape profile _ _ start = refl
+shape profile _ _ (counted n le) =
+    (record { small = le; light = omega arith; each = tt }, omega arith, sym (append-nil (word n)))
+shape profile _ _ (typed n list k t b lt) = let h = shape profile (at_kind n list) t b in
+    (h.0, lt, ap (onto (word (kind_number k))) h.2)
+shape profile _ _ (flagged n list k f t b is) = let h = shape profile (at_flags n list k) t b in
+    (h.0, h.1, is, ap (onto (word f)) h.2)
+shape profile _ _ (masked n list k f m t b is light) = let h = shape profile (at_mask n list k f) t b in
+    (h.0, h.1, h.2, is, light, ap (onto (word m)) h.3)
+shape profile _ _ (measured n list k f m l t b some short) = let h = shape profile (at_len n list k f m) t b in
+    (h.0, h.1, h.2, h.3, h.4, ap (onto (word l)) h.5)
+shape profile _ _ (named n list k f m w t b is) = let h = shape profile (at_who n list k f m (length w)) t b in
+    (h.0, h.1, h.2, h.3, h.4, is, ap (onto w) h.5)
+shape profile _ _ (padded n list k f m w t b) =
+    let h = shape profile (at_padding n list k f m w) t b in
+    let a : Ace = record { kind = k; flags = f; mask = m; who = w } in
+    let is : IsAce profile a = record { flags = h.2; mask = h.3; who = h.5 } in (
+      begun_push profile n list a h.0 is h.4,
+      omega (arith, h.1, length-append list (a ∷ [])),
+      ap (onto (replicate (pad_len (length w)) 0)) h.6
+          ∙ regroup (head n list) (word (kind_number k)) (word f) (word m) (word (length w)) w
+          (replicate (pad_len (length w)) 0) ∙ head_push n list a,
+    )
+
+-- ---- a who of any length
+
+abbrev letters : ℕ → List ℕ
+letters n = replicate n 0x61
+
+letters_len : (n : ℕ) → length (letters n) ≡ n
+letters_len n = length-replicate n 0x61
+
+plain_letters : (n : ℕ) → list_all is_plain (letters n) ≡ true
+plain_letters zero = refl
+plain_letters (suc n) = plain_letters n
+
+utf8_letters : (n : ℕ) → is_utf8 (letters n) ≡ true
+utf8_letters n = is_utf8-from_IsUtf8 (letters n) (IsUtf8-from_ascii (letters n)
+    (IsAscii-from_all (letters n) (All-replicate (λ b. b < 128) n 0x61 (omega arith))))
+
+known_letters : (who : List ℕ) → ends_in_at who ≡ false → is_unknown_special who ≡ false
+known_letters who e = rw e refl
+
+last_letter : (n : ℕ) → 1 ≤ n → ends_in_at (letters n) ≡ false
+last_letter n some =
+    ap (λ (k : ℕ). eqb (get_or (letters n) (k - 1) 0) 0x40) (letters_len n)
+    ∙ ap (λ (b : ℕ). eqb b 0x40) (get_or-replicate n (n - 1) 0x61 0 (omega (arith, some)))
+
+letters_are_who : (n : ℕ) → 1 ≤ n → n ≤ longest_who → IsWho (letters n)
+letters_are_who n some short =
+    let len = letters_len n in
+    let long : is_no_who_len (length (letters n)) ≡ false =
+    or_from (eqb (length (letters n)) 0) (ltb longest_who (length (letters n))) (grind (arith, len, some))
+    (le-ltb _ _ (omega (arith, len, short))) in
+    rw (long, utf8_letters n, plain_letters n, known_letters (letters n) (last_letter n some)) refl
+
+-- an ACE without bits
+abbrev filler : Ace
+filler = record { kind = Allow; flags = 0; mask = 0; who = letters 1 }
+
+filler_is : (profile : Profile) → IsAce profile filler
+filler_is profile = record { flags = refl; mask = refl; who = letters_are_who 1 (omega arith) (omega arith) }
+
+no_ones : count_ones 0 ≡ 0
+no_ones = let h = ones_le_self 0 in omega (arith, h)
+
+-- ---- from each border to a whole spelling
+
+longer : (profile : Profile) (t more : List ℕ) → BeginsSpelling profile (t ++ more) → BeginsSpelling profile t
+longer profile t more b = (b.0, more ++ b.1, subst (Xdr profile b.0) (append_assoc t more b.1) b.2)
+
+all_there : (profile : Profile) (n : ℕ) (list : List Ace) (t : List ℕ) → Border profile (at_kind n list) t
+    → length list ≡ n → BeginsSpelling profile t
+all_there profile n list t b e =
+    let h = shape profile (at_kind n list) t b in (
+      list,
+      [],
+      record {
+        accepted = record { count = omega (arith, e, h.0.small); weight = h.0.light; each = h.0.each };
+        spelled = append-nil t ∙ h.2 ∙ ap (λ (k : ℕ). word k ++ flat_map piece list) (sym e);
+      },
+    )
+
+fill : (profile : Profile) (todo n : ℕ) (list : List Ace) (t : List ℕ) → length list + todo ≡ n
+    → Border profile (at_kind n list) t → BeginsSpelling profile t
+fill profile zero n list t e b = all_there profile n list t b (omega (arith, e))
+fill profile (suc todo) n list t e b =
+    let h = shape profile (at_kind n list) t b in
+    longer profile t (piece filler) (fill profile todo n (list ++ filler ∷ []) (t ++ piece filler)
+    (omega (arith, e, length-append list (filler ∷ [])))
+    (border_after profile n list t filler b (omega (arith, e)) (filler_is profile) (omega (arith, h.0.light, no_ones))))
+
+from_kind : (profile : Profile) (n : ℕ) (list : List Ace) (t : List ℕ) → Border profile (at_kind n list) t
+    → BeginsSpelling profile t
+from_kind profile n list t b = let h = shape profile (at_kind n list) t b in
+    fill profile (n - length list) n list t (omega (arith, h.1)) b
+
+from_padding : (profile : Profile) (n : ℕ) (list : List Ace) (k : Kind) (f m : ℕ) (w t : List ℕ)
+    → Border profile (at_padding n list k f m w) t → BeginsSpelling profile t
+from_padding profile n list k f m w t b = longer profile t _ (from_kind profile n _ _ (padded n list k f m w t b))
+
+from_who : (profile : Profile) (n : ℕ) (list : List Ace) (k : Kind) (f m l : ℕ) (t : List ℕ) → 1 ≤ l → l ≤ longest_who
+    → Border profile (at_who n list k f m l) t → BeginsSpelling profile t
+from_who profile n list k f m l t some short b =
+    let same : Border profile (at_who n list k f m (length (letters l))) t =
+    subst (λ (x : ℕ). Border profile (at_who n list k f m x) t) (sym (letters_len l)) b in
+    longer profile t (letters l) (from_padding profile n list k f m (letters l) (t ++ letters l)
+    (named n list k f m (letters l) t same (letters_are_who l some short)))
+
+from_len : (profile : Profile) (n : ℕ) (list : List Ace) (k : Kind) (f m : ℕ) (t : List ℕ)
+    → Border profile (at_len n list k f m) t → BeginsSpelling profile t
+from_len profile n list k f m t b =
+    longer profile t (word 1) (from_who profile n list k f m 1 (t ++ word 1) (omega arith) (omega arith)
+    (measured n list k f m 1 t b (omega arith) (omega arith)))
+
+from_mask : (profile : Profile) (n : ℕ) (list : List Ace) (k : Kind) (f : ℕ) (t : List ℕ)
+    → Border profile (at_mask n list k f) t → BeginsSpelling profile t
+from_mask profile n list k f t b =
+    let h = shape profile (at_mask n list k f) t b in
+    longer profile t (word 0) (from_len profile n list k f 0 (t ++ word 0)
+    (masked n list k f 0 t b refl (omega (arith, h.0.light, no_ones))))
+
+from_flags : (profile : Profile) (n : ℕ) (list : List Ace) (k : Kind) (t : List ℕ)
+    → Border profile (at_flags n list k) t → BeginsSpelling profile t
+from_flags profile n list k t b =
+    longer profile t (word 0) (from_mask profile n list k 0 (t ++ word 0) (flagged n list k 0 t b refl))
+
+-- the bounds of the length of a who
+abbrev pub WhoBounds : Stage → Type 0
+WhoBounds (at_who n list k f m l) = (1 ≤ l) × (l ≤ longest_who)
+WhoBounds _ = Unit {0}
+
+-- a border keeps the bounds of a who
+pub who_bounds : (profile : Profile) (s : Stage) (t : List ℕ) → Border profile s t → WhoBounds s
+who_bounds profile _ _ (measured n list k f m l t b some short) = (some, short)
+who_bounds profile _ _ (named n list k f m w t b is) = tt
+who_bounds profile _ _ start = tt
+who_bounds profile _ _ (counted n le) = tt
+who_bounds profile _ _ (typed n list k t b lt) = tt
+who_bounds profile _ _ (flagged n list k f t b is) = tt
+who_bounds profile _ _ (masked n list k f m t b is light) = tt
+who_bounds profile _ _ (padded n list k f m w t b) = tt
+
+-- a text up to a border begins the spelling of an accepted list
+pub begins : (profile : Profile) (s : Stage) (t : List ℕ) → Border profile s t → BeginsSpelling profile t
+begins profile at_count t b =
+    subst (BeginsSpelling profile) (sym (shape profile at_count t b))
+    (longer profile [] (word 0) (from_kind profile 0 [] (word 0) (counted 0 (omega arith))))
+begins profile (at_kind n list) t b = from_kind profile n list t b
+begins profile (at_flags n list k) t b = from_flags profile n list k t b
+begins profile (at_mask n list k f) t b = from_mask profile n list k f t b
+begins profile (at_len n list k f m) t b = from_len profile n list k f m t b
+begins profile (at_who n list k f m l) t b = let h = who_bounds profile (at_who n list k f m l) t b in
+    from_who profile n list k f m l t h.0 h.1 b
+begins profile (at_padding n list k f m w) t b = from_padding profile n list k f m w t b
+
+-- the bytes before a fault begin the spelling of an accepted list
+pub fault_begins : (profile : Profile) (bytes : List ℕ) (offset : ℕ) (r : Reason) → IsFault profile bytes offset r
+    → BeginsSpelling profile (take offset bytes)
+fault_begins profile bytes offset r fault =
+    let f = fault.1 in
+    subst (BeginsSpelling profile) (sym (ap (take offset) f.parts ∙ take_at f.front f.rest offset f.here))
+    (begins profile f.stage f.front f.border)

@@ -1,0 +1,212 @@
+-- The answer of a feed for the stream so far, and many pieces as one.
+use Rattle.acl_nfs4.proofs.Common.{[], Ace, ap, append-nil, append_assoc, arith, concat, done, drop, Fault, Fed, FedExactly, Feeds, FeedsEach, further, inl, inr, IsCutShort, IsFault, IsFeed, IsProfile, length, length-append, length-take, List, more, no_memory, Profile, Progress, Reason, refl, refused, RefusesStream, SameOrFails, standing, StreamState, subst, sym, take, take-append-drop, together, Truncated, Xdr, ℕ, ◌++◌, ◌+◌, ◌-◌, ◌∙◌, ◌∷◌, ◌≡◌, ◌≤◌}
+use Rattle.acl_nfs4.specs.declared.feed.step.Stage.{Stage}
+use Rattle.acl_nfs4.specs.declared.feed.step.Stage.TheVariants.{Open, Done, Refused}
+use Rattle.acl_nfs4.specs.declared.feed.fed.Fed.TheVariants as fed
+use Rattle.acl_nfs4.proofs.xdr.Body.{one}
+use Rattle.acl_nfs4.proofs.xdr.OneFault.{one_place, value_or_fault}
+use Rattle.acl_nfs4.proofs.feed.Pieces.{done_on, none_taken, refused_on}
+use Rattle.acl_nfs4.proofs.feed.Streaming.{text_short}
+
+-- a text has one fault
+pub same_fault : (p : Profile) (whole : List ℕ) (f : Fault) (o : ℕ) (r : Reason) → IsProfile p
+    → IsFault p whole f.offset f.reason → IsFault p whole o r → f ≡ record { offset = o; reason = r }
+same_fault p whole f o r ok g h = let e = one_place p whole f.offset o f.reason r ok g h in rw (sym e.0, sym e.1) refl
+
+-- a text has one reason to be refused
+pub one_reason : (p : Profile) (whole : List ℕ) (o q : ℕ) (r s : Reason) → IsProfile p → IsFault p whole o r
+    → IsFault p whole q s → r ≡ s
+one_reason p whole o q r s ok f g = (one_place p whole o q r s ok f g).1
+
+whole_is : (s piece : List ℕ) (t : ℕ) → s ++ piece ≡ (s ++ take t piece) ++ drop t piece
+whole_is s piece t = ap (λ (x : List ℕ). s ++ x) (sym (take-append-drop t piece))
+    ∙ sym (append_assoc s (take t piece) (drop t piece))
+
+-- a value that ends in a piece leaves no fault
+ended_or_fault : (p : Profile) (s piece : List ℕ) (t : ℕ) (list : List Ace) (o : ℕ) (r : Reason) → IsProfile p
+    → Xdr p list (s ++ take t piece) → IsFault p (s ++ piece) o r → ⊥
+ended_or_fault p s piece t list o r ok x f = value_or_fault p (s ++ piece) list (s ++ take t piece) (drop t piece) o r
+    ok x (whole_is s piece t) f
+
+refused_exactly : (p : Profile) (s piece : List ℕ) (r : Fault) → IsProfile p → RefusesStream p (s ++ piece) r
+    → FedExactly p (s ++ piece) (length s) (fed.Refused r)
+refused_exactly p s piece r ok (inl m) = record {
+  cut = λ o f. inr (ap (λ (x : Fault). fed.Refused x) m);
+  whole = λ list text rest x e. inr (ap (λ (y : Fault). fed.Refused y) m);
+  fault = λ f g not_cut. inr (ap (λ (x : Fault). fed.Refused x) m);
+}
+refused_exactly p s piece r ok (inr h) = record {
+  cut = λ o f. absurd (h.1 (one_reason p (s ++ piece) r.offset o r.reason Truncated ok h.0 f));
+  whole = λ list text rest x e. absurd (value_or_fault p (s ++ piece) list text rest r.offset r.reason ok x e h.0);
+  fault = λ f g not_cut. inl
+      (ap (λ (x : Fault). fed.Refused x) (same_fault p (s ++ piece) r f.offset f.reason ok h.0 g));
+}
+
+-- the end of the value in the stream, from its end in a piece
+end_is : (p : Profile) (s piece text rest : List ℕ) (t : ℕ) (a b : List Ace) → IsProfile p → t ≤ length piece
+    → Xdr p a (s ++ take t piece) → Xdr p b text → s ++ piece ≡ text ++ rest → t ≡ length text - length s
+end_is p s piece text rest t a b ok le x y e =
+    let w = (one p a b (s ++ take t piece) text (drop t piece) rest ok x y (sym (whole_is s piece t) ∙ e)).1 in
+    omega (arith, ap length w, length-append s (take t piece), length-take t piece, le)
+
+fed_exactly : (p : Profile) (s piece : List ℕ) (answer : Fed) (new : StreamState) → IsProfile p
+    → Feeds (more p s) piece answer new → FedExactly p (s ++ piece) (length s) answer
+fed_exactly p s piece fed.More new ok h = record {
+  cut = λ o f. inl refl;
+  whole = λ list text rest x e. absurd (value_or_fault p (s ++ piece) list text rest h.1.0 Truncated ok x e h.1.1);
+  fault = λ f g not_cut. absurd (not_cut (one_reason p (s ++ piece) f.offset h.1.0 f.reason Truncated ok g h.1.1));
+}
+fed_exactly p s piece (fed.Done t) new ok h = record {
+  cut = λ o f. absurd (ended_or_fault p s piece t h.0 o Truncated ok h.3 f);
+  whole = λ list text rest x e. inl (ap (λ (k : ℕ). fed.Done k) (end_is p s piece text rest t h.0 list ok h.2 h.3 x e));
+  fault = λ f g not_cut. absurd (ended_or_fault p s piece t h.0 f.offset f.reason ok h.3 g);
+}
+fed_exactly p s piece (fed.Refused r) new ok h = refused_exactly p s piece r ok h.1
+
+standing_profile : (p q : Profile) (stage : Stage) (so_far : Progress) (text s : List ℕ) → IsFeed q stage so_far text
+    → standing q stage so_far text ≡ more p s → IsProfile p
+standing_profile p q (Open f) so_far text s is e =
+    let same : q ≡ p = more_profile q p text s e in
+    subst (λ (x : Profile). IsProfile x) same is.profile where
+      more_profile : (q p : Profile) (text s : List ℕ) → more q text ≡ more p s → q ≡ p
+      more_profile q p text s e = cc
+standing_profile p q Done so_far text s is e = absurd cc
+standing_profile p q (Refused f) so_far text s is e = absurd cc
+
+-- the answer of a call of a feed, from its fields before the call
+pub fed_so : (q : Profile) (stage : Stage) (so_far : Progress) (text : List ℕ) (old : StreamState) (piece : List ℕ)
+    (answer : Fed) (new : StreamState) → IsFeed q stage so_far text → standing q stage so_far text ≡ old
+    → Feeds old piece answer new → (p : Profile) (s : List ℕ) → old ≡ more p s
+    → FedExactly p (s ++ piece) (length s) answer
+fed_so q stage so_far text old piece answer new is view h p s e =
+    fed_exactly p s piece answer new (standing_profile p q stage so_far text s is (view ∙ e))
+    (subst (λ (o : StreamState). Feeds o piece answer new) e h)
+
+-- ---- many pieces
+
+apart_list : (p : Profile) (s piece : List ℕ) (t u : ℕ) (a b : List Ace) → IsProfile p → t ≤ length piece
+    → u ≤ length piece → Xdr p a (s ++ take t piece) → Xdr p b (s ++ take u piece) → (a ≡ b) × (t ≡ u)
+apart_list p s piece t u a b ok le lt x y =
+    let w = one p a b (s ++ take t piece) (s ++ take u piece) (drop t piece) (drop u piece) ok x y
+    (sym (whole_is s piece t) ∙ whole_is s piece u) in (
+      w.0,
+      omega (
+        arith,
+        ap length w.1,
+        length-append s (take t piece),
+        length-append s (take u piece),
+        length-take t piece,
+        length-take u piece,
+        le,
+        lt,
+      ),
+    )
+
+abbrev refused_so : Fault → Fed
+refused_so f = fed.Refused f
+
+two_refusals : (p : Profile) (text : List ℕ) (f g : Fault) (x y : StreamState) → IsProfile p → x ≡ refused f
+    → y ≡ refused g → RefusesStream p text f → RefusesStream p text g → SameOrFails (fed.Refused f) x (fed.Refused g) y
+two_refusals p text f g x y ok xe ye (inl m) h = inl (ap refused_so m)
+two_refusals p text f g x y ok xe ye (inr h) (inl m) = inr (inl (ap refused_so m))
+two_refusals p text f g x y ok xe ye (inr h) (inr k) =
+    let e : f ≡ g = same_fault p text f g.offset g.reason ok h.0 k.0 in
+    inr (inr (ap refused_so e, xe ∙ ap (λ (h : Fault). refused h) e ∙ sym ye))
+
+cut_refused : (p : Profile) (text : List ℕ) (f : Fault) → IsProfile p → IsCutShort p text → RefusesStream p text f → f ≡ no_memory
+cut_refused p text f ok cut (inl m) = m
+cut_refused p text f ok cut (inr h) = absurd (h.1 (one_reason p text f.offset cut.0 f.reason Truncated ok h.0 cut.1))
+
+ended_refused : (p : Profile) (s piece : List ℕ) (t : ℕ) (list : List Ace) (f : Fault) → IsProfile p
+    → Xdr p list (s ++ take t piece) → RefusesStream p (s ++ piece) f → f ≡ no_memory
+ended_refused p s piece t list f ok x (inl m) = m
+ended_refused p s piece t list f ok x (inr h) = absurd (ended_or_fault p s piece t list f.offset f.reason ok x h.0)
+
+-- there is one answer to a piece, and one state behind it
+pub one_answer : (p : Profile) (s piece : List ℕ) (a b : Fed) (x y : StreamState) → IsProfile p
+    → Feeds (more p s) piece a x → Feeds (more p s) piece b y → SameOrFails a x b y
+one_answer p s piece fed.More fed.More x y ok h g = inr (inr (refl, h.0 ∙ sym g.0))
+one_answer p s piece fed.More (fed.Done u) x y ok h g = absurd
+    (ended_or_fault p s piece u g.0 h.1.0 Truncated ok g.3 h.1.1)
+one_answer p s piece fed.More (fed.Refused f) x y ok h g = inr
+    (inl (ap refused_so (cut_refused p (s ++ piece) f ok h.1 g.1)))
+one_answer p s piece (fed.Done t) fed.More x y ok h g = absurd
+    (ended_or_fault p s piece t h.0 g.1.0 Truncated ok h.3 g.1.1)
+one_answer p s piece (fed.Done t) (fed.Done u) x y ok h g =
+    let e = apart_list p s piece t u h.0 g.0 ok h.2 g.2 h.3 g.3 in
+    inr (inr (ap (λ (k : ℕ). fed.Done k) e.1, h.1 ∙ ap (λ (l : List Ace). done l) e.0 ∙ sym g.1))
+one_answer p s piece (fed.Done t) (fed.Refused f) x y ok h g = inr
+    (inl (ap refused_so (ended_refused p s piece t h.0 f ok h.3 g.1)))
+one_answer p s piece (fed.Refused f) fed.More x y ok h g = inl (ap refused_so (cut_refused p (s ++ piece) f ok g.1 h.1))
+one_answer p s piece (fed.Refused f) (fed.Done u) x y ok h g = inl
+    (ap refused_so (ended_refused p s piece u g.0 f ok g.3 h.1))
+one_answer p s piece (fed.Refused f) (fed.Refused q) x y ok h g = two_refusals p (s ++ piece) f q x y ok h.0 g.0 h.1 g.1
+
+-- a piece that is taken, and an answer to what follows it
+joins : (p : Profile) (s x y : List ℕ) (a : Fed) (new : StreamState) → Feeds (more p (s ++ x)) y a new
+    → Feeds (more p s) (x ++ y) (further (length x) a) new
+joins p s x y fed.More new h =
+    let e : (s ++ x) ++ y ≡ s ++ (x ++ y) = append_assoc s x y in
+    (h.0 ∙ ap (λ (t : List ℕ). more p t) e, subst (λ (t : List ℕ). IsCutShort p t) e h.1)
+joins p s x y (fed.Done t) new h =
+    let d : Feeds (more p s) (x ++ (y ++ [])) (fed.Done (length x + t)) new = done_on (more p s) (more p (s ++ x)) new
+    x y [] t refl h in
+    subst (λ (z : List ℕ). Feeds (more p s) (x ++ z) (fed.Done (length x + t)) new) (append-nil y) d
+joins p s x y (fed.Refused f) new h =
+    let d : Feeds (more p s) (x ++ (y ++ [])) (fed.Refused f) new = refused_on (more p s) (more p (s ++ x)) new x y []
+    f refl h in
+    subst (λ (z : List ℕ). Feeds (more p s) (x ++ z) (fed.Refused f) new) (append-nil y) d
+
+-- a list and a fault are kept
+done_kept : (list : List Ace) (pieces : List (List ℕ)) (answers : List Fed) (new : StreamState)
+    → FeedsEach (done list) pieces answers new → new ≡ done list
+done_kept list [] [] new h = h
+done_kept list [] (a ∷ answers) new h = absurd h
+done_kept list (x ∷ pieces) [] new h = absurd h
+done_kept list (x ∷ pieces) (fed.More ∷ answers) new h = absurd h.1
+done_kept list (x ∷ pieces) (fed.Done t ∷ answers) new h = done_kept list pieces answers new
+    (subst (λ (n : StreamState). FeedsEach n pieces answers new) h.1.0 h.2)
+done_kept list (x ∷ pieces) (fed.Refused f ∷ answers) new h = absurd h.1
+
+refused_kept : (g : Fault) (pieces : List (List ℕ)) (answers : List Fed) (new : StreamState)
+    → FeedsEach (refused g) pieces answers new → new ≡ refused g
+refused_kept g [] [] new h = h
+refused_kept g [] (a ∷ answers) new h = absurd h
+refused_kept g (x ∷ pieces) [] new h = absurd h
+refused_kept g (x ∷ pieces) (fed.More ∷ answers) new h = absurd h.1
+refused_kept g (x ∷ pieces) (fed.Done t ∷ answers) new h = absurd h.1
+refused_kept g (x ∷ pieces) (fed.Refused f ∷ answers) new h = refused_kept g pieces answers new
+    (subst (λ (n : StreamState). FeedsEach n pieces answers new) h.1.0 h.2)
+
+-- pieces that are fed one after the other are answered as all of them at once
+pub each_is : (p : Profile) (s : List ℕ) (pieces : List (List ℕ)) (answers : List Fed) (new : StreamState) → IsCutShort p s
+    → FeedsEach (more p s) pieces answers new → Feeds (more p s) (concat pieces) (together pieces answers) new
+each_is p s [] [] new cut h =
+    (h ∙ ap (λ (t : List ℕ). more p t) (sym (append-nil s)), subst (λ (t : List ℕ). IsCutShort p t) (sym (append-nil s)) cut)
+each_is p s [] (a ∷ answers) new cut h = absurd h
+each_is p s (x ∷ pieces) [] new cut h = absurd h
+each_is p s (x ∷ pieces) (fed.More ∷ answers) new cut h =
+    let rest = subst (λ (n : StreamState). FeedsEach n pieces answers new) h.1.0 h.2 in
+    joins p s x (concat pieces) (together pieces answers) new (each_is p (s ++ x) pieces answers new h.1.1 rest)
+each_is p s (x ∷ pieces) (fed.Done t ∷ answers) new cut h =
+    let kept : new ≡ done h.1.0 = done_kept h.1.0 pieces answers new
+    (subst (λ (n : StreamState). FeedsEach n pieces answers new) h.1.1 h.2) in
+    let d : Feeds (more p s) x (fed.Done t) new = (h.1.0, kept, h.1.2, h.1.3) in
+    subst (λ (k : ℕ). Feeds (more p s) (x ++ concat pieces) (fed.Done k) new) (omega arith)
+    (done_on (more p s) (more p s) new [] x (concat pieces) t (none_taken (more p s)) d)
+each_is p s (x ∷ pieces) (fed.Refused f ∷ answers) new cut h =
+    let kept : new ≡ refused f = refused_kept f pieces answers new
+    (subst (λ (n : StreamState). FeedsEach n pieces answers new) h.1.0 h.2) in
+    let d : Feeds (more p s) x (fed.Refused f) new = (kept, h.1.1) in
+    refused_on (more p s) (more p s) new [] x (concat pieces) f (none_taken (more p s)) d
+
+-- the empty text is cut short
+pub nothing_cut : (p : Profile) → IsCutShort p []
+nothing_cut p = (0, text_short p [] (λ i. omega arith) (omega arith))
+
+-- the same for a new feed
+pub any_cutting : (p : Profile) (pieces : List (List ℕ)) (answers : List Fed) (new : StreamState) (once : Fed)
+    (now : StreamState) → IsProfile p → FeedsEach (more p []) pieces answers new
+    → Feeds (more p []) (concat pieces) once now → SameOrFails (together pieces answers) new once now
+any_cutting p pieces answers new once now ok h g = one_answer p [] (concat pieces) (together pieces answers) once new
+    now ok (each_is p [] pieces answers new (nothing_cut p) h) g

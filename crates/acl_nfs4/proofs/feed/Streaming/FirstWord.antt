@@ -1,0 +1,89 @@
+-- A stream whose first word is kept apart from the bytes behind it.
+use Rattle.acl_nfs4.proofs.Common.{[], ap, append-nil, append_assoc, arith, cases_lt, drop, drop_all, drop_at, inl, inr, IsBytes, IsText, length, length-append, length-drop, length-take, List, put_mid, refl, same_len_mid, subst, sym, take, take-append-add, take-append-drop, take_all, ℕ, ◌++◌, ◌+◌, ◌-◌, ◌<◌, ◌∙◌, ◌≡◌, ◌≤◌}
+use Rattle.std.proofs.lemmas.Slice.{take-put_mid}
+use Rattle.acl_nfs4.proofs.xdr.Fields.{IsBytes-take, bytes_append}
+
+-- what follows the first word
+pub behind_word : (head body : List ℕ) (filled : ℕ) → IsText head filled body → body ≡ drop 4 (take filled head ++ body)
+behind_word head body filled is =
+    elim (cases_lt filled 4) [
+      | inl few ↦ is.begun few
+          ∙ sym (drop_all 4 (take filled head ++ body)
+          (omega (
+            arith,
+            few,
+            length-append (take filled head) body,
+            length-take filled head,
+            ap length (is.begun few),
+          )))
+      | inr all ↦ sym (drop_at (take filled head) body 4
+          (omega (arith, length-take filled head, is.word, is.inside, all)))
+    ]
+
+-- a cut behind the first word
+pub cut_text : (head body kept : List ℕ) (filled used : ℕ) → kept ≡ take used body → IsText head filled body
+    → IsText head filled kept
+cut_text head body kept filled used e is = record {
+  word = is.word;
+  inside = is.inside;
+  begun = λ few. e ∙ ap (take used) (is.begun few) ∙ take_all used [] (omega arith);
+  bytes =
+      let front : List ℕ = take filled head in
+      let cut : take (length front + used) (front ++ body) ≡ front ++ kept = take-append-add front body used
+      ∙ ap (λ (t : List ℕ). front ++ t) (sym e) in
+      subst (λ (t : List ℕ). IsBytes t) cut (IsBytes-take (length front + used) (front ++ body) is.bytes);
+}
+
+-- the parts of a piece: the bytes that the first word lacks, and the rest
+pub record Extends (head body piece front rest after now : List ℕ) (filled : ℕ) : Type 0 where
+  pub is : IsText after (filled + length front) now
+  pub text : take (filled + length front) after ++ now ≡ (take filled head ++ body) ++ piece
+
+-- a piece that goes on behind the stream so far
+pub extends : (head body piece front rest after now : List ℕ) (filled k n : ℕ) → IsText head filled body
+    → IsBytes piece → n ≤ length piece → n ≤ 4 - filled → (n < 4 - filled → length piece ≤ n)
+    → front ≡ take n piece → rest ≡ drop n piece → k ≡ length front → after ≡ put_mid filled k head front
+    → now ≡ body ++ rest → Extends head body piece front rest after now filled
+extends head body piece front rest after now filled k n is bytes inside small whole fe re ke ae ne =
+    let len : length front ≡ n = omega (arith, ap length fe, length-take n piece, inside) in
+    let room : filled + k ≤ length head = omega (arith, ke, len, small, is.word, is.inside) in
+    let word : take (filled + length front) after ≡ take filled head ++ front =
+    ap (λ (t : List ℕ). take (filled + length front) t) ae
+    ∙ take-put_mid filled k head front (filled + length front) refl (omega (arith, room)) in
+    let all : length after ≡ 4 = ap length ae
+    ∙ same_len_mid filled k head front
+    (omega (arith, length-take k (drop filled head), length-drop filled head, room, ke)) ∙ is.word in
+    let joined : front ++ rest ≡ piece = ap (λ (t : List ℕ). t ++ rest) fe ∙ ap (λ (t : List ℕ). take n piece ++ t) re
+    ∙ take-append-drop n piece in
+    let begun : filled + length front < 4 → now ≡ [] = λ few.
+    let none : rest ≡ [] = re ∙ drop_all n piece (whole (omega (arith, few, len))) in
+    ne ∙ ap (λ (t : List ℕ). t ++ rest) (is.begun (omega (arith, few))) ∙ none in
+    let text : take (filled + length front) after ++ now ≡ (take filled head ++ body) ++ piece =
+    elim (cases_lt filled 4) [
+      | inl few ↦
+          let empty : body ≡ [] = is.begun few in
+          ap (λ (t : List ℕ). t ++ now) word
+          ∙ ap (λ (t : List ℕ). (take filled head ++ front) ++ t) (ne ∙ ap (λ (t : List ℕ). t ++ rest) empty)
+          ∙ append_assoc (take filled head) front rest ∙ ap (λ (t : List ℕ). take filled head ++ t) joined
+          ∙ ap (λ (t : List ℕ). t ++ piece)
+          (sym (append-nil (take filled head)) ∙ ap (λ (t : List ℕ). take filled head ++ t) (sym empty))
+      | inr full ↦
+          let none : front ≡ [] = no_length front (omega (arith, len, small, full)) in
+          ap (λ (t : List ℕ). t ++ now) word ∙ ap (λ (t : List ℕ). (take filled head ++ t) ++ now) none
+          ∙ ap (λ (t : List ℕ). t ++ now) (append-nil (take filled head))
+          ∙ ap (λ (t : List ℕ). take filled head ++ t)
+          (ne ∙ ap (λ (t : List ℕ). body ++ t) (ap (λ (t : List ℕ). t ++ rest) (sym none) ∙ joined))
+          ∙ sym (append_assoc (take filled head) body piece)
+    ] in
+    record {
+      is = record {
+        word = all;
+        inside = omega (arith, len, small, is.inside);
+        begun = begun;
+        bytes = subst (λ (t : List ℕ). IsBytes t) (sym text)
+            (bytes_append (take filled head ++ body) piece is.bytes bytes);
+      };
+      text = text;
+    } where
+      no_length : (l : List ℕ) → length l ≡ 0 → l ≡ []
+      no_length l e = sym (take_all 0 l (omega (arith, e)))

@@ -1,0 +1,4 @@
+pub mod Within
+pub mod Push
+pub mod Weights
+pub mod Ordered

@@ -1,0 +1,2 @@
+pub mod PlainLanes
+pub mod PlainText

@@ -1,0 +1,4 @@
+pub mod AceFields
+pub mod AceJudged
+pub mod AceLines
+pub mod AceWritten

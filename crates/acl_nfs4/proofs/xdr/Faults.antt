@@ -1,0 +1,238 @@
+-- A fault that reading returns is the first fault of the text.
+use Rattle.acl_nfs4.proofs.Common.{[], Ace, ap, append_assoc, arith, Bool, Border, cases_lt, cond, count_of, count_ones, counted, Err, Fault, fault_at, field, flagged, flags_of, Gives, IfErr, inl, inr, IsAce, IsFault, IsOwed, judged, Kind, kind_number, kind_of, le-ltb, length, length-append, List, longest_who, lt-ltb, mask_of, masked, measured, most_weight, named, number, Ok, pad_len, padded, padding_of, piece, Place, Profile, Reason, refl, refuses, replicate, Result, size, Stage, start, subst, suc, sum_by_push, sym, take, Truncated, typed, value_at, weight, who_len_of, who_of, word, word_field, zero, ℕ, ◌++◌, ◌+◌, ◌<◌, ◌>>=◌, ◌∙◌, ◌∷◌, ◌≡◌, ◌≤◌}
+use Rattle.acl_nfs4.specs.internal.Reading.{ace_at, aces_at, read_list}
+use Rattle.acl_nfs4.specs.Fault.Stage.{count as at_count, kind as at_kind, flags as at_flags, mask as at_mask, len as at_len, who as at_who, padding as at_padding}
+use Rattle.acl_nfs4.proofs.xdr.Fields.{IsBytes, Takes, field_takes, word_takes, who_bounds, count_is, kind_is, flags_are, mask_is, who_len_is, who_is}
+use Rattle.acl_nfs4.proofs.xdr.Lists.{ace_takes}
+
+abbrev bad : {A E : Type 0} → E → Result A E
+bad e = Err e
+
+abbrev good : {A : Type 0} → A → Result A Fault
+good x = Ok x
+
+abbrev tail_at : Kind → ℕ → ℕ → ℕ → Place → Result (Ace × Place) Fault
+tail_at k f m l p = do
+  who ← field l who_of p
+  padding ← field (pad_len l) padding_of who.1
+  Ok (record { kind = k; flags = f; mask = m; who = who.0 }, padding.1)
+
+-- the weight with one more ACE
+pub weight-push : (list : List Ace) (a : Ace) → weight list + count_ones a.mask ≡ weight (list ++ a ∷ [])
+weight-push list a = sym (sum_by_push (λ x. count_ones x.mask) list a)
+
+bad_is : {A E : Type 0} (d e : E) → bad {A = A} {E = E} d ≡ bad e → d ≡ e
+bad_is d e h = cc
+
+-- a step that fails, or one that goes on and then fails
+pub bind_fails : {A B E C : Type 0} (r : Result A E) (f : A → Result B E) (e : E) → (r >>= f) ≡ Err e → (r ≡ Err e → C)
+    → ((x : A) → r ≡ Ok x → f x ≡ Err e → C) → C
+bind_fails (Ok x) f e h first later = later x refl h
+bind_fails {A = A} {E = E} (Err d) f e h first later = first (ap (λ (x : E). bad {A = A} x) (bad_is d e h))
+
+-- how far reading has come in a text
+record Carried (bytes t : List ℕ) (p : Place) : Type 0 where
+  pub parts : bytes ≡ t ++ p.rest
+  pub here : length t ≡ p.at
+  pub fits : IsBytes p.rest
+
+Carried-then : (bytes t : List ℕ) (p : Place) (x : List ℕ) (q : Place) → Carried bytes t p → Takes p x q
+    → Carried bytes (t ++ x) q
+Carried-then bytes t p x q c k = record {
+  parts = c.parts ∙ ap (λ (y : List ℕ). t ++ y) k.parts ∙ sym (append_assoc t x q.rest);
+  here = omega (arith, c.here, k.counted, length-append t x);
+  fits = k.bytes;
+}
+
+-- an answer has one fault
+pub err_is : {A : Type 0} (f g : Fault) (r : Result A Fault) → r ≡ Err f → r ≡ Err g → f ≡ g
+err_is f g (Ok x) p q = absurd cc
+err_is f g (Err h) p q = cc
+
+-- a whole field that is refused
+pub judged_err : {A : Type 0} (n : ℕ) (p : Place) (r : Result A Reason) (f : Fault) → judged n p r ≡ Err f
+    → (d : Reason) × (r ≡ Err d) × (fault_at p d ≡ f)
+judged_err n p (Ok x) f e = absurd cc
+judged_err n p (Err d) f e = (d, refl, cc)
+
+-- the next field is the one that fails
+here : {A : Type 0} (profile : Profile) (bytes t : List ℕ) (p : Place) (s : Stage) (value : List ℕ → Result A Reason)
+    (f : Fault) → Carried bytes t p → Border profile s t → IsOwed s
+    → ((r : Reason) → refuses profile s (take (size s) p.rest) r → 0 < size s)
+    → ((r : Reason) → value (take (size s) p.rest) ≡ Err r → refuses profile s (take (size s) p.rest) r)
+    → field (size s) value p ≡ Err f → IsFault profile bytes f.offset f.reason
+here profile bytes t p s value f c b owed some means e =
+    elim (cases_lt (length p.rest) (size s)) [
+      | inl short ↦
+          let h : Err (fault_at p Truncated) ≡ Err f =
+          sym (ap (λ (x : Bool). cond x (Err (fault_at p Truncated))
+          (judged (size s) p (value (take (size s) p.rest)))) (lt-ltb _ _ short)) ∙ e in
+          let same : fault_at p Truncated ≡ f = cc in
+          subst (λ (g : Fault). IsFault profile bytes g.offset g.reason) same (
+            p.at + length p.rest,
+            record {
+              stage = s;
+              front = t;
+              rest = p.rest;
+              more = length p.rest;
+              parts = c.parts;
+              border = b;
+              here = c.here;
+              owed = owed;
+              some = omega arith;
+              breaks = inl (short, refl, refl);
+              ends = refl;
+            },
+          )
+      | inr whole ↦
+          let h : judged (size s) p (value (take (size s) p.rest)) ≡ Err f =
+          sym (ap (λ (x : Bool). cond x (Err (fault_at p Truncated))
+          (judged (size s) p (value (take (size s) p.rest)))) (le-ltb _ _ whole)) ∙ e in
+          let j = judged_err (size s) p (value (take (size s) p.rest)) f h in
+          let m = means j.0 j.1 in
+          subst (λ (g : Fault). IsFault profile bytes g.offset g.reason) j.2 (
+            p.at + size s,
+            record {
+              stage = s;
+              front = t;
+              rest = p.rest;
+              more = size s;
+              parts = c.parts;
+              border = b;
+              here = c.here;
+              owed = owed;
+              some = some j.0 m;
+              breaks = inr (whole, refl, m);
+              ends = refl;
+            },
+          )
+    ]
+
+-- a padding of no bytes is never refused
+padding_some : (n : ℕ) (bytes : List ℕ) (r : Reason) → padding_of (take n bytes) ≡ Err r → 0 < n
+padding_some zero bytes r e = absurd cc
+padding_some (suc n) bytes r e = omega arith
+
+some_word : (r : Reason) → 0 < 4
+some_word r = omega arith
+
+-- the fields behind a text, one by one and together
+pub regroup : (t a b c d e f : List ℕ)
+    → ((((((t ++ a) ++ b) ++ c) ++ d) ++ e) ++ f) ≡ t ++ (((((a ++ b) ++ c) ++ d) ++ e) ++ f)
+regroup t a b c d e f = simp append_assoc
+
+-- behind a whole ACE the text is at a border again
+pub border_after : (profile : Profile) (n : ℕ) (list : List Ace) (t : List ℕ) (a : Ace)
+    → Border profile (at_kind n list) t → length list < n → IsAce profile a
+    → weight list + count_ones a.mask ≤ most_weight
+    → Border profile (at_kind n (list ++ a ∷ [])) (t ++ piece a)
+border_after profile n list t a b lt is light =
+    let bounds = who_bounds a.who is.who in
+    let b1 = typed n list a.kind t b lt in
+    let b2 = flagged n list a.kind a.flags _ b1 is.flags in
+    let b3 = masked n list a.kind a.flags a.mask _ b2 is.mask light in
+    let b4 = measured n list a.kind a.flags a.mask (length a.who) _ b3 bounds.0 bounds.1 in
+    let b5 = named n list a.kind a.flags a.mask a.who _ b4 is.who in
+    let b6 = padded n list a.kind a.flags a.mask a.who _ b5 in
+    subst (λ (x : List ℕ). Border profile (at_kind n (list ++ a ∷ [])) x)
+    (regroup t (word (kind_number a.kind)) (word a.flags) (word a.mask) (word (length a.who)) a.who
+    (replicate (pad_len (length a.who)) 0)) b6
+
+ok_no_err : {A : Type 0} (x : A) (f : Fault) → good x ≡ bad f → ⊥
+ok_no_err x f e = cc
+
+-- a fault in the who or the padding
+tail_fails : (profile : Profile) (bytes : List ℕ) (n : ℕ) (list : List Ace) (k : Kind) (f m l : ℕ) (t : List ℕ)
+    (p : Place) (fault : Fault) → Carried bytes t p → Border profile (at_who n list k f m l) t → 1 ≤ l → l ≤ longest_who
+    → tail_at k f m l p ≡ Err fault → IsFault profile bytes fault.offset fault.reason
+tail_fails profile bytes n list k f m l t p fault c b some short e =
+    bind_fails (field l who_of p) _ fault e (λ h. here profile bytes t p (at_who n list k f m l) who_of fault c b tt
+    (λ r _. some) (λ r m. m) h) (λ w we wr.
+    let wt = field_takes l who_of p w c.fits we in
+    let wi = who_is (take l p.rest) w.0 wt.0 in
+    let len : length w.0 ≡ l = omega (arith, ap length wi.0, wt.1) in
+    let cw = Carried-then bytes t p w.0 w.1 c (subst (λ (x : List ℕ). Takes p x w.1) wi.0 wt.2) in
+    let bw = named n list k f m w.0 t (subst (λ (x : ℕ). Border profile (at_who n list k f m x) t) (sym len) b) wi.1 in
+    bind_fails (field (pad_len l) padding_of w.1) _ fault wr
+    (λ h. here profile bytes (t ++ w.0) w.1 (at_padding n list k f m w.0) padding_of fault cw bw tt
+    (λ r m. padding_some (pad_len (length w.0)) w.1.rest r m) (λ r m. m)
+    (subst (λ (x : ℕ). field (pad_len x) padding_of w.1 ≡ Err fault) (sym len) h))
+    (λ z ze zr. absurd (ok_no_err _ fault zr)))
+
+-- a fault in an ACE
+ace_fails : (profile : Profile) (bytes : List ℕ) (n : ℕ) (list : List Ace) (t : List ℕ) (p : Place) (fault : Fault)
+    → Carried bytes t p → Border profile (at_kind n list) t → length list < n
+    → ace_at profile (weight list) p ≡ Err fault → IsFault profile bytes fault.offset fault.reason
+unfolding ace_at
+ace_fails profile bytes n list t p fault c b lt e =
+    bind_fails (word_field kind_of p) _ fault e (λ h. here profile bytes t p (at_kind n list) (λ x. kind_of (number x))
+    fault c b lt (λ r _. some_word r) (λ r m. m) h) (λ k ke kr.
+    let kt = word_takes kind_of p k c.fits ke in
+    let ck = Carried-then bytes t p (word (kind_number k.0)) k.1 c
+    (subst (λ (x : ℕ). Takes p (word x) k.1) (kind_is kt.0 k.0 kt.1) kt.2) in
+    let bk = typed n list k.0 t b lt in
+    bind_fails (word_field (flags_of profile) k.1) _ fault kr
+    (λ h. here profile bytes _ k.1 (at_flags n list k.0) (λ x. flags_of profile (number x)) fault ck bk tt
+    (λ r _. some_word r) (λ r m. m) h) (λ f fe fr.
+    let ft = word_takes (flags_of profile) k.1 f ck.fits fe in
+    let fi = flags_are profile ft.0 f.0 ft.1 in
+    let cf = Carried-then bytes _ k.1 (word f.0) f.1 ck (subst (λ (x : ℕ). Takes k.1 (word x) f.1) fi.0 ft.2) in
+    let bf = flagged n list k.0 f.0 _ bk fi.1 in
+    bind_fails (word_field (mask_of profile (weight list)) f.1) _ fault fr
+    (λ h. here profile bytes _ f.1 (at_mask n list k.0 f.0) (λ x. mask_of profile (weight list) (number x)) fault cf
+    bf tt (λ r _. some_word r) (λ r m. m) h) (λ m me mr.
+    let mt = word_takes (mask_of profile (weight list)) f.1 m cf.fits me in
+    let mi = mask_is profile (weight list) mt.0 m.0 mt.1 in
+    let cm = Carried-then bytes _ f.1 (word m.0) m.1 cf (subst (λ (x : ℕ). Takes f.1 (word x) m.1) mi.0 mt.2) in
+    let bm = masked n list k.0 f.0 m.0 _ bf mi.1 mi.2 in
+    bind_fails (word_field who_len_of m.1) _ fault mr (λ h.
+    here profile bytes _ m.1 (at_len n list k.0 f.0 m.0) (λ x. who_len_of (number x)) fault cm bm tt
+    (λ r _. some_word r) (λ r m. m) h) (λ l le lr.
+    let lt' = word_takes who_len_of m.1 l cm.fits le in
+    let li = who_len_is lt'.0 l.0 lt'.1 in
+    let cl = Carried-then bytes _ m.1 (word l.0) l.1 cm (subst (λ (x : ℕ). Takes m.1 (word x) l.1) li.0 lt'.2) in
+    let bl = measured n list k.0 f.0 m.0 l.0 _ bm li.1 li.2 in
+    tail_fails profile bytes n list k.0 f.0 m.0 l.0 _ l.1 fault cl bl li.1 li.2 lr))))
+
+-- a fault in the list, from any place on
+aces_fail : (profile : Profile) (todo : ℕ) (bytes : List ℕ) (n : ℕ) (list : List Ace) (t : List ℕ) (p : Place)
+    (fault : Fault) → Carried bytes t p → Border profile (at_kind n list) t → length list + todo ≡ n
+    → aces_at profile todo (weight list) p ≡ Err fault → IsFault profile bytes fault.offset fault.reason
+unfolding aces_at
+aces_fail profile zero bytes n list t p fault c b e h = absurd (ok_no_err _ fault h)
+aces_fail profile (suc todo) bytes n list t p fault c b e h =
+    bind_fails (ace_at profile (weight list) p) _ fault h
+    (λ a. ace_fails profile bytes n list t p fault c b (omega arith) a) (λ a ae ar.
+    let at = ace_takes profile (weight list) p a c.fits ae in
+    let ca = Carried-then bytes t p (piece a.0) a.1 c at.takes in
+    let ba = border_after profile n list t a.0 b (omega arith) at.is at.light in
+    let w : weight list + count_ones a.0.mask ≡ weight (list ++ a.0 ∷ []) = weight-push list a.0 in
+    bind_fails (aces_at profile todo (weight list + count_ones a.0.mask) a.1) _ fault ar
+    (λ d. aces_fail profile todo bytes n (list ++ a.0 ∷ []) (t ++ piece a.0) a.1 fault ca ba
+    (omega (arith, e, length-append list (a.0 ∷ [])))
+    (subst (λ (x : ℕ). aces_at profile todo x a.1 ≡ Err fault) w d))
+    (λ o oe or. absurd (ok_no_err _ fault or)))
+
+-- a fault that reading returns is the first fault of the text
+pub fault_is : (profile : Profile) (bytes : List ℕ) (fault : Fault) → IsBytes bytes → value_at profile bytes ≡ Err fault
+    → IsFault profile bytes fault.offset fault.reason
+unfolding read_list
+fault_is profile bytes fault fits e =
+    let c : Carried bytes [] (record { at = 0; rest = bytes }) = record { parts = refl; here = refl; fits = fits } in
+    bind_fails (read_list profile bytes) _ fault e
+    (λ r. bind_fails (word_field count_of (record { at = 0; rest = bytes })) _ fault r
+    (λ h. here profile bytes [] (record { at = 0; rest = bytes }) at_count (λ x. count_of (number x)) fault c start tt
+    (λ r _. some_word r) (λ r m. m) h)
+    (λ n ne nr.
+    let t = word_takes count_of (record { at = 0; rest = bytes }) n fits ne in
+    let ci = count_is t.0 n.0 t.1 in
+    let cn = Carried-then bytes [] (record { at = 0; rest = bytes }) (word n.0) n.1 c
+    (subst (λ (x : ℕ). Takes (record { at = 0; rest = bytes }) (word x) n.1) ci.0 t.2) in
+    aces_fail profile n.0 bytes n.0 [] (word n.0) n.1 fault cn (counted n.0 ci.1) (omega arith) nr))
+    (λ x xe xr. absurd (ok_no_err _ fault xr))
+
+-- the fault that is returned is a fault of the bytes
+pub is_fault : (profile : Profile) (bytes : List ℕ) (r : Result (List Ace × ℕ) Fault) → IsBytes bytes
+    → Gives (λ x. (x.0, x.1)) r (value_at profile bytes) → IfErr r (λ f. IsFault profile bytes f.offset f.reason)
+is_fault profile bytes (Ok x) fits given = tt
+is_fault profile bytes (Err f) fits given = fault_is profile bytes f fits given

@@ -1,0 +1,267 @@
+-- A field that is read is the field that was written, and what was written is read again.
+use Rattle.acl_nfs4.proofs.Common.{[], Allow, and_true, ap, append_assoc, arith, be_bytes_4, bit_and, Bool, cases_lt, cond, count_of, count_ones, Deny, drop, drop_at, eq-eqb, eqb, eqb-true, Err, false, fault_at, field, flags_of, from_be_bytes-to_be_bytes_4, get_or, get_or-append_right, get_or-drop, get_or-take, get_or_append_left, get_or_past, inl, inr, is_no_who_len, is_within, IsWho, IsWithin, judged, Kind, kind_number, kind_of, le-ltb, length, length-append, length-take, List, list_all, longest_who, ltb, ltb-false, mask_of, most_aces, most_weight, moved, None, not, number, Ok, Option, option_map, or_from, or_parts, padding_of, Place, Profile, Reason, refl, replicate, Result, Some, subst, suc, sym, take, take-append-drop, take_at, true, Truncated, unless, who_fault, who_len_of, who_of, who_reason, WhoFault, word, word_field, zero, ℕ, ◌++◌, ◌+◌, ◌-◌, ◌<◌, ◌>>=◌, ◌^◌, ◌∙◌, ◌∷◌, ◌≡◌, ◌≤◌}
+
+-- numbers that are bytes
+abbrev pub IsBytes : List ℕ → Type 0
+IsBytes bytes = (i : ℕ) → get_or bytes i 0 < 256
+
+-- the numbers behind some bytes are bytes
+pub IsBytes-drop : (n : ℕ) (bytes : List ℕ) → IsBytes bytes → IsBytes (drop n bytes)
+IsBytes-drop n bytes h i = rw get_or-drop (h (n + i))
+
+-- the first of some bytes are bytes
+pub IsBytes-take : (n : ℕ) (bytes : List ℕ) → IsBytes bytes → IsBytes (take n bytes)
+IsBytes-take n bytes h i =
+    elim (cases_lt i n) [
+      | inl lt ↦ rw (get_or-take n bytes i 0 lt) (h i)
+      | inr le ↦ rw (get_or_past (take n bytes) i 0 (omega (arith, length-take n bytes))) (omega arith)
+    ]
+
+-- bytes behind bytes
+pub bytes_append : (a b : List ℕ) → IsBytes a → IsBytes b → IsBytes (a ++ b)
+bytes_append a b f g i =
+    elim (cases_lt i (length a)) [
+      | inl lt ↦ rw (get_or_append_left a b 0 i lt) (f i)
+      | inr le ↦ rw (get_or-append_right a b (length a) i 0 refl le) (g (i - length a))
+    ]
+
+-- the front of a list, by the length of the rest
+pub front_is : (whole front back : List ℕ) → whole ≡ front ++ back → take (length whole - length back) whole ≡ front
+front_is whole front back e =
+    let n : length whole - length back ≡ length front = omega (arith, ap length e, length-append front back) in
+    ap (λ (k : ℕ). take k whole) n ∙ ap (take (length front)) e ∙ take_at front back (length front) refl
+
+-- the value of a step that did not fail, where what follows is shown for each value: the value is then a variable,
+-- and goals stay short
+pub bind_then : {A B E C : Type 0} (r : Result A E) (f : A → Result B E) (y : B) → (r >>= f) ≡ Ok y
+    → ((x : A) → r ≡ Ok x → f x ≡ Ok y → C) → C
+bind_then (Ok x) f y e go = go x refl e
+bind_then (Err d) f y e go = absurd cc
+
+-- a step that is known not to fail
+pub goes_to : {A B E : Type 0} (r : Result A E) (f : A → Result B E) (x : A) → r ≡ Ok x → (r >>= f) ≡ f x
+goes_to {A = A} {E = E} r f x e = ap (λ (s : Result A E). s >>= f) e
+
+-- a test that did not fail
+pub guard_ok : {A E : Type 0} (b : Bool) (d : E) (r : Result A E) (y : A) → cond b (Err d) r ≡ Ok y
+    → (b ≡ false) × (r ≡ Ok y)
+guard_ok true d r y e = absurd cc
+guard_ok false d r y e = (refl, e)
+
+guard_then : {A E : Type 0} (b : Bool) (x : A) (d : E) (y : A) → cond b (Ok x) (Err d) ≡ Ok y → b ≡ true
+guard_then true x d y e = refl
+guard_then false x d y e = absurd cc
+
+abbrev ok : {A E : Type 0} → A → Result A E
+ok x = Ok x
+
+-- the same answer has the same value
+pub ok_is : {A E : Type 0} (x y : A) → ok {A = A} {E = E} x ≡ ok y → x ≡ y
+ok_is x y e = cc
+
+-- what reading took from the front
+pub record Takes (p : Place) (text : List ℕ) (q : Place) : Type 0 where
+  pub parts : p.rest ≡ text ++ q.rest
+  pub counted : q.at ≡ p.at + length text
+  pub bytes : IsBytes q.rest
+
+-- what two steps took
+pub Takes-then : (p : Place) (x : List ℕ) (q : Place) (y : List ℕ) (r : Place) → Takes p x q → Takes q y r
+    → Takes p (x ++ y) r
+Takes-then p x q y r s t = record {
+  parts = s.parts ∙ ap (λ (z : List ℕ). x ++ z) t.parts ∙ sym (append_assoc x y r.rest);
+  counted = omega (arith, s.counted, t.counted, length-append x y);
+  bytes = t.bytes;
+}
+
+-- ---- any field
+
+-- a whole field that is accepted
+pub judged_ok : {A : Type 0} (n : ℕ) (p : Place) (r : Result A Reason) (x : A × Place) → judged n p r ≡ Ok x
+    → (r ≡ Ok x.0) × (moved n p ≡ x.1)
+judged_ok n p (Ok y) x e = let h : (y, moved n p) ≡ x = ok_is _ _ e in (ap (λ z. Ok z.0) h, ap (λ z. z.1) h)
+judged_ok n p (Err d) x e = absurd cc
+
+-- a field that was read
+pub field_takes : {A : Type 0} (n : ℕ) (value : List ℕ → Result A Reason) (p : Place) (x : A × Place) → IsBytes p.rest
+    → field n value p ≡ Ok x
+    → (value (take n p.rest) ≡ Ok x.0) × (length (take n p.rest) ≡ n) × Takes p (take n p.rest) x.1
+field_takes n value p x fits e =
+    let g = guard_ok (ltb (length p.rest) n) (fault_at p Truncated) (judged n p (value (take n p.rest))) x e in
+    let j = judged_ok n p (value (take n p.rest)) x g.1 in
+    let long : n ≤ length p.rest = ltb-false _ _ g.0 in
+    let len : length (take n p.rest) ≡ n = omega (arith, length-take n p.rest) in
+    let made : Takes p (take n p.rest) (moved n p) =
+    record {
+      parts = sym (take-append-drop n p.rest);
+      counted = omega (arith, len);
+      bytes = IsBytes-drop n p.rest fits;
+    } in
+    (j.0, len, subst (λ (q : Place). Takes p (take n p.rest) q) j.1 made)
+
+-- a field that was written is read again
+pub field_again : {A : Type 0} (n : ℕ) (value : List ℕ → Result A Reason) (at : ℕ) (text rest : List ℕ) (x : A)
+    → length text ≡ n → value text ≡ Ok x
+    → field n value (record { at = at; rest = text ++ rest }) ≡ Ok (x, record { at = at + n; rest = rest })
+field_again n value at text rest x len e =
+    let long : ltb (length (text ++ rest)) n ≡ false = le-ltb _ _ (omega (arith, length-append text rest)) in
+    rw (long, take_at text rest n len, e, drop_at text rest n len) refl
+
+-- ---- words
+
+-- a word that was read
+pub word_takes : {A : Type 0} (value : ℕ → Result A Reason) (p : Place) (x : A × Place) → IsBytes p.rest
+    → word_field value p ≡ Ok x
+    → (n : ℕ) × (value n ≡ Ok x.0) × Takes p (word n) x.1 × (n < 2 ^ 32)
+word_takes value p x fits e =
+    let t = field_takes 4 (λ bytes. value (number bytes)) p x fits e in
+    let front : word (number (take 4 p.rest)) ≡ take 4 p.rest =
+    be_bytes_4 (take 4 p.rest) _ t.1 (IsBytes-take 4 p.rest fits) refl in
+    let b = IsBytes-take 4 p.rest fits in (
+      number (take 4 p.rest),
+      t.0,
+      subst (λ (w : List ℕ). Takes p w x.1) (sym front) t.2,
+      omega (arith, b 0, b 1, b 2, b 3),
+    )
+
+-- a word that was written is read again
+pub word_again : {A : Type 0} (value : ℕ → Result A Reason) (at n : ℕ) (rest : List ℕ) (x : A) → n < 2 ^ 32
+    → value n ≡ Ok x
+    → word_field value (record { at = at; rest = word n ++ rest }) ≡ Ok (x, record { at = at + 4; rest = rest })
+word_again value at n rest x lt e =
+    field_again 4 (λ bytes. value (number bytes)) at (word n) rest x refl
+    (ap value (from_be_bytes-to_be_bytes_4 n lt) ∙ e)
+
+-- ---- what each field accepts
+
+-- the number of ACEs
+pub count_is : (n m : ℕ) → count_of n ≡ Ok m → (n ≡ m) × (m ≤ most_aces)
+count_is n m e =
+    let g = guard_ok (ltb most_aces n) _ _ m e in
+    let le : n ≤ most_aces = ltb-false _ _ g.0 in
+    let same : n ≡ m = ok_is n m g.1 in
+    (same, omega arith)
+
+-- a number of ACEs within the limit is accepted
+pub count_again : (n : ℕ) → n ≤ most_aces → count_of n ≡ Ok n
+count_again n le = rw (le-ltb most_aces n le) refl
+
+-- the type that was read is the one of its number
+pub kind_is : (n : ℕ) (k : Kind) → kind_of n ≡ Ok k → n ≡ kind_number k
+kind_is n Allow e = grind arith
+kind_is n Deny e = grind arith
+
+-- each type is accepted
+pub kind_again : (k : Kind) → kind_of (kind_number k) ≡ Ok k
+kind_again Allow = refl
+kind_again Deny = refl
+
+-- a type is a word
+pub kind_lt : (k : Kind) → kind_number k < 2 ^ 32
+kind_lt Allow = omega arith
+kind_lt Deny = omega arith
+
+-- flags that were read are ones of the profile
+pub flags_are : (profile : Profile) (n m : ℕ) → flags_of profile n ≡ Ok m → (n ≡ m) × IsWithin profile.flags m
+flags_are profile n m e =
+    let b : is_within profile.flags n ≡ true = guard_then (is_within profile.flags n) n _ m e in
+    let same : n ≡ m = ok_is n m (rw b at e) in
+    (same, subst (IsWithin profile.flags) same (eqb-true _ _ b))
+
+-- flags of the profile are accepted
+pub flags_again : (profile : Profile) (n : ℕ) → IsWithin profile.flags n → flags_of profile n ≡ Ok n
+flags_again profile n within = rw (eq-eqb (bit_and n profile.flags) n within) refl
+
+not_false : (b : Bool) → not b ≡ false → b ≡ true
+not_false true e = refl
+not_false false e = absurd cc
+
+-- a mask that was read is one of the profile, and light enough
+pub mask_is : (profile : Profile) (weight n m : ℕ) → mask_of profile weight n ≡ Ok m
+    → (n ≡ m) × IsWithin profile.masks m × (weight + count_ones m ≤ most_weight)
+mask_is profile weight n m e =
+    let g = guard_ok (not (is_within profile.masks n)) _ _ m e in
+    let h = guard_ok (ltb most_weight (weight + count_ones n)) _ _ m g.1 in
+    let light : weight + count_ones n ≤ most_weight = ltb-false _ _ h.0 in
+    let within : IsWithin profile.masks n = eqb-true _ _ (not_false _ g.0) in
+    let same : n ≡ m = ok_is n m h.1 in (
+      same,
+      subst (IsWithin profile.masks) same within,
+      subst (λ (k : ℕ). weight + count_ones k ≤ most_weight) same light,
+    )
+
+-- a mask of the profile that is light enough is accepted
+pub mask_again : (profile : Profile) (weight n : ℕ) → IsWithin profile.masks n → weight + count_ones n ≤ most_weight
+    → mask_of profile weight n ≡ Ok n
+mask_again profile weight n within light =
+    rw (eq-eqb (bit_and n profile.masks) n within, le-ltb most_weight (weight + count_ones n) light) refl
+
+-- a number of bytes that some who has
+pub len_bounds : (n : ℕ) → is_no_who_len n ≡ false → (1 ≤ n) × (n ≤ longest_who)
+len_bounds n e =
+    let b = or_parts (eqb n 0) (ltb longest_who n) e in
+    let some : 1 ≤ n = grind (arith, b.0) in
+    let short : n ≤ longest_who = ltb-false _ _ b.1 in
+    (some, short)
+
+-- a length that was read is one that a who may have
+pub who_len_is : (n m : ℕ) → who_len_of n ≡ Ok m → (n ≡ m) × (1 ≤ m) × (m ≤ longest_who)
+who_len_is n m e =
+    let g = guard_ok (is_no_who_len n) _ _ m e in
+    let same : n ≡ m = ok_is n m g.1 in
+    let b = len_bounds n g.0 in
+    (same, omega (arith, same, b.0), omega (arith, same, b.1))
+
+-- a length that is accepted is one that a who may have
+pub who_len_some : (n m : ℕ) → who_len_of n ≡ Ok m → is_no_who_len m ≡ false
+who_len_some n m e =
+    subst (λ (z : ℕ). is_no_who_len z ≡ false) (who_len_is n m e).0 (guard_ok (is_no_who_len n) _ _ m e).0
+
+-- a length that a who may have is accepted
+pub who_len_again : (n : ℕ) → 1 ≤ n → n ≤ longest_who → who_len_of n ≡ Ok n
+who_len_again n some short =
+    let b : is_no_who_len n ≡ false =
+    or_from (eqb n 0) (ltb longest_who n) (grind arith) (le-ltb longest_who n short) in
+    rw b refl
+
+-- a test that passed
+passes : {A : Type 0} (b : Bool) (x : A) (r : Option A) → cond b (Some x) r ≡ None → b ≡ false
+passes true x r e = absurd cc
+passes false x r e = refl
+
+-- how many bytes a who has
+pub who_bounds : (who : List ℕ) → IsWho who → (1 ≤ length who) × (length who ≤ longest_who)
+who_bounds who is = len_bounds (length who) (passes (is_no_who_len (length who)) _ _ is)
+
+taken_is : (fault : Option WhoFault) (bytes who : List ℕ) → unless (option_map who_reason fault) bytes ≡ Ok who
+    → (bytes ≡ who) × (fault ≡ None)
+taken_is None bytes who e = (ok_is bytes who e, refl)
+taken_is (Some f) bytes who e = absurd cc
+
+-- bytes that were read as a who are one
+pub who_is : (bytes who : List ℕ) → who_of bytes ≡ Ok who → (bytes ≡ who) × IsWho who
+who_is bytes who e = let h = taken_is (who_fault bytes) bytes who e in (h.0, subst IsWho h.0 h.1)
+
+-- a who is accepted
+pub who_again : (who : List ℕ) → IsWho who → who_of who ≡ Ok who
+who_again who is = rw is refl
+
+zeros : (bytes : List ℕ) → list_all (λ b. eqb b 0) bytes ≡ true → bytes ≡ replicate (length bytes) 0
+zeros [] e = refl
+zeros (b ∷ bytes) e =
+    let h = and_true (eqb b 0) (list_all (λ b. eqb b 0) bytes) e in
+    let first : b ≡ 0 = eqb-true _ _ h.0 in
+    let others : bytes ≡ replicate (length bytes) 0 = zeros bytes h.1 in
+    cc
+
+-- padding that was read is zero
+pub padding_is : (bytes : List ℕ) (x : Unit {0}) → padding_of bytes ≡ Ok x → bytes ≡ replicate (length bytes) 0
+padding_is bytes x e = zeros bytes (guard_then (list_all (λ b. eqb b 0) bytes) _ _ x e)
+
+zeros_again : (n : ℕ) → list_all (λ b. eqb b 0) (replicate n 0) ≡ true
+zeros_again zero = refl
+zeros_again (suc n) = zeros_again n
+
+-- zero bytes are accepted
+pub padding_again : (n : ℕ) → padding_of (replicate n 0) ≡ Ok tt
+padding_again n = rw (zeros_again n) refl

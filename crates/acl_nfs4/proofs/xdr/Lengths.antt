@@ -1,0 +1,36 @@
+-- The number of bytes of an accepted list is limited.
+use Rattle.acl_nfs4.proofs.Common.{[], Ace, aces_of, AllByRecursion, ap, arith, flat_map, IsAccepted, IsAce, IsList, length, length-append, length-replicate, List, pad_len, piece, Profile, replicate, spelling, word, ℕ, ◌*◌, ◌+◌, ◌<◌, ◌^◌, ◌∷◌, ◌≡◌, ◌≤◌}
+use Rattle.acl_nfs4.proofs.xdr.Fields.{who_bounds}
+
+-- the piece of an ACE
+ace_short : (p : Profile) (a : Ace) → IsAce p a → length (piece a) ≤ 1044
+ace_short p a is = omega (
+  arith,
+  length-append a.who (replicate (pad_len (length a.who)) 0),
+  length-replicate {A = ℕ} (pad_len (length a.who)) 0,
+  (who_bounds a.who is.who).1,
+)
+
+-- the pieces of a list
+pieces_short : (p : Profile) (list : List Ace) → AllByRecursion (IsAce p) list
+    → length (flat_map piece list) ≤ 1044 * length list
+pieces_short p [] each = omega arith
+pieces_short p (a ∷ list) each = omega (
+  arith,
+  length-append (piece a) (flat_map piece list),
+  ace_short p a each.0,
+  pieces_short p list each.1,
+)
+
+-- a spelling has less than 2 ^ 31 bytes
+pub spelling_short : (p : Profile) (list : List Ace) → IsAccepted p list → length (spelling list) < 2 ^ 31
+spelling_short p list is = omega (arith, pieces_short p list is.each, is.count)
+
+-- the bytes of a list, with the word of its length before them
+pub list_len : (count : ℕ) (body : List ℕ) → IsList count body
+    → 4 + length body ≡ length (spelling (aces_of count body))
+list_len count body is = omega (
+  arith,
+  ap length is.body.spells.spelled,
+  length-append (word (length (aces_of count body))) (flat_map piece (aces_of count body)),
+)

@@ -1,0 +1,19 @@
+-- What programs make of the bytes or of the text of a list, defined once for all of them (this library's own, over RFC
+-- 8881, section 6.2.1).
+use Rattle.std.specs.Prelude.{◌≡◌, ℕ, List}
+use Rattle.acl_perm.specs.Profile.{Profile}
+use Rattle.acl_nfs4.specs.Ace.{Ace}
+use Rattle.acl_nfs4.specs.AceText.{IsAceText}
+use Rattle.acl_nfs4.specs.Spelling.{Xdr, spelling}
+
+-- the input is one accepted list of the profile and nothing more, and this text is made of that list
+pub record MakesText (p : Profile) (made : List Ace → List ℕ) (input text : List ℕ) : Type 0 where
+  pub list : List Ace
+  pub spelled : Xdr p list input
+  pub is : text ≡ made list
+
+-- the input is the text of a list of the profile, and these are the bytes that spell that list
+pub record Encodes (p : Profile) (input bytes : List ℕ) : Type 0 where
+  pub list : List Ace
+  pub read : IsAceText p list input
+  pub is : bytes ≡ spelling list

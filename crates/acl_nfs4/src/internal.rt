@@ -1,0 +1,3 @@
+//! What the crates of this repository share. It is no promise to other users, and may change or go without notice.
+
+pub use crate::text::shown::rights_text;

@@ -1,0 +1,31 @@
+use Rattle.acl_normal.proofs.Common.{arith, principal, sym, ◌∙◌}
+use Rattle.acl_normal.proofs.rows.Publics.{NoneFree, none_free_yet, none_free_absent, none_free_more, free_there, free_nowhere}
+use Rattle.acl_normal.proofs.unique.Bits.{past_absent}
+use Rattle.acl_normal.proofs.merged.MergedRows.is_free.Goals as goal
+
+pub loop-right-init : goal.loop-right-init
+loop-right-init c = (none_free_yet c.args.self.now (principal c.args.p) c.args.bits.bits, omega arith)
+
+pub returns-then-is_free_at : goal.returns-then-is_free_at
+returns-then-is_free_at c =
+    free_there c.args.self.now (principal c.args.p) c.args.bits.bits c.in-Some.right.bit c.in-Some.ensures.some.has
+    (sym c.is_free_at.ensures ∙ c.if-is_free_at.true)
+
+pub loop-right-preserved : goal.loop-right-preserved
+loop-right-preserved c =
+    let next = c.in-Some.ensures.some in (
+      none_free_more c.args.self.now (principal c.args.p) c.args.bits.bits c.in-Some.right.bit
+          (past_absent (NoneFree c.args.self.now (principal c.args.p) c.args.bits.bits) c.args.bits.bits
+          c.loop-right.from c.in-Some.right.bit
+          (none_free_absent c.args.self.now (principal c.args.p) c.args.bits.bits) next.above next.lacks
+          c.loop-right.invariant.0)
+          (λ has. sym c.is_free_at.ensures ∙ c.if-is_free_at.false),
+      omega (arith, c.in-Some.right.within),
+    )
+
+pub returns : goal.returns
+returns c =
+    free_nowhere c.args.self.now (principal c.args.p) c.args.bits.bits c.args.bits.within
+    (past_absent (NoneFree c.args.self.now (principal c.args.p) c.args.bits.bits) c.args.bits.bits c.loop-right.from 21
+    (none_free_absent c.args.self.now (principal c.args.p) c.args.bits.bits) c.loop-right.invariant.1
+    c.in_default.ensures.none c.loop-right.invariant.0)

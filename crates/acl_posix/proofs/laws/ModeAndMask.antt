@@ -1,0 +1,135 @@
+-- Laws of the mode and the mask, over sets of entries.
+use Rattle.acl_posix.proofs.Common.{[], ap, arith, bit_and, bit_or, Bool, by_order, class_union, cond, effective_of, Entries, eq_by_cmp, Equal, false, Greater, group, group_obj, is_masked, is_some, Less, List, mask, other, refl, Some, sym, Tag, tag_cmp, tags_total, true, unwrap_or, user, user_obj, with_mask, ℕ, ◌%◌, ◌*◌, ◌+◌, ◌/◌, ◌||◌, ◌∙◌, ◌∷◌, ◌≡◌}
+use Rattle.std.proofs.lemmas.Nat.{and_comm, and_or_self}
+use Rattle.std.specs.FinMap as fin
+use Rattle.acl_perm.specs.Bits.{has_bit}
+use Rattle.acl_perm.proofs.Sets.{subset, has_bit-or}
+use Rattle.acl_posix.specs.Mode.{mode_of, chmoded}
+use Rattle.acl_posix.proofs.tag.Tags.{exact_tags, same_tag}
+use Rattle.acl_posix.proofs.sorted.Masks.{union_from, joined, union_step}
+
+-- ---- the mode after a change is the mode that was set
+
+abbrev three : Entries → Tag → ℕ → ℕ → ℕ → Entries
+three E l owner class others = fin.insert (fin.insert (fin.insert E user_obj owner) l class) other others
+
+get_three : (E : Entries) (l : Tag) (owner class others : ℕ) (q : Tag) → fin.get (three E l owner class others) q
+    ≡ cond (eq_by_cmp tag_cmp q other) (Some others) (cond (eq_by_cmp tag_cmp q l) (Some class)
+    (cond (eq_by_cmp tag_cmp q user_obj) (Some owner) (fin.get E q)))
+get_three E l owner class others q =
+    fin.get-insert tags_total (fin.insert (fin.insert E user_obj owner) l class) other others q
+    ∙ ap (cond (eq_by_cmp tag_cmp q other) (Some others))
+    (fin.get-insert tags_total (fin.insert E user_obj owner) l class q
+    ∙ ap (cond (eq_by_cmp tag_cmp q l) (Some class)) (fin.get-insert tags_total E user_obj owner q))
+
+mode_three : (E : Entries) (owner class others : ℕ) (b : Bool) → is_some (fin.get E mask) ≡ b
+    → mode_of (three E (cond b mask group_obj) owner class others) ≡ 64 * owner + 8 * class + others
+mode_three E owner class others true has =
+    rw (
+      get_three E mask owner class others mask,
+      get_three E mask owner class others user_obj,
+      get_three E mask owner class others mask,
+      get_three E mask owner class others other,
+    ) refl
+mode_three E owner class others false has =
+    rw (
+      get_three E group_obj owner class others mask,
+      has,
+      get_three E group_obj owner class others user_obj,
+      get_three E group_obj owner class others group_obj,
+      get_three E group_obj owner class others other,
+    ) refl
+
+nine_bits : (mode : ℕ) → 64 * (mode / 64) + 8 * (mode / 8 % 8) + mode % 8 ≡ mode
+nine_bits mode = omega arith
+
+-- the mode after it is changed is the mode that was set
+pub mode_set : (E : Entries) (mode : ℕ) → mode_of (chmoded E mode) ≡ mode
+mode_set E mode = mode_three E (mode / 64) (mode / 8 % 8) (mode % 8) (is_some (fin.get E mask)) refl ∙ nine_bits mode
+
+-- ---- the calculated mask leaves each entry its own permissions
+
+-- what has p has it with more
+within_or : (p u n : ℕ) → bit_and p u ≡ p → bit_and p (bit_or u n) ≡ p
+within_or p u n h =
+    and_comm p (bit_or u n) ∙ (subset (bit_or u n) p).1 (λ k t. has_bit-or u n k
+    ∙ ap (λ b. b || has_bit n k) ((subset u p).0 (and_comm u p ∙ h) k t))
+
+or_own : (p u : ℕ) → bit_and p (bit_or u p) ≡ p
+or_own p u = and_comm p (bit_or u p) ∙ and_or_self p u
+
+within_fold : (p u : ℕ) (ps : List (Tag × ℕ)) → bit_and p u ≡ p → bit_and p (union_from u ps) ≡ p
+within_fold p u [] h = h
+within_fold p u (q ∷ ps) h =
+    ap (bit_and p) (union_step u q ps)
+    ∙ within_fold p (joined u q) ps (elim (is_masked q.0) as (λ b. bit_and p (cond b (bit_or u q.1) u)
+    ≡ p) [ true ↦ within_or p u q.1 h | false ↦ h ])
+
+found_within : (ps : List (Tag × ℕ)) (u : ℕ) (l : Tag) (p : ℕ) → is_masked l ≡ true → fin.find tag_cmp l ps ≡ Some p
+    → bit_and p (union_from u ps) ≡ p
+found_within [] u l p m h = absurd cc
+found_within (q ∷ ps) u l p m h = ap (bit_and p) (union_step u q ps) ∙
+    elim (eq_by_cmp tag_cmp l q.0) as (λ b. eq_by_cmp tag_cmp l q.0 ≡ b
+    → cond b (Some q.1) (fin.find tag_cmp l ps) ≡ Some p → bit_and p (union_from (joined u q) ps) ≡ p) [
+      | true ↦ λ same is.
+          let masked : is_masked q.0 ≡ true = ap is_masked (sym (same_tag l q.0 same)) ∙ m in
+          let own : q.1 ≡ p = ap (λ o. unwrap_or o 0) is in
+          within_fold p (joined u q) ps (ap (λ b. bit_and p (cond b (bit_or u q.1) u)) masked
+          ∙ ap (λ n. bit_and p (bit_or u n)) own ∙ or_own p u)
+      | false ↦ λ same is. found_within ps (joined u q) l p m is
+    ] refl h
+
+apart : (l : Tag) → is_masked l ≡ true → eq_by_cmp tag_cmp l mask ≡ false
+apart (user id) m = refl
+apart group_obj m = refl
+apart (group id) m = refl
+apart tag m = absurd cc
+
+-- after the mask is calculated each entry grants all of its own permissions
+pub effective_own : (E : Entries) (entry : Tag × ℕ) → fin.get (with_mask E) entry.0 ≡ Some entry.1
+    → effective_of (with_mask E) entry ≡ entry.1
+effective_own E entry h =
+    let u : ℕ = class_union (fin.entries E) in
+    let there : fin.get (with_mask E) mask ≡ Some u = fin.get-insert tags_total E mask u mask in
+    elim (is_masked entry.0) as (λ b. is_masked entry.0 ≡ b
+    → cond b (bit_and entry.1 (unwrap_or (fin.get (with_mask E) mask) entry.1)) entry.1 ≡ entry.1) [
+      | true ↦ λ m.
+          let own : fin.get E entry.0 ≡ Some entry.1 = ap (λ b. cond b (Some u) (fin.get E entry.0))
+          (sym (apart entry.0 m)) ∙ sym (fin.get-insert tags_total E mask u entry.0) ∙ h in
+          ap (λ o. bit_and entry.1 (unwrap_or o entry.1)) there ∙ found_within (fin.entries E) 0 entry.0 entry.1 m
+          (sym (fin.get-entries E entry.0) ∙ own)
+      | false ↦ λ m. refl
+    ] refl
+
+-- ---- the mask calculated twice is calculated once
+
+put_mask : (u n : ℕ) (ps : List (Tag × ℕ)) → union_from u (fin.put tag_cmp mask n ps) ≡ union_from u ps
+put_mask u n [] = refl
+put_mask u n (p ∷ ps) =
+    elim (tag_cmp mask p.0) as (λ o. tag_cmp mask p.0 ≡ o
+    → union_from u (by_order o ((mask, n) ∷ p ∷ ps) ((p.0, n) ∷ ps) (p ∷ fin.put tag_cmp mask n ps))
+    ≡ union_from u (p ∷ ps)) [
+      | Less ↦ λ is. refl
+      | Equal ↦ λ is.
+          let no : is_masked p.0 ≡ false = ap is_masked (sym (exact_tags mask p.0 is)) in
+          union_step u (p.0, n) ps ∙ ap (λ b. union_from (cond b (bit_or u n) u) ps) no
+          ∙ sym (union_step u p ps ∙ ap (λ b. union_from (cond b (bit_or u p.1) u) ps) no)
+      | Greater ↦ λ is. union_step u p (fin.put tag_cmp mask n ps) ∙ put_mask (joined u p) n ps
+          ∙ sym (union_step u p ps)
+    ] refl
+
+again : (E : Entries) (n : ℕ) → fin.insert (fin.insert E mask n) mask n ≡ fin.insert E mask n
+again E n = fin.same_map tags_total exact_tags _ _ (λ q.
+    fin.get-insert tags_total (fin.insert E mask n) mask n q ∙ ap (cond (eq_by_cmp tag_cmp q mask) (Some n))
+    (fin.get-insert tags_total E mask n q)
+    ∙ elim (eq_by_cmp tag_cmp q mask) as (λ b. cond b (Some n) (cond b (Some n) (fin.get E q))
+    ≡ cond b (Some n) (fin.get E q)) [ true ↦ refl | false ↦ refl ]
+    ∙ sym (fin.get-insert tags_total E mask n q))
+
+-- the mask calculated twice is calculated once
+pub mask_again : (E : Entries) → with_mask (with_mask E) ≡ with_mask E
+mask_again E =
+    let u : ℕ = class_union (fin.entries E) in
+    let same : class_union (fin.entries (with_mask E)) ≡ u = ap (λ (ps : List (Tag × ℕ)). class_union ps)
+    (fin.entries-insert tags_total E mask u) ∙ put_mask 0 u (fin.entries E) in
+    ap (fin.insert (with_mask E) mask) same ∙ again E u

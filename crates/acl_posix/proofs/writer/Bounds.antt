@@ -1,0 +1,126 @@
+-- A text of ACLs has fewer than 2^64 bytes: the tags of a sorted list rise, so there are at most 6 * 2^32 entries.
+use Rattle.acl_posix.proofs.Common.{[], All, AllByRecursion, arith, Bool, codes, cond, decimal, effective_of, ending, Entries, entry_lead, entry_text, eqb, false, Form, form_word, IfSome, IsEntry, IsId, IsTag, length, length-append, length-decimal-le, length-take, Less, List, long_word, mark_text, None, Option, option_map, Part, part_out, perm_text, qualifier_text, recursion_from_All, short_word, Some, Tag, tag_cmp, tag_row, tags, TagWord, true, unwrap_or, word_text, ℕ, ◌*◌, ◌++◌, ◌+◌, ◌<◌, ◌^◌, ◌∷◌, ◌≡◌, ◌≤◌}
+use Rattle.std.specs.List.Sorted.{IsStrictlySortedBy}
+use Rattle.std.specs.FinMap as fin
+use Rattle.acl_posix.specs.declared.form.Form.TheVariants as forms
+use Rattle.acl_posix.specs.declared.text_fault.Part.TheVariants as parts
+use Rattle.acl_posix.specs.declared.field.TagWord.TheVariants as words
+use Rattle.acl_posix.specs.internal.Writing.{entry_out}
+use Rattle.acl_posix.proofs.tag.TagNumbers.{less_rises, number, qualifier_below, rank_below}
+use Rattle.acl_posix.proofs.tag.Tags.{length-tags_of}
+use Rattle.acl_posix.proofs.sorted.Lookups.{entries_sorted}
+
+-- ---- an entry
+
+-- the bytes before an entry are at most eight
+lead_short : (form : Form) (part : Part) (first : Bool) → length (entry_lead form part first) ≤ 8
+lead_short forms.Canonical parts.Access first = omega arith
+lead_short forms.Canonical parts.Default first = omega arith
+lead_short forms.Shown parts.Access first = omega arith
+lead_short forms.Shown parts.Default first = omega arith
+lead_short forms.Short parts.Access true = omega arith
+lead_short forms.Short parts.Access false = omega arith
+lead_short forms.Short parts.Default true = omega arith
+lead_short forms.Short parts.Default false = omega arith
+
+text_short : (word : TagWord) → length (word_text word) ≤ 5
+text_short words.User = omega arith
+text_short word = omega arith
+
+short_short : (t : Tag) → length (short_word t) ≤ 5
+short_short t = let long = length-take 1 (long_word t) in omega (arith, long, text_short (tag_row t).word)
+
+word_short : (form : Form) (t : Tag) → length (form_word form t) ≤ 5
+word_short forms.Short t = short_short t
+word_short form t = text_short (tag_row t).word
+
+digits_short : (number : Option ℕ) → IfSome number IsId → length (unwrap_or (option_map decimal number) []) ≤ 20
+digits_short None h = omega arith
+digits_short (Some id) h = let lt : id < 4294967295 = omega (arith, h) in
+    length-decimal-le 20 id (omega arith) (omega arith) (omega arith)
+
+qualifier_short : (t : Tag) → IsTag t → length (qualifier_text t) ≤ 20
+qualifier_short t h = digits_short (tag_row t).qualifier h
+
+mark_short : (eff perm : ℕ) → length (mark_text eff perm) ≤ 15
+mark_short eff perm =
+    elim (eqb eff perm)
+    as (λ b. length (cond b [] (9 ∷ (codes "#effective:" ++ perm_text eff))) ≤ 15) [
+      | true ↦ omega arith
+      | false ↦ omega arith
+    ]
+
+ending_short : (form : Form) (eff perm : ℕ) → length (ending form eff perm) ≤ 16
+ending_short forms.Canonical eff perm = omega arith
+ending_short forms.Shown eff perm = let m = mark_short eff perm in
+    let n = length-append (mark_text eff perm) (10 ∷ []) in omega (arith, m, n)
+ending_short forms.Short eff perm = omega arith
+
+out_short : (form : Form) (part : Part) (first : Bool) (eff : ℕ) (e : Tag × ℕ) → IsEntry e
+    → length (entry_out form part first eff e) ≤ 64
+unfolding entry_out
+out_short form part first eff e h =
+    let w = form_word form e.0 in
+    let q = qualifier_text e.0 in
+    let a = length-append (entry_lead form part first) (entry_text w e ++ ending form eff e.1) in
+    let b = length-append (entry_text w e) (ending form eff e.1) in
+    let c = length-append w (58 ∷ (q ++ 58 ∷ perm_text e.1)) in
+    let d = length-append q (58 ∷ perm_text e.1) in
+    omega (
+      arith,
+      a,
+      b,
+      c,
+      d,
+      lead_short form part first,
+      word_short form e.0,
+      qualifier_short e.0 h.0,
+      ending_short form eff e.1,
+    )
+
+part_short : (form : Form) (part : Part) (acl : Entries) (first : Bool) (es : List (Tag × ℕ))
+    → AllByRecursion IsEntry es → length (part_out form part acl first es) ≤ 64 * length es
+part_short form part acl first [] h = omega arith
+part_short form part acl first (e ∷ es) h =
+    let n = length-append (entry_out form part first (effective_of acl e) e) (part_out form part acl false es) in
+    omega (arith, n, out_short form part first (effective_of acl e) e h.0, part_short form part acl false es h.1)
+
+-- ---- how many entries there are
+
+-- one more than the greatest number of a tag
+abbrev the_limit : ℕ
+the_limit = 25769803776
+
+place_under : (t : Tag) → IsTag t → number t < the_limit
+place_under t h = omega (arith, rank_below t, qualifier_below t h)
+
+above : (a : Tag) (ts : List Tag) → IsTag a → AllByRecursion (λ t. tag_cmp a t ≡ Less) ts
+    → AllByRecursion (λ t. number a + 1 ≤ number t) ts
+above a [] ha h = tt
+above a (t ∷ ts) ha h = (omega (arith, less_rises a t ha h.0), above a ts ha h.1)
+
+count_from : (low : ℕ) (ts : List Tag) → low ≤ the_limit → AllByRecursion (λ t. low ≤ number t) ts
+    → AllByRecursion IsTag ts → IsStrictlySortedBy tag_cmp ts → low + length ts ≤ the_limit
+unfolding IsStrictlySortedBy
+count_from low [] le h within sorted = omega (arith, le)
+count_from low (t ∷ ts) le h within sorted =
+    let rest = count_from (number t + 1) ts (omega (arith, place_under t within.0)) (above t ts within.0 sorted.0)
+    within.1 sorted.1 in
+    omega (arith, rest, h.0)
+
+all_above_0 : (ts : List Tag) → AllByRecursion (λ t. 0 ≤ number t) ts
+all_above_0 [] = tt
+all_above_0 (t ∷ ts) = (omega arith, all_above_0 ts)
+
+tags_within : (es : List (Tag × ℕ)) → AllByRecursion IsEntry es → AllByRecursion IsTag (tags es)
+tags_within [] h = tt
+tags_within (e ∷ es) h = (h.0.0, tags_within es h.1)
+
+-- the entries of a part have fewer than 2^62 bytes
+pub part_under : (form : Form) (part : Part) (acl : Entries) (first : Bool) → All IsEntry (fin.entries acl)
+    → length (part_out form part acl first (fin.entries acl)) < 2 ^ 62
+part_under form part acl first h =
+    let within = recursion_from_All IsEntry (fin.entries acl) h in
+    let count = count_from 0 (tags (fin.entries acl)) (omega arith) (all_above_0 (tags (fin.entries acl)))
+    (tags_within (fin.entries acl) within) (entries_sorted acl) in
+    omega (arith, count, length-tags_of (fin.entries acl), part_short form part acl first (fin.entries acl) within)

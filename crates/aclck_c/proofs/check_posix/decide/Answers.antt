@@ -1,8 +1,0 @@
-use Rattle.aclck_c.proofs.check_posix.decide.Goals as goal
-
-pub returns-clause-ok : goal.returns-clause-ok
-returns-clause-ok c = record {
-  file = c.in_ok-file.file;
-  spells = c.in_ok-file.ensures.ok;
-  answer = c.check.ensures;
-}

@@ -1,0 +1,17 @@
+//! Calls over the bytes or the text of NFSv4 lists.
+
+pub(crate) mod check_many;
+pub(crate) mod check_nfs;
+pub(crate) mod child;
+pub(crate) mod compare;
+pub(crate) mod deciding;
+pub(crate) mod encode;
+pub(crate) mod granted;
+pub(crate) mod list_fault;
+pub(crate) mod mode;
+pub(crate) mod normalize;
+pub(crate) mod reading;
+pub(crate) mod request;
+pub(crate) mod same;
+pub(crate) mod show;
+pub(crate) mod table;

@@ -1,0 +1,129 @@
+//! Which rights of a mask a list grants many requesters.
+ghost use Rattle.std.specs.Prelude.{◌≡◌, ◌≤◌, ◌≢◌, ◌<◌, ◌↔◌, All, IfErr, IfOk, IfSome, IsSome, IsTrue, length};
+ghost use Rattle.acl_perm.specs.Profile.{profile_of};
+ghost use Rattle.acl_nfs4.specs.Fault.{IsWholeFault};
+ghost use Rattle.acl_nfs4.specs.Spelling.{Xdr};
+ghost use Rattle.acl_eval.specs.Situation.{groups_of, owner_of, owning_group_of, user_of};
+ghost use Rattle.aclck_c.specs.Lists.{IsRefusedList};
+ghost use Rattle.aclck_c.specs.Many.{AreEachGranted, AreGoodMany, HaveGranted, IsGoodAsker, IsGoodCall, asked_by};
+ghost use Rattle.aclck_c.specs.Options.{profile_from};
+ghost use Rattle.aclck_c.specs.Requests.{AreGranted};
+
+use crate::options::profile_from;
+use crate::refusal::Refusal;
+use acl_eval::{Object, Requester, granted};
+use acl_nfs4::AclView;
+use acl_perm::{Mask, Profile};
+
+/// `struct aclck_requester`: a user, and the groups of that user.
+#[repr(C)]
+#[derive(Clone, Copy, Debug)]
+pub struct Asker<'a> {
+    pub user: &'a [u8],
+    pub groups: &'a [&'a [u8]],
+}
+
+/// Reports which rights of the mask the list that the bytes spell grants each of the requesters on the object (RFC
+/// 8881, section 6.2.1), and reads the list once. Returns 0 if they are in `granted`, one number for each requester; 2
+/// if the bytes are refused, with the reason in `fault`; 3 if a name is empty, a number or an option has no meaning, or
+/// `granted` has another length than `requesters`. It takes no memory.
+#[unsafe(no_mangle)]
+pub extern "C" fn aclck_check_many(
+    acl: &[u8],
+    owner: &[u8],
+    group: &[u8],
+    requesters: &[Asker<'_>],
+    mask: u32,
+    options: u32,
+    granted: &mut [u32],
+    fault: &mut Refusal,
+) -> u32
+    ensures done { result ≡ 0 → HaveGranted (profile_from options) acl.now owner.now group.now
+        requesters.now mask granted.new }
+    ensures refused { result ≡ 2 → IsRefusedList (profile_from options) acl.now 0 fault.new }
+    // The status is 3 if and only if an argument is bad.
+    ensures bad { result ≡ 3 → AreGoodMany owner.now group.now requesters.now
+        mask options (length granted.old) → ⊥ }
+    ensures good { (result ≢ 3) → AreGoodMany owner.now group.now requesters.now
+        mask options (length granted.old) }
+    ensures unwritten { (result ≢ 0) → granted.new ≡ granted.old }
+    ensures kept { (result ≢ 2) → fault.new ≡ fault.old }
+    ensures known { result ≤ 3 }
+{
+    let Some(request) = asked(owner, group, mask, options) else {
+        return 3;
+    };
+    if granted.len() != requesters.len() || !are_good(requesters) {
+        return 3;
+    }
+    match AclView::parse_whole_with(acl, request.profile) {
+        Ok(view) => {
+            grant_each(&view, &request, requesters, granted);
+            0
+        }
+        Err(found) => {
+            *fault = Refusal::in_list(found.offset, found.reason, 0);
+            2
+        }
+    }
+}
+
+// The object, the rights that are requested, and the profile.
+#[derive(Clone, Copy, Debug)]
+struct Many<'a> {
+    object: Object<'a>,
+    mask: Mask,
+    profile: Profile,
+}
+
+fn asked<'a>(owner: &'a [u8], group: &'a [u8], mask: u32, options: u32) -> Option<Many<'a>>
+    ensures good { IsSome result ↔ IsGoodCall owner.now group.now mask options }
+    ensures owner { IfSome result (λ r. owner_of r.object ≡ owner.now) }
+    ensures group { IfSome result (λ r. owning_group_of r.object ≡ group.now) }
+    ensures mask { IfSome result (λ r. r.mask.bits ≡ mask) }
+    ensures profile { IfSome result (λ r. profile_of r.profile ≡ profile_from options) }
+{
+    Some(Many {
+        object: Object::new(owner, group)?,
+        mask: Mask::new(mask)?,
+        profile: profile_from(options)?,
+    })
+}
+
+// Whether no name of the requesters is empty.
+fn are_good(requesters: &[Asker<'_>]) -> bool
+    ensures { IsTrue result ↔ All IsGoodAsker requesters.now }
+{
+    requesters.iter().all(|who| is_good(who))
+}
+
+fn is_good(who: &Asker<'_>) -> bool
+    ensures { IsTrue result ↔ IsGoodAsker who.now }
+{
+    Requester::new(who.user, who.groups).is_some()
+}
+
+// Writes for each requester the rights that the list grants.
+fn grant_each(view: &AclView<'_>, request: &Many<'_>, requesters: &[Asker<'_>], rights: &mut [u32])
+    requires good { All IsGoodAsker requesters.now }
+    requires count { length rights.old ≡ length requesters.now }
+    ensures count { length rights.new ≡ length requesters.now }
+    ensures rights { AreEachGranted view.now (owner_of request.now.object)
+        (owning_group_of request.now.object) requesters.now request.now.mask.bits rights.new }
+{
+    for (place, who) in requesters.iter().enumerate() {
+        rights[place] = granted_to(view, request, who);
+    }
+}
+
+// The rights that the list grants a requester.
+fn granted_to(view: &AclView<'_>, request: &Many<'_>, who: &Asker<'_>) -> u32
+    requires { IsGoodAsker who.now }
+    ensures { AreGranted view.now (asked_by (owner_of request.now.object)
+        (owning_group_of request.now.object) who.now) request.now.mask.bits result }
+{
+    match Requester::new(who.user, who.groups) {
+        Some(requester) => granted(view.aces(), &request.object, &requester, request.mask).bits(),
+        None => 0,
+    }
+}

@@ -1,0 +1,125 @@
+//! The normal form of a list, and the five normal forms of the list of a directory.
+ghost use Rattle.std.specs.Prelude.{◌≡◌, ◌<◌, ◌≤◌, ◌≢◌, IfErr, IfOk};
+ghost use Rattle.acl_perm.specs.Profile.{profile_of};
+ghost use Rattle.acl_normal.specs.FiveForms.{five_spellings};
+ghost use Rattle.acl_normal.specs.NormalForm.{Normalises};
+ghost use Rattle.aclck_c.specs.Lists.{AreList, IsRefusedList};
+ghost use Rattle.acl_normal.specs.Programs.{NormalisesAtPaths};
+ghost use Rattle.aclck_c.specs.Options.{profile_from};
+ghost use Rattle.aclck_c.specs.Out.{HandsOut, IsShortFor};
+ghost use Rattle.aclck_c.specs.internal.Stops.{HasListFault};
+
+use crate::nfs4::list_fault::ListFault;
+use crate::nfs4::reading::list_of;
+use crate::options::profile_from;
+use crate::out::put;
+use crate::refusal::Refusal;
+use acl_normal::{FiveForms, normalize, normalize_inherit};
+use acl_perm::{Counted, Profile};
+use std::alloc::{AllocError, Global};
+
+/// Writes the bytes that spell the normal form of the list that the bytes spell (this library's own, over RFC 8881,
+/// section 6.2.1). Returns 0 if they are at the front of `out`; 2 if the bytes are refused, with the reason in `fault`;
+/// 3 if an option has no meaning; 4 if memory ran out; 5 if `out` is too short. At 0 and 5 `needed` is the number of
+/// bytes.
+#[unsafe(no_mangle)]
+pub extern "C" fn aclck_normalize(
+    alloc: Global,
+    acl: &[u8],
+    options: u32,
+    out: &mut [u8],
+    needed: &mut usize,
+    fault: &mut Refusal,
+) -> u32
+    ensures done { result ≡ 0 → HandsOut (Normalises (profile_from options) acl.now)
+        out.old out.new needed.new }
+    ensures short { result ≡ 5 → IsShortFor (Normalises (profile_from options) acl.now)
+        out.old needed.new }
+    ensures refused { result ≡ 2 → IsRefusedList (profile_from options) acl.now 0 fault.new }
+    // Bytes with a fault are refused with that fault, also if memory runs out.
+    ensures memory { result ≡ 4 → AreList (profile_from options) acl.now }
+    // The status is 3 if and only if an argument is bad.
+    ensures bad { result ≡ 3 → (options < 2) → ⊥ }
+    ensures good { (result ≢ 3) → options < 2 }
+    ensures unwritten { (result ≢ 0) → out.new ≡ out.old }
+    ensures untold { (result ≢ 0) → (result ≢ 5) → needed.new ≡ needed.old }
+    ensures kept { (result ≢ 2) → fault.new ≡ fault.old }
+    ensures known { result ≤ 5 }
+{
+    let Some(profile) = profile_from(options) else {
+        return 3;
+    };
+    match normal_form(alloc, acl, profile) {
+        Ok(text) => put(&text, out, needed),
+        Err(found) => found.tell(0, fault),
+    }
+}
+
+// The bytes of the normal form.
+fn normal_form(alloc: Global, acl: &[u8], profile: Profile) -> Result<Vec<u8>, ListFault>
+    ensures ok { IfOk result (λ text. Normalises (profile_of profile) acl.now text.items) }
+    ensures err { IfErr result (HasListFault (profile_of profile) acl.now) }
+{
+    let list = list_of(alloc, acl, profile)?;
+    let form = normalize(alloc, &list)?;
+    Ok(form.to_bytes(alloc)?)
+}
+
+/// Writes the bytes that spell the five normal forms of the list of a directory, one behind the other: of the list
+/// itself, of a new file, of a new directory, and of a new file and a new directory in that new directory (this
+/// library's own, over RFC 8881, section 6.2.1). Returns 0 if they are at the front of `out`; 2 if the bytes are
+/// refused, with the reason in `fault`; 3 if an option has no meaning; 4 if memory ran out; 5 if `out` is too short. At
+/// 0 and 5 `needed` is the number of bytes.
+#[unsafe(no_mangle)]
+pub extern "C" fn aclck_normalize_inherit(
+    alloc: Global,
+    acl: &[u8],
+    options: u32,
+    out: &mut [u8],
+    needed: &mut usize,
+    fault: &mut Refusal,
+) -> u32
+    ensures done { result ≡ 0 → HandsOut (NormalisesAtPaths (profile_from options) acl.now)
+        out.old out.new needed.new }
+    ensures short { result ≡ 5 → IsShortFor (NormalisesAtPaths (profile_from options) acl.now)
+        out.old needed.new }
+    ensures refused { result ≡ 2 → IsRefusedList (profile_from options) acl.now 0 fault.new }
+    // Bytes with a fault are refused with that fault, also if memory runs out.
+    ensures memory { result ≡ 4 → AreList (profile_from options) acl.now }
+    // The status is 3 if and only if an argument is bad.
+    ensures bad { result ≡ 3 → (options < 2) → ⊥ }
+    ensures good { (result ≢ 3) → options < 2 }
+    ensures unwritten { (result ≢ 0) → out.new ≡ out.old }
+    ensures untold { (result ≢ 0) → (result ≢ 5) → needed.new ≡ needed.old }
+    ensures kept { (result ≢ 2) → fault.new ≡ fault.old }
+    ensures known { result ≤ 5 }
+{
+    let Some(profile) = profile_from(options) else {
+        return 3;
+    };
+    match five_forms(alloc, acl, profile) {
+        Ok(text) => put(&text, out, needed),
+        Err(found) => found.tell(0, fault),
+    }
+}
+
+// The bytes of the five normal forms.
+fn five_forms(alloc: Global, acl: &[u8], profile: Profile) -> Result<Vec<u8>, ListFault>
+    ensures ok { IfOk result (λ text. NormalisesAtPaths (profile_of profile) acl.now text.items) }
+    ensures err { IfErr result (HasListFault (profile_of profile) acl.now) }
+{
+    let list = list_of(alloc, acl, profile)?;
+    let forms = normalize_inherit(alloc, &list)?;
+    Ok(spelled_forms(alloc, &forms)?)
+}
+
+// The bytes that spell five lists.
+fn spelled_forms(alloc: Global, forms: &FiveForms) -> Result<Vec<u8>, AllocError>
+    ensures { IfOk result (λ text. text.items ≡ five_spellings forms.now) }
+{
+    let mut text = Counted::new(Vec::new(alloc));
+    match forms.encode(&mut text) {
+        Ok(()) => Ok(text.into_inner()),
+        Err(_) => Err(AllocError),
+    }
+}

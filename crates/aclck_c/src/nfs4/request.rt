@@ -1,0 +1,42 @@
+//! A request: the object, the requester, and the rights that are requested.
+ghost use Rattle.std.specs.Prelude.{◌≡◌, ◌<◌, ◌↔◌, ◌^◌, IfSome, IsNone, IsSome};
+ghost use Rattle.acl_perm.specs.Profile.{profile_of};
+ghost use Rattle.acl_eval.specs.Situation.{situation};
+ghost use Rattle.aclck_c.specs.Options.{profile_from};
+ghost use Rattle.aclck_c.specs.Requests.{AreGood, asked};
+
+use crate::options::profile_from;
+use acl_eval::{Object, Requester};
+use acl_perm::{Mask, Profile};
+
+/// The object, the requester, the rights that are requested, and the profile.
+#[derive(Clone, Copy, Debug)]
+pub(crate) struct Request<'a> {
+    pub object: Object<'a>,
+    pub requester: Requester<'a>,
+    pub mask: Mask,
+    pub profile: Profile,
+}
+
+/// Makes the request of these names and numbers.
+pub(crate) fn asked<'a>(
+    owner: &'a [u8],
+    group: &'a [u8],
+    user: &'a [u8],
+    groups: &'a [&'a [u8]],
+    mask: u32,
+    options: u32,
+) -> Option<Request<'a>>
+    ensures good { IsSome result ↔ AreGood owner.now group.now user.now groups.now mask options }
+    ensures situation { IfSome result (λ r. situation r.object r.requester
+        ≡ asked owner.now group.now user.now groups.now) }
+    ensures mask { IfSome result (λ r. r.mask.bits ≡ mask) }
+    ensures profile { IfSome result (λ r. profile_of r.profile ≡ profile_from options) }
+{
+    Some(Request {
+        object: Object::new(owner, group)?,
+        requester: Requester::new(user, groups)?,
+        mask: Mask::new(mask)?,
+        profile: profile_from(options)?,
+    })
+}

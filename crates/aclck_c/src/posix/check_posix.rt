@@ -1,0 +1,137 @@
+//! Whether the access part of a text grants a request.
+ghost use Rattle.std.specs.Prelude.{◌≡◌, ◌≤◌, ◌≢◌, ◌↔◌, All, IfErr, IfOk, IfSome, IsSome, IsTrue, false, true};
+ghost use Rattle.acl_posix.specs.Check.{ids};
+ghost use Rattle.acl_posix.specs.Id.{IsId};
+ghost use Rattle.acl_posix.specs.Programs.{Checks};
+ghost use Rattle.aclck_c.specs.CheckPosix.{AreGoodIds, AreNumbers, object_of, requester_of};
+ghost use Rattle.aclck_c.specs.Names.{AreGoodNames};
+ghost use Rattle.aclck_c.specs.Posix.{IsRefusedPosix, SpellsFile};
+ghost use Rattle.aclck_c.specs.internal.Files.{IsFileFault};
+
+use crate::posix::file::file_of;
+use crate::posix::file_fault::FileFault;
+use crate::posix::names::Name;
+use crate::refusal::Refusal;
+use acl_perm::Perm;
+use acl_posix::Id;
+use std::alloc::{AllocError, Global};
+
+/// Returns whether the access ACL of the text grants a user, who is in these groups, all of the permissions `want` on
+/// an object of this owner and group (acl(5), "ACCESS CHECK ALGORITHM"): 0 if they are granted; 1 if they are denied; 2
+/// if the text is refused, with the reason in `fault`; 3 if the names make no table, or a number is not an id or not a
+/// set of permissions; 4 if memory ran out.
+#[unsafe(no_mangle)]
+pub extern "C" fn aclck_check_posix(
+    alloc: Global,
+    text: &[u8],
+    names: &[Name<'_>],
+    owner: u32,
+    group: u32,
+    user: u32,
+    groups: &[u32],
+    want: u32,
+    fault: &mut Refusal,
+) -> u32
+    ensures granted { result ≡ 0 → Checks (SpellsFile names.now text.now) (object_of owner group)
+        (requester_of user groups.now) want true }
+    ensures denied { result ≡ 1 → Checks (SpellsFile names.now text.now) (object_of owner group)
+        (requester_of user groups.now) want false }
+    ensures refused { result ≡ 2 → IsRefusedPosix names.now text.now fault.new }
+    ensures bad { result ≡ 3 → AreGoodNames names.now
+        → AreGoodIds owner group user groups.now want → ⊥ }
+    ensures good { (result ≢ 3) → AreGoodIds owner group user groups.now want }
+    // If memory runs out, nothing is said about the names.
+    ensures named { (result ≢ 3) → (result ≢ 4) → AreGoodNames names.now }
+    ensures kept { (result ≢ 2) → fault.new ≡ fault.old }
+    ensures known { result ≤ 4 }
+{
+    let Some(request) = asked(owner, group, user, want) else {
+        return 3;
+    };
+    if !are_ids(groups) {
+        return 3;
+    }
+    let groups = match ids_of(alloc, groups) {
+        Ok(groups) => groups,
+        Err(_) => return 4,
+    };
+    match decide(alloc, text, names, &request, &groups) {
+        Ok(true) => 0,
+        Ok(false) => 1,
+        Err(found) => found.tell(fault),
+    }
+}
+
+// The requester, the object, and the permissions that are requested.
+#[derive(Clone, Copy, Debug)]
+struct Request {
+    owner: Id,
+    group: Id,
+    user: Id,
+    want: Perm,
+}
+
+// The request of these numbers.
+fn asked(owner: u32, group: u32, user: u32, want: u32) -> Option<Request>
+    ensures good { IsSome result ↔ AreNumbers owner group user want }
+    ensures owner { IfSome result (λ r. r.owner.value ≡ owner) }
+    ensures group { IfSome result (λ r. r.group.value ≡ group) }
+    ensures user { IfSome result (λ r. r.user.value ≡ user) }
+    ensures want { IfSome result (λ r. r.want.bits ≡ want) }
+{
+    if want > 7 {
+        return None;
+    }
+    Some(Request {
+        owner: Id::new(owner)?,
+        group: Id::new(group)?,
+        user: Id::new(user)?,
+        want: Perm::new(want as u8)?,
+    })
+}
+
+// Whether all of the numbers are ids.
+fn are_ids(numbers: &[u32]) -> bool
+    ensures { IsTrue result ↔ All IsId numbers.now }
+{
+    numbers.iter().all(|number| Id::new(*number).is_some())
+}
+
+// Whether the access ACL of the text grants the request of a user in these groups.
+fn decide(
+    alloc: Global,
+    text: &[u8],
+    names: &[Name<'_>],
+    request: &Request,
+    groups: &[Id],
+) -> Result<bool, FileFault>
+    ensures ok { IfOk result (Checks (SpellsFile names.now text.now)
+        (object_of request.now.owner.value request.now.group.value)
+        (requester_of request.now.user.value (ids groups.now)) request.now.want.bits) }
+    ensures err { IfErr result (IsFileFault names.now text.now) }
+{
+    let file = file_of(alloc, text, names)?;
+    Ok(
+        file.access.check(
+            request.owner,
+            request.group,
+            request.user,
+            groups,
+            request.want,
+        ),
+    )
+}
+
+// The ids of these numbers.
+fn ids_of(alloc: Global, numbers: &[u32]) -> Result<Vec<Id>, AllocError>
+    requires { All IsId numbers.now }
+    ensures { IfOk result (λ v. ids v.items ≡ numbers.now) }
+{
+    let mut all = Vec::new(alloc);
+    for number in numbers {
+        if let Some(id) = Id::new(*number) {
+            all.push(id)?;
+        }
+    }
+    Ok(all)
+}

@@ -1,0 +1,107 @@
+//! What a new object inherits of POSIX ACLs.
+ghost use Rattle.std.specs.Prelude.{◌≡◌, ◌==◌, ◌<◌, ◌≤◌, ◌≢◌, ◌⊎◌, ◌↔◌, IfErr, IfOk, IfSome, IsSome, option_map};
+ghost use Rattle.aclck_c.specs.Create.{IsCreation};
+ghost use Rattle.aclck_c.specs.Names.{AreGoodNames};
+ghost use Rattle.aclck_c.specs.Out.{HandsOut, IsShortFor};
+ghost use Rattle.acl_posix.specs.Programs.{MakesOfFile, created_text};
+ghost use Rattle.aclck_c.specs.Posix.{IsRefusedPosix, SpellsFile, is_directory};
+ghost use Rattle.aclck_c.specs.internal.Files.{IsFileFault};
+
+use crate::options::mode_from;
+use crate::out::put;
+use crate::posix::file::file_of;
+use crate::posix::file_fault::FileFault;
+use crate::posix::names::Name;
+use crate::refusal::Refusal;
+use acl_perm::Mode;
+use acl_posix::{Form, create};
+use std::alloc::Global;
+
+/// Writes the canonical text of a new object in a directory with the ACLs that the text spells (acl(5), "OBJECT
+/// CREATION AND DEFAULT ACLs"). The new object is a directory if `options` is 2, and a file if it is 0. Returns 0 if
+/// the text is at the front of `out`; 2 if the text is refused, with the reason in `fault`; 3 if the names make no
+/// table, the mode or the umask is above 0o777, or an option has no meaning; 4 if memory ran out; 5 if `out` is too
+/// short. At 0 and 5 `needed` is the number of bytes.
+#[unsafe(no_mangle)]
+pub extern "C" fn aclck_create(
+    alloc: Global,
+    text: &[u8],
+    names: &[Name<'_>],
+    mode: u32,
+    umask: u32,
+    options: u32,
+    out: &mut [u8],
+    needed: &mut usize,
+    fault: &mut Refusal,
+) -> u32
+    ensures done { result ≡ 0 → HandsOut (MakesOfFile (SpellsFile names.now text.now)
+        (created_text mode umask (is_directory options))) out.old out.new needed.new }
+    ensures short { result ≡ 5 → IsShortFor (MakesOfFile (SpellsFile names.now text.now)
+        (created_text mode umask (is_directory options))) out.old needed.new }
+    ensures refused { result ≡ 2 → IsRefusedPosix names.now text.now fault.new }
+    ensures bad { result ≡ 3 → AreGoodNames names.now → IsCreation mode umask options → ⊥ }
+    ensures good { (result ≢ 3) → IsCreation mode umask options }
+    // If memory runs out, nothing is said about the names.
+    ensures named { (result ≢ 3) → (result ≢ 4) → AreGoodNames names.now }
+    ensures unwritten { (result ≢ 0) → out.new ≡ out.old }
+    ensures untold { (result ≢ 0) → (result ≢ 5) → needed.new ≡ needed.old }
+    ensures kept { (result ≢ 2) → fault.new ≡ fault.old }
+    ensures known { result ≤ 5 }
+{
+    let Some(creation) = creation_of(mode, umask, options) else {
+        return 3;
+    };
+    match created(alloc, text, names, &creation) {
+        Ok(made) => put(&made, out, needed),
+        Err(found) => found.tell(fault),
+    }
+}
+
+// The mode and the umask, and whether the new object is a directory.
+#[derive(Clone, Copy, Debug)]
+struct Creation {
+    mode: Mode,
+    umask: Mode,
+    is_directory: bool,
+}
+
+// The creation that numbers and options mean.
+fn creation_of(mode: u32, umask: u32, options: u32) -> Option<Creation>
+    ensures known { IsSome result ↔ IsCreation mode umask options }
+    ensures mode { IfSome result (λ c. c.mode.bits ≡ mode) }
+    ensures umask { IfSome result (λ c. c.umask.bits ≡ umask) }
+    ensures directory { IfSome result (λ c. c.is_directory ≡ is_directory options) }
+{
+    if options != 0 && options != 2 {
+        return None;
+    }
+    Some(Creation {
+        mode: mode_from(mode)?,
+        umask: mode_from(umask)?,
+        is_directory: options == 2,
+    })
+}
+
+// The text of the new object.
+fn created(
+    alloc: Global,
+    text: &[u8],
+    names: &[Name<'_>],
+    creation: &Creation,
+) -> Result<Vec<u8>, FileFault>
+    ensures ok { IfOk result (λ made. MakesOfFile (SpellsFile names.now text.now)
+        (created_text creation.now.mode.bits creation.now.umask.bits creation.now.is_directory)
+        made.items) }
+    ensures err { IfErr result (IsFileFault names.now text.now) }
+{
+    let parent = file_of(alloc, text, names)?;
+    let default = parent.default.as_ref();
+    let file = create(
+        alloc,
+        default,
+        creation.mode,
+        creation.umask,
+        creation.is_directory,
+    )?;
+    Ok(file.to_text(alloc, Form::Canonical)?)
+}

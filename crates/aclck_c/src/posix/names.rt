@@ -1,0 +1,43 @@
+//! The names that a text may use for ids.
+ghost use Rattle.std.specs.Prelude.{◌≡◌};
+ghost use Rattle.acl_posix.specs.Names.{empty_table};
+ghost use Rattle.aclck_c.specs.Names.{name_added, names_added};
+ghost use Rattle.aclck_c.specs.internal.Files.{AddsFileName, ReadsTable};
+
+use crate::posix::file_fault::FileFault;
+use acl_posix::{Id, Names};
+use std::alloc::Global;
+
+/// `struct aclck_name`: a name and its id, for a user if `is_group` is 0, and for a group if it is 1.
+#[repr(C)]
+#[derive(Clone, Copy, Debug)]
+pub struct Name<'a> {
+    pub name: &'a [u8],
+    pub id: u32,
+    pub is_group: u32,
+}
+
+/// Returns the table that the names make.
+pub(crate) fn table_of(alloc: Global, names: &[Name<'_>]) -> Result<Names, FileFault>
+    ensures { ReadsTable (names_added empty_table names.now) result }
+{
+    let mut table = Names::new(alloc);
+    for name in names {
+        add_name(&mut table, name)?;
+    }
+    Ok(table)
+}
+
+fn add_name(table: &mut Names, name: &Name<'_>) -> Result<(), FileFault>
+    ensures { AddsFileName (name_added table.old name.now) table.new result }
+{
+    let Some(id) = Id::new(name.id) else {
+        return Err(FileFault::Names);
+    };
+    match name.is_group {
+        0 => table.add_user(name.name, id)?,
+        1 => table.add_group(name.name, id)?,
+        _ => return Err(FileFault::Names),
+    }
+    Ok(())
+}
