@@ -1,7 +1,7 @@
-# The kit's `rt` has to be on the PATH for `try`, `run`, `quick` and `test`.
+# `try`, `run`, `quick` and `test` need the kit's `rt` on the PATH.
 .PHONY: try run quick test bench install uninstall install-tree uninstall-tree package
 
-# Where `install` puts things: under PREFIX, in a tree that DESTDIR is the root of.
+# `install` puts everything under PREFIX, in the tree whose root is DESTDIR.
 PREFIX ?= /usr/local
 PROGRAM = $(DESTDIR)$(PREFIX)/bin/aclck
 MANUAL = $(DESTDIR)$(PREFIX)/share/man/man1/aclck.1
@@ -10,7 +10,7 @@ SHARE = $(DESTDIR)$(PREFIX)/share
 PAGES = docs/recipes.md docs/lists.md docs/formats.md docs/convert.md docs/others.md CHANGELOG.md
 MODULES = $(DESTDIR)$(PREFIX)/lib/aclck/python
 
-# The first example of the README: it asks a list of six entries whether bob, an editor, may read and execute.
+# The first example of the README: may bob, an editor, read and execute under a list of six entries?
 EXAMPLE = check-nfs --owner alice --group staff --user bob --mask 'READ_DATA|EXECUTE' editors staff < ../../examples/shared_folder.xdr
 
 # Runs the example and proves nothing, in about a minute.
@@ -18,22 +18,20 @@ try:
 	cd crates/aclck && rt try -- $(EXAMPLE)
 	@echo
 	@echo 'Nothing is proved or built yet. `make run` proves and builds the program, and `make install` installs it.'
-	@echo 'Then ask a list of your own: getfattr --only-values -n system.nfs4_acl FILE | aclck show-nfs'
+	@echo 'Then try a list of your own: getfattr --only-values -n system.nfs4_acl FILE | aclck show-nfs'
 	@echo 'docs/recipes.md answers common questions, one by one.'
 
-# Proves and builds aclck, and runs the example, with a job a processor. acl_posix and acl_nfs4, which do not use each
-# other, are proved side by side.
+# Proves and builds aclck, and runs the example, with one job per processor. The crates are proved one after the other,
+# since an `rt` waits until every other `rt` in the same tree has ended.
 JOBS ?= $(shell nproc)
 run:
-	cd crates/acl_perm && rt lib --jobs $(JOBS)
-	(cd crates/acl_posix && rt lib --jobs 2) & (cd crates/acl_nfs4 && rt lib --jobs 2); nfs4=$$?; wait $$! && exit $$nfs4
-	cd crates/acl_eval && rt lib --jobs $(JOBS)
-	cd crates/acl_normal && rt lib --jobs $(JOBS)
+	for crate in acl_perm acl_posix acl_nfs4 acl_eval acl_normal; do \
+	  (cd crates/$$crate && rt lib --jobs $(JOBS)) || exit 1; done
 	cd crates/aclck && rt run --jobs $(JOBS) -- $(EXAMPLE)
 	$(MAKE) --no-print-directory $(STATIC)
 
-# One crate while it is written, over what earlier checks kept: make quick CRATE=acl_nfs4 formats and proves it and its
-# tests, and tries its refused bodies.
+# For work on one crate: `make quick CRATE=acl_nfs4` formats the crate, proves it and its tests, and tries its must-fail
+# edits. It uses what earlier checks kept.
 quick:
 	cd crates/$(CRATE) && rt fmt && rt test && ../../tests/edits $(CRATE)
 
@@ -41,20 +39,21 @@ quick:
 test:
 	.ci/run
 
-# Time, memory and instructions of the commands, over inputs that the script makes. It wants python3 and cc, and counts
-# instructions where valgrind is there.
+# Measures time, memory and instructions of the commands, on inputs that the script makes. It needs python3 and cc, and
+# counts instructions if there is valgrind.
 bench:
 	bench/commands
 
-# The object of the proved program, linked static: it runs on any Linux with an x86-64-v2 processor, and it starts in two
-# thirds of the time. The two archives of the kit are what its code calls of the system and of the C library.
+# The proved program as a static executable. It runs on any Linux with an x86-64-v2 processor, and starts in two thirds
+# of the time of the dynamic one. The two archives of the kit have the functions of the system and of the C library that
+# the program calls.
 STATIC = crates/aclck/out/aclck-static
 KIT = $(dir $(shell rt doc))c
 $(STATIC): crates/aclck/out/aclck.o
 	$(CC) -static-pie -s -Wl,-z,relro,-z,now,-z,noexecstack,-z,pack-relative-relocs \
 	  -o $@ crates/aclck/out/aclck.o $(KIT)/libos_c.a $(KIT)/liblibc_c.a
 
-# Puts the static program, its manual, its completion for bash, its pages and its examples in place, and aclck-tree.
+# Installs the static program, its manual, its completion for bash, its pages and its examples, and aclck-tree.
 install: $(STATIC) install-tree
 	install -D -m 755 $(STATIC) '$(PROGRAM)'
 	install -D -m 644 man/aclck.1 '$(MANUAL)'
@@ -66,8 +65,8 @@ uninstall: uninstall-tree
 	rm -f '$(PROGRAM)' '$(MANUAL)' '$(COMPLETION)'
 	rm -rf '$(SHARE)/doc/aclck'
 
-# Puts the program aclck-tree, its manual, the completions of both programs for bash, zsh and fish, and the Python module
-# in place. They use the library that `install-library` installs.
+# Installs the program aclck-tree, its manual, the completions of both programs for bash, zsh and fish, and the Python
+# module. They use the library that `install-library` installs.
 install-tree:
 	install -D -m 755 bin/aclck-tree '$(DESTDIR)$(PREFIX)/bin/aclck-tree'
 	install -D -m 644 man/aclck-tree.1 '$(SHARE)/man/man1/aclck-tree.1'
@@ -88,14 +87,14 @@ uninstall-tree:
 crates/aclck/out/aclck:
 	@echo 'aclck is not built: make run' >&2; exit 1
 
-# `rt run` leaves the object too. Where `rt ci` took a program that it had kept, only the program is there.
+# `rt run` leaves the object next to the program. If `rt ci` took a program that it had kept, there is no object.
 crates/aclck/out/aclck.o: | crates/aclck/out/aclck
 	cd crates/aclck && rt run -- $(EXAMPLE) > /dev/null
 
-# Makes the Debian packages and a tarball in debian/out. It needs what `run` and `library` leave, and dpkg-deb.
+# Makes the Debian packages and a tarball in debian/out. Needs dpkg-deb and what `run` and `library` leave.
 package: $(STATIC)
 	$(MAKE) --no-print-directory $(MADE)/$(SHARED) $(MADE)/libaclck.a
 	debian/build
 
-# `library`, `install-library` and `uninstall-library`: the library for C.
+# The targets `library`, `install-library` and `uninstall-library`, for the library for C.
 include library/library.mk

@@ -1,10 +1,10 @@
-/* Times calls of libaclck, and a check by hand in C beside them, which parses the list as bench/by_hand does and judges it
- * in full.
+/* Times calls of libaclck, and a hand-written check in C, which parses the list as bench/by_hand does and judges it in
+ * full.
  *
  *     library LIST [COUNT]
  *
- * LIST is the list of examples/shared_folder.xdr. With COUNT it also asks a list of that many ACEs, each of a user. Each
- * figure is the best of several rounds.
+ * LIST is the list of examples/shared_folder.xdr. With COUNT the program also uses a list of that many ACEs, each for a
+ * user. Each figure is the best of several rounds.
  */
 #include "../include/aclck.h"
 #include "by_hand/devices.h"
@@ -34,7 +34,7 @@ static double now(void)
         printf("%-44s %10.1f ns   (%u)\n", name, best / (double)(times) / (each), sum / (u32)(times) / ROUNDS);         \
     } while (0)
 
-/* Whether the ACE is of this name. */
+/* Returns whether the ACE has this name. */
 static int is_of(const Ace *ace, aclck_bytes name)
 {
     return ace->len == name.len && !memcmp(ace->who, name.at, name.len);
@@ -48,7 +48,7 @@ static int has_name(const aclck_bytes *groups, size_t count, const void *at, siz
     return 0;
 }
 
-/* The check by hand: 0 granted, 1 denied. */
+/* The hand-written check. Returns 0 if the request is granted, and 1 if it is denied. */
 static u32 by_hand(const u8 *bytes, size_t len, aclck_bytes owner, aclck_bytes group, aclck_bytes user,
                    const aclck_bytes *groups, size_t count, u32 left)
 {

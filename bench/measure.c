@@ -1,5 +1,5 @@
-/* Runs a program several times over one input and prints the best wall time in nanoseconds and the greatest resident
- * size in KiB. It is small itself, since a child's reading begins at the size of the process that started it.
+/* Runs a program several times on one input, and prints the best wall time in nanoseconds and the greatest resident
+ * size in KiB. This program is small, because the size of a child is at least that of the process that started it.
  *
  *     measure RUNS INPUT PROGRAM WORD..
  */

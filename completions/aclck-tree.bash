@@ -1,4 +1,4 @@
-# Completion of aclck-tree for bash: words, options, the names of rights, and files.
+# Completion of aclck-tree for bash: commands, options, the names of rights, and files.
 
 declare -gA _aclck_tree_options=(
     [scan]='-o --one-file-system --threads --attribute --host'
@@ -16,7 +16,7 @@ _aclck_tree_rights='READ_DATA LIST_DIRECTORY WRITE_DATA ADD_FILE APPEND_DATA ADD
     WRITE_NAMED_ATTRS EXECUTE DELETE_CHILD READ_ATTRIBUTES WRITE_ATTRIBUTES WRITE_RETENTION WRITE_RETENTION_HOLD DELETE
     READ_ACL WRITE_ACL WRITE_OWNER SYNCHRONIZE'
 
-# Offers the last right of some with bars between them.
+# Completes the last right of a list of rights with bars between them.
 _aclck_tree_mask() {
     local typed=$1 before='' right
     [[ $typed != *'|'* ]] || before=${typed%'|'*}'|'

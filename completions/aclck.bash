@@ -1,5 +1,5 @@
-# Completion of aclck for bash: commands, their options, the words of those options that take one of a few, and the
-# names of files behind `<`, `>` and `2>`.
+# Completion of aclck for bash: commands, their options, the values of options that have a few values, and the names of
+# files after `<`, `>` and `2>`.
 
 # The options of each command.
 declare -gA _aclck_options=(
@@ -19,25 +19,25 @@ declare -gA _aclck_options=(
     [bridge]=''
 )
 
-# The names of rights that each profile knows, and those that the full one alone knows.
+# The names of the rights of both profiles, and of those that only the full profile has.
 _aclck_rights='READ_DATA LIST_DIRECTORY WRITE_DATA ADD_FILE APPEND_DATA ADD_SUBDIRECTORY READ_NAMED_ATTRS
     WRITE_NAMED_ATTRS EXECUTE DELETE_CHILD READ_ATTRIBUTES WRITE_ATTRIBUTES DELETE READ_ACL WRITE_ACL WRITE_OWNER
     SYNCHRONIZE'
 _aclck_full_rights='WRITE_RETENTION WRITE_RETENTION_HOLD'
 
-# Prints the rights that the profile on the line knows.
+# Prints the rights of the profile that the command line selects.
 _aclck_known_rights() {
     printf '%s ' $_aclck_rights
     [[ " ${COMP_WORDS[*]} " == *' --profile '?('= ')'narrow '* ]] || printf '%s ' $_aclck_full_rights
 }
 
-# Offers those of the words in $1 that begin with $2.
+# Offers the words of $1 that begin with $2.
 _aclck_offer() {
     mapfile -t COMPREPLY < <(compgen -W "$1" -- "$2")
 }
 
-# Completes the last right of some with bars between them, and leaves out those that stand before it. A bar that no
-# quote covers has a backslash before it, and keeps it.
+# Completes the last right of a list of rights with bars between them, and leaves out the rights before it. A bar
+# outside of quotes has a backslash before it, which stays.
 _aclck_complete_mask() {
     local typed=$1 before='' last=$1 right words=()
     if [[ $typed == *'|'* ]]; then
@@ -54,12 +54,12 @@ _aclck_complete_mask() {
     compopt -o nospace 2> /dev/null
 }
 
-# Whether a word is the sign of a redirection, which bash makes a word of its own.
+# Returns whether a word is the sign of a redirection; bash makes it a word of its own.
 _aclck_is_sign() {
     [[ $1 == @('<'|'>'|'>>'|'<>'|'>|') ]]
 }
 
-# Fills `words` with those between the program and the one that is being typed, without redirections.
+# Fills `words` with the words between the program and the word that is being typed, without redirections.
 _aclck_words() {
     local place
     for ((place = 1; place < COMP_CWORD; place++)); do
@@ -79,7 +79,7 @@ _aclck() {
         return
     fi
     _aclck_words
-    # Bash makes three words of `--form=short`.
+    # Bash splits `--form=short` into three words.
     if [[ $current == = ]]; then
         current=''
         option=${COMP_WORDS[COMP_CWORD - 1]}

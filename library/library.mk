@@ -3,7 +3,7 @@
 
 MADE = library/out
 PROVED = crates/aclck_c/out/libaclck_c.a
-# malloc, realloc and free as Rattle's code calls them: an object of the kit, beside its first page.
+# malloc, realloc and free as Rattle's code calls them. They are in an archive of the kit, next to its first page.
 HEAP = $(dir $(shell rt doc))c/liblibc_c.a
 VERSION = 0.1.0
 SONAME = libaclck.so.0
@@ -19,7 +19,7 @@ library:
 $(PROVED):
 	cd crates/aclck_c && rt lib
 
-# The names of the exports alone are visible.
+# Only the names of the exports are visible.
 $(MADE)/$(SHARED): $(PROVED) library/aclck.map
 	mkdir -p $(MADE)
 	$(CC) -shared -o $@ -Wl,-z,defs,-z,relro,-z,now,-z,noexecstack,-z,noseparate-code -Wl,--gc-sections -Wl,-soname,$(SONAME) \
@@ -27,7 +27,7 @@ $(MADE)/$(SHARED): $(PROVED) library/aclck.map
 	ln -sf $(SHARED) $(MADE)/$(SONAME)
 	ln -sf $(SONAME) $(MADE)/libaclck.so
 
-# One object, in which all other names are local.
+# The archive has one object, in which all other names are local.
 $(MADE)/libaclck.a: $(PROVED)
 	mkdir -p $(MADE)
 	$(LD) -r -o $(MADE)/aclck.o --whole-archive $(PROVED) --no-whole-archive $(HEAP)

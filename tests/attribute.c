@@ -1,5 +1,5 @@
-/* Preloaded into nfs4_getfacl, nfs4_setfacl and aclck-tree: what they ask of the attribute `system.nfs4_acl`, which a mount has, is
- * asked of `user.nfs4_acl`, which any file may have.
+/* A library to preload into nfs4_getfacl, nfs4_setfacl and aclck-tree. They use the attribute `system.nfs4_acl`, which
+ * only an NFSv4 mount has. This library makes them use `user.nfs4_acl` instead, which any file can have.
  */
 #define _GNU_SOURCE
 #include <dlfcn.h>

@@ -1,8 +1,8 @@
-# What several scripts of tests/ use.
+# Functions that several scripts of tests/ use.
 
-# Reads the file $1 as what a terminal shows, runs its commands in the current folder, and prints what it shows then. A
-# command stands behind `$ `, goes on in the next line where its line ends in a backslash, and finds the status of the
-# one before it.
+# Reads the file $1 as a terminal session, runs its commands in the current folder, and prints the session that they
+# make. A command follows `$ `, and continues on the next line if its line ends in a backslash. It starts with the exit
+# status of the command before it.
 replay() {
   bash <(awk -v quote="'" '
     function quoted(text) { gsub(quote, quote "\\" quote quote, text); return quote text quote }
@@ -16,7 +16,7 @@ replay() {
   ' "$1") < /dev/null 2>&1
 }
 
-# Prints numbers as words of four bytes, the most significant first, written as printf reads them.
+# Prints numbers as words of four bytes, most significant byte first, in the escapes that printf reads.
 spelled() {
   local number
   for number; do

@@ -1,10 +1,11 @@
-/* Gives the library for C the cases that tests/library writes, and checks every answer.
+/* Runs the cases that tests/library writes through the library for C, and checks every answer.
  *
  *     library CASES [plain|memory|threads]
  *
- * plain (the default): each case; with each buffer that is too short; with bytes on both sides of the buffer that must
- * stay; and what the calls promise of each other. memory: each case again with each request for memory refused in turn.
- * threads: all cases in four threads at once. With -DFUZZ it is a target of libFuzzer instead.
+ * plain (the default): runs each case, and runs it again with each buffer that is too short. The bytes on both sides of
+ * a buffer must not change. It also checks what the calls promise about each other. memory: runs each case again with
+ * each request for memory failing in turn. threads: runs all cases in four threads at once. With -DFUZZ the program is
+ * a target of libFuzzer instead.
  */
 #include "aclck.h"
 #include <pthread.h>
@@ -14,7 +15,7 @@
 
 enum { SIDE = 16, CANARY = 0xa5, MOST = 16 };
 
-/* ---- memory that can be refused */
+/* ---- requests for memory that can fail */
 
 static long left = -1, held;
 
@@ -65,7 +66,7 @@ typedef struct {
     size_t nblobs, nnumbers, ngroups, nids, nnames;
 } testcase;
 
-/* What a call wrote. */
+/* The results that a call wrote. */
 typedef struct {
     aclck_fault fault;
     aclck_difference difference;
@@ -115,7 +116,7 @@ static uint32_t invoke(const testcase *c, void *out, size_t cap, results *r) {
     exit(1);
 }
 
-/* Whether a call writes bytes, and at which status. */
+/* Returns whether a call writes bytes. */
 static int writes_bytes(const testcase *c) {
     return !IS("check_nfs") && !IS("mode") && !IS("same") && !IS("check_posix");
 }
@@ -137,7 +138,7 @@ static int fail(const testcase *c, const char *what, int line) {
     return 0;
 }
 
-/* Whether what was written is what the status allows, where the buffer had room for `cap` bytes. */
+/* Returns whether a call with a buffer of `cap` bytes wrote what its status allows. */
 static int is_right(const testcase *c, uint32_t status, size_t cap, const unsigned char *room, const results *r) {
     results was = untouched();
     int done = writes_bytes(c) && status == done_status(c);
@@ -171,14 +172,14 @@ static int is_right(const testcase *c, uint32_t status, size_t cap, const unsign
     return ok;
 }
 
-/* Runs a case over a buffer of `cap` bytes. */
+/* Runs a case with a buffer of `cap` bytes. */
 static int is_answered(const testcase *c, size_t cap, unsigned char *room) {
     results r = untouched();
     memset(room, CANARY, cap + 2 * SIDE);
     return is_right(c, invoke(c, room + SIDE, cap, &r), cap, room, &r);
 }
 
-/* ---- what the calls promise of each other */
+/* ---- what the calls promise about each other */
 
 static int agree_on_requests(const testcase *c) {
     const uint32_t *n = c->numbers;
@@ -224,7 +225,7 @@ static int agree(const testcase *c) {
     return 1;
 }
 
-/* Names of rights, there and back, and names of reasons. */
+/* The names of rights, written and read back, and the names of reasons. */
 static int are_words_right(void) {
     testcase none, *c = &none;
     char room[256];
@@ -267,7 +268,8 @@ static uint32_t number(void) {
     return (uint32_t)strtoul(token(), NULL, 10);
 }
 
-/* Bytes in hexadecimal, after a letter x. They lie in an allocation of their own, so that a read behind them is seen. */
+/* Reads bytes in hexadecimal, after a letter x. They get an allocation of their own, so that a sanitizer finds a read
+   behind them. */
 static aclck_bytes blob(void) {
     const char *text = token() + 1;
     size_t len = strlen(text) / 2;
@@ -356,8 +358,8 @@ static int run_plain(void) {
     return ok;
 }
 
-/* Each request for memory is refused in turn: the call returns ACLCK_MEMORY and leaves all as it was, or does without,
-   and it holds nothing after. */
+/* Each request for memory fails in turn. The call must return ACLCK_MEMORY and change nothing, or do without the
+   memory. It must free all memory that it got. */
 static int run_memory(void) {
     int ok = 1;
     size_t requests = 0;
@@ -418,7 +420,8 @@ static int run_threads(void) {
 #ifdef FUZZ
 int LLVMFuzzerTestOneInput(const uint8_t *data, size_t size);
 
-/* The first byte chooses the call, the second its number or options; the rest is its input, or its two inputs. */
+/* The first byte selects the call, and the second byte is its number or its options. The rest is its input, or its two
+   inputs. */
 int LLVMFuzzerTestOneInput(const uint8_t *data, size_t size) {
     static const char *const calls[] = {"check_nfs", "mode", "child", "show", "encode", "normalize",
         "normalize_inherit", "table", "compare", "same", "check_posix", "show_posix", "calc_mask", "chmod", "create",

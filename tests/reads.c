@@ -1,4 +1,4 @@
-/* Counts the reads that a program makes of standard input, and writes their number to the file READS at the end. */
+/* Counts how often a program reads standard input, and writes the count to the file READS when the program ends. */
 #define _GNU_SOURCE
 #include <dlfcn.h>
 #include <stdio.h>

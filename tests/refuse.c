@@ -1,6 +1,6 @@
-/* Counts the requests for memory that a program makes of malloc, calloc and realloc, and refuses number REFUSE of them,
- * counted from 1. It writes a byte to the descriptor REFUSED when it has, so that a run that made fewer requests can be
- * told. At the end it writes the number of requests and of bytes asked for to the descriptor COUNTED, in decimal. */
+/* Counts the calls of malloc, calloc and realloc that a program makes, and makes call number REFUSE fail, counted from
+ * 1. It then writes a byte to the descriptor REFUSED, so that a run with fewer calls can be recognised. At the end it
+ * writes the number of calls and the number of bytes that they requested to the descriptor COUNTED, in decimal. */
 #include <stdio.h>
 #include <stdlib.h>
 #include <string.h>

@@ -1,4 +1,4 @@
-/* compare: of each right and principal, where a list first speaks of it and with which type. */
+/* compare: for each right and principal, the place and the type of the first ACE of a list that has both. */
 
 typedef struct {
     u32 here, there;
@@ -27,7 +27,7 @@ static void say(const List *list, const u32 *number, u32 rows, int bit, Said *sa
             allows[number[k] * sizeof(Said)] = ace->kind == ALLOW;
         }
     }
-    /* the last row is everyone's, that of the situation which none of the mentioned matches */
+    /* the last row is for EVERYONE@: the situation that no other mentioned principal matches */
     for (u32 row = 0; row < rows; row++)
         if (places[row * step] == ~0u) {
             places[row * step] = whole;
@@ -42,7 +42,8 @@ static void rise(u32 *table, u32 size)
             table[k] = table[k - 1];
 }
 
-/* The first row, below `limit`, that another of the other type and overlapping stands before in one list alone. */
+/* Returns the first row below `limit` for which an overlapping row of the other type is before it in one of the lists
+ * only. */
 static u32 first_inverting(const Said *said, const Rows *rows, u32 count, u32 size, u32 limit)
 {
     u32 *tables[2][2][2];
@@ -137,7 +138,7 @@ static void put_difference(const Rows *rows, u32 mentioned, const u32 *set, int 
     finish(1);
 }
 
-/* The rows of both lists, by one sort; the places of the second count from the end of the first. */
+/* Makes the rows of both lists with one sort. The places of the second list count from the end of the first list. */
 static Rows rows_of_both(const List *first, const List *second)
 {
     const Ace *named = first_named(first);
@@ -155,7 +156,7 @@ static int is_same_principal(const Ace *a, const Ace *b)
     return a->rank == b->rank && (!is_named(a) || (a->len == b->len && !memcmp(a->who, b->who, a->len)));
 }
 
-/* The number of a principal among the rows, or their count where it is in none. */
+/* Returns the number of a principal among the rows, or the number of rows if it is in none. */
 static u32 found(const Rows *rows, const Ace *ace)
 {
     Headed wanted = { head_of(ace, 0), ace, 0 };
@@ -173,8 +174,9 @@ static u32 found(const Rows *rows, const Ace *ace)
     return rows->count;
 }
 
-/* The rows of both lists, if the second names only whom the first names: only the first is sorted. An ACE of the second
- * is looked for where the one before it was found, and by halves where that misses. */
+/* Makes the rows of both lists if the second list names nobody whom the first does not name. Only the first list is
+ * sorted. An ACE of the second list is looked up next to the place of the ACE before it, and otherwise by binary
+ * search. */
 static int rows_by_finger(const List *first, const List *second, Rows *to)
 {
     Rows rows = rows_of(first);
@@ -199,7 +201,7 @@ static int rows_by_finger(const List *first, const List *second, Rows *to)
     return 1;
 }
 
-/* The next ACE from a place on that takes part and has a right. */
+/* Returns the first ACE from a place on that takes part and has a right. */
 static u32 next_with(const List *list, u32 place, int bit)
 {
     while (place < list->count && (!(list->aces[place].mask >> bit & 1) || list->aces[place].flags & INHERIT_ONLY))
@@ -207,7 +209,7 @@ static u32 next_with(const List *list, u32 place, int bit)
     return place;
 }
 
-/* The rights on which the lists may differ: on the others they have the same ACEs in the same order. */
+/* Returns the rights for which the lists can differ. For the others, both have the same ACEs in the same order. */
 static u32 rights_apart(const List *first, const List *second, const u32 *number, u32 mask)
 {
     u32 apart = 0;
@@ -260,7 +262,7 @@ static void compare(void)
         mentioned--;
     u32 mask = rights_apart(&first, &second, rows.number, all_rights(&first) | all_rights(&second));
     Said *said = room((size_t)rows.count + 1, sizeof(Said));
-    /* none, or one: the row behind the mentioned is that of everyone */
+    /* nobody or one principal matches: the row after the mentioned principals is that of EVERYONE@ */
     u32 limit = mentioned + 1, single = limit;
     int bit = -1, grants = 0;
     for (u32 left = mask; left && single; left &= left - 1) {

@@ -54,7 +54,7 @@ static inline int is_who(const u8 *who, u32 len)
     return !(high & 0x80) || is_utf8(who, who + len);
 }
 
-/* The rank of a who, or -1 where it ends in `@` and is none of the three. */
+/* Returns the rank of a who, or -1 if it ends in `@` and is not one of the three special names. */
 static inline int rank_of(const u8 *who, u32 len, u32 flags)
 {
     if (who[len - 1] != '@')
@@ -176,7 +176,7 @@ static u32 set_of(const Name *names, const u8 *at, const u8 *last)
     }
 }
 
-/* Puts a set behind `at`, where there is room for all names, and answers where it ends. */
+/* Writes the names of a set at `at`, where there is room for all names, and returns where they end. */
 static inline u8 *put_set_at(u8 *at, const Name *names, u32 set)
 {
     if (!set)

@@ -89,7 +89,7 @@ static void mode(void)
     finish(0);
 }
 
-/* The flags of an ACE in a new object, or -1 where that does not have it. */
+/* Returns the flags of an ACE in a new object, or -1 if the object does not have the ACE. */
 static int child_flags(u32 flags, int is_dir)
 {
     if (!is_dir)

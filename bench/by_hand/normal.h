@@ -1,7 +1,7 @@
 /* normalize and table. */
 
-/* The order of principals: by a head of rank and seven bytes, and then by the name. The bytes are those behind the ones
- * with which all names begin. */
+/* The order of principals: by a head of the rank and seven bytes, and then by the name. The seven bytes follow the
+ * bytes with which all names begin. */
 
 typedef struct {
     u64 head;
@@ -14,7 +14,7 @@ static inline int is_named(const Ace *ace)
     return ace->rank == USER || ace->rank == GROUP_NAMED;
 }
 
-/* With how many bytes the names of a list begin as `first` does, up to `most`. */
+/* Returns with how many bytes of `first` all names of a list begin, at most `most`. */
 static u32 common_start(const Ace *first, const List *list, u32 most)
 {
     for (u32 k = 0; k < list->count && most; k++) {
@@ -74,7 +74,7 @@ static inline int is_before(const Headed *a, const Headed *b)
     return a->place < b->place;
 }
 
-/* Merges runs that rise already, from short ones on, and puts the result over the items. */
+/* Merges ascending runs, shorter ones first, and writes the result over the items. */
 static void merge(Headed *items, u32 count)
 {
     u32 *runs = room((size_t)count + 2, sizeof(u32)), many = 0;
@@ -114,7 +114,8 @@ static int is_in_order(const Headed *items, u32 count)
     return 1;
 }
 
-/* Puts items in the order of their heads, those of one head as they come: a pass for each byte in which heads differ. */
+/* Sorts items by their heads, and keeps the order of items with equal heads: one pass for each byte in which heads
+ * differ. */
 static Headed *by_heads(Headed *items, u32 count)
 {
     u64 any = 0, all = ~0ull;
@@ -140,7 +141,7 @@ static Headed *by_heads(Headed *items, u32 count)
     return from;
 }
 
-/* Items that are in order need no sort. Of one head they are put in order by their names. */
+/* Items that are in order need no sort. Items with equal heads are sorted by their names. */
 static Headed *sorted(Headed *items, u32 count)
 {
     if (is_in_order(items, count))
@@ -155,7 +156,7 @@ static Headed *sorted(Headed *items, u32 count)
     return items;
 }
 
-/* Puts down what takes part; the places of the list count from `first`. */
+/* Lists the ACEs that take part. The places of the list count from `first`. */
 static Headed *headed(const List *list, u32 first, u32 common, Headed *to)
 {
     for (u32 k = 0; k < list->count; k++)
@@ -164,7 +165,7 @@ static Headed *headed(const List *list, u32 first, u32 common, Headed *to)
     return to;
 }
 
-/* The principals of a list in order, each by an ACE that names it, and of each ACE the number of its principal. */
+/* Finds the principals of a list in order, each with an ACE that names it, and the number of the principal of each ACE. */
 typedef struct {
     const Ace **first;
     u32 *number, count;
@@ -190,7 +191,7 @@ static Rows rows_of(const List *list)
     return numbered(sorted(items, count), count, list->count);
 }
 
-/* The normal form: it is handed key by key to `emit`. */
+/* Makes the normal form, and passes it to `emit` key by key. */
 
 typedef struct {
     u32 *places, *keys, left, free, count;
@@ -201,8 +202,8 @@ static int bit_at(u32 mask)
     return __builtin_ctz(mask);
 }
 
-/* Takes out of the masks the bits that play no part: those that an earlier ACE has decided, and those that say what
- * would be so without them. */
+/* Removes from the masks the bits that change nothing: those that an earlier ACE has decided, and those that only
+ * repeat what holds without them. */
 static void reduce(const List *list, const u32 *number, u32 rows, u32 *masks)
 {
     u32 *seen = cleared(rows, sizeof(u32)), whole = 0, allowed = 0, later_users = 0, later_others = 0;
@@ -236,9 +237,9 @@ static void reduce(const List *list, const u32 *number, u32 rows, u32 *masks)
 }
 
 typedef struct {
-    Column columns[COUNT][2][2]; /* by right, by type, and of users or of others */
-    u32 *left, *free;            /* by key: the bits that stand still, and of these the free ones */
-    u64 *levels[4];              /* the keys with a free bit, by bits of words of 64 */
+    Column columns[COUNT][2][2]; /* by right, by type, and for users or others */
+    u32 *left, *free;            /* by key: the bits that are left, and those of them that are free */
+    u64 *levels[4];              /* the keys with a free bit, as a tree of 64-bit words */
 } Emission;
 
 static void mark(Emission *it, u32 key)
@@ -288,7 +289,7 @@ static void fill_columns(Emission *it, const List *list, const u32 *number, cons
         }
 }
 
-/* Where the first of a column stands that is left. */
+/* Returns the place of the first ACE of a column that is left. */
 static u32 first_left(Emission *it, Column *column, int bit)
 {
     while (column->left < column->count && !(it->left[column->keys[column->left]] >> bit & 1))
@@ -308,7 +309,7 @@ static void set_free(Emission *it, Column *column, int bit, u32 limit)
     }
 }
 
-/* What the ACEs of a type at a right keep from being free. */
+/* Marks the keys of the other type that are free for a right: those before the first overlapping ACE of this type. */
 static void look(Emission *it, int bit, int kind)
 {
     u32 others = first_left(it, &it->columns[bit][kind][1], bit);
@@ -317,7 +318,7 @@ static void look(Emission *it, int bit, int kind)
     set_free(it, &it->columns[bit][!kind][1], bit, users < others ? users : others);
 }
 
-/* Whether the keys of the ACEs that have a bit left rise: such a list is its own normal form. */
+/* Returns whether the keys of the ACEs that have a bit left ascend: such a list is its own normal form. */
 static int is_rising(const List *list, const u32 *number, const u32 *masks)
 {
     u32 least = 0;
@@ -407,7 +408,7 @@ static void put_row(const Ace *ace, u32 row, u32 kind, u32 mask)
     put_byte('\n');
 }
 
-/* Cuts a list to the ACEs that take part and have a right, with that right alone, and returns their places in it. */
+/* Reduces a list to the ACEs that take part and have a right, with that right alone, and returns their places in it. */
 static u32 *cut_to(List *list, u32 right)
 {
     u32 *places = room(list->count, sizeof(u32)), left = 0;

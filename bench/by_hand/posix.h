@@ -3,7 +3,7 @@
 enum { USER_OBJ, NAMED_USER, GROUP_OBJ, NAMED_GROUP, MASK, OTHER };
 
 typedef struct {
-    u64 key; /* the tag above the id */
+    u64 key; /* the tag in the high bits and the id in the low bits */
     u32 perm;
 } Entry;
 
@@ -26,15 +26,15 @@ static int is_blank_byte(u8 byte)
     return byte == ' ' || byte == '\t';
 }
 
-/* Whether a field is a word, of this length, or the letter that the word begins with. */
+/* Returns whether a field is a word of this length, or the first letter of that word. */
 static inline int is_either(Field field, const char *word, size_t len)
 {
     size_t has = (size_t)(field.to - field.from);
     return has == len ? !memcmp(field.from, word, len) : has == 1 && *field.from == (u8)*word;
 }
 
-/* Reads the fields of a piece, and answers where it ends: at a comma, a `#`, a line feed or the end, behind which a line
- * feed stands. */
+/* Reads the fields of a piece, and returns where it ends: at a comma, a `#`, a line feed or the end of the text. A line
+ * feed follows the text. */
 static const u8 *fields_of(const u8 *at, Field *fields, int *count)
 {
     for (*count = 0;;) {

@@ -1,4 +1,4 @@
-//! Links the static library, which needs libc alone. ACLCK_LIB says where it is.
+//! Links the static library, which needs only libc. ACLCK_LIB is the folder that it is in.
 
 fn main() {
     let folder = std::env::var("ACLCK_LIB").unwrap_or_else(|_| "/usr/local/lib".into());

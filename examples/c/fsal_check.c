@@ -2,12 +2,13 @@
  *
  *     fsal_check LIST OWNER GROUP USER.. < requests
  *
- * A server asks again and again about the same few users of a file, so it keeps for each of them the rights that the
- * list grants, all sixteen at once, until the list changes. aclck_granted fills one entry, aclck_check_many several over
- * one reading of the list. With OWNER_RIGHTS the owner gets READ_ACL, WRITE_ACL, READ_ATTRIBUTES and WRITE_ATTRIBUTES
- * whatever the list says, as nfs-ganesha does (docs/others.md).
+ * A server asks again and again about the same few users of a file. So it keeps the rights that the list grants to each
+ * of them, all sixteen at once, until the list changes. aclck_granted fills one entry. aclck_check_many fills several
+ * entries and reads the list once. With OWNER_RIGHTS the owner gets READ_ACL, WRITE_ACL, READ_ATTRIBUTES and
+ * WRITE_ATTRIBUTES whatever the list says, as nfs-ganesha does (docs/others.md).
  *
- * A request is a line `USER RIGHTS`, with the names of rights between bars; the answer is what of them is granted.
+ * A request is a line `USER RIGHTS`, where RIGHTS are names of rights with bars between them. The answer has those of
+ * the rights that are granted.
  */
 #include <aclck.h>
 #include <stdio.h>
@@ -16,13 +17,13 @@
 
 enum { ENTRIES = 64, OWNER_RIGHTS = ACLCK_READ_ACL | ACLCK_WRITE_ACL | ACLCK_READ_ATTRIBUTES | ACLCK_WRITE_ATTRIBUTES };
 
-/* A file, as its back end knows it. The change counter grows with each new list. */
+/* A file, as the back end knows it. The change counter grows with each new list. */
 typedef struct {
     uint64_t id, change;
     aclck_bytes list, owner, group;
 } object;
 
-/* What a list grants a user. The entry that was used longest ago is replaced. */
+/* The rights that a list grants a user. A new entry replaces the one that was not used for the longest time. */
 typedef struct {
     uint64_t id, change, used;
     char user[64];
@@ -88,7 +89,7 @@ static uint32_t access_check(cache *c, const object *o, const aclck_requester *w
     return ACLCK_DONE;
 }
 
-/* Fills the cache for all users of a file, as at its first open. */
+/* Fills the cache for all users of a file, as a server does when the file is first opened. */
 static uint32_t warm(cache *c, const object *o, const aclck_requester *who, size_t count, aclck_fault *fault) {
     uint32_t granted[ENTRIES], status;
     if (count > ENTRIES)

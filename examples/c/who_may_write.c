@@ -1,9 +1,10 @@
-/* Says who may write a file by its NFSv4 list, and whether one user may.
+/* Prints who may write a file according to its NFSv4 list, and whether one user may.
  *
  *     who_may_write FILE [OWNER GROUP USER [GROUP..]]
  *
- * The list is the attribute system.nfs4_acl of the file, which an NFSv4 mount shows; for `-` it is standard input. First
- * come the ACEs that decide about WRITE_DATA, in order: for each person the first line that names them counts.
+ * The list is the attribute system.nfs4_acl of the file, which an NFSv4 mount shows, or standard input for `-`. The
+ * program first prints the ACEs that decide about WRITE_DATA, in order: for each person the first line that names the
+ * person counts.
  */
 #include <aclck.h>
 #include <stdio.h>

@@ -1,4 +1,4 @@
-// Prints the mode of the NFSv4 list on standard input, by libaclck.
+// Prints the mode of the NFSv4 list on standard input, with libaclck.
 package main
 
 // #cgo pkg-config: aclck

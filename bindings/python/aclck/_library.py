@@ -1,7 +1,8 @@
-"""The calls of libaclck.so.0, by ctypes: all of it is here. include/aclck.h says what each call does.
+"""The calls of libaclck.so.0, with ctypes. No other module uses ctypes. include/aclck.h says what each call does.
 
-The library is looked for at the path in the environment variable ACLCK_LIBRARY; without it where `make install-library`
-puts it beside this module, where `make library` leaves it, and then where the system's loader looks.
+If the environment variable ACLCK_LIBRARY is set, it is the path of the library. Otherwise the library is searched next
+to this module, where `make install-library` installs it, then where `make library` leaves it, and then where the loader
+of the system searches.
 """
 
 from __future__ import annotations
@@ -37,7 +38,7 @@ def _load() -> ctypes.CDLL:
 
 
 class Bytes(ctypes.Structure):
-    """Some bytes: a pointer and a length."""
+    """A pointer to bytes, and their number."""
 
     _fields_ = [("at", ctypes.c_char_p), ("len", ctypes.c_size_t)]
 
@@ -151,7 +152,7 @@ def reason_name(reason: int) -> str:
 
 
 def judged(status: int, fault: Fault) -> int:
-    """Returns status YES or NO, and raises what any other one says."""
+    """Returns the status if it is YES or NO, and otherwise raises the exception for it."""
     if status <= NO:
         return status
     if status == REFUSED:
@@ -163,7 +164,7 @@ def judged(status: int, fault: Fault) -> int:
 
 
 def text_of(name: str, args: Sequence[Any], room: int) -> Tuple[int, bytes]:
-    """Calls what writes a text: returns its status and the text. Tries with `room` bytes first."""
+    """Makes a call that writes a text, and returns its status and the text. The first buffer has `room` bytes."""
     call, needed, fault = calls[name], ctypes.c_size_t(), Fault()
     while True:
         out = ctypes.create_string_buffer(room or 1)

@@ -1,4 +1,4 @@
-"""What the library refuses, as one exception."""
+"""The exception for what the library refuses."""
 
 from __future__ import annotations
 
@@ -9,16 +9,16 @@ _PARTS = ("access", "default")
 
 
 class Refused(ValueError):
-    """The library refuses a list or a text; `str` of it is the line of aclck(1), without `aclck: ` before it.
+    """The library refuses a list or a text. Its `str` is the line that aclck(1) prints, without `aclck: `.
 
     Attributes:
         reason: the name of the reason, such as `Truncated` (docs/formats.md has all).
-        offset: of bytes: the place of the refused field, from 0, in bytes. Of a POSIX list that is not valid: the place
-            of the entry in its part, from 0. Else None.
-        line, column: of a text: the place, both from 1, the column in bytes. Else None.
-        part: of a POSIX list that is not valid: `access` or `default`. Else None.
-        tag: where an entry is missing: its tag, such as `MASK`. Else None.
-        second: whether it is the second of two lists that is refused.
+        offset: for bytes, the place of the refused field in bytes, from 0. For a POSIX list that is not valid, the
+            place of the entry in its part, from 0. Otherwise None.
+        line, column: for a text, the place, both from 1; the column is in bytes. Otherwise None.
+        part: for a POSIX list that is not valid, `access` or `default`. Otherwise None.
+        tag: if an entry is missing, its tag, such as `MASK`. Otherwise None.
+        second: whether the second of two lists is refused.
     """
 
     def __init__(self, reason: str, *, offset: Optional[int] = None, line: Optional[int] = None,
@@ -44,7 +44,7 @@ class Refused(ValueError):
 
 
 def refused(name: str, reason: int, offset: int, line: int, column: int, second: int, part: int, tag: int) -> Refused:
-    """Makes the exception of the numbers that the library gives of a fault."""
+    """Makes the exception for the numbers with which the library describes a fault."""
     if line:
         return Refused(name, line=line, column=column)
     if reason == 27:

@@ -1,4 +1,4 @@
-"""NFSv4 lists: RFC 8881, section 6.2.1, in the bytes of the attribute `system.nfs4_acl` (RFC 4506)."""
+"""NFSv4 lists (RFC 8881, section 6.2.1), in the bytes of the attribute `system.nfs4_acl` (RFC 4506)."""
 
 from __future__ import annotations
 
@@ -33,7 +33,7 @@ class Decision(NamedTuple):
 
 
 class Difference(NamedTuple):
-    """A requester whom two lists treat differently, and the one right (a mask) on which they do."""
+    """A requester whom two lists treat differently, and the one right, as a mask, for which they do."""
 
     owner: str
     group: str
@@ -53,10 +53,10 @@ class TableRow(NamedTuple):
 
 
 class Requesters:
-    """Users with their groups, made ready to be asked about many lists by `NfsAcl.granted_many`."""
+    """Users with their groups, prepared for `NfsAcl.granted_many`, which can then be called for many lists."""
 
     def __init__(self, people: Iterable[Tuple[Name, Sequence[Name]]]) -> None:
-        """Takes pairs of a user and the names of the user's groups."""
+        """Takes pairs of a user and the names of the groups of that user."""
         self._held: List[object] = []
         rows = [self._requester(user, groups) for user, groups in people]
         self.count = len(rows)
@@ -70,9 +70,10 @@ class Requesters:
 
 
 class NfsAcl:
-    """A list that the library accepts. It is its bytes, kept as they came; equality and hash are those of the bytes.
+    """A list that the library accepts. It keeps the bytes that it was made of; equality and hash are those of the
+    bytes.
 
-    Two lists that grant everybody the same may have different bytes: `means_the_same` and `normal` see through that.
+    Two lists that grant everybody the same can have different bytes. Use `means_the_same` or `normal` to compare them.
     """
 
     __slots__ = ("_bytes", "_options")
@@ -80,7 +81,7 @@ class NfsAcl:
     def __init__(self, data: bytes, *, narrow: bool = False) -> None:
         """Takes the bytes of a list; with `narrow`, only those of the narrow profile (docs/lists.md).
 
-        Raises Refused if the bytes are no list, with the offset.
+        Raises Refused, with the offset, if the bytes are not a list.
         """
         self._bytes = bytes(data)
         self._options = c.NARROW if narrow else 0
@@ -88,12 +89,12 @@ class NfsAcl:
 
     @classmethod
     def from_file(cls, path: Union[str, bytes, "os.PathLike[str]"], attribute: str = "system.nfs4_acl") -> NfsAcl:
-        """Reads the list of a file on an NFSv4 mount. Raises OSError if the file has none, and Refused."""
+        """Reads the list of a file on an NFSv4 mount. Raises OSError if the file has no list, and Refused."""
         return cls(os.getxattr(path, attribute))
 
     @classmethod
     def from_text(cls, text: Name, *, narrow: bool = False) -> NfsAcl:
-        """Makes the list of a text of docs/formats.md, one line per ACE. Raises Refused, with line and column."""
+        """Makes a list from its text, one line per ACE (docs/formats.md). Raises Refused, with line and column."""
         given = c.encoded(text)
         _, data = c.text_of("encode", (given, len(given), c.NARROW if narrow else 0), 2 * len(given) + 4)
         return cls(data, narrow=narrow)
@@ -155,24 +156,25 @@ class NfsAcl:
                 count, mask, self._options)
 
     def grants(self, *, user: Name, groups: Iterable[Name] = (), owner: Name, group: Name, mask: int) -> bool:
-        """Returns whether the user, who is in just these groups, is granted all rights of the mask on an object of this
-        owner and group (section 6.2.1).
+        """Returns whether the user, who is in these groups and no others, is granted all rights of the mask on an
+        object of this owner and group (section 6.2.1).
 
-        Raises ValueError if a name is empty or the mask has a bit that is no right.
+        Raises ValueError if a name is empty or the mask has a bit that is not a right.
         """
         fault = c.Fault()
         asked = self._asked(user, groups, owner, group, mask)
         return c.judged(c.calls["check_nfs"](*asked, ctypes.byref(fault)), fault) == c.YES
 
     def granted(self, *, user: Name, groups: Iterable[Name] = (), owner: Name, group: Name, mask: int = ALL) -> int:
-        """Returns those rights of the mask that the user is granted, in one pass. Raises ValueError as `grants`."""
+        """Returns the rights of the mask that the user is granted. Reads the list once. Raises ValueError as `grants`
+        does."""
         found, fault = ctypes.c_uint32(), c.Fault()
         asked = self._asked(user, groups, owner, group, mask)
         c.judged(c.calls["granted"](*asked, ctypes.byref(found), ctypes.byref(fault)), fault)
         return found.value
 
     def granted_many(self, requesters: Requesters, *, owner: Name, group: Name, mask: int = ALL) -> List[int]:
-        """Returns for each of the requesters those rights of the mask that are granted, reading the list once."""
+        """Returns for each of the requesters the rights of the mask that are granted. Reads the list once."""
         owned, grouped, fault = c.encoded(owner), c.encoded(group), c.Fault()
         found = (ctypes.c_uint32 * requesters.count)()
         c.judged(c.calls["check_many"](self._bytes, len(self._bytes), owned, len(owned), grouped, len(grouped),
@@ -182,9 +184,10 @@ class NfsAcl:
 
     def deciding(self, *, user: Name, groups: Iterable[Name] = (), owner: Name, group: Name,
                  right: int) -> Optional[Decision]:
-        """Returns place and kind of the ACE that decides one right, or None if no ACE does, which denies it.
+        """Returns the place and the kind of the ACE that decides one right, or None if no ACE does, which denies the
+        right.
 
-        Raises ValueError if `right` is not just one right, or a name is empty.
+        Raises ValueError if `right` is not exactly one right, or a name is empty.
         """
         found, fault = c.Decision(), c.Fault()
         asked = self._asked(user, groups, owner, group, right)
@@ -196,9 +199,10 @@ class NfsAcl:
         return self._like(self._text("normalize", len(self._bytes)))
 
     def inherited(self) -> Tuple[NfsAcl, ...]:
-        """Returns five normal forms: of this list of a directory, of a new file and a new directory in it, and of a new
-        file and a new directory in the latter. They are equal for two lists if and only if everything that is ever
-        made below them is treated alike (docs/lists.md, "Paths of creations")."""
+        """Returns five normal forms: of this list, which is the list of a directory, of a new file and a new directory
+        in it, and of a new file and a new directory in the latter. They are equal for two lists if and only if the
+        lists grant the same, and so do the lists of everything that is ever made below the directories (docs/lists.md,
+        "Paths of creations")."""
         data = self._text("normalize_inherit", 5 * len(self._bytes))
         parts, at = [], 0
         while at < len(data):
@@ -213,19 +217,19 @@ class NfsAcl:
         return self._like(c.text_of("child", (self._bytes, len(self._bytes), options), len(self._bytes))[1])
 
     def table(self, right: int) -> List[TableRow]:
-        """Returns the ACEs of the normal form that have one right. Raises ValueError if it is not just one right."""
+        """Returns the ACEs of the normal form that have one right. Raises ValueError if it is not exactly one right."""
         lines = c.decoded(self._text("table", 64 * (len(self) + 1), right)).split("\n")[:-1]
         rows = [line.split(" ", 3) for line in lines]
         return [TableRow(int(source), kind, flag == "GROUP", who) for source, kind, flag, who in rows]
 
     def means_the_same(self, other: NfsAcl) -> bool:
-        """Returns whether both lists grant everybody the same, whoever owns the object."""
+        """Returns whether both lists grant everybody the same, for every owner and group of the object."""
         fault = c.Fault()
         return c.judged(c.calls["same"](self._bytes, len(self._bytes), other._bytes, len(other._bytes),
                                         self._options & other._options, ctypes.byref(fault)), fault) == c.YES
 
     def compare(self, other: NfsAcl) -> Optional[Difference]:
-        """Returns None if both lists grant everybody the same, else a requester whom they treat differently
+        """Returns None if both lists grant everybody the same, and otherwise a requester whom they treat differently
         (docs/lists.md, "Comparison")."""
         at = c.Difference()
         args = (self._bytes, len(self._bytes), other._bytes, len(other._bytes), self._options & other._options,
@@ -238,7 +242,7 @@ class NfsAcl:
 
 
 def list_length(data: bytes) -> int:
-    """Returns the number of bytes of the accepted list with which some bytes begin."""
+    """Returns the number of bytes of the list at the front of some bytes."""
     at = 4
     for _ in range(int.from_bytes(data[:4], "big")):
         length = int.from_bytes(data[at + 12:at + 16], "big")

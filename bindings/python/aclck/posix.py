@@ -1,4 +1,4 @@
-"""POSIX lists: acl(5), POSIX.1e draft 17, section 23. Ids are numbers; permissions are 4 (r), 2 (w) and 1 (x)."""
+"""POSIX lists (acl(5); POSIX.1e draft 17, section 23). Ids are numbers; permissions are 4 (r), 2 (w) and 1 (x)."""
 
 from __future__ import annotations
 
@@ -30,10 +30,11 @@ class Entry(NamedTuple):
 
 
 class PosixAcl:
-    """An access ACL, with the default ACL of a directory where it has one. Both are valid (acl(5), "VALID ACLs").
+    """An access ACL, with the default ACL if it is the list of a directory that has one. Both are valid (acl(5), "VALID
+    ACLs").
 
-    It is kept as its canonical text, with ids for names; equality and hash are those of that text, so two are equal if
-    and only if they have the same entries.
+    The object keeps the canonical text, with ids for names. Equality and hash are those of this text, so two objects
+    are equal if and only if they have the same entries.
     """
 
     __slots__ = ("_text",)
@@ -41,29 +42,29 @@ class PosixAcl:
     def __init__(self, text: Name, names: Iterable[Tuple[str, int, bool]] = ()) -> None:
         """Takes a text as getfacl(1) prints it; `names` are the names that it may use: name, id, whether it is a group.
 
-        Raises Refused, with line and column, or the part that is not valid; ValueError if a name is empty, or digits
-        alone, or given twice.
+        Raises Refused, with the line and the column or with the part that is not valid. Raises ValueError if a name is
+        empty, has only digits, or is given twice.
         """
         self._text = _posix_text("show_posix", c.encoded(text), _table(names), [0])
 
     @classmethod
     def from_text(cls, text: Name, users: Optional[Mapping[str, int]] = None,
                   groups: Optional[Mapping[str, int]] = None) -> PosixAcl:
-        """Makes the list of a text as getfacl(1) prints it, with the ids of the names that it may use."""
+        """Makes a list from a text as getfacl(1) prints it, with the ids of the names that it may use."""
         names = [(name, number, False) for name, number in (users or {}).items()]
         return cls(text, names + [(name, number, True) for name, number in (groups or {}).items()])
 
     @classmethod
     def from_mode(cls, mode: int) -> PosixAcl:
-        """Makes the list of three entries that a mode stands for (acl(5), "CORRESPONDENCE ..")."""
+        """Makes the list of the three entries that a mode means (acl(5), "CORRESPONDENCE ..")."""
         return cls("\n".join(_mode_lines(mode)))
 
     @classmethod
     def from_attributes(cls, access: Optional[bytes], default: Optional[bytes] = None, mode: int = 0) -> PosixAcl:
-        """Makes the list of the bytes of `system.posix_acl_access` and `_default`, None where there is none; without
-        the first its entries are those of the mode.
+        """Makes a list from the bytes of `system.posix_acl_access` and `_default`, each None if the attribute is
+        absent. Without the first, the entries are those of the mode.
 
-        Raises Refused if the bytes are no such attribute, with the offset, or no valid ACL.
+        Raises Refused if the bytes are not such an attribute, with the offset, or not a valid ACL.
         """
         lines = _mode_lines(mode) if access is None else _attribute_lines(access)
         if default is not None:
@@ -72,7 +73,7 @@ class PosixAcl:
 
     @classmethod
     def from_file(cls, path: Union[str, bytes, "os.PathLike[str]"]) -> PosixAcl:
-        """Reads the lists of a file, and the mode where it has none. Raises OSError, and Refused."""
+        """Reads the lists of a file, or its mode if it has no list. Raises OSError and Refused."""
         status = os.stat(path)
         access = _attribute(path, "system.posix_acl_access")
         default = _attribute(path, "system.posix_acl_default") if stat.S_ISDIR(status.st_mode) else None
@@ -111,14 +112,15 @@ class PosixAcl:
 
     @property
     def mode(self) -> int:
-        """The nine bits of the mode: the entries of the owner, of the mask or else the group, and of others."""
+        """The nine bits of the mode: the entries of the owner, of the mask (or of the group if there is no mask), and
+        of others."""
         found = {(entry.tag, entry.id): entry.perm for entry in self if not entry.default}
         group = found.get(("mask", None), found[("group", None)])
         return found[("user", None)] << 6 | group << 3 | found[("other", None)]
 
     def check(self, *, user: int, groups: Iterable[int] = (), owner: int, group: int, want: int) -> bool:
-        """Returns whether the user, who is in just these groups, is granted all of `want` (4 r, 2 w, 1 x) on an object
-        of this owner and group (acl(5), "ACCESS CHECK ALGORITHM").
+        """Returns whether the user, who is in these groups and no others, is granted all of `want` (4 r, 2 w, 1 x) on
+        an object of this owner and group (acl(5), "ACCESS CHECK ALGORITHM").
 
         Raises ValueError if an id is above 4294967294 or `want` above 7.
         """
@@ -134,11 +136,11 @@ class PosixAcl:
         return PosixAcl(_posix_text("chmod", self._text, None, _words([mode])))
 
     def calc_mask(self) -> PosixAcl:
-        """Returns the list after its mask is calculated: the union of what the mask limits (acl_calc_mask(3))."""
+        """Returns the list with a calculated mask: the union of the permissions that it limits (acl_calc_mask(3))."""
         return PosixAcl(_posix_text("calc_mask", self._text, None, []))
 
     def create(self, *, mode: int, umask: int, directory: bool = False) -> PosixAcl:
-        """Returns the list of a new file or directory in a directory with this one (acl(5), "OBJECT CREATION ..").
+        """Returns the list of a new file or directory in a directory with this list (acl(5), "OBJECT CREATION ..").
 
         Raises ValueError if `mode` or `umask` is above 0o777.
         """
@@ -198,8 +200,8 @@ def _attribute(path: Union[str, bytes, "os.PathLike[str]"], name: str) -> Option
 
 
 def _attribute_lines(data: bytes) -> List[str]:
-    """Writes the entries of an attribute: a version of four bytes, then tag, permissions and id of each entry, the
-    least significant byte first (linux/posix_acl_xattr.h)."""
+    """Returns lines for the entries of an attribute: a version of four bytes, then the tag, the permissions and the id
+    of each entry, least significant byte first (linux/posix_acl_xattr.h)."""
     if len(data) < 4 or (len(data) - 4) % 8:
         raise Refused("Truncated", offset=len(data))
     if data[:4] != b"\2\0\0\0":

@@ -37,7 +37,7 @@ ALL = 0x1F07FF
 def read_mask(text: Name) -> int:
     """Returns the mask that a text names: names with `|` between them, or `-` for none.
 
-    Raises ValueError if the text names no mask.
+    Raises ValueError if the text does not name a mask.
     """
     bits, given = ctypes.c_uint32(), encoded(text)
     if calls["read_mask"](given, len(given), ctypes.byref(bits)):
@@ -48,7 +48,7 @@ def read_mask(text: Name) -> int:
 def mask_text(mask: int) -> str:
     """Returns the names of the rights of a mask, with `|` between them, or `-` for none.
 
-    Raises ValueError if a bit is no right.
+    Raises ValueError if a bit is not a right.
     """
     out, needed = ctypes.create_string_buffer(256), ctypes.c_size_t()
     if not 0 <= mask <= 0xFFFFFFFF or calls["mask_text"](mask, out, 256, ctypes.byref(needed)) == BAD_ARGUMENT:

@@ -1,4 +1,4 @@
-"""Questions to a snapshot: what is granted to whom, and why."""
+"""Questions about a snapshot: what is granted to whom, and why."""
 
 from __future__ import annotations
 
@@ -20,7 +20,7 @@ Cases = Tuple[int, ...]
 
 
 class Want(NamedTuple):
-    """What is asked for: the rights of NFSv4 lists, and the permissions of POSIX lists or why they have no such."""
+    """What is asked for: rights of NFSv4 lists, and permissions of POSIX lists, or the reason why these have none."""
 
     text: str
     mask: int
@@ -32,7 +32,7 @@ class Want(NamedTuple):
 def want_of(text: str, any_of: bool = False) -> Want:
     """Reads what is asked for: some of the letters r, w and x, or names of rights with `|` between them.
 
-    Raises UsageError if it is neither, or none.
+    Raises UsageError if the text is neither, or is empty.
     """
     if text and set(text) <= set("rwx"):
         perms = sum(bit for letter, bit in zip("rwx", (4, 2, 1)) if letter in text)
@@ -50,7 +50,7 @@ def want_of(text: str, any_of: bool = False) -> Want:
 
 @dataclass(frozen=True)
 class Options:
-    """How names are told, and whose rules count: the domain of names without one, and whether Linux' departure does."""
+    """The domain of names that have none, and whether the lists grant as Linux does (docs/others.md)."""
 
     domain: str = ""
     linux: bool = False
@@ -62,7 +62,7 @@ class _Identity(NamedTuple):
 
 
 class Asker:
-    """Asks the faces of a snapshot about some people, each distinct owner, group and list once."""
+    """Asks the faces of a snapshot about some people. It asks each distinct owner, group and list once."""
 
     def __init__(self, snapshot: Snapshot, people: Sequence[Person], options: Options) -> None:
         self.snapshot = snapshot
@@ -75,7 +75,7 @@ class Asker:
         self._without_id: Dict[int, List[bool]] = {}
 
     def ready(self, number: int) -> Ready:
-        """Returns a list made ready for questions."""
+        """Returns a list that is ready for questions."""
         if number not in self._ready:
             self._ready[number] = ready(self._stored[number], self.options.linux)
         return self._ready[number]
@@ -85,18 +85,18 @@ class Asker:
         return self._stored[number]
 
     def full_name(self, name: str) -> str:
-        """Returns a name with the domain where it has none."""
+        """Returns a name, with the domain added if it has none."""
         return name if "@" in name or not self.options.domain else f"{name}@{self.options.domain}"
 
     def owner_and_group(self, face: Face, kind: str) -> Tuple[str, str]:
-        """Returns the names of the owner and the group of a face, as its kind of list has them."""
+        """Returns the names of the owner and the group of a face, in the form of its kind of list."""
         if kind == "posix":
             return str(face.uid), str(face.gid)
         accounts = self.accounts[face.tree]
         return self.full_name(accounts.name(False, face.uid)), self.full_name(accounts.name(True, face.gid))
 
     def identity(self, person: Person, face: Face, kind: str) -> Optional[_Identity]:
-        """Returns user and groups of a person as the kind of list has them; None if an id is not known."""
+        """Returns the user and the groups of a person in the form of a kind of list, or None if an id is not known."""
         if kind == "nfs4":
             return _Identity(self.full_name(person.name), tuple(map(self.full_name, person.groups)))
         accounts = self.accounts[face.tree]
@@ -119,7 +119,7 @@ class Asker:
         return self._requesters[key]
 
     def masks(self, face: Face) -> Union[RefusedList, List[Optional[Cases]]]:
-        """Returns for each person what is granted, in each case; None for a person whose id is not known."""
+        """Returns for each person what is granted in each case, or None for a person whose id is not known."""
         asked = self.ready(face.list)
         return asked if isinstance(asked, RefusedList) else self._masks(face, asked)
 
@@ -171,7 +171,7 @@ def _answer(masks: Optional[Cases], want: int, any_of: bool) -> str:
 
 
 class Why(NamedTuple):
-    """What decides about one right: the answer, and the ACE or entry, or why there is none."""
+    """What decides about one right: the answer, and the ACE or entry, or the reason why there is none."""
 
     right: str
     answer: str
@@ -225,7 +225,7 @@ def why_posix(asker: Asker, face: Face, asked: Asked, person: Person) -> List[Wh
 
 def _entry_for(entries: Dict[Tuple[str, Optional[int]], int], user: int, groups: "set[int]", face: Face,
                bit: int) -> Tuple[str, Optional[int], bool]:
-    """The tag and the id of the entry that decides, and whether the mask limits it."""
+    """Returns the tag and the id of the entry that decides, and whether the mask limits it."""
     if user == face.uid:
         return "user", None, False
     if ("user", user) in entries:

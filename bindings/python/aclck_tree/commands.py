@@ -1,4 +1,4 @@
-"""The words that ask one snapshot: each writes answers and returns an exit status."""
+"""The commands about one snapshot. Each writes answers and returns an exit status."""
 
 from __future__ import annotations
 
@@ -24,7 +24,7 @@ def warn(line: str) -> None:
 
 
 def opened(place: str) -> Snapshot:
-    """Opens a snapshot, and says on standard error what it lacks."""
+    """Opens a snapshot, and reports on standard error what it lacks."""
     snapshot = Snapshot(place)
     if not snapshot.is_whole():
         warn(f"{quoted(place)} is partial: its scan was ended early")
@@ -52,7 +52,7 @@ def people_of(args: argparse.Namespace, snapshot: Snapshot) -> List[Person]:
 
 
 def asker_of(args: argparse.Namespace, snapshot: Snapshot, people: List[Person]) -> Asker:
-    """Makes what asks a snapshot, and says on standard error whose ids are not known."""
+    """Makes the `Asker` of a snapshot, and reports on standard error whose ids are not known."""
     asker = Asker(snapshot, people, Options(args.domain or "", getattr(args, "linux", False)))
     unknown: Set[str] = set()
     for face in snapshot.faces().values():
@@ -77,7 +77,7 @@ class Counted(NamedTuple):
 
 
 def counted(snapshot: Snapshot, glob: Optional[str]) -> Dict[int, Counted]:
-    """Counts the objects of each face, those whose whole path matches the pattern if there is one."""
+    """Counts the objects of each face. With a pattern, only objects whose whole path matches it count."""
     faces = snapshot.faces()
     if glob is None:
         return {face: Counted(count, snapshot.trees[faces[face].tree].full(first))
@@ -90,7 +90,7 @@ def counted(snapshot: Snapshot, glob: Optional[str]) -> Dict[int, Counted]:
 
 
 def matching(snapshot: Snapshot, glob: Optional[str]) -> Iterator[Tuple[bytes, str, int]]:
-    """Yields whole path, kind and face of the objects whose whole path matches a pattern."""
+    """Yields the whole path, the kind and the face of each object whose whole path matches a pattern."""
     for tree, path, kind, _, face in snapshot.objects():
         full = snapshot.trees[tree].full(path)
         if glob is None or fnmatch.fnmatchcase(os.fsdecode(full), glob):
@@ -108,7 +108,8 @@ class Tally:
         self.counts[answer] = self.counts.get(answer, 0) + count
 
     def status(self) -> int:
-        """Returns 2 if something was refused or is not known or nothing was asked, 1 if something is denied, else 0."""
+        """Returns 2 if something was refused or is not known or nothing was asked, 1 if something is denied, and
+        otherwise 0."""
         if not self.counts or self.counts.get("refused") or self.counts.get(UNKNOWN):
             return REFUSED
         return NO if self.counts.get(DENIED) else YES
@@ -119,7 +120,7 @@ class Tally:
 
 
 def left_out(asker: Asker, faces: Iterable[int]) -> str:
-    """Says how many AUDIT and ALARM ACEs were left out of the lists of some faces, if any were."""
+    """Reports how many AUDIT and ALARM ACEs were left out of the lists of some faces, if there are any."""
     known = asker.snapshot.faces()
     asked = [asker.ready(number) for number in {known[face].list for face in faces}]
     numbers = [one.left_out for one in asked if isinstance(one, Asked) and one.left_out]
@@ -138,7 +139,7 @@ Answers = Union[RefusedList, List[str]]
 
 def _linux_changes(args: argparse.Namespace, asker: Asker, want: Want, answers: Dict[int, Answers],
                    counts: Dict[int, Counted]) -> str:
-    """Says how many answers `--linux` changes."""
+    """Reports how many answers `--linux` changes."""
     if not args.linux:
         return ""
     other = Asker(asker.snapshot, asker.people, Options(asker.options.domain))
@@ -152,7 +153,7 @@ def _linux_changes(args: argparse.Namespace, asker: Asker, want: Want, answers: 
 
 
 def who(args: argparse.Namespace) -> int:
-    """Writes who of the people may do what is asked, of each object or of each class of objects."""
+    """Writes which of the people may do what is asked, for each object or for each class of objects."""
     snapshot = opened(args.snapshot)
     people = people_of(args, snapshot)
     asker, want = asker_of(args, snapshot, people), want_of(args.may, args.any)
@@ -237,7 +238,7 @@ def _may_text(row: Row) -> str:
 
 
 def person_of(args: argparse.Namespace, snapshot: Snapshot) -> Person:
-    """Returns the user of the command line, with the groups given there, or else those that the scan recorded."""
+    """Returns the user of the command line, with the groups given there, or otherwise those that the scan recorded."""
     if args.groups is not None:
         return one_person(args.user, [group for group in args.groups.split(",") if group])
     person = one_person(args.user, [])
@@ -280,12 +281,13 @@ def _is_asked(right: str, want: Want) -> bool:
 
 
 def quoted_line(text: str) -> str:
-    """Returns a line of a list, in which nothing can break it: a who has no control characters."""
+    """Returns a line of a list. Nothing in it can break the line, because a who has no control characters."""
     return "".join(letter if letter.isprintable() else f"\\u{ord(letter):04x}" for letter in text)
 
 
 def find(snapshot: Snapshot, path: str) -> Tuple[Tree, bytes, int]:
-    """Finds an object by its path as the scan wrote it, from `/`, or below the root. Raises TreeError if none is."""
+    """Finds an object by its path as the scan wrote it, from `/`, or below the root. Raises TreeError if there is
+    none."""
     typed = os.fsencode(os.path.normpath(path))
     for tree in snapshot.trees.values():
         for whole, root in ((typed, tree.root), (os.path.abspath(typed), tree.place), (b"./" + typed, b".")):

@@ -1,4 +1,4 @@
-"""Which objects grant the same, and what changed between two snapshots, and for whom."""
+"""Which objects grant the same, what changed between two snapshots, and for whom."""
 
 from __future__ import annotations
 
@@ -31,7 +31,7 @@ def meaning(asked: Asked, is_directory: bool = False) -> Meaning:
 
 @dataclass
 class SameClass:
-    """Objects that grant the same: how many, how many distinct lists they have, and the lists' numbers."""
+    """Objects that grant the same: their number, the number of their distinct lists, and the numbers of these lists."""
 
     kind: str
     refused: Optional[str]
@@ -40,9 +40,9 @@ class SameClass:
 
 
 def same(asker: Asker, inherit: bool) -> Tuple[List[SameClass], Dict[Tuple[int, bool], int]]:
-    """Returns the classes, greatest first and those of refused lists last, and the place of each list's class.
+    """Returns the classes, greatest first and those of refused lists last, and the place of the class of each list.
 
-    The latter is by the list's number and whether the object is a directory, which counts with `inherit` alone.
+    The key of a place is the number of the list, and whether the object is a directory, which only `inherit` uses.
     """
     faces = asker.snapshot.faces()
     found: Dict[Tuple[int, bool], int] = {}
@@ -69,7 +69,7 @@ def same(asker: Asker, inherit: bool) -> Tuple[List[SameClass], Dict[Tuple[int, 
 
 
 class Change(NamedTuple):
-    """Who is treated differently: the rights gained, lost, and those of which one side is not known."""
+    """A person who is treated differently: the rights gained, the rights lost, and those not known on one side."""
 
     whom: str
     gained: int
@@ -79,7 +79,7 @@ class Change(NamedTuple):
 
 @dataclass
 class FaceChange:
-    """What changed between two faces: `same`, `bytes`, `meaning` or `refused`; for whom; and what `compare` names."""
+    """What changed between two faces: `same`, `bytes`, `meaning` or `refused`; for whom; and whom `compare` names."""
 
     kind: str
     changes: List[Change] = field(default_factory=list)
@@ -88,8 +88,8 @@ class FaceChange:
 
 
 def _states(masks: Optional[Cases]) -> Tuple[int, int]:
-    """The rights that are granted in each case, and those that are in some; of a person whose id is not known, whom
-    POSIX lists alone have, each right of such a list may be."""
+    """Returns the rights that are granted in every case, and those that are granted in some case. If the id of a person
+    is not known, which only matters for POSIX lists, each right of such a list may be granted."""
     if masks is None:
         return 0, sum(POSIX_MASKS.values())
     sure, maybe = ALL, 0
@@ -118,7 +118,7 @@ def _difference(before: Asked, after: Asked) -> Optional[Change]:
 
 
 class Compared:
-    """Two snapshots of one tree, and the same people asked of both."""
+    """Two snapshots of one tree, which are asked about the same people."""
 
     def __init__(self, old: Asker, new: Asker) -> None:
         self.old = old
@@ -214,7 +214,8 @@ def _speaks_of_owners(acl: NfsAcl) -> bool:
 
 
 def pair_trees(old: Snapshot, new: Snapshot) -> List[Tuple[int, int]]:
-    """Returns which trees of two snapshots are one: those of one place and host, or the only tree of each."""
+    """Returns the pairs of trees of two snapshots that are the same tree: those with the same place and host, or the
+    only tree of each."""
     if len(old.trees) == len(new.trees) == 1:
         return [(next(iter(old.trees)), next(iter(new.trees)))]
     by_place = {(tree.host, tree.place): number for number, tree in new.trees.items()}
@@ -227,9 +228,9 @@ def pair_trees(old: Snapshot, new: Snapshot) -> List[Tuple[int, int]]:
 
 
 def named(difference: Difference, *lists: Asked) -> str:
-    """Says whom `compare` names: the user and groups that one of the lists mentions, and what is the object's own.
+    """Returns whom `compare` names: the user and groups that one of the lists mentions, and the object's own.
 
-    The names that no list mentions, which `compare` makes of one letter, are not told.
+    Names that no list mentions, which `compare` makes of one letter, are left out.
     """
     whos = {ace.who: asked.name(ace.who) for asked in lists for ace in asked.acl}
     words = [whos.get(difference.user, "anybody else")]

@@ -1,4 +1,4 @@
-"""The word `diff`: what changed between two snapshots, and for whom."""
+"""The command `diff`: what changed between two snapshots, and for whom."""
 
 from __future__ import annotations
 
@@ -15,7 +15,7 @@ from .text import Output, Row, plural, quoted
 
 
 def diff(args: argparse.Namespace) -> int:
-    """Writes what came, went or changed between two snapshots, and for whom."""
+    """Writes which objects are new, gone or changed between two snapshots, and for whom."""
     old, new = opened(args.old), opened(args.new)
     people = people_of(args, new)
     compared = Compared(asker_of(args, old, people), asker_of(args, new, people))

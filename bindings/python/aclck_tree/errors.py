@@ -1,4 +1,4 @@
-"""What ends a run of `aclck-tree` early, each with its exit status."""
+"""The errors that end a run of `aclck-tree` early, each with its exit status."""
 
 from __future__ import annotations
 
@@ -7,13 +7,13 @@ YES, NO, REFUSED, USAGE, DEVICE = range(5)
 
 
 class TreeError(Exception):
-    """Something that ends the run: one line on standard error, and an exit status."""
+    """An error that ends the run, with one line on standard error and an exit status."""
 
     status = REFUSED
 
 
 class UsageError(TreeError):
-    """The command line asks for something that cannot be."""
+    """The command line asks for something impossible."""
 
     status = USAGE
 

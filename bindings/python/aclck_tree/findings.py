@@ -23,7 +23,8 @@ LONGEST = 1000
 
 @dataclass
 class Finding:
-    """One kind of finding: what was found of which faces, with the words for each; directories alone if it says so."""
+    """One kind of finding: which faces it was found for, with the words for each, and whether only directories
+    count."""
 
     key: str
     title: str
@@ -81,14 +82,14 @@ def _without_account(accounts: Accounts, face: Face, asked: Asked) -> str:
 
 
 def _granted_names(asked: Asked) -> Iterator[Tuple[bool, str]]:
-    """Whom an ACE of the list allows something."""
+    """Yields the names to which an ACE of the list allows something."""
     for ace in asked.acl:
         if ace.kind == "ALLOW" and ace.mask:
             yield bool(ace.flags & 0x40), ace.who
 
 
 def _by_list(asker: Asker, directories: Set[int], idle: Finding, children: Finding) -> None:
-    """Asks each NFSv4 list once, as that of a directory if one has it."""
+    """Asks each NFSv4 list once, as the list of a directory if a directory has it."""
     faces = asker.snapshot.faces()
     of_directories = {faces[number].list for number in directories}
     idle_words: Dict[int, str] = {}
@@ -110,8 +111,8 @@ def _by_list(asker: Asker, directories: Set[int], idle: Finding, children: Findi
 
 
 def _child(asked: Asked) -> str:
-    """How the list of a new directory differs, in words; empty if it grants the same. A POSIX list without a default
-    part leaves that to the mode and umask of whoever makes the directory."""
+    """Returns in words how the list of a new directory differs, or nothing if it grants the same. For a POSIX list
+    without a default part, the mode and the umask of the process that makes the directory decide."""
     if asked.posix:
         default = [line[8:] for line in str(asked.posix).splitlines() if line.startswith("default:")]
         access = [line for line in str(asked.posix).splitlines() if not line.startswith("default:")]
@@ -124,7 +125,8 @@ def _child(asked: Asked) -> str:
 
 
 def _idle(asked: Asked, is_directory: bool) -> Iterator[str]:
-    """The ACEs without which nothing changes, and which of them would change nothing either as the other kind."""
+    """Yields the ACEs that can be removed without any change, and says which of them can also be of the other kind
+    without any change."""
     data = bytes(asked.acl)
     parts = pieces(data)
     if len(parts) > LONGEST:

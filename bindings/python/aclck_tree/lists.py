@@ -1,8 +1,8 @@
 """Makes the lists of a snapshot ready for questions.
 
-Of an NFSv4 list the AUDIT and ALARM ACEs are left out, since they decide nothing (RFC 8881, section 6.2.1.1), and a
-special name that the library refuses, such as `INTERACTIVE@`, stands as a group whose members are not known. Of a POSIX
-list the bridge is asked, an NFSv4 list that grants each single permission alike, with ids as names.
+The AUDIT and ALARM ACEs of an NFSv4 list are left out, because they decide nothing (RFC 8881, section 6.2.1.1). A
+special name that the library refuses, such as `INTERACTIVE@`, becomes a group whose members are not known. For a POSIX
+list its bridge is asked: an NFSv4 list that grants each single permission alike, with ids as names.
 """
 
 from __future__ import annotations
@@ -30,8 +30,8 @@ _AUDIT, _ALARM = 2, 3
 class Asked:
     """A list that can be asked.
 
-    `acl` is the list without AUDIT and ALARM ACEs, or the bridge of `posix`; `specials` are the special names in it,
-    each with the name of the group that stands for it; `places` are the places of its ACEs in the list as it was found.
+    `acl` is the list without AUDIT and ALARM ACEs, or the bridge of `posix`. `specials` are the special names in it,
+    each with the name of the group that replaces it. `places` are the places of its ACEs in the list as it was found.
     """
 
     acl: NfsAcl
@@ -42,11 +42,11 @@ class Asked:
 
     @property
     def kind(self) -> str:
-        """`posix` for a POSIX list or a mode, else `nfs4`."""
+        """`posix` for a POSIX list or a mode, and otherwise `nfs4`."""
         return "posix" if self.posix else "nfs4"
 
     def name(self, who: str) -> str:
-        """Returns the special name for which a group stands, and every other name as it is."""
+        """Returns the special name that a group replaces, and every other name as it is."""
         return next((name for name, group in self.specials if group == who), who)
 
     def lines(self) -> List[str]:
@@ -59,7 +59,8 @@ class Asked:
 
 @dataclass(frozen=True)
 class RefusedList:
-    """A list that cannot be asked, with the line that says why; a place counts in the list as it was found."""
+    """A list that cannot be asked, with the line that says why. A place in it is a place in the list as it was
+    found."""
 
     reason: str
 
@@ -77,7 +78,7 @@ class Piece(NamedTuple):
 
 
 def pieces(data: bytes) -> List[Piece]:
-    """The ACEs of some bytes, up to the first that breaks off (RFC 4506, sections 4.11 and 4.13)."""
+    """Returns the ACEs of some bytes, up to the first one that is cut short (RFC 4506, sections 4.11 and 4.13)."""
     found: List[Piece] = []
     at = 4
     for _ in range(int.from_bytes(data[:4], "big")):
@@ -108,14 +109,14 @@ def _stand_in(who: bytes, taken: Dict[bytes, bytes], names: "set[bytes]") -> byt
 
 class _Rewritten(NamedTuple):
     data: bytes
-    starts: List[Tuple[int, int]]  # where a part begins, here and in the list as it was found
+    starts: List[Tuple[int, int]]  # where a part begins, in this list and in the list as it was found
     places: Tuple[int, ...]
     specials: Dict[bytes, bytes]
     left_out: int
 
 
 def _rewrite(data: bytes) -> _Rewritten:
-    """Leaves out AUDIT and ALARM ACEs, and puts groups for special names; the rest stays as it is."""
+    """Leaves out AUDIT and ALARM ACEs, and replaces special names by groups. The rest stays as it is."""
     found = pieces(data)
     names = {piece.who for piece in found}
     parts: List[bytes] = []
@@ -142,7 +143,7 @@ def _rewrite(data: bytes) -> _Rewritten:
 
 
 def _found_at(rewritten: _Rewritten, offset: int) -> int:
-    """The place in the list as it was found."""
+    """Returns a place in the list as it was found."""
     here, there = max(start for start in rewritten.starts if start[0] <= offset)
     return there + offset - here
 
@@ -163,7 +164,7 @@ def _ready_nfs(data: bytes) -> Ready:
 
 
 def as_linux(acl: PosixAcl) -> PosixAcl:
-    """Returns the list that Linux goes by: without named entries where the mask is empty (docs/others.md)."""
+    """Returns the list that Linux uses: without named entries if the mask is empty (docs/others.md)."""
     perms = {entry.tag: entry.perm for entry in acl if not entry.default and entry.id is None}
     if perms.get("mask", 7) != 0:
         return acl
@@ -181,7 +182,7 @@ def _ready_posix(stored: StoredList, linux: bool) -> Ready:
 
 
 def ready(stored: StoredList, linux: bool = False) -> Ready:
-    """Makes a list ready; with `linux` a POSIX list grants as Linux does where its mask is empty."""
+    """Makes a list ready for questions. With `linux`, a POSIX list with an empty mask grants as it does on Linux."""
     if stored.kind == "nfs4":
         return _ready_nfs(stored.access or b"")
     return _ready_posix(stored, linux)

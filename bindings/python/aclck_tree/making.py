@@ -1,4 +1,4 @@
-"""The words `scan` and `merge`, which make snapshots."""
+"""The commands `scan` and `merge`, which make snapshots."""
 
 from __future__ import annotations
 
@@ -16,14 +16,14 @@ from .text import plural, quoted
 
 
 def _known_total(place: str) -> Optional[int]:
-    """How many objects the snapshot had that this scan will replace."""
+    """Returns the number of objects of the snapshot that this scan will replace."""
     with contextlib.suppress(TreeError):
         return Snapshot(place).count()
     return None
 
 
 def scan(args: argparse.Namespace) -> int:
-    """Scans trees into a snapshot; one that was ended early replaces no whole one."""
+    """Scans trees into a snapshot. A scan that ended early does not replace a whole snapshot."""
     if args.threads < 1:
         raise UsageError("--threads takes a number from 1")
     options = Options(args.threads, args.one_file_system, args.attribute)

@@ -1,4 +1,4 @@
-"""The frame of the page of `report`: its style and its script. Nothing comes from elsewhere."""
+"""The frame of the page of `report`: its style and its script. The page loads nothing else."""
 
 HEAD = """<!DOCTYPE html>
 <html lang="en"><head><meta charset="utf-8">

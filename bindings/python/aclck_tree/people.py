@@ -1,4 +1,4 @@
-"""Who is asked about: people with their groups, and the names and ids of accounts."""
+"""The people who are asked about, with their groups, and the names and ids of accounts."""
 
 from __future__ import annotations
 
@@ -18,7 +18,7 @@ STRANGER = "?stranger"
 
 @dataclass(frozen=True)
 class Person:
-    """A user with all groups of the user; ids where they are given."""
+    """A user with all groups of the user, and their ids if they are given."""
 
     name: str
     groups: Tuple[str, ...] = ()
@@ -31,7 +31,7 @@ class Person:
 
 @dataclass
 class Accounts:
-    """The accounts of one tree: names by ids and ids by names, the first of those that stand twice."""
+    """The accounts of one tree: names by ids and ids by names. If an account is listed twice, the first counts."""
 
     names: Dict[Tuple[bool, int], str] = field(default_factory=dict)
     ids: Dict[Tuple[bool, str], int] = field(default_factory=dict)
@@ -42,11 +42,11 @@ class Accounts:
         self.ids.setdefault((is_group, name), number)
 
     def name(self, is_group: bool, number: int) -> str:
-        """Returns the name of an id, which is the id in digits where there is no account."""
+        """Returns the name of an id, or the id in digits if there is no account."""
         return self.names.get((is_group, number), str(number))
 
     def id(self, person: Person, name: str, is_group: bool) -> Optional[int]:
-        """Returns the id of a person or of one of their groups, or None where none is known."""
+        """Returns the id of a person or of one of their groups, or None if it is not known."""
         given = person.given(name, is_group)
         if given is None:
             given = self.ids.get((is_group, name))
@@ -64,7 +64,7 @@ def accounts_of(snapshot: Snapshot) -> Dict[int, Accounts]:
 
 
 def _person(name: str, groups: Iterable[str]) -> Person:
-    """Makes a person of words; `NAME=ID` gives the id of a name."""
+    """Makes a person from words; `NAME=ID` gives the id of a name."""
     ids: List[Tuple[str, bool, int]] = []
 
     def plain(word: str, is_group: bool) -> str:
@@ -80,7 +80,7 @@ def _person(name: str, groups: Iterable[str]) -> Person:
 
 
 def one_person(user: str, groups: Sequence[str]) -> Person:
-    """Makes a person of command line words. Raises UsageError if a name is empty."""
+    """Makes a person from command line words. Raises UsageError if a name is empty."""
     if not user or not all(groups):
         raise UsageError("a name is empty")
     return _person(user, groups)
@@ -97,7 +97,7 @@ def _lines(place: str) -> Iterator[Tuple[int, str]]:
 
 
 def people_file(place: str) -> List[Person]:
-    """Reads lines `name: group group ..`; a name with blanks stands between double quotes, and `NAME=ID` gives its id.
+    """Reads lines `name: group group ..`. A name with blanks is between double quotes, and `NAME=ID` gives its id.
 
     Raises TreeError if a line has no colon, or the file cannot be read.
     """
@@ -146,7 +146,7 @@ def system_people() -> List[Person]:
 
 
 def snapshot_people(snapshot: Snapshot) -> List[Person]:
-    """Returns the accounts that the scanning hosts listed, those of one name as one person."""
+    """Returns the accounts that the scanning hosts listed. Accounts with the same name are one person."""
     members: Dict[str, List[str]] = {}
     for _, user, group in snapshot.members():
         members.setdefault(os.fsdecode(user), []).append(os.fsdecode(group))

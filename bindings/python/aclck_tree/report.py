@@ -1,4 +1,4 @@
-"""The word `report`: one page of HTML for people, with no part from elsewhere."""
+"""The command `report`: one page of HTML for people, which loads nothing else."""
 
 from __future__ import annotations
 
@@ -28,7 +28,7 @@ _LETTERS = {"none": "–", "read": "read", "write": "write", "all": "all", "unkn
 
 
 def _level(mask: int, kind: str) -> str:
-    """What a cell says: all rights, or else write, or else read, or else none."""
+    """Returns what a cell says: the first that applies of all rights, write, read and none."""
     if mask & _ALL[kind] == _ALL[kind]:
         return "all"
     if mask & (WRITE_DATA | APPEND_DATA):
@@ -57,7 +57,7 @@ _Key = Tuple[str, str]
 
 
 class Report:
-    """What the page shows of a snapshot."""
+    """What the page shows about a snapshot."""
 
     def __init__(self, asker: Asker) -> None:
         self.asker = asker
@@ -82,14 +82,15 @@ class Report:
         return sorted(found.values(), key=lambda row: -row.objects)
 
     def _columns(self) -> List[List[int]]:
-        """The people, those with equal access to everything in one column."""
+        """Returns the people in columns. People with equal access to everything share a column."""
         found: Dict[Tuple[str, ...], List[int]] = {}
         for place in range(len(self.asker.people)):
             found.setdefault(tuple(row.levels[place] for row in self.rows), []).append(place)
         return list(found.values())
 
     def _keys(self) -> Dict[int, List[_Key]]:
-        """The classes in which the page names the objects of each face: its row, and what was found of it."""
+        """Returns the classes in which the page names the objects of each face: its row, and what was found about
+        it."""
         found: Dict[int, List[_Key]] = {face: [("", str(place))] for place, row in enumerate(self.rows)
                                         for face in row.faces}
         for finding in self.findings:
@@ -98,7 +99,7 @@ class Report:
         return found
 
     def _paths(self) -> Dict[_Key, List[str]]:
-        """The first paths of each class."""
+        """Returns the first paths of each class."""
         keys = self._keys()
         directories_only = {finding.key for finding in self.findings if finding.directories_only}
         found: Dict[_Key, List[str]] = {}
@@ -199,7 +200,8 @@ class Report:
         yield "</section>"
 
     def status(self) -> int:
-        """Returns 2 if a list is refused or something could not be read, 1 if something else was found, else 0."""
+        """Returns 2 if a list is refused or something could not be read, 1 if something else was found, and otherwise
+        0."""
         found = {finding.key for finding in self.findings if finding.faces}
         if "refused" in found or not self.snapshot.is_whole() or any(True for _ in self.snapshot.errors()):
             return REFUSED

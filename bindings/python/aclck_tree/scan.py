@@ -1,5 +1,5 @@
-"""Walks trees once and keeps what it finds in a snapshot. Nothing is written to a tree, not even a time of access where
-the system lets it be."""
+"""Walks trees once and keeps what it finds in a snapshot. Nothing is written to a tree, and if the system permits it,
+times of access do not change either."""
 
 from __future__ import annotations
 
@@ -35,7 +35,7 @@ _ABSENT = (errno.ENODATA, errno.ENOTSUP)
 
 @dataclass
 class Options:
-    """What a scan may be told."""
+    """The options of a scan."""
 
     threads: int = 32
     one_file_system: bool = False
@@ -45,7 +45,7 @@ class Options:
 
 @dataclass
 class Result:
-    """What one task found: objects, directories to go on with, names of a large directory to read, and failures."""
+    """What one task found: objects, directories to read next, names of a large directory to read, and failures."""
 
     found: List[Found] = field(default_factory=list)
     directories: List[bytes] = field(default_factory=list)
@@ -59,7 +59,7 @@ Task = Union[bytes, Tuple[bytes, List[bytes]]]
 
 
 class Reader:
-    """Reads the objects of one tree. Any number of threads may use it at once."""
+    """Reads the objects of one tree. Any number of threads can use it at once."""
 
     def __init__(self, root: bytes, options: Options) -> None:
         self._root = root
@@ -77,7 +77,7 @@ class Reader:
         return result
 
     def run(self, task: Task) -> Result:
-        """Does one task. What fails is in the result; nothing is raised but for want of memory."""
+        """Does one task. Failures are in the result; the only exception it raises is MemoryError."""
         result = Result()
         if isinstance(task, tuple):
             self._read_names(task[0], task[1], result)
@@ -153,7 +153,7 @@ def _open_directory(place: bytes, follow: bool) -> int:
     flags = os.O_RDONLY | os.O_DIRECTORY | (0 if follow else os.O_NOFOLLOW)
     try:
         return os.open(place, flags | os.O_NOATIME)
-    except PermissionError:  # O_NOATIME is for the owner alone
+    except PermissionError:  # only the owner may use O_NOATIME
         return os.open(place, flags)
 
 
@@ -166,7 +166,7 @@ def _now() -> str:
 
 
 class Progress:
-    """A line on a terminal, written at most five times a second; nothing elsewhere."""
+    """A line on a terminal, written at most five times a second. Without a terminal nothing is written."""
 
     def __init__(self, writer: Writer, total: Optional[int]) -> None:
         self._writer = writer
@@ -187,17 +187,17 @@ class Progress:
         sys.stderr.flush()
 
     def end(self) -> None:
-        """Takes the line away."""
+        """Removes the line."""
         if self._on:
             sys.stderr.write("\r\x1b[K")
             sys.stderr.flush()
 
 
 class Scan:
-    """One tree on its way into a snapshot."""
+    """The scan of one tree into a snapshot."""
 
     def __init__(self, root: bytes, options: Options, writer: Writer, progress: Progress) -> None:
-        """Raises TreeError if the root is no file or directory that can be looked at."""
+        """Raises TreeError if the root is not a file or directory that can be read."""
         try:
             self._reader = Reader(root, options)
         except OSError as error:
@@ -212,7 +212,7 @@ class Scan:
         self.tree = writer.add_tree(Tree(0, options.host, typed, place, _now(), None, False, VERSION, 0))
 
     def run(self) -> None:
-        """Walks the tree. If it is ended early, by Ctrl-C, what was found until then is kept, and not marked whole."""
+        """Walks the tree. If Ctrl-C ends it early, what was found until then is kept, and is not marked as whole."""
         whole = False
         try:
             try:
@@ -266,9 +266,9 @@ class Scan:
 
 def scan_trees(roots: Sequence[bytes], options: Options, writer: Writer,
                total: Optional[int] = None) -> Tuple[bool, int]:
-    """Scans trees into a snapshot. Returns whether all of it is whole, and how many steps failed.
+    """Scans trees into a snapshot. Returns whether all scans are whole, and how many steps failed.
 
-    Ctrl-C ends it early. Raises TreeError if a root cannot be looked at.
+    Ctrl-C ends the scan early. Raises TreeError if a root cannot be read.
     """
     progress = Progress(writer, total)
     scans = [Scan(root, options, writer, progress) for root in roots]
@@ -286,7 +286,7 @@ def scan_trees(roots: Sequence[bytes], options: Options, writer: Writer,
 
 
 def _names(writer: Writer, tree: int) -> Iterator[Account]:
-    """The accounts that this host lists, and those of the ids in the tree that it knows without listing them."""
+    """Yields the accounts that this host lists, and those of ids in the tree that it knows but does not list."""
     owners, groups = writer.seen_ids(tree)
     users_in_lists, groups_in_lists = _ids_in_lists(writer)
     known: Dict[bool, Set[int]] = {False: set(), True: set()}
@@ -316,7 +316,7 @@ def _ids_in_lists(writer: Writer) -> Tuple[Set[int], Set[int]]:
 
 
 def _members() -> Iterator[Tuple[bytes, bytes]]:
-    """The memberships that this host lists: each user's own group, then the members of each group."""
+    """Yields the memberships that this host lists: the own group of each user, then the members of each group."""
     names = {group.gr_gid: group.gr_name for group in grp.getgrall()}
     for user in pwd.getpwall():
         own = names.get(user.pw_gid, str(user.pw_gid))

@@ -5,15 +5,15 @@ The tables:
 - `trees`: one row per scanned tree: the host, the root's path as it was typed and from `/`, when the scan began and
   ended (UTC), whether it is whole, the version of the program, and how many symbolic links were not followed.
 - `lists`: each distinct list once. `kind` is `nfs4` (the bytes of `system.nfs4_acl`), `posix` (`access` and `dflt` are
-  the bytes of `system.posix_acl_access` and `_default`, NULL where there is none; `mode` has the nine bits that stand
-  for an absent access list), or `mode` (those nine bits alone).
-- `faces`: each distinct owner, group and list once; what a question is asked of.
+  the bytes of `system.posix_acl_access` and `_default`, or NULL if there is none; `mode` has the nine bits that replace
+  an absent access list), or `mode` (only those nine bits).
+- `faces`: each distinct owner, group and list once. A question is about a face.
 - `objects`: one row per file, directory or other object: its path below the root (bytes, empty for the root itself),
-  its kind (one letter, as find -type has it), its mode, and its face.
+  its kind (one letter, as for find -type), its mode, and its face.
 - `names` and `members`: the accounts that the scanning host knew, and the ids that the tree has.
 - `errors`: what could not be read, with the path and the step.
 
-The version of this layout is in `PRAGMA user_version`; a newer one is refused by name.
+The version of this layout is in `PRAGMA user_version`. A newer version is refused, with a message that says so.
 """
 
 from __future__ import annotations
@@ -95,7 +95,7 @@ class Face:
 
 @dataclass(frozen=True)
 class Found:
-    """An object as a scan found it."""
+    """An object that a scan found."""
 
     path: bytes
     kind: str
@@ -127,11 +127,11 @@ class Writer:
 
     @property
     def lists(self) -> int:
-        """How many distinct lists there are so far."""
+        """The number of distinct lists so far."""
         return len(self._lists)
 
     def add_tree(self, tree: Tree) -> int:
-        """Adds a tree and returns its number, whatever number it had."""
+        """Adds a tree and returns its new number."""
         row = (tree.host, tree.root, tree.place, tree.began, tree.ended, tree.whole, tree.version, tree.links)
         cursor = self._db.execute("INSERT INTO trees VALUES (NULL, ?, ?, ?, ?, ?, ?, ?, ?)", row)
         return cursor.lastrowid or 0
@@ -191,16 +191,16 @@ class Writer:
         self._db.close()
 
     def drop(self) -> None:
-        """Closes the file, whatever it has."""
+        """Closes the file, in whatever state it is."""
         with contextlib.suppress(sqlite3.Error):
             self._db.close()
 
 
 class Snapshot:
-    """A snapshot that is read."""
+    """A snapshot to read."""
 
     def __init__(self, place: str) -> None:
-        """Opens a snapshot. Raises TreeError if it is none, is cut short, or has a newer layout."""
+        """Opens a snapshot. Raises TreeError if the file is not a snapshot, is cut short, or has a newer layout."""
         self.place = place
         if not os.path.exists(place):
             raise TreeError(f"{place}: no such snapshot")
@@ -227,7 +227,7 @@ class Snapshot:
             raise TreeError(f"{self.place}: the file is cut short")
 
     def is_whole(self) -> bool:
-        """Whether all scans of it came to their end."""
+        """Whether all its scans were completed."""
         return all(tree.whole for tree in self.trees.values())
 
     def count(self) -> int:
@@ -252,16 +252,16 @@ class Snapshot:
         return {row[0]: Face(*row) for row in self._db.execute("SELECT * FROM faces")}
 
     def face_counts(self) -> Dict[int, Tuple[int, int, bytes]]:
-        """Returns of each face how many objects have it, how many of these are directories, and the first path."""
+        """Returns for each face how many objects have it, how many of these are directories, and the first path."""
         rows = self._db.execute("SELECT face, COUNT(*), SUM(kind = 'd'), MIN(path) FROM objects GROUP BY face")
         return {row[0]: (row[1], row[2], row[3]) for row in rows}
 
     def objects(self) -> Iterator[Tuple[int, bytes, str, int, int]]:
-        """Yields tree, path, kind, mode and face of all objects in the order of trees and paths."""
+        """Yields the tree, path, kind, mode and face of all objects, in the order of trees and paths."""
         yield from self._db.execute("SELECT tree, path, kind, mode, face FROM objects ORDER BY tree, path")
 
     def find(self, tree: int, path: bytes) -> Optional[Tuple[str, int, int]]:
-        """Returns kind, mode and face of an object, or None."""
+        """Returns the kind, mode and face of an object, or None if there is no such object."""
         rows = self._db.execute("SELECT kind, mode, face FROM objects WHERE tree = ? AND path = ?", (tree, path))
         found: Optional[Tuple[str, int, int]] = rows.fetchone()
         return found
@@ -276,16 +276,17 @@ class Snapshot:
         yield from self._db.execute("SELECT * FROM members")
 
     def errors(self) -> Iterator[Tuple[int, bytes, str, str]]:
-        """Yields tree, path, step and message of all that could not be read."""
+        """Yields the tree, path, step and message of each failure to read."""
         yield from self._db.execute("SELECT * FROM errors ORDER BY tree, path")
 
     def join(self, other: Snapshot, pairs: Sequence[Tuple[int, int]]) -> Joined:
-        """Puts a later snapshot beside this one; `pairs` are trees of both that are one tree at two times."""
+        """Opens a later snapshot together with this one; `pairs` are the trees of both that are one tree at two
+        times."""
         return Joined(self._db, other.place, pairs)
 
 
 class Joined:
-    """Two snapshots side by side."""
+    """Two snapshots to compare."""
 
     def __init__(self, db: sqlite3.Connection, place: str, pairs: Sequence[Tuple[int, int]]) -> None:
         self._db = db
@@ -295,26 +296,27 @@ class Joined:
         db.executemany("INSERT INTO pairs VALUES (?, ?)", pairs)
 
     def gone(self) -> Iterator[Tuple[int, bytes]]:
-        """Yields tree and path of the objects that the later one lacks."""
+        """Yields the tree and the path of the objects that the later snapshot lacks."""
         yield from self._db.execute(
             "SELECT o.tree, o.path FROM main.objects o LEFT JOIN pairs ON o.tree = pairs.old WHERE NOT EXISTS "
             "(SELECT 1 FROM later.objects n WHERE n.tree = pairs.new AND n.path = o.path) ORDER BY o.tree, o.path")
 
     def came(self) -> Iterator[Tuple[int, bytes]]:
-        """Yields tree and path of the objects that the earlier one lacks."""
+        """Yields the tree and the path of the objects that the earlier snapshot lacks."""
         yield from self._db.execute(
             "SELECT n.tree, n.path FROM later.objects n LEFT JOIN pairs ON n.tree = pairs.new WHERE NOT EXISTS "
             "(SELECT 1 FROM main.objects o WHERE o.tree = pairs.old AND o.path = n.path) ORDER BY n.tree, n.path")
 
     def kept(self) -> Iterator[Tuple[int, bytes, int, int, bool]]:
-        """Yields tree and path of the objects that both have, the face in either, and whether it is a directory now."""
+        """Yields the tree and the path of the objects that both have, the face in each, and whether it is a directory
+        now."""
         yield from self._db.execute(
             "SELECT n.tree, n.path, o.face, n.face, n.kind = 'd' FROM pairs JOIN main.objects o ON o.tree = pairs.old "
             "JOIN later.objects n ON n.tree = pairs.new AND n.path = o.path ORDER BY n.tree, n.path")
 
 
 def merge(writer: Writer, snapshot: Snapshot) -> None:
-    """Adds all of a snapshot to a new one."""
+    """Adds everything in a snapshot to a new one."""
     lists, faces = snapshot.lists(), snapshot.faces()
     numbers = {number: writer.add_tree(tree) for number, tree in snapshot.trees.items()}
     batch: List[Found] = []
@@ -335,10 +337,11 @@ def merge(writer: Writer, snapshot: Snapshot) -> None:
 
 @contextlib.contextmanager
 def new_snapshot(place: str) -> Iterator[Writer]:
-    """Makes a snapshot beside `place` and puts it there once the block is done; if it raises, `place` stays as it was.
+    """Makes a snapshot next to `place`, and moves it there when the block is done. If the block raises, `place` stays
+    as it was.
 
-    One that is not whole replaces nothing: where there is a file, it goes to `PLACE.partial`. Raises DeviceError if the
-    snapshot cannot be written.
+    A snapshot that is not whole does not replace a file: it is written to `PLACE.partial` instead. Raises DeviceError
+    if the snapshot cannot be written.
     """
     part = f"{place}.{os.getpid()}.part"
     writer: Optional[Writer] = None

@@ -1,4 +1,4 @@
-"""What the program prints: lines for people, CSV, or one JSON object per line."""
+"""The output of the program: lines for people, CSV, or one JSON object per line."""
 
 from __future__ import annotations
 
@@ -14,8 +14,8 @@ _SAFE = set("abcdefghijklmnopqrstuvwxyzABCDEFGHIJKLMNOPQRSTUVWXYZ0123456789@%+=:
 
 
 def quoted(name: str) -> str:
-    """Returns a name as bash reads it, on one line: as it is if it has nothing but letters, digits and `@%+=:,./-_^`,
-    else between quotes, or as `$'..'` if a character in it is not printable or not UTF-8."""
+    """Returns a name as bash reads it, on one line: as it is if it has only letters, digits and `@%+=:,./-_^`, as
+    `$'..'` if a character in it is not printable or not UTF-8, and otherwise between quotes."""
     if name and all(letter in _SAFE or (letter > "\x7f" and letter.isalnum()) for letter in name):
         return name
     if name.isprintable():
@@ -38,11 +38,11 @@ def quoted_path(path: bytes) -> str:
 
 
 class Output:
-    """Where answers go: each as a line of text, a line of CSV, or a JSON object."""
+    """Writes answers, each as a line of text, a line of CSV, or a JSON object."""
 
     def __init__(self, form: str, columns: Sequence[str], line: Callable[[Row], Optional[str]],
                  stream: Optional[TextIO] = None) -> None:
-        """`form` is `text`, `csv` or `json`; `line` makes the text of a row, or None for a row without one."""
+        """`form` is `text`, `csv` or `json`; `line` makes the text of a row, or None for a row without text."""
         self._form = form
         self._columns = list(columns)
         self._line = line
@@ -62,12 +62,13 @@ class Output:
                 self._stream.write(line + "\n")
 
     def _put_csv(self, cells: Sequence[str]) -> None:
-        """Writes a line of RFC 4180, which ends at a line feed alone."""
+        """Writes a line of RFC 4180 that ends with a line feed only."""
         marked = ['"' + cell.replace('"', '""') + '"' if set(cell) & set(',"\r\n') else cell for cell in cells]
         self._stream.write(",".join(marked) + "\n")
 
     def note(self, line: str) -> None:
-        """Writes a line that is no answer: to standard output with text, and else to standard error."""
+        """Writes a line that is not an answer: to standard output if the form is text, and otherwise to standard
+        error."""
         stream = self._stream if self._form == "text" else sys.stderr
         stream.write(line + "\n")
 
@@ -83,7 +84,7 @@ def _cell(value: Any) -> str:
 
 
 def table(rows: Iterable[Sequence[str]], right: Sequence[int] = ()) -> List[str]:
-    """Returns rows as lines with columns of one width; the columns in `right` stand at the right."""
+    """Returns rows as lines with columns of one width. The columns in `right` are right-aligned."""
     held = [list(row) for row in rows]
     if not held:
         return []

@@ -1,7 +1,7 @@
 //! Access control lists of NFSv4 and POSIX, checked, converted and compared, by libaclck.
 //!
-//! No call of libaclck has a requirement beyond valid pointers, so each function here hands slices to one call. What the
-//! calls do is in `aclck.h`.
+//! The calls of libaclck require valid pointers and nothing else, so each function here passes slices to one call.
+//! `aclck.h` says what the calls do.
 
 mod raw;
 
@@ -10,7 +10,7 @@ use std::fmt;
 
 pub use raw::{Decision, Difference, Fault};
 
-/// Rights of a mask (RFC 8881, section 6.2.1.3.1).
+/// The rights of a mask (RFC 8881, section 6.2.1.3.1).
 pub mod rights {
     pub const READ_DATA: u32 = 0x0000_0001;
     pub const WRITE_DATA: u32 = 0x0000_0002;
@@ -39,7 +39,7 @@ pub enum Profile {
     Narrow,
 }
 
-/// What is created in a directory.
+/// The kind of object that is created in a directory.
 #[derive(Clone, Copy, Debug, PartialEq, Eq)]
 pub enum Kind {
     File,
@@ -54,7 +54,7 @@ pub enum Form {
     Short,
 }
 
-/// Why a call has no result.
+/// The reason why a call has no result.
 #[derive(Clone, Copy, Debug, PartialEq, Eq)]
 pub enum Error {
     /// The list or the text is refused.
@@ -99,12 +99,12 @@ pub struct Name<'a> {
     pub is_group: bool,
 }
 
-/// Whether the list grants the requester all of the mask on the object.
+/// Returns whether the list grants the requester the whole mask on the object.
 pub fn check_nfs(acl: &[u8], object: Object, requester: Requester, mask: u32, profile: Profile) -> Result<bool, Error> {
     let groups = slices(requester.groups);
     let mut fault = Fault::default();
-    // SAFETY: each pointer and length here and below is of one slice that is borrowed for the call, and each other
-    // pointer is of one whole value; libaclck writes within these alone.
+    // SAFETY: here and below, each pointer with a length is that of one slice that is borrowed for the call, and each
+    // other pointer is that of one whole value. libaclck writes only to these.
     let status = unsafe {
         raw::aclck_check_nfs(
             acl.as_ptr(), acl.len(), object.owner.as_ptr(), object.owner.len(), object.group.as_ptr(),
@@ -115,7 +115,7 @@ pub fn check_nfs(acl: &[u8], object: Object, requester: Requester, mask: u32, pr
     answered(status, fault)
 }
 
-/// The rights of the mask that the list grants the requester on the object.
+/// Returns the rights of the mask that the list grants the requester on the object.
 pub fn granted(acl: &[u8], object: Object, requester: Requester, mask: u32, profile: Profile) -> Result<u32, Error> {
     let groups = slices(requester.groups);
     let (mut found, mut fault) = (0, Fault::default());
@@ -129,7 +129,7 @@ pub fn granted(acl: &[u8], object: Object, requester: Requester, mask: u32, prof
     answered(status, fault).map(|_| found)
 }
 
-/// The ACE that decides one right for the requester, if one does.
+/// Returns the ACE that decides one right for the requester, if there is one.
 pub fn deciding(
     acl: &[u8], object: Object, requester: Requester, right: u32, profile: Profile,
 ) -> Result<Option<Decision>, Error> {
@@ -145,7 +145,7 @@ pub fn deciding(
     answered(status, fault).map(|is_decided| is_decided.then_some(found))
 }
 
-/// The rights of the mask that the list grants each requester on the object, over one reading of the list.
+/// Returns the rights of the mask that the list grants each requester on the object. Reads the list once.
 pub fn check_many(
     acl: &[u8], object: Object, requesters: &[Requester], mask: u32, profile: Profile,
 ) -> Result<Vec<u32>, Error> {
@@ -166,14 +166,14 @@ pub fn check_many(
     answered(status, fault).map(|_| found)
 }
 
-/// The mode of the list.
+/// Returns the mode of the list.
 pub fn mode(acl: &[u8], profile: Profile) -> Result<u32, Error> {
     let (mut found, mut fault) = (0, Fault::default());
     let status = unsafe { raw::aclck_mode(acl.as_ptr(), acl.len(), profile as u32, &mut found, &mut fault) };
     answered(status, fault).map(|_| found)
 }
 
-/// The list of a new object in a directory with this list.
+/// Returns the list of a new object in a directory with this list.
 pub fn child(acl: &[u8], kind: Kind, profile: Profile) -> Result<Vec<u8>, Error> {
     let options = profile as u32 | if kind == Kind::Directory { 2 } else { 0 };
     made(acl.len(), |out, cap, needed, fault| unsafe {
@@ -181,42 +181,42 @@ pub fn child(acl: &[u8], kind: Kind, profile: Profile) -> Result<Vec<u8>, Error>
     })
 }
 
-/// The text of the list.
+/// Returns the text of the list.
 pub fn show(acl: &[u8], profile: Profile) -> Result<Vec<u8>, Error> {
     made(4 * acl.len(), |out, cap, needed, fault| unsafe {
         raw::aclck_show(acl.as_ptr(), acl.len(), profile as u32, out, cap, needed, fault)
     })
 }
 
-/// The bytes of the list whose text this is.
+/// Returns the bytes of the list that has this text.
 pub fn encode(text: &[u8], profile: Profile) -> Result<Vec<u8>, Error> {
     made(text.len() + 4, |out, cap, needed, fault| unsafe {
         raw::aclck_encode(text.as_ptr(), text.len(), profile as u32, out, cap, needed, fault)
     })
 }
 
-/// The normal form of the list: equal bytes if and only if two lists grant everybody the same.
+/// Returns the normal form of the list. Two lists have equal normal forms if and only if they grant everybody the same.
 pub fn normalize(acl: &[u8], profile: Profile) -> Result<Vec<u8>, Error> {
     made(acl.len(), |out, cap, needed, fault| unsafe {
         raw::aclck_normalize(acl.as_ptr(), acl.len(), profile as u32, out, cap, needed, fault)
     })
 }
 
-/// The five normal forms of the list of a directory, one behind the other.
+/// Returns the five normal forms of the list of a directory, one after the other.
 pub fn normalize_inherit(acl: &[u8], profile: Profile) -> Result<Vec<u8>, Error> {
     made(3 * acl.len(), |out, cap, needed, fault| unsafe {
         raw::aclck_normalize_inherit(acl.as_ptr(), acl.len(), profile as u32, out, cap, needed, fault)
     })
 }
 
-/// The ACEs of the normal form that have one right, one line per ACE.
+/// Returns the ACEs of the normal form that have one right, one line per ACE.
 pub fn table(acl: &[u8], right: u32, profile: Profile) -> Result<Vec<u8>, Error> {
     made(acl.len(), |out, cap, needed, fault| unsafe {
         raw::aclck_table(acl.as_ptr(), acl.len(), right, profile as u32, out, cap, needed, fault)
     })
 }
 
-/// Whether two lists grant everybody the same.
+/// Returns whether two lists grant everybody the same.
 pub fn same(first: &[u8], second: &[u8], profile: Profile) -> Result<bool, Error> {
     let mut fault = Fault::default();
     let status = unsafe {
@@ -225,7 +225,7 @@ pub fn same(first: &[u8], second: &[u8], profile: Profile) -> Result<bool, Error
     answered(status, fault)
 }
 
-/// On whom and on what two lists differ.
+/// A requester and a right for which two lists differ.
 #[derive(Clone, Debug, PartialEq, Eq)]
 pub struct Found {
     pub right: u32,
@@ -236,7 +236,7 @@ pub struct Found {
     pub groups: Vec<Vec<u8>>,
 }
 
-/// The first difference of two lists; none where they grant everybody the same.
+/// Returns the first difference of two lists, or `None` if they grant everybody the same.
 pub fn compare(first: &[u8], second: &[u8], profile: Profile) -> Result<Option<Found>, Error> {
     let (mut at, mut is_different) = (Difference::default(), false);
     let names = made(256, |out, cap, needed, fault| unsafe {
@@ -256,24 +256,25 @@ pub fn compare(first: &[u8], second: &[u8], profile: Profile) -> Result<Option<F
     Ok(Some(Found { right: at.right, first_grants: at.first_grants == 1, owner, group, user, groups: names.collect() }))
 }
 
-/// The rights that a text names, if it names any mask.
+/// Returns the rights that a text names, if it names a mask.
 pub fn read_mask(text: &[u8]) -> Option<u32> {
     let mut mask = 0;
     let status = unsafe { raw::aclck_read_mask(text.as_ptr(), text.len(), &mut mask) };
     (status == raw::DONE).then_some(mask)
 }
 
-/// The names of the rights of a mask; none for a number that is no mask.
+/// Returns the names of the rights of a mask, or `None` for a number that is not a mask.
 pub fn mask_text(mask: u32) -> Option<String> {
     text(|out, cap, needed, _| unsafe { raw::aclck_mask_text(mask, out, cap, needed) })
 }
 
-/// The name of a reason; none for a number that is no reason.
+/// Returns the name of a reason, or `None` for a number that is not a reason.
 pub fn reason_text(reason: u32) -> Option<String> {
     text(|out, cap, needed, _| unsafe { raw::aclck_reason_text(reason, out, cap, needed) })
 }
 
-/// Whether the access ACL of the text grants the user, who is in the groups, all of `want` (4 read, 2 write, 1 execute).
+/// Returns whether the access ACL of the text grants the user, who is in the groups, all of `want` (4 read, 2 write, 1
+/// execute).
 pub fn check_posix(
     text: &[u8], names: &[Name], owner: u32, group: u32, user: u32, groups: &[u32], want: u32,
 ) -> Result<bool, Error> {
@@ -287,7 +288,7 @@ pub fn check_posix(
     answered(status, fault)
 }
 
-/// The text in a form.
+/// Returns the text in a form.
 pub fn show_posix(text: &[u8], names: &[Name], form: Form) -> Result<Vec<u8>, Error> {
     let names = raw_names(names);
     let options = match form {
@@ -302,7 +303,7 @@ pub fn show_posix(text: &[u8], names: &[Name], form: Form) -> Result<Vec<u8>, Er
     })
 }
 
-/// The canonical text after the mask is calculated.
+/// Returns the canonical text after the mask is calculated.
 pub fn calc_mask(text: &[u8], names: &[Name]) -> Result<Vec<u8>, Error> {
     let names = raw_names(names);
     made(2 * text.len() + 64, |out, cap, needed, fault| unsafe {
@@ -310,7 +311,7 @@ pub fn calc_mask(text: &[u8], names: &[Name]) -> Result<Vec<u8>, Error> {
     })
 }
 
-/// The canonical text after the mode is set.
+/// Returns the canonical text after the mode is set.
 pub fn chmod(text: &[u8], names: &[Name], mode: u32) -> Result<Vec<u8>, Error> {
     let names = raw_names(names);
     made(2 * text.len() + 64, |out, cap, needed, fault| unsafe {
@@ -318,7 +319,7 @@ pub fn chmod(text: &[u8], names: &[Name], mode: u32) -> Result<Vec<u8>, Error> {
     })
 }
 
-/// The canonical text of a new object in a directory with this text.
+/// Returns the canonical text of a new object in a directory with this text.
 pub fn create(text: &[u8], names: &[Name], mode: u32, umask: u32, kind: Kind) -> Result<Vec<u8>, Error> {
     let names = raw_names(names);
     let options = if kind == Kind::Directory { 2 } else { 0 };
@@ -329,7 +330,7 @@ pub fn create(text: &[u8], names: &[Name], mode: u32, umask: u32, kind: Kind) ->
     })
 }
 
-/// The bytes of the NFSv4 list that stands for the access ACL of the text.
+/// Returns the bytes of the NFSv4 list that the bridge makes of the access ACL of the text.
 pub fn bridge(text: &[u8], names: &[Name]) -> Result<Vec<u8>, Error> {
     let names = raw_names(names);
     made(64 * text.len() + 64, |out, cap, needed, fault| unsafe {
@@ -337,7 +338,7 @@ pub fn bridge(text: &[u8], names: &[Name]) -> Result<Vec<u8>, Error> {
     })
 }
 
-/// The version of the interface: major, minor, patch.
+/// Returns the version of the interface: major, minor, patch.
 pub fn version() -> (u32, u32, u32) {
     let version = unsafe { raw::aclck_version() };
     (version >> 16, version >> 8 & 255, version & 255)
@@ -361,7 +362,8 @@ fn answered(status: u32, fault: Fault) -> Result<bool, Error> {
     }
 }
 
-/// The bytes that a call writes, in a buffer of this length at first, and of the length that it needs then.
+/// Returns the bytes that a call writes. The first buffer has this length; if it is too short, the next one has the
+/// length that the call needs.
 fn made(
     length: usize, mut call: impl FnMut(*mut u8, usize, *mut usize, *mut Fault) -> u32,
 ) -> Result<Vec<u8>, Error> {

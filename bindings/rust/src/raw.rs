@@ -1,4 +1,4 @@
-//! `aclck.h`.
+//! The declarations of `aclck.h`.
 
 pub const DONE: u32 = 0;
 pub const NO: u32 = 1;
@@ -36,7 +36,7 @@ pub struct RawName {
     pub is_group: u32,
 }
 
-/// Why and where something is refused: `aclck_fault`.
+/// `aclck_fault`: why and where something is refused.
 #[repr(C)]
 #[derive(Clone, Copy, Debug, Default, PartialEq, Eq)]
 pub struct Fault {
@@ -49,7 +49,7 @@ pub struct Fault {
     pub tag: u32,
 }
 
-/// The place of an ACE, and its type, 0 ALLOW or 1 DENY: `aclck_decision`.
+/// `aclck_decision`: the place of an ACE, and its type, 0 for ALLOW or 1 for DENY.
 #[repr(C)]
 #[derive(Clone, Copy, Debug, Default, PartialEq, Eq)]
 pub struct Decision {
@@ -57,7 +57,7 @@ pub struct Decision {
     pub kind: u32,
 }
 
-/// Where two lists differ: `aclck_difference`.
+/// `aclck_difference`: where two lists differ.
 #[repr(C)]
 #[derive(Clone, Copy, Debug, Default, PartialEq, Eq)]
 pub struct Difference {
