@@ -3,9 +3,10 @@
  * Every call is proved to keep its contract, which docs/contracts.md lists and man/libaclck.3 explains. These rules hold
  * for all calls:
  *
- * - A call takes bytes as a pointer and a length. It reads what it is given during the call alone, and keeps no pointer.
- * - A call writes only what its comment names, and only at the status that the comment names. All else stays as it was,
- *   the bytes behind a text in a buffer too.
+ * - A call takes bytes as a pointer and a length. It reads what it is given until it returns, and keeps no
+ *   pointer.
+ * - A call writes only what its comment names, and only at the status that the comment names. Everything
+ *   else stays as it was, also the bytes after a text in a buffer.
  * - Every status is one of `enum aclck_status`. No other result exists, and no call ends the process.
  * - A call that takes `options` takes the sum of the bits that its comment names. It refuses every other bit.
  * - A pointer must not be NULL, also where its length is 0. aclck_in() and aclck_out() give a pointer for NULL.
@@ -43,7 +44,7 @@ enum aclck_status {
 /* Bits of `options`. */
 enum aclck_option {
     ACLCK_FULL = 0,       /* every right and every flag of RFC 8881 */
-    ACLCK_NARROW = 1,     /* only the rights and flags of the narrow profile (docs/lists.md) */
+    ACLCK_NARROW = 1,     /* only the rights and flags of the narrow profile (docs/formats.md) */
     ACLCK_FILE = 0,       /* the new object is a file */
     ACLCK_DIRECTORY = 2,  /* the new object is a directory */
     ACLCK_CANONICAL = 0,  /* the canonical text: one line per entry, with ids */
@@ -95,7 +96,7 @@ enum aclck_tag {
     ACLCK_TAG_OTHER = 6
 };
 
-/* Types of ACEs (RFC 8881, section 6.2.1.1). */
+/* Kinds of ACEs, which RFC 8881 calls types (section 6.2.1.1). */
 enum aclck_kind { ACLCK_ALLOW = 0, ACLCK_DENY = 1 };
 
 /* Rights of a mask (RFC 8881, section 6.2.1.3.1). */
@@ -151,7 +152,7 @@ typedef struct aclck_requester {
 } aclck_requester;
 
 /* A name that a POSIX text may use for an id: of a group where `is_group` is 1, of a user where it is 0. A table is
-   refused with ACLCK_BAD_ARGUMENT if a name is empty, has digits alone, or stands twice for users or twice for groups, if
+   refused with ACLCK_BAD_ARGUMENT if a name is empty, has digits alone, or occurs twice for users or twice for groups, if
    an id is 4294967295, or if `is_group` is above 1. */
 typedef struct aclck_name {
     aclck_bytes name;
@@ -176,13 +177,14 @@ typedef struct aclck_fault {
     uint32_t tag;
 } aclck_fault;
 
-/* The ACE that decides a right: its place in the list, from 0, and its type (enum aclck_kind). */
+/* The ACE that decides a right: its place in the list, from 0, and its kind (enum aclck_kind). */
 typedef struct aclck_decision {
     uint64_t place;
     uint32_t kind;
 } aclck_decision;
 
-/* Where two lists differ: one right, and 1 if the first list grants it and the second does not, else 0. */
+/* Where two lists differ: one right, and 1 if the first list grants it and the second does not, and 0
+   otherwise. */
 typedef struct aclck_difference {
     uint32_t right;
     uint32_t first_grants;
@@ -203,8 +205,8 @@ uint32_t aclck_granted(const void *acl, size_t acl_len, const void *owner, size_
                        size_t group_len, const void *user, size_t user_len, const aclck_bytes *groups, size_t ngroups,
                        uint32_t mask, uint32_t options, uint32_t *granted, aclck_fault *fault);
 
-/* Writes to *decision which ACE decides the one right `right` for the user: the first one that has the right, speaks of
-   the user, and is not INHERIT_ONLY. ACLCK_YES (*decision), ACLCK_NO: no ACE decides, which denies the right,
+/* Writes to *decision which ACE decides the one right `right` for the user: the first one that has the right, matches
+   the user, and does not have INHERIT_ONLY. ACLCK_YES (*decision), ACLCK_NO: no ACE decides, which denies the right,
    ACLCK_REFUSED (*fault), ACLCK_BAD_ARGUMENT: also where `right` is not exactly one right. */
 uint32_t aclck_deciding(const void *acl, size_t acl_len, const void *owner, size_t owner_len, const void *group,
                         size_t group_len, const void *user, size_t user_len, const aclck_bytes *groups, size_t ngroups,
@@ -242,13 +244,13 @@ uint32_t aclck_encode(const void *text, size_t text_len, uint32_t options, void 
 uint32_t aclck_normalize(const void *acl, size_t acl_len, uint32_t options, void *out, size_t cap, size_t *needed,
                          aclck_fault *fault);
 
-/* The five normal forms of a directory's list, one behind the other: of the directory, of a new file, of a new
-   directory, and of a new file and a new directory in that. `options`: ACLCK_NARROW. */
+/* The five normal forms of a directory's list, one after the other: of the directory, of a new file, of a new
+   directory, and of a new file and a new directory in that new directory. `options`: ACLCK_NARROW. */
 uint32_t aclck_normalize_inherit(const void *acl, size_t acl_len, uint32_t options, void *out, size_t cap,
                                  size_t *needed, aclck_fault *fault);
 
 /* The ACEs of the normal form that have the one right `right`, one line per ACE: the place in the given list, from 0,
-   the type, GROUP or `-`, and the who. ACLCK_BAD_ARGUMENT also where `right` is not exactly one right of the profile.
+   the kind, GROUP or `-`, and the who. ACLCK_BAD_ARGUMENT also where `right` is not exactly one right of the profile.
    `options`: ACLCK_NARROW. */
 uint32_t aclck_table(const void *acl, size_t acl_len, uint32_t right, uint32_t options, void *out, size_t cap,
                      size_t *needed, aclck_fault *fault);
@@ -262,7 +264,7 @@ uint32_t aclck_same(const void *first, size_t first_len, const void *second, siz
 
 /* Returns whether two lists grant everybody the same, and if not, on whom and on what they differ. At ACLCK_NO
    *difference is the right, and `out` has the owner, the owning group, the user and each group of the user, in this
-   order, each with a zero byte behind it; *needed is the number of these bytes. At ACLCK_SHORT they also differ:
+   order, each with a zero byte after it; *needed is the number of these bytes. At ACLCK_SHORT they also differ:
    *difference and *needed are written, and `out` is not. ACLCK_YES, ACLCK_NO, ACLCK_REFUSED (*fault),
    ACLCK_BAD_ARGUMENT, ACLCK_MEMORY, ACLCK_SHORT. `options`: ACLCK_NARROW. */
 uint32_t aclck_compare(const void *first, size_t first_len, const void *second, size_t second_len, uint32_t options,
@@ -312,7 +314,8 @@ uint32_t aclck_chmod(const void *text, size_t text_len, const aclck_name *names,
 uint32_t aclck_create(const void *text, size_t text_len, const aclck_name *names, size_t nnames, uint32_t mode,
                       uint32_t umask, uint32_t options, void *out, size_t cap, size_t *needed, aclck_fault *fault);
 
-/* The bytes of the NFSv4 list that stands for the access ACL of the text. ACLCK_REFUSED also with ACLCK_LIMITS. */
+/* The bytes of the NFSv4 list that grants the same single permissions as the access ACL of the text. ACLCK_REFUSED also
+   with ACLCK_LIMITS. */
 uint32_t aclck_bridge(const void *text, size_t text_len, const aclck_name *names, size_t nnames, void *out, size_t cap,
                       size_t *needed, aclck_fault *fault);
 
