@@ -1,6 +1,6 @@
 # Functions that several scripts of tests/ use.
 
-# Reads the file $1 as a terminal session, runs its commands in the current folder, and prints the session that they
+# Reads the file $1 as a terminal session, runs its commands in the current directory, and prints the session that they
 # make. A command follows `$ `, and continues on the next line if its line ends in a backslash. It starts with the exit
 # status of the command before it.
 replay() {

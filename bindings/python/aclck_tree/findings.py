@@ -42,8 +42,8 @@ def findings(asker: Asker, directories: Set[int]) -> List[Finding]:
                          "A list or the ownership names an id that the scanned system had no account for.")
     idle = Finding("idle", "DENY that is never reached, and ACEs that change nothing",
                    "Without such an ACE the list grants everybody the same; that was asked by the normal form.")
-    children = Finding("children", "Children that will differ from their folder",
-                       "A new directory in these folders gets a list that grants something else.", True)
+    children = Finding("children", "Children that will differ from their directory",
+                       "A new directory in these directories gets a list that grants something else.", True)
     special = Finding("special", "Lists with special names", "Some answers depend on whom the server takes for these.")
     refused = Finding("refused", "Refused lists", "No question about these objects has an answer.")
     stranger = Asker(asker.snapshot, [Person(STRANGER, (), ((STRANGER, False, 0xFFFFFFFE),))], asker.options)

@@ -1,38 +1,38 @@
 use super::*;
 
 // examples/shared_folder.xdr: bob is in `editors` and may read.
-const FOLDER: &[u8] = include_bytes!("../../../examples/shared_folder.xdr");
+const DIRECTORY: &[u8] = include_bytes!("../../../examples/shared_folder.xdr");
 const OBJECT: Object = Object { owner: b"alice", group: b"staff" };
 const BOB: Requester = Requester { user: b"bob", groups: &[b"editors", b"staff"] };
 
 #[test]
 fn a_list_is_asked() {
     let mask = rights::READ_DATA | rights::EXECUTE;
-    assert_eq!(check_nfs(FOLDER, OBJECT, BOB, mask, Profile::Full), Ok(true));
-    let all = granted(FOLDER, OBJECT, BOB, rights::ALL, Profile::Full).unwrap();
+    assert_eq!(check_nfs(DIRECTORY, OBJECT, BOB, mask, Profile::Full), Ok(true));
+    let all = granted(DIRECTORY, OBJECT, BOB, rights::ALL, Profile::Full).unwrap();
     assert_eq!(all & mask, mask);
-    assert_eq!(check_many(FOLDER, OBJECT, &[BOB, BOB], rights::ALL, Profile::Full), Ok(vec![all, all]));
-    assert_eq!(deciding(FOLDER, OBJECT, BOB, mask, Profile::Full), Err(Error::BadArgument));
-    let by = deciding(FOLDER, OBJECT, BOB, rights::READ_DATA, Profile::Full).unwrap().unwrap();
+    assert_eq!(check_many(DIRECTORY, OBJECT, &[BOB, BOB], rights::ALL, Profile::Full), Ok(vec![all, all]));
+    assert_eq!(deciding(DIRECTORY, OBJECT, BOB, mask, Profile::Full), Err(Error::BadArgument));
+    let by = deciding(DIRECTORY, OBJECT, BOB, rights::READ_DATA, Profile::Full).unwrap().unwrap();
     assert_eq!(by.kind, 0);
-    let cut = check_nfs(&FOLDER[..149], OBJECT, BOB, mask, Profile::Full).unwrap_err();
+    let cut = check_nfs(&DIRECTORY[..149], OBJECT, BOB, mask, Profile::Full).unwrap_err();
     assert!(matches!(cut, Error::Refused(Fault { reason: 1, offset: 149, .. })), "{cut}");
 }
 
 #[test]
 fn a_text_reads_back() {
-    let text = show(FOLDER, Profile::Full).unwrap();
-    assert_eq!(encode(&text, Profile::Full).as_deref(), Ok(FOLDER));
+    let text = show(DIRECTORY, Profile::Full).unwrap();
+    assert_eq!(encode(&text, Profile::Full).as_deref(), Ok(DIRECTORY));
     let fault = encode(b"ALLOW - READ_DATA\n", Profile::Full).unwrap_err();
     assert!(matches!(fault, Error::Refused(Fault { reason: 16, line: 1, .. })), "{fault}");
 }
 
 #[test]
 fn a_normal_form_grants_the_same() {
-    let form = normalize(FOLDER, Profile::Full).unwrap();
-    assert_eq!(same(FOLDER, &form, Profile::Full), Ok(true));
-    assert_eq!(compare(FOLDER, &form, Profile::Full), Ok(None));
-    let found = compare(FOLDER, &[0; 4], Profile::Full).unwrap().unwrap();
+    let form = normalize(DIRECTORY, Profile::Full).unwrap();
+    assert_eq!(same(DIRECTORY, &form, Profile::Full), Ok(true));
+    assert_eq!(compare(DIRECTORY, &form, Profile::Full), Ok(None));
+    let found = compare(DIRECTORY, &[0; 4], Profile::Full).unwrap().unwrap();
     assert!(found.first_grants && !found.user.is_empty());
 }
 
