@@ -152,7 +152,7 @@ child_accepted p kind list h ok = record {
 pub moved : (done rest : List Ace) (a : Ace) → (done ++ a ∷ []) ++ rest ≡ done ++ a ∷ rest
 moved done rest a = append_assoc done (a ∷ []) rest
 
--- the ACEs so far and the child of the rest of the parent are the whole child: after an ACE that the child has,
+-- the ACEs so far and the child of the rest of the parent are still the whole child after an ACE that the child has
 pub one_more : (kind : ChildKind) (done : List Ace) (a : Ace) (f : ℕ) (left rest whole : List Ace) → left ≡ a ∷ rest
     → child_flags kind a.flags ≡ Some f → done ++ children kind left ≡ whole
     → (done ++ with_flags a f ∷ []) ++ children kind rest ≡ whole
@@ -161,14 +161,7 @@ one_more kind done a f left rest whole next has so_far =
     ∙ ap (λ (list : List Ace). done ++ list) (sym (child_has kind a rest f has))
     ∙ ap (λ (list : List Ace). done ++ children kind list) (sym next) ∙ so_far
 
--- after an ACE that the child does not have,
-pub no_more_of : (kind : ChildKind) (done : List Ace) (a : Ace) (left rest whole : List Ace) → left ≡ a ∷ rest
-    → child_flags kind a.flags ≡ None → done ++ children kind left ≡ whole → done ++ children kind rest ≡ whole
-no_more_of kind done a left rest whole next lacks so_far =
-    ap (λ (list : List Ace). done ++ list) (sym (child_lacks kind a rest lacks))
-    ∙ ap (λ (list : List Ace). done ++ children kind list) (sym next) ∙ so_far
-
--- and after the last ACE
+-- after the last ACE, the ACEs so far are the whole child
 pub all_done : (kind : ChildKind) (done left whole : List Ace) → left ≡ [] → done ++ children kind left ≡ whole
     → done ≡ whole
 all_done kind done left whole none so_far =

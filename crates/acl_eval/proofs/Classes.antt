@@ -29,11 +29,6 @@ perm_is test granted left rest list none same =
     ∙ ap (λ (l : List Ace). settled test granted left l bit) (sym none) ∙ same bit in
     same_perm (has_bit granted) (is_granted_by test list) (at 0) (at 1) (at 2) (at 5)
 
--- before the first ACE nothing is granted, and all rights are left
-pub begins : (test : Principal → Bool) (granted left : ℕ) (rest list : List Ace) → rest ≡ list → granted ≡ 0
-    → left ≡ all_rights → (bit : ℕ) → settled test granted left rest bit ≡ settled test 0 all_rights list bit
-begins test granted left rest list e g l bit = rw (e, g, l) refl
-
 -- if the three parts are the same, so is the mode
 pub three : (a b c d e f : ℕ) → a ≡ d → b ≡ e → c ≡ f → mode_of_parts a b c ≡ mode_of_parts d e f
 three a b c d e f p q r = rw (p, q, r) refl

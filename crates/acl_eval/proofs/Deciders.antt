@@ -46,7 +46,7 @@ pub place_is : (list : List Ace) (s : Situation) (bit : ℕ)
     → option_map (λ (d : Decision). d.place) (decision_from 0 (decides s bit) list) ≡ deciding_place list s bit
 place_is list s bit = place_from 0 (decides s bit) list ∙ sym (position_from-zero (decides s bit) list)
 
--- and the type
+-- and the kind
 pub kind_is : (list : List Ace) (s : Situation) (bit : ℕ)
     → option_map (λ (d : Decision). d.kind) (decision_from 0 (decides s bit) list) ≡ deciding_kind list s bit
 kind_is list s bit = kind_from 0 (decides s bit) list

@@ -53,11 +53,6 @@ pub last_allowed : (a : Ace) (list : List Ace) (s : Situation) (left : ℕ) → 
 last_allowed a list s left some e k all =
     none_left list s _ (ap (bit_xor left) all ∙ xor_self left) ∙ allowed a list s left some e k
 
--- and so does an ACE that denies one of them
-pub denied : (a : Ace) (list : List Ace) (s : Situation) (left : ℕ) → left ≢ 0 → speaks s a ≡ true
-    → is_allow a.kind ≡ false → bit_and left a.mask ≢ 0 → false ≡ scan (a ∷ list) s left
-denied a list s left some e k common = rw (ne_eqb left 0 some, e, k, ne_eqb _ _ common) refl
-
 -- ---- bits that are left
 
 taken : (d e f : ℕ) → d < 2 → e < 2 → f < 2 → (eqb f 1 ≡ (eqb d 1 && eqb e 1))

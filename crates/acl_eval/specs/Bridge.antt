@@ -4,7 +4,7 @@ use Rattle.std.specs.Prelude.{ℕ, ◌+◌, ◌-◌, ◌==◌, Bool, ◌&&◌, �
 use Rattle.std.specs.List.{filter, flat_map}
 use Rattle.std.specs.Fmt.{decimal}
 use Rattle.std.specs.FinMap as set
-use Rattle.acl_perm.specs.Bits.{has_bit}
+use Rattle.acl_perm.specs.Bits.{all_permissions, has_bit}
 use Rattle.acl_perm.specs.Profile.{full}
 use Rattle.acl_perm.specs.declared.kind.Kind.{Kind}
 use Rattle.acl_perm.specs.declared.kind.Kind.TheVariants.{Deny, Allow}
@@ -64,7 +64,7 @@ allow_of entries entry = ace_of Allow entry.0 (effective_of entries entry)
 
 -- what an entry denies: those of read, write and execute that it does not allow
 abbrev pub deny_of : Entries → Tag × ℕ → List Ace
-deny_of entries entry = ace_of Deny entry.0 (7 - effective_of entries entry)
+deny_of entries entry = ace_of Deny entry.0 (all_permissions - effective_of entries entry)
 
 -- what an entry allows, and then what it denies
 abbrev pub decide_of : Entries → Tag × ℕ → List Ace

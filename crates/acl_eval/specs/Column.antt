@@ -20,7 +20,7 @@ Column = List (Principal × Kind)
 abbrev pub column : List Ace → ℕ → Column
 column list bit = map (λ a. (principal_of a, a.kind)) (filter (λ a. has_bit a.mask bit && takes_part a) list)
 
--- the type of the first key whose principal passes the test
+-- the kind of the first key whose principal passes the test
 abbrev pub first_kind : (Principal → Bool) → Column → Option Kind
 first_kind test [] = None
 first_kind test ((p, kind) ∷ entries) = if test p then Some kind else first_kind test entries

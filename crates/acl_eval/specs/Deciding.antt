@@ -18,7 +18,7 @@ decides s bit a = has_bit a.mask bit && speaks s a
 abbrev pub deciding_place : List Ace → Situation → ℕ → Option ℕ
 deciding_place list s bit = position (decides s bit) list
 
--- the type of the first ACE that decides
+-- the kind of the first ACE that decides
 abbrev pub deciding_kind : List Ace → Situation → ℕ → Option Kind
 deciding_kind list s bit = option_map (λ a. a.kind) (find (decides s bit) list)
 

@@ -35,15 +35,15 @@ kept_on_the_way = 0x77
 abbrev pub inherit_only_alone : ℕ
 inherit_only_alone = 0x08
 
--- the child does not pass the ACE on
+-- the flags of an ACE in a child that does not pass it on: those that are not about inheritance
 abbrev pub ends : ℕ → ℕ
 ends flags = bit_and flags kept_at_the_end
 
--- the child passes the ACE on, and the ACE takes part
+-- the flags of an ACE that takes part in a child which passes it on: without INHERIT_ONLY and INHERITED
 abbrev pub goes_on : ℕ → ℕ
 goes_on flags = bit_and flags kept_on_the_way
 
--- the child passes the ACE on, and the ACE takes no part
+-- the flags of an ACE that takes no part in a child which passes it on: the same, with INHERIT_ONLY
 abbrev pub waiting_flags : ℕ → ℕ
 waiting_flags flags = bit_or (goes_on flags) inherit_only_alone
 

@@ -1,6 +1,7 @@
 //! The NFSv4 list of a POSIX ACL. It is made part by part, after its weight is known.
 ghost use Rattle.std.specs.Prelude.{◌≡◌, ◌≤◌, ◌↔◌, ◌==◌, ◌-◌, IsTrue, IfErr, IfOk, OnOk, [], ◌∷◌, ◌++◌, bit_and, if◌then◌else◌};
 ghost use Rattle.std.specs.FinMap as set;
+ghost use Rattle.acl_perm.specs.Bits.{all_permissions};
 ghost use Rattle.acl_perm.specs.Profile.{full};
 ghost use Rattle.acl_posix.specs.Tag.{tag_of};
 ghost use Rattle.acl_posix.specs.Entries.{pair_of};
@@ -9,7 +10,8 @@ ghost use Rattle.acl_eval.specs.Bridge.{IsBridgeFault, ace_of, allow_of, bridge_
 ghost use Rattle.acl_eval.specs.internal.BridgeBody.{cost_of, bridged_part, word_bits};
 
 use crate::permissions::{EXECUTE, READ, WRITE, WRITE_RIGHTS};
-use acl_nfs4::{AceRef, Acl, Flags, Kind, MOST_WEIGHT, Mask};
+use acl_nfs4::internal::is_too_heavy;
+use acl_nfs4::{AceRef, Acl, Flags, Kind, Mask};
 use acl_perm::Perm;
 use acl_posix::{Entry, PosixAcl, Tag};
 use itoa::Buffer;
@@ -95,7 +97,7 @@ fn is_within(acl: &PosixAcl) -> bool
     let mut weight = 0;
     for entry in entries {
         weight += cost_of(*entry);
-        if weight > MOST_WEIGHT {
+        if is_too_heavy(weight) {
             return false;
         }
     }
@@ -200,7 +202,7 @@ fn push_denied(list: &mut Acl, acl: &PosixAcl, entry: Entry) -> Result<(), Alloc
 
 // Returns the permissions that are denied if these are allowed.
 fn rest_of(perm: Perm) -> Perm
-    ensures { result.bits ≡ 7 - perm.bits }
+    ensures { result.bits ≡ all_permissions - perm.bits }
 {
     Perm::ALL.difference(perm)
 }

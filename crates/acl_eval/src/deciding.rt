@@ -47,19 +47,16 @@ pub fn deciding_ace(
 }
 
 fn first_deciding(aces: Aces<'_>, standing: &Standing<'_>, right: Right) -> Option<Decision>
-    ensures { result ≡ decision_from 0 (decides (asked_situation standing.now) right.bit) aces.entry }
+    ensures { result
+        ≡ decision_from 0 (decides (asked_situation standing.now) right.bit) aces.entry }
 {
-    // No place is above the number of ACEs, which fits a `usize`.
-    let _number = aces.len();
-    let mut place = 0;
-    for ace in aces {
+    for (place, ace) in aces.enumerate() {
         if ace.mask.has(right) && standing.is_meant_by(&ace) {
             return Some(Decision {
                 place,
                 kind: ace.kind,
             });
         }
-        place += 1;
     }
     None
 }

@@ -16,7 +16,7 @@ use acl_perm::{Mask, Right};
 /// For each right, the ACE that decides it.
 #[derive(Clone, Copy, Debug, PartialEq, Eq)]
 pub struct Decisions {
-    by_bit: [Option<Decision>; Right::COUNT],
+    by_bit: [Option<Decision>; Right::END],
 }
 
 impl Decisions {
@@ -24,7 +24,7 @@ impl Decisions {
         ensures { (bit : ℕ) → decision_of result bit ≡ None }
     {
         Decisions {
-            by_bit: [None; Right::COUNT],
+            by_bit: [None; Right::END],
         }
     }
 
@@ -66,18 +66,15 @@ pub fn deciding_aces(aces: Aces<'_>, object: &Object<'_>, requester: &Requester<
 
 fn decisions_of(aces: Aces<'_>, standing: &Standing<'_>) -> Decisions
     ensures { (bit : ℕ) → IsTrue (has_bit all_rights bit)
-        → decision_of result bit ≡ decision_from 0 (decides (asked_situation standing.now) bit) aces.entry }
+        → decision_of result bit
+        ≡ decision_from 0 (decides (asked_situation standing.now) bit) aces.entry }
 {
-    // No place is above the number of ACEs, which fits a `usize`.
-    let _number = aces.len();
     let mut so_far = SoFar::new();
-    let mut place = 0;
-    for ace in aces {
+    for (place, ace) in aces.enumerate() {
         if so_far.left.bits() == 0 {
             return so_far.decisions;
         }
         so_far.meet(place, &ace, standing);
-        place += 1;
     }
     so_far.decisions
 }

@@ -71,7 +71,8 @@ impl SoFar {
     #[inline(always)]
     fn after(self, item: &AceRef<'_>, standing: &Standing<'_>) -> SoFar
         requires { 1 ≤ length item.now.who.now }
-        ensures { (list : List Ace) (bit : ℕ) → granted_in (asked_situation standing.now) result list bit
+        ensures { (list : List Ace) (bit : ℕ)
+            → granted_in (asked_situation standing.now) result list bit
             ≡ granted_in (asked_situation standing.now) self (ace item.now ∷ list) bit }
     {
         let decided = self.left.intersection(item.mask);

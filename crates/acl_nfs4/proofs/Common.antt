@@ -1,7 +1,7 @@
 -- The names that the proofs of this crate use most, from std, from the crates below and from specs/, in one place.
 pub use Rattle.acl_nfs4.specs.Ace.{Ace, ace}
 pub use Rattle.acl_nfs4.specs.AceText.{ace_line, ace_lines, ace_lines_from, ace_text, as_text, HasLineFields, HasNoSpace, is_skipped, IsAceText, kind_name, LineFields, space, SpellEach, SpellsAce, TextLine}
-pub use Rattle.acl_nfs4.specs.AceTextFault.{flags_column, IsAceTextFault, IsAt, IsFlagged, IsLight, IsLineFault, IsMasked, IsSplit, IsTextRefusal, mask_column, who_column}
+pub use Rattle.acl_nfs4.specs.AceTextFault.{IsAceTextFault, IsAt, IsFlagged, IsLight, IsLineFault, IsMasked, IsSplit, IsTextRefusal, IsTyped, mask_column, who_column}
 pub use Rattle.acl_nfs4.specs.BitNames.{bar, bit_in, BitName, bits_in, first_name, is_name_of, names_of, no_names, set_text, SpellsSet}
 pub use Rattle.acl_nfs4.specs.Fault.{Border, Breaks, IsFault, IsFirstFault, IsOwed, IsWholeFault, refuses, size, Stage}
 pub use Rattle.acl_nfs4.specs.Fault.Border.{counted, flagged, masked, measured, named, padded, start, typed}
@@ -25,17 +25,17 @@ pub use Rattle.acl_nfs4.specs.declared.xdr.fault.Fault.{Fault}
 pub use Rattle.acl_nfs4.specs.declared.xdr.fault.Reason.{Reason}
 pub use Rattle.acl_nfs4.specs.declared.xdr.fault.Reason.TheVariants.{Read, TooManyAces, TrailingBytes, Truncated}
 pub use Rattle.acl_nfs4.specs.internal.AceReading.{after_flags, after_kind, after_mask, cut_space, FailsAs, if_light, last_fields, line_fields, read_ace, read_ace_fields, read_lines, who_fault_at, who_judged}
-pub use Rattle.acl_nfs4.specs.internal.Body.{aces_of, IsBody, IsList, listed, SpellsBody}
+pub use Rattle.acl_nfs4.specs.internal.Body.{aces_of, IsBody, IsList, SpellsBody}
 pub use Rattle.acl_nfs4.specs.internal.Cursor.{place}
 pub use Rattle.acl_nfs4.specs.internal.NameTable.{bit_name_of, bit_names_of, is_rising, IsFieldCut, joined_names, parts_after, set_if_within, set_within, size_after}
 pub use Rattle.acl_nfs4.specs.internal.Progress.{behind_scanned, body_in, EndsPart, HasTaken, IsBytes, IsFeed, IsProgress, IsScanned, IsText, IsWhole, Judged, standing}
-pub use Rattle.acl_nfs4.specs.internal.Pulling.{HasAce, IsDrawn, IsFilled, IsHalted, IsLacking, IsNext, IsPulled, IsWord, PullStops}
-pub use Rattle.acl_nfs4.specs.internal.Reading.{ace_at, aces_at, ArePlain, fault_at, field, Gives, is_plain_ascii, judged, kind_from, moved, Place, place_read, Placed, value_at, word_field}
+pub use Rattle.acl_nfs4.specs.internal.Pulling.{HasAce, IsDrawn, IsFilled, IsHalted, IsLacking, IsPulled}
+pub use Rattle.acl_nfs4.specs.internal.Reading.{ace_at, aces_at, ArePlain, fault_at, field, Gives, is_plain_ascii, judged, kind_from, moved, Place, Placed, word_field}
 pub use Rattle.acl_perm.proofs.Bools.{and_true}
 pub use Rattle.acl_perm.proofs.LineLemmas.{lines_left, lines_next, no_lines, number_next, NumberFits, text_left}
 pub use Rattle.acl_perm.proofs.PieceLemmas.{IsOut, out_cut, out_more}
-pub use Rattle.acl_perm.proofs.Sets.{has_bit-and, has_bit-or, IsMask-union, no_bit, same_set, subset}
-pub use Rattle.acl_perm.specs.Bits.{all_flags, all_rights, has_bit, IsMask, IsSubset}
+pub use Rattle.acl_perm.proofs.Sets.{has_bit-and, has_bit-or, IsMask-union, same_set}
+pub use Rattle.acl_perm.specs.Bits.{all_flags, all_rights, has_bit, IsMask}
 pub use Rattle.acl_perm.specs.Profile.{full, Profile, profile_of}
 pub use Rattle.acl_perm.specs.declared.kind.Kind.{Kind}
 pub use Rattle.acl_perm.specs.declared.kind.Kind.TheVariants.{Allow, Deny}
@@ -48,20 +48,20 @@ pub use Rattle.std.proofs.lemmas.Bool.{cases_lt, eq-eqb, eqb-true, false_from_ne
 pub use Rattle.std.proofs.lemmas.Bool.Decides.{eqb_tells, nat_tests}
 pub use Rattle.std.proofs.lemmas.List.{drop-append-le, drop-take, drop_all, drop_at, get_or-append_right, get_or-drop, get_or-replicate, get_or-take, get_or_append_left, get_or_default, get_or_past, length-drop, length-map, length-replicate, length-take, length-take-le, take-append-drop, take-append-le, take-replicate, take-take, take_all, take_at, take_rest}
 pub use Rattle.std.proofs.lemmas.List.Concat.{flat_map-cons}
-pub use Rattle.std.proofs.lemmas.List.Elements.{All-from_all_within, All-from_recursion, All-replicate}
+pub use Rattle.std.proofs.lemmas.List.Elements.{All-from_all_within, All-replicate}
 pub use Rattle.std.proofs.lemmas.List.Splits.{join_with_byte-slice_split, length-slice_split, slice_split_at, slice_split_first, slice_split_none}
-pub use Rattle.std.proofs.lemmas.List.Sums.{length-filter, list_all-from_AllPass, prefix_len-le-length, sum_by-append, sum_by-cons, sum_by_push}
-pub use Rattle.std.proofs.lemmas.Nat.{and_comm, and_le_l, and_le_r, and_mask, be_bytes_4, from_be_bytes-to_be_bytes_4, ones_le_self, or_comm}
+pub use Rattle.std.proofs.lemmas.List.Sums.{length-filter, list_all-from_AllPass, sum_by-append, sum_by-cons, sum_by_push}
+pub use Rattle.std.proofs.lemmas.Nat.{and_comm, and_le_l, and_le_r, and_mask, be_bytes_4, from_be_bytes-to_be_bytes_4, ones_le_self}
 pub use Rattle.std.proofs.lemmas.Nat.Bits.{and_pow, bit_at-lt, bit_at-suc, bit_at_lowest}
-pub use Rattle.std.proofs.lemmas.Option.{option_and_then_some, same_Some}
+pub use Rattle.std.proofs.lemmas.Option.{same_Some}
 pub use Rattle.std.proofs.lemmas.Result.{err_from_is_err_and}
 pub use Rattle.std.proofs.lemmas.Str.{is_utf8-from_IsUtf8, IsUtf8-from_ascii, IsUtf8-from_is_utf8}
 pub use Rattle.std.proofs.lemmas.Str.Ascii.{IsAscii-from_all}
 pub use Rattle.std.specs.Int.{bit_at}
 pub use Rattle.std.specs.Int.Count.{count_trailing_zeros, ones-le, ones_step}
 pub use Rattle.std.specs.Io.KnownBytes.{Consumes, IsAtEnd}
-pub use Rattle.std.specs.List.{All, AllByRecursion, concat, flat_map, join_with_byte, list_all, onto_first, position_or_len, prefix_len, range_with_len, slice_split}
+pub use Rattle.std.specs.List.{All, AllByRecursion, concat, flat_map, join_with_byte, list_all, position_or_len, prefix_len, range_with_len, slice_split}
 pub use Rattle.std.specs.Option.{option_and_then, option_map_or}
-pub use Rattle.std.specs.Prelude.{bit_and, bit_or, count_by, count_ones, find, IfErr, IfOk, IfSome, if◌then◌else◌, IsOkAnd, IsSome, IsSomeAnd, map, MatchResult, nat_le, nat_lt, None, not, ok_or, Option, option_copied, option_map, position, replicate, Some, ◌&&◌, ◌==◌, ◌||◌, ◌↔◌, ◌⊎◌}
+pub use Rattle.std.specs.Prelude.{bit_and, bit_or, count_by, count_ones, find, IfErr, IfOk, IfSome, IsOkAnd, IsSome, IsSomeAnd, map, MatchResult, nat_le, nat_lt, None, not, ok_or, Option, option_copied, option_map, position, replicate, Some, ◌&&◌, ◌==◌, ◌↔◌, ◌⊎◌}
 pub use Rattle.std.specs.Str.{bytes_eq, is_utf8, IsUtf8}
 pub use borrow.Rule.Slice.PartMut.{post_of, put_mid, same_len_mid}

@@ -1,14 +1,14 @@
--- The lemmas that the proofs of the crates above use. A folder that has the name of a module is not seen from there.
+-- The lemmas that the proofs of the crates above use. A directory that has the name of a module is not seen from there.
 pub use Rattle.acl_nfs4.proofs.feed.Completion.{begins, who_bounds as stage_bounds}
 pub use Rattle.acl_nfs4.proofs.feed.Exactly.{nothing_cut, one_reason}
 pub use Rattle.acl_nfs4.proofs.feed.Held.{short_rest}
+pub use Rattle.acl_nfs4.proofs.feed.Judging.{judges}
 pub use Rattle.acl_nfs4.proofs.feed.Pieces.{breaks_whole, fault_stays}
 pub use Rattle.acl_nfs4.proofs.list.Push.{each_push}
 pub use Rattle.acl_nfs4.proofs.list.Within.{accepted_where_it_fits, code_profile, each_of, fits_of, within_part}
 pub use Rattle.acl_nfs4.proofs.text.AceLines.{one_list}
 pub use Rattle.acl_nfs4.proofs.text.AceWritten.{text_again}
-pub use Rattle.acl_nfs4.proofs.xdr.Body.{is_found, one}
-pub use Rattle.acl_nfs4.proofs.xdr.Faults.{is_fault}
+pub use Rattle.acl_nfs4.proofs.xdr.Resume.{one}
 pub use Rattle.acl_nfs4.proofs.xdr.Fields.{IsBytes-drop, bytes_append, who_bounds}
 pub use Rattle.acl_nfs4.proofs.xdr.Lengths.{spelling_short}
 pub use Rattle.acl_nfs4.proofs.xdr.Lists.{front_accepted, weight-cons}

@@ -4,3 +4,4 @@ pub mod Streaming
 pub mod Pieces
 pub mod Exactly
 pub mod Held
+pub mod Judging

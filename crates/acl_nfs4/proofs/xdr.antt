@@ -1,11 +1,9 @@
 pub mod ZeroFront
-pub mod Loop
 pub mod Fields
 pub mod Lists
 pub mod Body
 pub mod Faults
 pub mod Resume
-pub mod Whole
 pub mod Lengths
 pub mod OneFault
 pub mod Decoding

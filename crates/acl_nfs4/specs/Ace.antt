@@ -3,7 +3,7 @@ use Rattle.std.specs.Prelude.{ℕ, List}
 use Rattle.acl_perm.specs.declared.kind.Kind.{Kind}
 use Rattle.acl_nfs4.specs.declared.ace.AceRef.{AceRef}
 
--- a type, a set of flags, a set of rights and a who
+-- a kind, a set of flags, a set of rights and a who
 pub record Ace : Type 0 where
   pub kind : Kind
   pub flags : ℕ

@@ -1,5 +1,5 @@
 -- The text form of a list of ACEs, which is this library's own: one line per ACE, `TYPE FLAGS MASK WHO`.
-use Rattle.std.specs.Prelude.{◌≡◌, ◌+◌, ◌==◌, ◌||◌, ℕ, List, [], ◌∷◌, ◌++◌, Bool, true, not, codes, IsTrue, if◌then◌else◌}
+use Rattle.std.specs.Prelude.{◌≡◌, ◌+◌, ◌==◌, ◌||◌, ℕ, List, [], ◌∷◌, ◌++◌, Bool, true, not, IsTrue, if◌then◌else◌}
 use Rattle.std.specs.List.{flat_map, list_all}
 use Rattle.std.specs.Str.{is_utf8}
 use Rattle.std.specs.Str.Lossy.{replacement_bytes}
@@ -8,7 +8,7 @@ pub use Rattle.acl_perm.specs.Ascii.{space, hash as comment_mark}
 use Rattle.acl_perm.specs.Lines.{lines_of, is_all_blank, line_feed}
 use Rattle.acl_perm.specs.Principal.{Principal, owner, user, group, group_named, everyone}
 use Rattle.acl_perm.specs.Profile.{Profile}
--- the word of a type (RFC 8881, section 6.2.1.1)
+-- the word of a kind (RFC 8881, section 6.2.1.1)
 pub use Rattle.acl_perm.specs.Names.{kind_name}
 use Rattle.acl_nfs4.specs.Ace.{Ace}
 use Rattle.acl_nfs4.specs.BitNames.{set_text}

@@ -42,7 +42,7 @@ pub record IsSplit (list : List Ace) (line : TextLine) (fields : LineFields) : T
   pub room : length list < most_aces
   pub has : HasLineFields line.bytes fields
 
--- the line is right up to its type
+-- the line is right up to its kind
 pub record IsTyped (list : List Ace) (line : TextLine) (fields : LineFields) : Type 0 where
   pub cut : IsSplit list line fields
   pub kind : Kind
@@ -80,7 +80,7 @@ pub record IsNotFour (list : List Ace) (line : TextLine) (at_line at_column : �
   pub few : count_by (λ b. b == space) line.bytes < 3
   pub place : IsAt line.number 1 at_line at_column
 
--- the first field is not a type
+-- the first field is not a kind
 pub record IsNoKind (list : List Ace) (line : TextLine) (at_line at_column : ℕ) : Type 0 where
   pub fields : LineFields
   pub cut : IsSplit list line fields

@@ -23,7 +23,7 @@ number bytes = from_be_bytes w32 bytes
 abbrev pub count_of : ℕ → Result ℕ Reason
 count_of n = if nat_lt most_aces n then Err TooManyAces else Ok n
 
--- the type; AUDIT is 2 and ALARM is 3
+-- the kind; AUDIT is 2 and ALARM is 3
 abbrev pub kind_of : ℕ → Result Kind Reason
 kind_of n = if n == 0 then Ok Allow
     else (if n == 1 then Ok Deny

@@ -1,13 +1,9 @@
 -- The names of the access rights (RFC 8881, section 6.2.1.3.1, without `ACE4_`), and the field of the text form that
 -- names a mask.
-use Rattle.std.specs.Prelude.{ℕ, List, Option, codes}
+use Rattle.std.specs.Prelude.{ℕ, List, Option}
 use Rattle.acl_nfs4.specs.BitNames.{SpellsSet, set_named}
 -- the table of the rights: a bit of the mask, its name, and its second name if it has another name for directories
 pub use Rattle.acl_perm.specs.Names.{rights}
-
--- the field `-`, which names the empty mask
-abbrev pub no_rights : List ℕ
-no_rights = codes "-"
 
 -- a field that names a mask: `-`, or names of rights with `|` between them, at least one
 abbrev pub SpellsMask : List ℕ → ℕ → Type 0

@@ -11,7 +11,7 @@ use Rattle.acl_nfs4.specs.Within.{IsWithin}
 use Rattle.acl_perm.specs.declared.kind.Kind.{Kind}
 use Rattle.acl_perm.specs.declared.kind.Kind.TheVariants.{Deny, Allow}
 
--- the number of a type (RFC 8881, section 6.2.1.1)
+-- the number of a kind (RFC 8881, section 6.2.1.1)
 abbrev pub kind_number : Kind → ℕ
 kind_number Allow = 0
 kind_number Deny = 1
@@ -24,7 +24,7 @@ word n = to_be_bytes w32 n
 abbrev pub pad_len : ℕ → ℕ
 pad_len n = (4 - n % 4) % 4
 
--- the bytes of an ACE: the words of its type, flags, mask and who's length, the who, and zero bytes up to a multiple
+-- the bytes of an ACE: the words of its kind, flags, mask and who's length, the who, and zero bytes up to a multiple
 -- of four
 abbrev pub piece : Ace → List ℕ
 piece a = word (kind_number a.kind) ++ word a.flags ++ word a.mask ++ word (length a.who) ++ a.who

@@ -41,7 +41,7 @@ impl<'a> AceRef<'a> {
         }
     }
 
-    /// Returns whom the ACE names, and its type.
+    /// Returns whom the ACE names, and its kind.
     pub fn key(&self) -> Key<'a>
         ensures principal { principal result.principal ≡ principal_of (ace self.now) }
         ensures kind { result.kind ≡ self.now.kind }

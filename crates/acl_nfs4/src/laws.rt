@@ -19,6 +19,7 @@ ghost use Rattle.acl_nfs4.specs.Stream.{Feeds, FeedsEach, SameOrFails, StreamSta
 ghost use Rattle.acl_nfs4.specs.declared.feed.fed.Fed.{Fed};
 
 /// No spelling is the beginning of another, and none spells two lists, under each profile.
+#[tactic(auto, using(crate::proofs::xdr::Resume::one))]
 pub fn one_spelling()
     ensures { (p : Profile) (a b : List Ace) (s t x y : List ℕ) → IsProfile p → Xdr p a s
         → Xdr p b t
@@ -26,6 +27,7 @@ pub fn one_spelling()
 {}
 
 /// A list is accepted under a profile if and only if it is accepted under the full one and fits the profile.
+#[tactic(auto, using(crate::proofs::list::Within::accepted_where_it_fits))]
 pub fn accepted_where_it_fits()
     ensures { (p : Profile) (list : List Ace) → IsProfile p
         → IsAccepted p list ↔ (IsAccepted full list × Fits p list) }
@@ -50,6 +52,7 @@ pub fn one_fault()
 {}
 
 /// Bytes that should be one spelling and nothing more have at most one fault, and none if they are one spelling.
+#[tactic(auto, using(crate::proofs::xdr::OneFault::one_whole_fault, crate::proofs::xdr::OneFault::whole_or_fault))]
 pub fn one_whole_fault()
     ensures one { (p : Profile) (bytes : List ℕ) (o q : ℕ) (r s : Reason) → IsProfile p
         → IsWholeFault p bytes o r
@@ -60,6 +63,7 @@ pub fn one_whole_fault()
 {}
 
 /// The weight of a list is the number of pairs of a place in the list and a bit of the ACE at that place.
+#[tactic(auto, using(crate::proofs::list::Weights::weight_counts))]
 pub fn weight_counts_pairs()
     ensures { (list : List Ace) → AllByRecursion (λ a. a.mask < 2 ^ 32) list
         → weight list ≡ length (pairs_of list) }
@@ -68,8 +72,8 @@ pub fn weight_counts_pairs()
 /// It does not matter how a stream is cut into pieces. Pieces that are fed one after the other to a new `Feed` have the
 /// same answer as all of them fed at once, and leave it in the same state. In one of the two cases memory may run out.
 pub fn any_cutting()
-    ensures together { (p : Profile) (pieces : List (List ℕ)) (answers : List Fed) (new : StreamState)
-        → FeedsEach (more p []) pieces answers new
+    ensures together { (p : Profile) (pieces : List (List ℕ)) (answers : List Fed)
+        (new : StreamState) → FeedsEach (more p []) pieces answers new
         → Feeds (more p []) (concat pieces) (together pieces answers) new }
     ensures once { (p : Profile) (pieces : List (List ℕ)) (answers : List Fed) (new : StreamState)
         (once : Fed) (now : StreamState) → IsProfile p → FeedsEach (more p []) pieces answers new
@@ -78,6 +82,7 @@ pub fn any_cutting()
 {}
 
 /// The written text of a list spells that list and no other.
+#[tactic(auto, using(crate::proofs::text::AceWritten::reads_back))]
 pub fn text_reads_back()
     ensures { (p : Profile) (list other : List Ace) → IsProfile p → IsAccepted p list
         → IsAceText p other (ace_text list) ↔ (other ≡ list) }

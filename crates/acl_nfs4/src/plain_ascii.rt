@@ -8,8 +8,8 @@ use std::simd::prelude::*;
 // How many bytes one load takes.
 const LOAD: usize = 16;
 
-/// Whether the first `len` bytes are plain ASCII, as `is_plain_ascii` says it of all. Where 16 bytes are there, one load
-/// of them is enough for a front of up to 16.
+/// Returns whether the first `len` bytes are plain ASCII. `true` is certain, as for `is_plain_ascii`. If there are at
+/// least 16 bytes, one load of them is enough for a front of up to 16.
 #[tactic(auto, using(crate::proofs::plain_ascii::PlainLanes::plain_front_whole))]
 #[inline(always)]
 pub(crate) fn begins_plain_ascii(bytes: &[u8], len: usize) -> bool
@@ -38,7 +38,7 @@ pub(crate) fn is_plain_ascii(bytes: &[u8]) -> bool
     }
 }
 
-// Whether the first `len` of the first N bytes are plain ASCII: the first that is not stands behind them.
+// Returns whether the first `len` of the first N bytes are plain ASCII: the first byte that is not is behind them.
 #[inline(always)]
 fn is_front_plain<const N: usize>(bytes: &[u8], len: usize) -> bool
     requires lanes { N ≤ most_lanes }

@@ -52,8 +52,8 @@ pub(crate) fn judge_text(who: &[u8]) -> Result<(), WhoFault>
     Ok(())
 }
 
-/// Whether the first `len` bytes are a who of plain ASCII, which is told of many bytes at once. `true` is certain; at
-/// `false`, `judge_text` says more.
+/// Returns whether the first `len` bytes are a who of plain ASCII. It tests many bytes at once. `true` is certain; after
+/// `false`, `judge_text` decides.
 #[inline(always)]
 pub(crate) fn begins_plain_who(bytes: &[u8], len: usize) -> bool
     requires some { is_no_who_len len ≡ false }
@@ -99,7 +99,7 @@ fn is_plain_byte(byte: u8) -> bool
     byte >= 0x20 && byte != 0x7f
 }
 
-// Whether a who ends in `@` and is none of the three special identifiers.
+// Returns whether a who ends in `@` and is none of the three special identifiers.
 #[inline(always)]
 fn is_unknown_special(who: &[u8]) -> bool
     requires { 1 ≤ length who.now }

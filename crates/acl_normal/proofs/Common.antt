@@ -15,12 +15,12 @@ pub use Rattle.acl_normal.specs.Keys.{ace_key, compare_keys, conflicts, Key, key
 pub use Rattle.acl_normal.specs.Laws.{Has}
 pub use Rattle.acl_normal.specs.Left.{KeepsFirsts, left}
 pub use Rattle.acl_normal.specs.Normal.{counts, flags_for, HasNoEmptyMask, HasNormalFlags, is_free, is_inherit_only, IsIrreducibleList, IsNormal, without_bit}
-pub use Rattle.acl_normal.specs.internal.Tidy.{HasMasks, HasNames, IsQuiet, IsTidy}
+pub use Rattle.acl_normal.specs.internal.Tidy.{HasMasks, HasNames, HaveNames, IsQuiet, IsTidy}
 pub use Rattle.acl_normal.specs.NormalForm.{IsNormalFormOf}
 pub use Rattle.acl_normal.specs.Places.{first_at, is_waiting, nothing_left, same_class, take_out, waits, without_bits}
 pub use Rattle.acl_normal.specs.internal.Places.{is_blocked, key_here, mask_here, principal_here, slot_of, waits_before}
-pub use Rattle.acl_normal.specs.SmallSets.{is_mentioning, longest, mentioned, mentioned_with, principal_pairs, partners, singles, small_sets}
-pub use Rattle.acl_normal.specs.SmallSituations.{HasName, HaveNames, is_among, longest_name, small_situation}
+pub use Rattle.acl_normal.specs.SmallSets.{is_mentioning, mentioned, mentioned_with, principal_pairs, partners, singles, small_sets}
+pub use Rattle.acl_normal.specs.SmallSituations.{HasName, is_among, longest, small_situation}
 pub use Rattle.acl_normal.specs.Tables.{AreRows, of_borrowed, with_bit}
 pub use Rattle.acl_normal.specs.internal.TableRows.{AddsRow, HasKey, HasFirstPlaces}
 pub use Rattle.acl_normal.specs.declared.comparison.small_set.SmallSet.{SmallSet}
@@ -30,28 +30,28 @@ pub use Rattle.acl_normal.specs.declared.comparison.standing.Whom.TheVariants.{E
 pub use Rattle.acl_normal.specs.declared.emit.emission.Emitted.{Emitted}
 pub use Rattle.acl_normal.specs.declared.rows.remaining.Remaining.TheInside.{Inside}
 pub use Rattle.acl_normal.specs.internal.Alike.{is_either, is_either_or_everyone, IsAlike, IsIrreducible}
-pub use Rattle.acl_normal.specs.internal.Classes.{is_users}
-pub use Rattle.acl_normal.specs.internal.CodeSets.{set_of}
+pub use Rattle.acl_normal.specs.Classes.{is_users}
+pub use Rattle.acl_normal.specs.internal.comparison.CodeSets.{set_of}
 pub use Rattle.acl_normal.specs.internal.Counts.{count_left}
-pub use Rattle.acl_normal.specs.internal.Emissions.{HasEmptyColumns, HasOnceColumns, IsEmission, IsOnce, IsStep}
-pub use Rattle.acl_normal.specs.internal.Emitted.{emitted_ace, emitted_aces, StandInRows}
-pub use Rattle.acl_normal.specs.internal.FirstPlaces.{AgreesAt, AreFirstFrom, AreStandings, AreWhoms, first_place, inverts, inverts_any, IsStanding, IsWhom, no_ace, no_standing, SameAlone}
-pub use Rattle.acl_normal.specs.internal.Heads.{BeginsWith}
+pub use Rattle.acl_normal.specs.internal.emit.Emissions.{HasEmptyColumns, HasOnceColumns, IsEmission, IsOnce, IsStep}
+pub use Rattle.acl_normal.specs.internal.emit.Emitted.{emitted_ace, emitted_aces, StandInRows}
+pub use Rattle.acl_normal.specs.internal.comparison.FirstPlaces.{AgreesAt, AreFirstFrom, AreStandings, AreWhoms, first_place, inverts, inverts_any, IsStanding, IsWhom, no_ace, no_standing, SameAlone}
+pub use Rattle.acl_normal.specs.internal.rows.Heads.{BeginsWith}
 pub use Rattle.acl_normal.specs.internal.Needed.{default_at}
 pub use Rattle.acl_normal.specs.internal.Passes.{Best, conflicts_before, is_shadowed, IsLeastCandidate, KeepsProfiles}
-pub use Rattle.acl_normal.specs.internal.PlaceTables.{is_of_camp}
+pub use Rattle.acl_normal.specs.internal.comparison.PlaceTables.{is_of_camp}
 pub use Rattle.acl_normal.specs.internal.Plain.{default, has_opposite, is_needed, needed_keys, reduced, unshadowed, without_principal}
-pub use Rattle.acl_normal.specs.internal.Queues.{AreNoted, AreQueues, IsQueueAt}
-pub use Rattle.acl_normal.specs.internal.Ready.{Enters, FitsKeys, Grows, key_eq, low_bits, Marked, marks, who_for}
+pub use Rattle.acl_normal.specs.internal.emit.Queues.{AreNoted, AreQueues, IsQueueAt}
+pub use Rattle.acl_normal.specs.internal.emit.Ready.{Enters, FitsKeys, Grows, key_eq, low_bits, Marked, marks, who_for}
 pub use Rattle.acl_normal.specs.internal.Reduced.{IsReducedOf}
-pub use Rattle.acl_normal.specs.internal.Remaining.{IsQueue, IsRemaining, masks_left, remaining_of}
-pub use Rattle.acl_normal.specs.internal.Rising.{all_cleared, cleared, HasRisen}
-pub use Rattle.acl_normal.specs.internal.RowNumbers.{named_at, named_from, who_here}
-pub use Rattle.acl_normal.specs.internal.Rows.{AreRowNumbers, first_place_of, is_principal_of, IsByPrincipal, IsRowOf, key_number, row_of}
-pub use Rattle.acl_normal.specs.internal.SamePlaces.{ArePlacesOf}
-pub use Rattle.acl_normal.specs.internal.SetSearch.{IsGrantedTo, differ, FindsFirst, GrantAlikeTo, is_granted_to, IsRisingSet, principals}
+pub use Rattle.acl_normal.specs.internal.rows.Remaining.{IsQueue, IsRemaining, masks_left, remaining_of}
+pub use Rattle.acl_normal.specs.internal.emit.Rising.{all_cleared, cleared, HasRisen}
+pub use Rattle.acl_normal.specs.internal.rows.RowNumbers.{named_at, named_from, who_here}
+pub use Rattle.acl_normal.specs.internal.rows.Rows.{AreRowNumbers, first_place_of, is_principal_of, IsByPrincipal, IsRowOf, key_number, row_of}
+pub use Rattle.acl_normal.specs.internal.comparison.SamePlaces.{ArePlacesOf}
+pub use Rattle.acl_normal.specs.internal.comparison.SetSearch.{IsGrantedTo, differ, FindsFirst, GrantAlikeTo, is_granted_to, IsRisingSet, principals}
 pub use Rattle.acl_normal.specs.internal.Shown.{aces_in, mask_numbers, with_masks}
-pub use Rattle.acl_normal.specs.internal.TwoLists.{all_mentioned, FindSet, StandAs, two_lists, TwoLists}
+pub use Rattle.acl_normal.specs.internal.comparison.TwoLists.{all_mentioned, FindSet, StandAs, two_lists, TwoLists}
 pub use Rattle.acl_perm.proofs.Bools.{and_false_right}
 pub use Rattle.acl_perm.proofs.Orders.{key_order, principal_exact, principal_order}
 pub use Rattle.acl_perm.proofs.Sets.{bits_from_mask, has_bit-and, has_bit-or, IsMask-lt, no_bit, same_set}

@@ -1,6 +1,6 @@
 -- The table of one bit, row by row.
-use Rattle.std.proofs.Common.{◌≡◌, ℕ, ◌+◌, ◌≤◌, ◌<◌, suc, true, List, [], ◌∷◌, ◌++◌, length, take, drop, refl}
-use Rattle.acl_normal.proofs.Common.{Ace, AddsRow, All, ap, AreRows, arith, column, counts, Emitted, emitted_ace, emitted_aces, first_at, first_place_of, has_bit, HasKey, HasFirstPlaces, identifier_group, IsAlike, IsOnce, KeepsFirsts, Kind, map, map-append, None, of_borrowed, Option, plain_key, Principal, principal_of, slice_index_or, Some, StandInRows, subst, sym, take_all, take_more, with_bit, ◌∙◌}
+use Rattle.std.proofs.Common.{◌≡◌, ℕ, ◌+◌, ◌<◌, suc, true, List, [], ◌∷◌, ◌++◌, length, take, drop, refl}
+use Rattle.acl_normal.proofs.Common.{Ace, AddsRow, All, ap, AreRows, arith, column, counts, Emitted, emitted_ace, emitted_aces, first_at, first_place_of, has_bit, HasKey, HasFirstPlaces, identifier_group, IsAlike, IsOnce, KeepsFirsts, Kind, map, map-append, None, of_borrowed, Option, plain_key, Principal, principal_of, slice_index_or, Some, StandInRows, subst, sym, take_more, with_bit, ◌∙◌}
 use Rattle.std.proofs.lemmas.List.Elements.{filter-append}
 use Rattle.acl_normal.specs.Tables.{IsRow, TableRow}
 use Rattle.acl_normal.specs.declared.bit_table.BorrowedRow.{BorrowedRow}
@@ -82,11 +82,6 @@ rows_on b xs es i d old new l so adds =
     ∙ ap (with_bit b) (sym (map-append emitted_ace (take i es) (slice_index_or es i d ∷ []))
     ∙ sym (ap emitted_aces (take_more es i d l))))
     (adds (with_bit b (emitted_aces (take i es))) so)
-
--- all of them
-pub rows_all : (b : ℕ) (xs : List Ace) (es : List Emitted) (i : ℕ) (rows : List TableRow) → length es ≤ i
-    → AreRows b xs (with_bit b (emitted_aces (take i es))) rows → AreRows b xs (with_bit b (emitted_aces es)) rows
-rows_all b xs es i rows l so = subst (λ v. AreRows b xs (with_bit b (emitted_aces v)) rows) (take_all i es l) so
 
 -- ---- the table
 

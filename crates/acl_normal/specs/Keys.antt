@@ -23,30 +23,11 @@ ace_key a = (principal_of a, a.kind)
 -- the same principal
 abbrev pub principal_eq : Principal → Principal → Bool
 principal_eq owner owner = true
-principal_eq owner (user other) = false
-principal_eq owner group = false
-principal_eq owner (group_named other) = false
-principal_eq owner everyone = false
-principal_eq (user name) owner = false
 principal_eq (user name) (user other) = bytes_eq name other
-principal_eq (user name) group = false
-principal_eq (user name) (group_named other) = false
-principal_eq (user name) everyone = false
-principal_eq group owner = false
-principal_eq group (user other) = false
 principal_eq group group = true
-principal_eq group (group_named other) = false
-principal_eq group everyone = false
-principal_eq (group_named name) owner = false
-principal_eq (group_named name) (user other) = false
-principal_eq (group_named name) group = false
 principal_eq (group_named name) (group_named other) = bytes_eq name other
-principal_eq (group_named name) everyone = false
-principal_eq everyone owner = false
-principal_eq everyone (user other) = false
-principal_eq everyone group = false
-principal_eq everyone (group_named other) = false
 principal_eq everyone everyone = true
+principal_eq _ _ = false
 
 -- the same kind
 abbrev pub kind_eq : Kind → Kind → Bool

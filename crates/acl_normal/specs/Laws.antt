@@ -1,7 +1,14 @@
--- What the laws of normal forms say about columns (this library's own).
-use Rattle.std.specs.Prelude.{◌≡◌, ◌∷◌, ◌++◌}
+-- What the laws of normal forms say about columns and about spellings (this library's own).
+use Rattle.std.specs.Prelude.{◌≡◌, ◌↔◌, ◌∷◌, ◌++◌, List}
+use Rattle.acl_perm.specs.Profile.{Profile}
+use Rattle.acl_nfs4.specs.Ace.{Ace}
+use Rattle.acl_nfs4.specs.Spelling.{IsAccepted, spelling}
+use Rattle.acl_nfs4.specs.Within.{IsProfile}
 use Rattle.acl_eval.specs.Column.{Column}
+use Rattle.acl_eval.specs.Grant.{SameGrants}
 use Rattle.acl_normal.specs.Keys.{Key}
+use Rattle.acl_normal.specs.Normal.{IsNormal}
+use Rattle.acl_normal.specs.NormalForm.{IsNormalFormOf}
 
 -- the key is in the column
 pub record Has (c : Column) (e : Key) : Type 0 where
@@ -15,3 +22,20 @@ pub record Precedes (c : Column) (e f : Key) : Type 0 where
   pub between : Column
   pub after : Column
   pub is : c ≡ before ++ e ∷ (between ++ f ∷ after)
+
+-- a normal list that is accepted under the profile and grants the same rights of the profile as the source
+pub record IsForm (p : Profile) (source form : List Ace) : Type 0 where
+  pub accepted : IsAccepted p form
+  pub normal : IsNormal form
+  pub grants : SameGrants p.masks source form
+
+-- the normal form of a source that is accepted under the profile
+pub record IsFormOfAccepted (p : Profile) (source form : List Ace) : Type 0 where
+  pub accepted : IsAccepted p source
+  pub is_form : IsNormalFormOf source form
+
+-- two such lists have the same spelling (RFC 4506) if and only if their sources grant the same, under every profile
+abbrev pub SpellingsTellApart : (Profile → List Ace → List Ace → Type 0) → Type 0
+SpellingsTellApart IsForm = (p : Profile) (source other form other_form : List Ace) → IsProfile p
+    → IsForm p source form → IsForm p other other_form
+    → (spelling form ≡ spelling other_form) ↔ SameGrants p.masks source other

@@ -10,6 +10,8 @@ pub mod Places
 pub mod Left
 pub mod SmallSets
 pub mod OneRight
+pub mod Classes
+pub mod Common
 pub mod Difference
 pub mod RequesterNames
 pub mod Tables

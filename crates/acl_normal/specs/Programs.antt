@@ -30,7 +30,7 @@ abbrev pub group_word : Bool → List ℕ
 group_word true = codes "GROUP"
 group_word false = codes "-"
 
--- the place in the given list, from 0, the type, whether the who is the name of a group, and the who, with one space
+-- the place in the given list, from 0, the kind, whether the who is the name of a group, and the who, with one space
 -- between them, and a line feed
 abbrev pub row_line : TableRow → List ℕ
 row_line r = decimal r.source ++ space ∷ (kind_name r.kind ++ space ∷ (group_word r.group ++ space ∷ (r.who

@@ -1,6 +1,6 @@
 -- The small situations of two lists, and the first of them in which the lists differ (this library's own; what a list
 -- grants is RFC 8881, section 6.2.1).
-use Rattle.std.specs.Prelude.{◌≡◌, ◌≢◌, ◌↔◌, ℕ, ◌+◌, ◌<◌, ◌^◌, Bool, not, ◌&&◌, if◌then◌else◌, IsTrue, IsFalse, List, [], ◌∷◌, ◌++◌, length, map, max}
+use Rattle.std.specs.Prelude.{◌≡◌, ◌≢◌, ◌↔◌, ℕ, ◌+◌, ◌<◌, ◌^◌, Bool, not, ◌&&◌, if◌then◌else◌, IsTrue, IsFalse, List, [], ◌∷◌, ◌++◌, map}
 use Rattle.std.specs.List.{AllByRecursion}
 use Rattle.std.specs.BTreeSet.{insert_key}
 use Rattle.acl_eval.specs.Column.{takes_part}
@@ -8,9 +8,9 @@ use Rattle.acl_eval.specs.Grant.{Grant, SameGrants, grants_bit}
 use Rattle.acl_nfs4.specs.Ace.{Ace}
 use Rattle.acl_nfs4.specs.Who.{principal_of}
 use Rattle.acl_normal.specs.Keys.{principal_eq}
-use Rattle.acl_normal.specs.SmallSituations.{small_situation}
+use Rattle.acl_normal.specs.SmallSituations.{longest, small_situation}
 use Rattle.acl_perm.specs.Bits.{all_rights, has_bit}
-use Rattle.acl_perm.specs.Order.{principal_cmp, principal_name}
+use Rattle.acl_perm.specs.Order.{principal_cmp}
 use Rattle.acl_perm.specs.Overlap.{may_overlap}
 use Rattle.acl_perm.specs.Principal.{Principal, everyone}
 use Rattle.acl_perm.specs.Situation.{IsSituation, Situation}
@@ -28,11 +28,6 @@ mentioned_with given (a ∷ list) =
 -- the principals that two lists mention, in order, each once
 abbrev pub mentioned : List Ace → List Ace → List Principal
 mentioned list other = mentioned_with (mentioned_with [] list) other
-
--- the number of bytes of the longest name, or 0 if there is no name
-abbrev pub longest : List Principal → ℕ
-longest [] = 0
-longest (p ∷ set) = max (length (principal_name p)) (longest set)
 
 -- the sets of one of the principals
 abbrev pub singles : List Principal → List (List Principal)
@@ -66,19 +61,23 @@ small_situations list other =
 abbrev pub GrantAlike : List Ace → List Ace → Situation → Type 0
 GrantAlike list other s = (bit : ℕ) → IsTrue (has_bit all_rights bit) → grants_bit list s bit ≡ grants_bit other s bit
 
--- The first small situation in which the lists differ; the lowest right on which they differ there, as a set of one
--- right; and whether the first list grants it there.
-pub record IsFirstDifference (list other : List Ace) (s : Situation) (mask : ℕ) (first_grants : Bool) : Type 0 where
-  pub before : List Situation
-  pub after : List Situation
-  pub place : small_situations list other ≡ before ++ s ∷ after
-  pub alike_before : AllByRecursion (GrantAlike list other) before
+-- the lowest right on which the lists differ in the situation, as a set of one right; and whether the first list grants
+-- it there
+pub record IsLowestUnlike (list other : List Ace) (s : Situation) (mask : ℕ) (first_grants : Bool) : Type 0 where
   pub bit : ℕ
   pub one_bit : mask ≡ 2 ^ bit
   pub of_rights : IsTrue (has_bit all_rights bit)
   pub differs : grants_bit list s bit ≢ grants_bit other s bit
   pub lowest : (b : ℕ) → b < bit → IsTrue (has_bit all_rights b) → grants_bit list s b ≡ grants_bit other s b
   pub first : first_grants ≡ grants_bit list s bit
+
+-- the first small situation in which the lists differ, and the lowest right on which they differ there
+pub record IsFirstDifference (list other : List Ace) (s : Situation) (mask : ℕ) (first_grants : Bool) : Type 0 where
+  pub before : List Situation
+  pub after : List Situation
+  pub place : small_situations list other ≡ before ++ s ∷ after
+  pub alike_before : AllByRecursion (GrantAlike list other) before
+  pub right : IsLowestUnlike list other s mask first_grants
 
 -- In a situation whose names are not empty, one list grants a request and the other denies it.
 pub record TellsApart (list other : List Ace) (s : Situation) (request : ℕ) (first_grants : Bool) : Type 0 where

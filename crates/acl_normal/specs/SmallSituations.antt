@@ -1,11 +1,9 @@
 -- Situations that match exactly some given principals, and everyone (this library's own; which principals match is of
 -- RFC 8881, section 6.2.1.5).
 use Rattle.std.specs.Prelude.{⊤, ℕ, Bool, false, if◌then◌else◌, ◌||◌, List, [], ◌∷◌, Option, Some, None, unwrap_or, length, replicate, max}
-use Rattle.std.specs.List.{AllByRecursion}
 use Rattle.acl_perm.specs.Principal.{Principal, owner, user, group, group_named, everyone}
 use Rattle.acl_perm.specs.Situation.{Situation, IsName}
 use Rattle.acl_perm.specs.Order.{principal_name}
-use Rattle.acl_eval.specs.Column.{Column}
 use Rattle.acl_normal.specs.Keys.{principal_eq}
 
 -- the first user name among some principals
@@ -54,10 +52,10 @@ small_situation n ps =
       groups = if is_among group ps then names_or (group_names ps) stranger else group_names ps;
     }
 
--- the length of the longest name
-abbrev pub longest_name : Column → ℕ
-longest_name [] = 0
-longest_name ((p, kind) ∷ c) = max (length (principal_name p)) (longest_name c)
+-- the number of bytes of the longest name, or 0 if there is no name
+abbrev pub longest : List Principal → ℕ
+longest [] = 0
+longest (p ∷ ps) = max (length (principal_name p)) (longest ps)
 
 -- a user name and a group name are names that a situation may have
 abbrev pub HasName : Principal → Type 0
@@ -66,7 +64,3 @@ HasName (user name) = IsName name
 HasName group = ⊤
 HasName (group_named name) = IsName name
 HasName everyone = ⊤
-
--- each principal of the column has such a name
-abbrev pub HaveNames : Column → Type 0
-HaveNames c = AllByRecursion (λ e. HasName e.0) c

@@ -14,7 +14,7 @@ use Rattle.acl_normal.specs.declared.bit_table.Row.{Row}
 abbrev pub with_bit : ℕ → List Ace → List Ace
 with_bit bit list = filter (λ a. has_bit a.mask bit) list
 
--- what a row says: a type, a who, whether that is the name of a group, and a place in the given list, from 0
+-- what a row says: a kind, a who, whether that is the name of a group, and a place in the given list, from 0
 pub record TableRow : Type 0 where
   pub kind : Kind
   pub who : List ℕ

@@ -1,18 +1,8 @@
 //! The table of one right: what the normal form says of it, and where that comes from.
-ghost use Rattle.std.specs.Prelude.{◌≡◌, ◌<◌, ◌^◌, ℕ, List, [], All, IfOk, IsOk, IsOkAnd, OnOk, Some, length, map, vec_len};
-ghost use Rattle.acl_perm.specs.Bits.{has_bit, identifier_group};
-ghost use Rattle.acl_nfs4.specs.Ace.{Ace, ace};
-ghost use Rattle.acl_nfs4.specs.Who.{principal_of};
-ghost use Rattle.acl_normal.specs.internal.Emitted.{StandInRows, emitted_ace, emitted_aces};
-ghost use Rattle.acl_normal.specs.Left.{IsLowest, left};
-ghost use Rattle.acl_normal.specs.internal.Tidy.{IsTidy};
-ghost use Rattle.acl_normal.specs.Normal.{flags_for};
-ghost use Rattle.acl_normal.specs.internal.Reduced.{IsReducedOf};
-ghost use Rattle.acl_normal.specs.internal.Remaining.{IsNumbered};
-ghost use Rattle.acl_normal.specs.internal.Rising.{IsRising, all_cleared};
-ghost use Rattle.acl_normal.specs.internal.Rows.{AreRowNumbers, first_place_of};
-ghost use Rattle.acl_normal.specs.internal.Shown.{mask_numbers, with_masks};
-ghost use Rattle.acl_normal.specs.Tables.{AreRows, IsBorrowedTable, IsTable, of_borrowed, of_row, with_bit};
+ghost use Rattle.std.specs.Prelude.{◌<◌, ◌^◌, ◌≡◌, All, IsOkAnd};
+ghost use Rattle.acl_normal.specs.Common.{[], Ace, ace, all_cleared, AreRowNumbers, emitted_ace, emitted_aces, first_place_of, flags_for, has_bit, IfOk, IsLowest, IsNumbered, IsOk, IsReducedOf, IsRising, IsTidy, left, length, List, map, mask_numbers, of_borrowed, OnOk, principal_of, Some, StandInRows, vec_len, with_masks, ℕ};
+ghost use Rattle.acl_perm.specs.Bits.{identifier_group};
+ghost use Rattle.acl_normal.specs.Tables.{AreRows, IsBorrowedTable, IsTable, of_row, with_bit};
 ghost use Rattle.acl_normal.specs.internal.TableRows.{AddsRow, HasKey, HasFirstPlaces};
 
 use crate::emit::emission::{Emitted, normalize_left};
@@ -20,7 +10,7 @@ use crate::emit::rising::rises;
 use crate::merged::lowest;
 use crate::normal_form::{ace_of, flags_of};
 use crate::reduce::reduced_list;
-use crate::rows::remaining::{Reduced, Remaining};
+use crate::rows::remaining::Remaining;
 use acl_nfs4::{AceRef, Acl, AclView};
 use acl_perm::internal::Bit;
 use acl_perm::{Kind, Mask};
@@ -53,8 +43,8 @@ pub struct BorrowedRow<'a> {
     pub source: usize,
 }
 
-/// The ACEs of the normal form of a list that have a right, in its order (this library's own, over RFC 8881, section
-/// 6.2.1). Of several rights it is the lowest; without a right there is no row. An error is want of memory.
+/// Returns the ACEs of the normal form of a list that have a right, in its order (this library's own, over RFC 8881,
+/// section 6.2.1). Of several rights it is the lowest; without a right there is no row. Fails if memory runs out.
 ///
 /// ```rust
 /// let list = parse_text(alloc, b"DENY - WRITE_DATA bob\nALLOW - READ_DATA|WRITE_DATA OWNER@\n")?;
@@ -123,30 +113,15 @@ pub fn borrowed_rows<'a>(
     };
     let reduced = reduced_list(alloc, list)?;
     if rises(&reduced.aces, &reduced.masks, &reduced.numbers.rows) {
-        return risen_rows(alloc, list, &reduced, right);
+        // What is left is its own normal form, in which each ACE stands at its place.
+        return rows_in_place(alloc, &reduced.aces, &reduced.masks, right);
     }
-    emitted_rows(alloc, list, reduced, right)
-}
-
-// The rows of a list whose keys rise when what no situation needs is out: it is its own normal form, in which each ACE
-// stands at its place.
-fn risen_rows<'a>(
-    alloc: Global,
-    list: &AclView<'_>,
-    reduced: &Reduced<'a>,
-    right: Bit,
-) -> Result<Vec<BorrowedRow<'a>>, AllocError>
-    requires places { vec_len reduced.now.masks ≡ vec_len reduced.now.aces }
-    requires reduced { IsReducedOf list.now
-        (with_masks reduced.now.aces.items (mask_numbers reduced.now.masks.items)) }
-    requires rising { IsRising
-        (left (with_masks reduced.now.aces.items (mask_numbers reduced.now.masks.items))) }
-    ensures { IfOk result (λ rows. IsBorrowedTable right.bit list.now rows.items) }
-{
-    // The call is made for its clause alone, which says that the list is accepted.
-    let _accepted = list.aces();
-    let rows = rows_in_place(alloc, &reduced.aces, &reduced.masks, right)?;
-    Ok(rows)
+    let numbers = &reduced.numbers;
+    let places = places(alloc, &reduced.aces, &reduced.masks, &numbers.rows, right)?;
+    let mut rows = Remaining::of(alloc, reduced)?;
+    let form = normalize_left(alloc, &mut rows)?;
+    drop(rows);
+    rows_of(alloc, &places, &form, right)
 }
 
 // The rows of the ACEs that have the right, each with its own place.
@@ -193,32 +168,6 @@ fn names_group(item: AceRef<'_>) -> bool
     ensures { result ≡ has_bit (flags_for (principal_of (ace item.entry))) identifier_group }
 {
     item.flags.is_group() && flags_of(item.principal()).is_group()
-}
-
-// The rows of a list whose keys do not rise: those of the normal form, which is made key by key.
-fn emitted_rows<'a>(
-    alloc: Global,
-    list: &AclView<'_>,
-    reduced: Reduced<'a>,
-    right: Bit,
-) -> Result<Vec<BorrowedRow<'a>>, AllocError>
-    requires few { vec_len reduced.aces < 2 ^ 32 }
-    requires places { vec_len reduced.masks ≡ vec_len reduced.aces }
-    requires rows { IsNumbered (with_masks reduced.aces.items (mask_numbers reduced.masks.items))
-        reduced.numbers.rows.items reduced.numbers.order.items }
-    requires reduced { IsReducedOf list.now
-        (with_masks reduced.aces.items (mask_numbers reduced.masks.items)) }
-    ensures { IfOk result (λ rows. IsBorrowedTable right.bit list.now rows.items) }
-{
-    // The call is made for its clause alone, which says that the list is accepted.
-    let _accepted = list.aces();
-    let numbers = &reduced.numbers;
-    let places = places(alloc, &reduced.aces, &reduced.masks, &numbers.rows, right)?;
-    let mut rows = Remaining::of(alloc, reduced)?;
-    let form = normalize_left(alloc, &mut rows)?;
-    drop(rows);
-    let table = rows_of(alloc, &places, &form, right)?;
-    Ok(table)
 }
 
 // By row, the place of the ACE that has the right, where one has it.

@@ -1,11 +1,6 @@
 //! Rights of masks, and of ACEs.
-ghost use Rattle.std.specs.Prelude.{◌≡◌, ◌↔◌, ◌&&◌, ℕ, ◌^◌, ◌<◌, ◌≤◌, bit_or, IfNone, IfSome, IsSome, true};
-ghost use Rattle.acl_perm.specs.Bits.{all_rights, has_bit};
-ghost use Rattle.acl_perm.specs.Principal.{everyone};
-ghost use Rattle.acl_nfs4.specs.Ace.{ace};
-ghost use Rattle.acl_nfs4.specs.Who.{principal_of};
-ghost use Rattle.acl_normal.specs.internal.Places.{bit_count};
-ghost use Rattle.acl_normal.specs.Keys.{principal_eq};
+ghost use Rattle.std.specs.Prelude.{◌&&◌, ◌<◌, ◌^◌, ◌↔◌, ◌≡◌, ◌≤◌, IsSome};
+ghost use Rattle.acl_normal.specs.Common.{ace, all_rights, bit_count, bit_or, everyone, has_bit, IfNone, IfSome, principal_eq, principal_of, true, ℕ};
 ghost use Rattle.acl_normal.specs.Normal.{counts};
 ghost use Rattle.acl_normal.specs.internal.NextRight.{IsNextRight, LacksFrom};
 

@@ -1,14 +1,16 @@
 //! The two classes of principals.
 ghost use Rattle.std.specs.Prelude.{◌≡◌};
-ghost use Rattle.acl_perm.specs.Principal.{is_user, principal};
-ghost use Rattle.acl_normal.specs.internal.Classes.{is_users};
+ghost use Rattle.acl_normal.specs.Common.{is_user, is_users, principal};
 
 use acl_perm::Principal;
 
-/// Users, of whom no two different ones overlap, or all other principals, who overlap with every principal.
-#[derive(Clone, Copy)]
-pub(crate) enum Class {
+/// The class of a principal. Two different users never overlap; a principal of the other class overlaps with every
+/// principal.
+#[derive(Clone, Copy, Debug, PartialEq, Eq)]
+pub enum Class {
+    /// Users.
     Users,
+    /// The owner, groups, and everyone.
     Others,
 }
 
@@ -17,14 +19,11 @@ impl Class {
     pub(crate) fn of(p: Principal<'_>) -> Class
         ensures { is_users result ≡ is_user (principal p.entry) }
     {
-        Class::from_users(p.is_user())
-    }
-
-    /// Makes the class of users, or that of others.
-    pub(crate) fn from_users(users: bool) -> Class
-        ensures { is_users result ≡ users }
-    {
-        if users { Class::Users } else { Class::Others }
+        if p.is_user() {
+            Class::Users
+        } else {
+            Class::Others
+        }
     }
 
     /// Returns whether the class is that of users.

@@ -36,7 +36,7 @@ pub struct Difference {
     pub groups: Vec<Vec<u8>>,
     /// The right, as a set of one.
     pub bit: Mask,
-    /// Whether the first list grants it; the second does exactly if the first doesn't.
+    /// Whether the first list grants it. The second list grants it if and only if the first does not.
     pub first_grants: bool,
     ghost owner_named: { 0 < length owner.items },
     ghost group_named: { 0 < length group.items },

@@ -1,16 +1,13 @@
 //! The normal forms of what a directory's list grants in the directory and in everything that will ever be made below
 //! it.
-ghost use Rattle.std.specs.Prelude.{◌≡◌, ◌+◌, ◌^◌, ◌<◌, ◌≤◌, ℕ, IfOk, OnErr, OnOk};
+ghost use Rattle.std.specs.Prelude.{◌+◌, ◌<◌, ◌^◌, ◌≡◌, ◌≤◌, OnErr};
+ghost use Rattle.acl_normal.specs.Common.{five_spellings, IfOk, IsAccepted, IsNormalFormOf, IsProfile, OnOk, Profile, spelling, ℕ};
 ghost use Rattle.acl_perm.specs.Devices.{one_more};
 ghost use Rattle.acl_perm.specs.Pieces.{Writes, WritesFrom};
-ghost use Rattle.acl_perm.specs.Profile.{Profile};
-ghost use Rattle.acl_nfs4.specs.Spelling.{IsAccepted, spelling};
-ghost use Rattle.acl_nfs4.specs.Within.{IsProfile};
 ghost use Rattle.acl_eval.specs.Inheritance.{children};
 ghost use Rattle.acl_eval.specs.declared.inherit.ChildKind.{ChildKind as Kind};
 ghost use Rattle.acl_eval.specs.declared.inherit.ChildKind.TheVariants.{Directory, File};
-ghost use Rattle.acl_normal.specs.FiveForms.{AreAccepted, AreFormsOf, five_spellings};
-ghost use Rattle.acl_normal.specs.NormalForm.{IsNormalFormOf};
+ghost use Rattle.acl_normal.specs.FiveForms.{AreAccepted, AreFormsOf};
 ghost use Rattle.acl_normal.specs.Paths.{at, below, here};
 
 use crate::normal_form::normalize;

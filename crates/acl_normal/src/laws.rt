@@ -1,19 +1,13 @@
 //! Laws of normal forms.
 
-ghost use Rattle.std.specs.Prelude.{◌≡◌, ◌↔◌, ℕ, List, true, false};
-ghost use Rattle.acl_perm.specs.Bits.{all_rights, has_bit};
-ghost use Rattle.acl_perm.specs.Profile.{Profile};
+ghost use Rattle.std.specs.Prelude.{◌↔◌, ◌≡◌};
+ghost use Rattle.acl_normal.specs.Common.{Ace, all_rights, column, false, five_spellings, has_bit, IsIrreducibleList, IsNormal, IsProfile, List, Normalises, Profile, SameGrants, true, ℕ};
 ghost use Rattle.acl_perm.specs.Situation.{Situation};
-ghost use Rattle.acl_nfs4.specs.Ace.{Ace};
-ghost use Rattle.acl_nfs4.specs.Spelling.{Fits, IsAccepted, Xdr, spelling};
-ghost use Rattle.acl_nfs4.specs.Within.{IsProfile};
-ghost use Rattle.acl_eval.specs.Column.{column};
-ghost use Rattle.acl_eval.specs.Grant.{SameGrants, grants_bit};
+ghost use Rattle.acl_nfs4.specs.Spelling.{Fits, Xdr};
+ghost use Rattle.acl_eval.specs.Grant.{grants_bit};
 ghost use Rattle.acl_normal.specs.Keys.{Key, conflicts};
-ghost use Rattle.acl_normal.specs.FiveForms.{AreSpelledAlike, TellApart, five_spellings};
-ghost use Rattle.acl_normal.specs.Laws.{Has, Precedes};
-ghost use Rattle.acl_normal.specs.Normal.{IsIrreducibleList, IsNormal};
-ghost use Rattle.acl_normal.specs.NormalForm.{IsNormalFormOf, Normalises};
+ghost use Rattle.acl_normal.specs.FiveForms.{AreSpelledAlike, TellApart};
+ghost use Rattle.acl_normal.specs.Laws.{Has, IsFormOfAccepted, IsForm, Precedes, SpellingsTellApart};
 ghost use Rattle.acl_normal.specs.Paths.{SameAtEveryPath, SameAtFive};
 ghost use Rattle.acl_normal.specs.SmallSets.{SmallSituationsSuffice};
 
@@ -47,20 +41,6 @@ pub fn nothing_outside_a_profile()
         → SameGrants p.masks list other ↔ SameGrants all_rights list other }
 {}
 
-/// Normal lists with the grants of two sources have equal spellings if and only if the sources grant the same, under
-/// each profile under which they are accepted.
-pub fn equal_bytes()
-    ensures spelled { (p : Profile) (source other form other_form : List Ace) → IsProfile p
-        → IsAccepted p form → IsNormal form → SameGrants p.masks source form
-        → IsAccepted p other_form → IsNormal other_form → SameGrants p.masks other other_form
-        → (spelling form ≡ spelling other_form) ↔ SameGrants p.masks source other }
-    // So the bytes of the normal forms of two accepted lists show whether these grant the same.
-    ensures forms { (p : Profile) (source other form other_form : List Ace) → IsProfile p
-        → IsAccepted p source → IsNormalFormOf source form
-        → IsAccepted p other → IsNormalFormOf other other_form
-        → (spelling form ≡ spelling other_form) ↔ SameGrants p.masks source other }
-{}
-
 /// The bytes to which two spelled lists normalize are equal if and only if the lists grant the same, under every
 /// profile. Bytes that spell a normal form normalize to themselves.
 pub fn normal_bytes_tell_apart()
@@ -73,6 +53,14 @@ pub fn normal_bytes_tell_apart()
     equal_bytes();
     acl_nfs4::laws::one_spelling();
 }
+
+/// Normal lists with the grants of two sources have equal spellings if and only if the sources grant the same, under
+/// each profile under which they are accepted.
+pub fn equal_bytes()
+    ensures spelled { SpellingsTellApart IsForm }
+    // So the bytes of the normal forms of two accepted lists show whether these grant the same.
+    ensures forms { SpellingsTellApart IsFormOfAccepted }
+{}
 
 /// Two lists that agree in each of their small situations grant the same in every situation.
 pub fn small_situations_suffice()

@@ -19,6 +19,7 @@ mod tests;
 mod whom;
 
 pub use bit_table::{BorrowedRow, Row, borrowed_rows, table, table_of_view};
+pub use class::Class;
 pub use comparison::{Difference, RequesterNames, compare, compare_views};
 pub use five_forms::{FiveForms, normalize_inherit};
 pub use merged::MergedRows;

@@ -1,18 +1,10 @@
 //! What is left of a list, with the places that wait in sets.
-ghost use Rattle.std.specs.Prelude.{◌≡◌, ℕ, ◌<◌, ◌≤◌, ◌^◌, ◌||◌, false, true, ◌↔◌, IfOk, IsTrue, None, Some, option_map};
-ghost use Rattle.std.specs.Ordering.{nat_cmp};
+ghost use Rattle.std.specs.Prelude.{◌<◌, ◌^◌, ◌||◌, ◌↔◌, ◌≡◌, ◌≤◌, None};
+ghost use Rattle.acl_normal.specs.Common.{all_rights, column, false, has_bit, IfOk, is_blocked, is_free, is_users, IsIrreducibleList, IsLowest, IsRowOf, IsTrue, left, nat_cmp, nothing_left, option_map, principal, SameGrants, Some, take_out, true, waits_before, ℕ};
 ghost use Rattle.std.specs.BTreeSet.{contains};
-ghost use Rattle.acl_perm.specs.Bits.{all_rights};
-ghost use Rattle.acl_perm.specs.Principal.{principal};
 ghost use Rattle.acl_perm.specs.declared.kind.Kind.TheVariants.{Deny, Allow};
-ghost use Rattle.acl_eval.specs.Column.{column};
-ghost use Rattle.acl_eval.specs.Grant.{SameGrants};
-ghost use Rattle.acl_normal.specs.internal.Classes.{is_users};
-ghost use Rattle.acl_normal.specs.Left.{HasFree, IsLowest, KeepsFirsts, left};
-ghost use Rattle.acl_normal.specs.Normal.{IsIrreducibleList, is_free};
-ghost use Rattle.acl_normal.specs.Places.{nothing_left, take_out, waits};
-ghost use Rattle.acl_normal.specs.internal.Places.{is_blocked, waits_before};
-ghost use Rattle.acl_normal.specs.internal.Rows.{IsRowOf};
+ghost use Rattle.acl_normal.specs.Left.{HasFree, KeepsFirsts};
+ghost use Rattle.acl_normal.specs.Places.{waits};
 
 use crate::bits::{alone, next_right};
 use crate::class::Class;
@@ -38,7 +30,7 @@ pub struct MergedRows<'a> {
 impl<'a> Model for MergedRows<'a> {
     ghost use Rattle.std.specs.Prelude.{List};
     ghost use Rattle.acl_nfs4.specs.Ace.{Ace};
-    ghost use Rattle.acl_normal.specs.internal.Merged.{IsMerged};
+    ghost use Rattle.acl_normal.specs.internal.rows.Merged.{IsMerged};
 
     ghost Value = { List Ace };
 
@@ -50,17 +42,8 @@ impl<'a> Model for MergedRows<'a> {
 // A bit below 21 that is in no mask.
 const NO_RIGHT: Bit = Bit { bit: 11 };
 
-// The lowest of some rights, if there are any.
-pub(crate) fn lowest(bits: Mask) -> Option<Bit>
-    ensures some { (bit : ℕ) → IsLowest bit bits.bits → option_map (λ right. right.bit) result
-        ≡ Some bit }
-    ensures none { bits.bits ≡ 0 → result ≡ None }
-{
-    next_right(bits, 0)
-}
-
 impl<'a> MergedRows<'a> {
-    /// A list without the bits that play no part, in time that is nearly linear in its bytes.
+    /// Returns a list without the bits that play no part, in time that is nearly linear in its bytes.
     pub fn new(alloc: Global, list: &'a Acl) -> Result<MergedRows<'a>, AllocError>
         // The places are those of the given list, with their kinds, flags and whos.
         ensures places { IfOk result (λ rows. nothing_left rows ≡ nothing_left list.now) }
@@ -77,7 +60,8 @@ impl<'a> MergedRows<'a> {
         Ok(MergedRows { rest, waiting })
     }
 
-    /// Takes rights of a principal out of what is left. Those that it hasn't there are ignored. It takes no memory.
+    /// Takes rights of a principal out of what is left. Rights that it does not have there are ignored. It takes no
+    /// memory.
     pub fn emit(&mut self, p: Principal<'_>, bits: Mask)
         ensures { self.new ≡ take_out (principal p.entry) bits.bits self.old }
     {
@@ -86,7 +70,7 @@ impl<'a> MergedRows<'a> {
         }
     }
 
-    /// Whether the principal has one of these rights in what is left and is free on it: no ACE before its own
+    /// Returns whether the principal has one of these rights in what is left and is free on it: no ACE before its own
     /// conflicts with that on the right. It takes no memory.
     pub fn is_free(&self, p: Principal<'_>, bits: Mask) -> bool
         ensures { IsTrue result ↔ HasFree self.now (principal p.entry) bits.bits }
@@ -101,71 +85,18 @@ impl<'a> MergedRows<'a> {
         false
     }
 
-    /// The places that wait with a right: those of the ACEs of what is left that have it, are of the kind, and name a
-    /// user (`users`) or another principal. Of several rights it is the lowest, and of none no place waits. It takes no
-    /// memory.
-    pub fn waiting(&self, kind: Kind, users: bool, bits: Mask) -> &BTreeSet<usize>
+    /// Returns the places that wait with a right: those of the ACEs of what is left that have the right, are of the
+    /// kind, and name a principal of the class. Of several rights it is the lowest, and of none no place waits. It
+    /// takes no memory.
+    pub fn waiting(&self, kind: Kind, class: Class, bits: Mask) -> &BTreeSet<usize>
         ensures places { (bit : ℕ) → IsLowest bit bits.bits → (place : ℕ)
-            → contains nat_cmp result.now place ≡ waits kind users bit self.now place }
+            → contains nat_cmp result.now place ≡ waits kind (is_users class) bit self.now place }
         // Of no right it is empty.
         ensures none { bits.bits ≡ 0 → (place : ℕ) → contains nat_cmp result.now place ≡ false }
     {
-        // The look at the field gives the proof the invariant of the type. It does nothing.
-        let _ = &self.waiting;
-        let class = Class::from_users(users);
         match lowest(bits) {
             Some(right) => self.waiting_at(kind, class, right),
             None => self.waiting_at(kind, class, NO_RIGHT),
-        }
-    }
-
-    /// The places of the ACEs of a kind and a class that wait with a right.
-    fn waiting_at(&self, kind: Kind, class: Class, right: Bit) -> &BTreeSet<usize>
-        ensures { (i : ℕ) → contains nat_cmp result.now i
-            ≡ waits kind (is_users class) right.bit self.now i }
-    {
-        &self.waiting[slot(kind, class, right)]
-    }
-
-    /// Whether the principal has the right and is free on it.
-    fn is_free_at(&self, p: Principal<'_>, right: Bit) -> bool
-        ensures { result ≡ (is_free (column self.now right.bit) (principal p.entry, Deny)
-            || is_free (column self.now right.bit) (principal p.entry, Allow)) }
-    {
-        let _ = &self.waiting;
-        match self.rest.source(p, right) {
-            None => false,
-            Some((kind, place)) => place <= self.last_clear(kind, Class::of(p), right),
-        }
-    }
-
-    /// The last place where an ACE of a kind and a class with a right has nothing before it that conflicts with it.
-    fn last_clear(&self, kind: Kind, class: Class, right: Bit) -> usize
-        ensures clear { (place : ℕ) → place ≤ result
-            → is_blocked kind (is_users class) right.bit self.now place ≡ false }
-        ensures blocked { (place : ℕ) → result < place → place < 2 ^ 64
-            → is_blocked kind (is_users class) right.bit self.now place ≡ true }
-    {
-        let others = self.first_waiting(kind.other(), Class::Others, right);
-        match class {
-            Class::Users => others,
-            Class::Others => {
-                let users = self.first_waiting(kind.other(), Class::Users, right);
-                if users < others { users } else { others }
-            }
-        }
-    }
-
-    /// The first place that waits in a kind and a class with a right, or the greatest number where none does.
-    fn first_waiting(&self, kind: Kind, class: Class, right: Bit) -> usize
-        ensures before { (place : ℕ) → place ≤ result
-            → waits_before kind (is_users class) right.bit self.now place ≡ false }
-        ensures behind { (place : ℕ) → result < place → place < 2 ^ 64
-            → waits_before kind (is_users class) right.bit self.now place ≡ true }
-    {
-        match self.waiting_at(kind, class, right).first() {
-            Some(place) => *place,
-            None => usize::MAX,
         }
     }
 
@@ -194,4 +125,66 @@ impl<'a> MergedRows<'a> {
             self.rest.take_out(row, p, alone(right));
         }
     }
+
+    /// Returns whether the principal has the right and is free on it.
+    fn is_free_at(&self, p: Principal<'_>, right: Bit) -> bool
+        ensures { result ≡ (is_free (column self.now right.bit) (principal p.entry, Deny)
+            || is_free (column self.now right.bit) (principal p.entry, Allow)) }
+    {
+        match self.rest.source(p, right) {
+            None => false,
+            Some((kind, place)) => place <= self.last_clear(kind, Class::of(p), right),
+        }
+    }
+
+    /// Returns the last place where an ACE of a kind and a class with a right has nothing before it that conflicts with
+    /// it.
+    fn last_clear(&self, kind: Kind, class: Class, right: Bit) -> usize
+        ensures clear { (place : ℕ) → place ≤ result
+            → is_blocked kind (is_users class) right.bit self.now place ≡ false }
+        ensures blocked { (place : ℕ) → result < place → place < 2 ^ 64
+            → is_blocked kind (is_users class) right.bit self.now place ≡ true }
+    {
+        let others = self.first_waiting(kind.other(), Class::Others, right);
+        match class {
+            Class::Users => others,
+            Class::Others => {
+                let users = self.first_waiting(kind.other(), Class::Users, right);
+                if users < others { users } else { others }
+            }
+        }
+    }
+
+    /// Returns the first place that waits in a kind and a class with a right, or the greatest number where none does.
+    fn first_waiting(&self, kind: Kind, class: Class, right: Bit) -> usize
+        ensures before { (place : ℕ) → place ≤ result
+            → waits_before kind (is_users class) right.bit self.now place ≡ false }
+        ensures behind { (place : ℕ) → result < place → place < 2 ^ 64
+            → waits_before kind (is_users class) right.bit self.now place ≡ true }
+    {
+        match self.waiting_at(kind, class, right).first() {
+            Some(place) => *place,
+            None => usize::MAX,
+        }
+    }
+
+    /// Returns the places of the ACEs of a kind and a class that wait with a right. With a bit that is no right none
+    /// waits.
+    fn waiting_at(&self, kind: Kind, class: Class, right: Bit) -> &BTreeSet<usize>
+        ensures places { (i : ℕ) → contains nat_cmp result.now i
+            ≡ waits kind (is_users class) right.bit self.now i }
+        ensures none { has_bit all_rights right.bit ≡ false
+            → (i : ℕ) → contains nat_cmp result.now i ≡ false }
+    {
+        &self.waiting[slot(kind, class, right)]
+    }
+}
+
+// The lowest of some rights, if there are any.
+pub(crate) fn lowest(bits: Mask) -> Option<Bit>
+    ensures some { (bit : ℕ) → IsLowest bit bits.bits → option_map (λ right. right.bit) result
+        ≡ Some bit }
+    ensures none { bits.bits ≡ 0 → result ≡ None }
+{
+    next_right(bits, 0)
 }

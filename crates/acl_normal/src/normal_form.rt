@@ -1,26 +1,16 @@
 //! The normal form of a list of ACEs.
-ghost use Rattle.std.specs.Prelude.{◌≡◌, ◌<◌, ◌^◌, ◌⊎◌, ◌↔◌, [], ℕ, List, Err, IfErr, IfOk, IsOk, IsTrue, vec_len};
-ghost use Rattle.acl_perm.specs.Principal.{principal};
-ghost use Rattle.acl_perm.specs.Profile.{full, profile_of};
-ghost use Rattle.acl_nfs4.specs.Ace.{Ace, ace};
+ghost use Rattle.std.specs.Prelude.{◌<◌, ◌^◌, ◌↔◌, ◌≡◌, ◌⊎◌, Err, IfErr};
+ghost use Rattle.acl_normal.specs.Common.{[], Ace, ace, emitted_ace, emitted_aces, flags_for, full, IfOk, IsAccepted, IsNormal, IsNormalFormOf, IsNumbered, IsOk, IsReducedOf, IsRising, IsTrue, left, List, mask_numbers, Normalises, principal, spelling, vec_len, with_masks, ℕ};
+ghost use Rattle.acl_perm.specs.Profile.{profile_of};
 ghost use Rattle.acl_nfs4.specs.Fault.{IsWholeFault};
-ghost use Rattle.acl_nfs4.specs.Spelling.{IsAccepted, spelling};
 ghost use Rattle.acl_nfs4.specs.Stream.{no_memory};
 ghost use Rattle.acl_nfs4.specs.declared.xdr.fault.Reason.{Reason};
-ghost use Rattle.acl_normal.specs.internal.Emitted.{emitted_ace, emitted_aces};
-ghost use Rattle.acl_normal.specs.Normal.{IsNormal, flags_for};
-ghost use Rattle.acl_normal.specs.NormalForm.{IsNormalFormOf, Normalises};
-ghost use Rattle.acl_normal.specs.internal.Ready.{who_for};
-ghost use Rattle.acl_normal.specs.Left.{left};
-ghost use Rattle.acl_normal.specs.internal.Reduced.{IsReducedOf};
-ghost use Rattle.acl_normal.specs.internal.Remaining.{IsNumbered};
-ghost use Rattle.acl_normal.specs.internal.Rising.{IsRising};
-ghost use Rattle.acl_normal.specs.internal.Shown.{mask_numbers, with_masks};
+ghost use Rattle.acl_normal.specs.internal.emit.Ready.{who_for};
 
 use crate::emit::emission::{Emitted, normalize_left};
 use crate::emit::rising::{cleared, rises};
 use crate::reduce::reduced_list;
-use crate::rows::remaining::{Reduced, Remaining};
+use crate::rows::remaining::Remaining;
 use acl_nfs4::{AceRef, Acl, AclView, Fault, Reason};
 use acl_perm::{Flags, Principal, Profile};
 use std::alloc::{AllocError, Global};
@@ -115,47 +105,12 @@ pub fn normalize_view(alloc: Global, list: &AclView<'_>) -> Result<Acl, AllocErr
     }
     let reduced = reduced_list(alloc, list)?;
     if rises(&reduced.aces, &reduced.masks, &reduced.numbers.rows) {
-        return risen(alloc, list, &reduced);
+        // Only flags have to be cleared.
+        return cleared(alloc, &reduced.aces, &reduced.masks);
     }
-    let form = form_of(alloc, list, reduced)?;
-    written(alloc, &form)
-}
-
-// The normal form of a list whose keys rise after the bits that no situation needs are removed: only flags have to be
-// cleared.
-#[tactic(auto, using(crate::proofs::emit::Risen::rising_form_of))]
-fn risen(alloc: Global, list: &AclView<'_>, reduced: &Reduced<'_>) -> Result<Acl, AllocError>
-    requires places { vec_len reduced.now.masks ≡ vec_len reduced.now.aces }
-    requires reduced { IsReducedOf list.now
-        (with_masks reduced.now.aces.items (mask_numbers reduced.now.masks.items)) }
-    requires rising { IsRising
-        (left (with_masks reduced.now.aces.items (mask_numbers reduced.now.masks.items))) }
-    ensures { IfOk result (λ form. IsNormalFormOf list.now form) }
-{
-    // The call is made for its clause alone, which says that the list is accepted.
-    let _accepted = list.aces();
-    cleared(alloc, &reduced.aces, &reduced.masks)
-}
-
-// The ACEs of the normal form, in order.
-fn form_of<'a>(
-    alloc: Global,
-    list: &AclView<'_>,
-    reduced: Reduced<'a>,
-) -> Result<Vec<Emitted<'a>>, AllocError>
-    requires few { vec_len reduced.aces < 2 ^ 32 }
-    requires places { vec_len reduced.masks ≡ vec_len reduced.aces }
-    requires rows { IsNumbered (with_masks reduced.aces.items (mask_numbers reduced.masks.items))
-        reduced.numbers.rows.items reduced.numbers.order.items }
-    requires reduced { IsReducedOf list.now
-        (with_masks reduced.aces.items (mask_numbers reduced.masks.items)) }
-    ensures { IfOk result (λ form. IsNormalFormOf list.now (emitted_aces form.items)) }
-{
-    // The call is made for its clause alone, which says that the list is accepted.
-    let _accepted = list.aces();
     let mut rows = Remaining::of(alloc, reduced)?;
     let form = normalize_left(alloc, &mut rows)?;
-    Ok(form)
+    written(alloc, &form)
 }
 
 // The list of these ACEs.
@@ -170,7 +125,7 @@ fn written(alloc: Global, form: &[Emitted<'_>]) -> Result<Acl, AllocError>
     Ok(list)
 }
 
-/// The ACE of a normal form.
+/// Returns the ACE of a normal form.
 pub(crate) fn ace_of<'a>(item: Emitted<'a>) -> AceRef<'a>
     ensures { ace result ≡ emitted_ace item.entry }
 {
@@ -182,7 +137,7 @@ pub(crate) fn ace_of<'a>(item: Emitted<'a>) -> AceRef<'a>
     }
 }
 
-/// The flags that say whom an ACE names, and no others.
+/// Returns the flags that say whom an ACE names, and no others.
 pub(crate) fn flags_of(p: Principal<'_>) -> Flags
     ensures { result.bits ≡ flags_for (principal p.entry) }
 {

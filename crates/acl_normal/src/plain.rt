@@ -1,11 +1,7 @@
 //! The normal form and the comparison in a plain way, which tests use as a measure: each ACE is compared with all
 //! others, and all small situations are tried.
 
-ghost use Rattle.std.specs.Prelude.{IfOk};
-ghost use Rattle.acl_perm.specs.Profile.{full};
-ghost use Rattle.acl_nfs4.specs.Spelling.{IsAccepted};
-ghost use Rattle.acl_normal.specs.NormalForm.{IsNormalFormOf};
-ghost use Rattle.acl_normal.specs.internal.Shown.{aces_in};
+ghost use Rattle.acl_normal.specs.Common.{aces_in, full, IfOk, IsAccepted, IsNormalFormOf};
 ghost use Rattle.acl_normal.specs.internal.Passes.{IsPlainReduction};
 
 mod emission;

@@ -1,11 +1,6 @@
 //! A list without the bits that play no part.
-ghost use Rattle.std.specs.Prelude.{◌≡◌, ◌<◌, ◌^◌, length, IfOk, vec_len};
-ghost use Rattle.acl_perm.specs.Profile.{full};
-ghost use Rattle.acl_nfs4.specs.Spelling.{IsAccepted};
-ghost use Rattle.acl_normal.specs.internal.Reduced.{IsReducedOf};
-ghost use Rattle.acl_normal.specs.internal.Remaining.{IsNumbered};
-ghost use Rattle.acl_normal.specs.internal.Rows.{AreRowNumbers};
-ghost use Rattle.acl_normal.specs.internal.Shown.{aces_in, mask_numbers, with_masks};
+ghost use Rattle.std.specs.Prelude.{◌<◌, ◌^◌, ◌≡◌};
+ghost use Rattle.acl_normal.specs.Common.{aces_in, AreRowNumbers, full, IfOk, IsAccepted, IsNumbered, IsReducedOf, length, mask_numbers, vec_len, with_masks};
 
 pub(crate) mod collected;
 mod first;
@@ -20,18 +15,19 @@ use acl_nfs4::{AceRef, AclView};
 use acl_perm::Mask;
 use std::alloc::{AllocError, Global};
 
-/// What is to be emitted of a list: all of it but what no situation needs.
+/// Returns what is to be emitted of a list: all of it but what no situation needs.
 pub(crate) fn remaining<'a>(alloc: Global, list: &AclView<'a>) -> Result<Remaining<'a>, AllocError>
     ensures { IfOk result (λ rows. IsReducedOf list.now rows) }
 {
     Remaining::of(alloc, reduced_list(alloc, list)?)
 }
 
-/// A list, without what no situation needs.
+/// Returns a list, without what no situation needs.
 pub(crate) fn reduced_list<'a>(alloc: Global, list: &AclView<'a>) -> Result<Reduced<'a>, AllocError>
     ensures few { IfOk result (λ r. vec_len r.aces < 2 ^ 32) }
     ensures places { IfOk result (λ r. vec_len r.masks ≡ vec_len r.aces) }
-    ensures rows { IfOk result (λ r. IsNumbered (with_masks r.aces.items (mask_numbers r.masks.items))
+    ensures rows { IfOk result (λ r.
+        IsNumbered (with_masks r.aces.items (mask_numbers r.masks.items))
         r.numbers.rows.items r.numbers.order.items) }
     ensures left { IfOk result (λ r.
         IsReducedOf list.now (with_masks r.aces.items (mask_numbers r.masks.items))) }

@@ -1,8 +1,9 @@
 //! The text of the rows of one right.
-ghost use Rattle.std.specs.Prelude.{◌≡◌, ◌++◌, ◌∷◌, [], IfOk, List, OnOk, map};
+ghost use Rattle.std.specs.Prelude.{◌++◌, ◌∷◌, ◌≡◌};
+ghost use Rattle.acl_normal.specs.Common.{[], IfOk, List, map, of_borrowed, OnOk};
 ghost use Rattle.acl_nfs4.specs.AceText.{kind_name, space};
 ghost use Rattle.acl_normal.specs.Programs.{AreTableOf, group_word, row_line, rows_text};
-ghost use Rattle.acl_normal.specs.Tables.{TableRow, of_borrowed};
+ghost use Rattle.acl_normal.specs.Tables.{TableRow};
 
 use crate::bit_table::{BorrowedRow, borrowed_rows};
 use acl_nfs4::Acl;
@@ -11,7 +12,7 @@ use itoa::Buffer;
 use std::alloc::{AllocError, Global};
 
 /// Returns the text of the rows of a list at a right: one line for each ACE of its normal form that has the right, in
-/// order. A line has the place in the given list from which the ACE comes, the type, `GROUP` for a group with a name or
+/// order. A line has the place in the given list from which the ACE comes, the kind, `GROUP` for a group with a name or
 /// else `-`, and the who, with one space between them (this library's own). For no right the text is empty. Fails only
 /// if memory runs out. Time `n log n` in the ACEs.
 pub fn table_text(alloc: Global, list: &Acl, bit: Mask) -> Result<Vec<u8>, AllocError>

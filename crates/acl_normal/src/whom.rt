@@ -1,13 +1,24 @@
-//! Whom an ACE names, told by the last byte of its who first: the name of no user and of no group ends in `@`.
+//! Whom an ACE names. The last byte of the who is read first, because only the special names end in `@`.
 ghost use Rattle.std.specs.Prelude.{◌≡◌};
-ghost use Rattle.acl_perm.specs.Principal.{principal};
-ghost use Rattle.acl_nfs4.specs.Ace.{ace};
-ghost use Rattle.acl_nfs4.specs.Who.{ends_in_at, principal_of};
+ghost use Rattle.acl_normal.specs.Common.{ace, principal, principal_of};
+ghost use Rattle.acl_nfs4.specs.Who.{ends_in_at};
 
 use acl_nfs4::AceRef;
 use acl_perm::{Key, Principal};
 
-/// Whom the ACE names.
+/// Returns whom the ACE names, and its kind.
+#[inline(always)]
+pub(crate) fn key<'a>(item: &AceRef<'a>) -> Key<'a>
+    ensures principal { principal result.principal ≡ principal_of (ace item.now) }
+    ensures kind { result.kind ≡ item.now.kind }
+{
+    Key {
+        principal: whom(item),
+        kind: item.kind,
+    }
+}
+
+/// Returns whom the ACE names.
 #[inline(always)]
 #[tactic(auto, using(crate::proofs::Whoms::plain_who))]
 pub(crate) fn whom<'a>(item: &AceRef<'a>) -> Principal<'a>
@@ -19,18 +30,6 @@ pub(crate) fn whom<'a>(item: &AceRef<'a>) -> Principal<'a>
         Principal::GroupNamed(item.who)
     } else {
         Principal::User(item.who)
-    }
-}
-
-/// Whom the ACE names, and its type.
-#[inline(always)]
-pub(crate) fn key<'a>(item: &AceRef<'a>) -> Key<'a>
-    ensures principal { principal result.principal ≡ principal_of (ace item.now) }
-    ensures kind { result.kind ≡ item.now.kind }
-{
-    Key {
-        principal: whom(item),
-        kind: item.kind,
     }
 }
 

@@ -1,5 +1,5 @@
 -- Facts about tests that consist of other tests, for all crates: lemmas of std, under the names that the proofs here
--- use, and three lemmas of this library.
+-- use, and two lemmas of this library.
 use Rattle.std.proofs.Common.{◌≡◌, Bool, true, false, cond, refl}
 use Rattle.std.specs.Prelude.{◌&&◌, T}
 -- if two tests hold together, each holds; if one of two tests holds, it is the first or the second
@@ -16,11 +16,6 @@ pub use Rattle.std.proofs.Math.Bool.{and_comm as and_swap, or_comm as or_swap, a
 pub use Rattle.std.proofs.Math.Bool.{and-or_distrib_left as and_either, and-or_distrib_right as either_and}
 -- two tests that imply each other give the same answer
 pub use Rattle.std.specs.Cmp.{both_ways as same_answers}
-
--- a choice between equal values is that value
-pub cond_same : {X : Type 0} (b : Bool) (x y v w : X) → x ≡ v → y ≡ w → cond b x y ≡ cond b v w
-cond_same true x y v w d e = d
-cond_same false x y v w d e = e
 
 -- a choice of true or false is the test
 pub cond_bool : (b : Bool) → cond b true false ≡ b

@@ -1,6 +1,7 @@
 pub mod Bools
 pub mod Sets
 pub mod RightsLemmas
+pub mod NameTables
 pub mod DeviceLemmas
 pub mod Orders
 pub mod Meetings

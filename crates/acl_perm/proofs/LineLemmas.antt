@@ -1,5 +1,5 @@
 -- The lines of a text, one after the other.
-use Rattle.std.proofs.Common.{◌≡◌, ℕ, suc, ◌+◌, ◌<◌, ◌≤◌, List, [], ◌∷◌, length, Option, Some, None, refl, arith, Bor}
+use Rattle.std.proofs.Common.{◌≡◌, ℕ, suc, ◌+◌, ◌≤◌, List, [], ◌∷◌, length, Option, Some, None, refl, arith, Bor}
 use Rattle.acl_perm.specs.Lines.{IsLineCut, lines_of}
 
 -- the lines of what is left of a text
@@ -28,12 +28,6 @@ pub number_next : (n : ℕ) (text : List ℕ) (t : Bor (List ℕ)) (r : Bor (Lis
     → IsLineCut t.now r → NumberFits n text (Some t) → NumberFits (n + 1) text r.1
 number_next n text t (first, None) h fits = tt
 number_next n text t (first, Some rest) h fits = omega (arith, h.1, fits)
-
--- the text after a line is shorter
-pub smaller_next : (t : Bor (List ℕ)) (r : Bor (List ℕ) × Option (Bor (List ℕ))) → IsLineCut t.now r
-    → text_left r.1 < suc (length t.now)
-smaller_next t (first, None) h = omega arith
-smaller_next t (first, Some rest) h = omega (arith, h.1)
 
 -- if no text is left, there is no line
 pub no_lines : (r : Option (Bor (List ℕ))) → ((t : Bor (List ℕ)) → r ≡ Some t → ⊥) → lines_left r ≡ []

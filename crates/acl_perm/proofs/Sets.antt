@@ -1,5 +1,5 @@
 -- The operations on sets of bits, each once for every width.
-use Rattle.std.proofs.Common.{◌≡◌, ◌≢◌, ℕ, ◌+◌, ◌-◌, ◌*◌, ◌%◌, ◌^◌, ◌<◌, ◌≤◌, Bool, true, false, eqb, refl, sym, ap, ◌∙◌, arith, inl, inr, zero, suc}
+use Rattle.std.proofs.Common.{◌≡◌, ◌≢◌, ℕ, ◌-◌, ◌*◌, ◌%◌, ◌^◌, ◌<◌, ◌≤◌, Bool, true, false, eqb, refl, sym, ap, ◌∙◌, arith, inl, inr}
 use Rattle.std.specs.Prelude.{IsTrue, bit_and, bit_or, min, max, ◌&&◌, ◌||◌, not, ◌↔◌}
 use mir.Val.{bits}
 use Rattle.std.specs.Int.{Width, w8, w16, w32, bit_at, bit_not, trailing_zeros}
@@ -7,7 +7,7 @@ use Rattle.std.proofs.lemmas.Bool.{cases_eq, cases_lt, false≢true, eqb-true, e
 use Rattle.std.proofs.lemmas.Nat.{and_le_r, and_le_l, or_lt, pow_below}
 use Rattle.std.proofs.lemmas.Nat.Bits.{and_pow, bit_at-lt, bit_at-pow_other, bit_at_and, bit_at_or, bit_at_not, bit_at_above, bit_at-zero, bit_at-trailing_zeros, same_from_bits}
 use Rattle.acl_perm.proofs.Bools.{and_true, or_true}
-use Rattle.acl_perm.specs.Bits.{has_bit, all_rights, IsMask, IsSubset, IsUnion, IsIntersection, IsDifference}
+use Rattle.acl_perm.specs.Bits.{has_bit, all_mode_bits, all_rights, IsMask, IsSubset, IsUnion, IsIntersection, IsDifference}
 
 -- a set of rights is a number of 32 bits
 pub IsMask-lt : (n : ℕ) → IsMask n → n < 2 ^ 32
@@ -89,20 +89,6 @@ right_below b h =
       | inl lt ↦ lt
       | inr le ↦ absurd (false≢true (sym (ap (λ (d : ℕ). eqb d 1) (bit_at_above all_rights 21 b (omega arith) le)) ∙ h))
     ]
-
-gap : (j : ℕ) → j < 5 → has_bit all_rights (11 + j) ≡ false
-gap zero lt = refl
-gap (suc zero) lt = refl
-gap (suc (suc zero)) lt = refl
-gap (suc (suc (suc zero))) lt = refl
-gap (suc (suc (suc (suc zero)))) lt = refl
-gap (suc (suc (suc (suc (suc j))))) lt = absurd (omega (arith, lt))
-
--- no right is one of the bits 11 to 15
-pub right_outside : (b : ℕ) → IsTrue (has_bit all_rights b) → 11 ≤ b → b < 16 → ⊥
-right_outside b h low high =
-    let same : 11 + (b - 11) ≡ b = omega arith in
-    false≢true (sym (ap (has_bit all_rights) (sym same) ∙ gap (b - 11) (omega arith)) ∙ h)
 
 -- the number of one right is less than 2 ^ 21
 pub right_small : (b : ℕ) → IsTrue (has_bit all_rights b) → 1 * 2 ^ b % 4294967296 ≡ 2 ^ b
@@ -205,8 +191,8 @@ pub perm_union : (m n : ℕ) → m < 8 → n < 8 → bit_or m n < 8
 perm_union m n p q = or_lt 3 m n p q
 
 -- the union of two modes is a mode
-pub mode_union : (m n : ℕ) → m < 512 → n < 512 → bit_or m n < 512
-mode_union m n p q = or_lt 9 m n p q
+pub mode_union : (m n : ℕ) → m ≤ all_mode_bits → n ≤ all_mode_bits → bit_or m n ≤ all_mode_bits
+mode_union m n p q = omega (arith, or_lt 9 m n (omega arith) (omega arith))
 
 pub ruleset sets = (
   union_is,

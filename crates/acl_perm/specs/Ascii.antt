@@ -1,4 +1,4 @@
--- Bytes of ASCII by their names (RFC 20, section 4.1).
+-- Bytes of ASCII by their names (RFC 20, sections 4.1 and 4.2).
 use Rattle.std.specs.Prelude.{ℕ}
 
 -- a tab (HT)

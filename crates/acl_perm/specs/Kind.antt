@@ -1,14 +1,14 @@
--- The two types of an ACE that deny and allow (RFC 8881, section 6.2.1.1).
+-- The two kinds of an ACE that deny and allow (RFC 8881, section 6.2.1.1).
 use Rattle.std.specs.Prelude.{Bool, true, false}
 use Rattle.acl_perm.specs.declared.kind.Kind.{Kind}
 use Rattle.acl_perm.specs.declared.kind.Kind.TheVariants.{Deny, Allow}
 
--- the other type
+-- the other kind
 abbrev pub other_kind : Kind → Kind
 other_kind Deny = Allow
 other_kind Allow = Deny
 
--- the type is ALLOW
+-- the kind is ALLOW
 abbrev pub is_allow : Kind → Bool
 is_allow Deny = false
 is_allow Allow = true

@@ -1,4 +1,4 @@
--- The names of the access rights, and of the two types of an ACE (RFC 8881, sections 6.2.1.3.1 and 6.2.1.1, without
+-- The names of the access rights, and of the two kinds of an ACE (RFC 8881, sections 6.2.1.3.1 and 6.2.1.1, without
 -- `ACE4_`).
 use Rattle.std.specs.Prelude.{ℕ, ◌==◌, ◌^◌, List, [], ◌∷◌, Option, Some, None, codes, find, option_map}
 use Rattle.acl_perm.specs.declared.kind.Kind.{Kind}
@@ -46,7 +46,7 @@ rights =
 abbrev pub right_name : ℕ → Option (List ℕ)
 right_name bit = first_name rights (2 ^ bit)
 
--- the word of a type
+-- the word of a kind
 abbrev pub kind_name : Kind → List ℕ
 kind_name Allow = codes "ALLOW"
 kind_name Deny = codes "DENY"

@@ -1,6 +1,7 @@
 -- The numbers of the permissions, and of the access rights and the flags in the order in which RFC 8881, sections
 -- 6.2.1.3.1 and 6.2.1.4.1, lists them.
-use Rattle.std.specs.Prelude.{ℕ, List, [], ◌∷◌}
+use Rattle.std.specs.Prelude.{ℕ, List, [], ◌∷◌, filter, is_some, map}
+use Rattle.acl_perm.specs.Names.{rights}
 use Rattle.acl_perm.specs.declared.perm.Perm.{Perm}
 use Rattle.acl_perm.specs.declared.mode.Mode.{Mode}
 use Rattle.acl_perm.specs.declared.mask.Mask.{Mask}
@@ -26,17 +27,13 @@ numbers_of (perm, mode, mask, flags) = perm.bits ∷ mode.bits ∷ mask.bits ∷
 abbrev pub permissions_in_order : List ℕ
 permissions_in_order = 4 ∷ 2 ∷ 1 ∷ []
 
--- READ_DATA, WRITE_DATA, APPEND_DATA, READ_NAMED_ATTRS, WRITE_NAMED_ATTRS, EXECUTE, DELETE_CHILD, READ_ATTRIBUTES,
--- WRITE_ATTRIBUTES, WRITE_RETENTION, WRITE_RETENTION_HOLD; and DELETE, READ_ACL, WRITE_ACL, WRITE_OWNER, SYNCHRONIZE
+-- the bits of the rights: READ_DATA, WRITE_DATA, and so on to SYNCHRONIZE
 abbrev pub rights_in_order : List ℕ
-rights_in_order =
-    0x01 ∷ 0x02 ∷ 0x04 ∷ 0x08 ∷ 0x10 ∷ 0x20 ∷ 0x40 ∷ 0x80 ∷
-    0x0100 ∷ 0x0200 ∷ 0x0400 ∷
-    0x010000 ∷ 0x020000 ∷ 0x040000 ∷ 0x080000 ∷ 0x100000 ∷ []
+rights_in_order = map (λ row. row.bit) rights
 
--- LIST_DIRECTORY, ADD_FILE and ADD_SUBDIRECTORY: the names of the first three at directories
+-- the bits of the rights that have a second name: LIST_DIRECTORY, ADD_FILE and ADD_SUBDIRECTORY
 abbrev pub rights_of_directories : List ℕ
-rights_of_directories = 0x01 ∷ 0x02 ∷ 0x04 ∷ []
+rights_of_directories = map (λ row. row.bit) (filter (λ row. is_some row.second) rights)
 
 -- FILE_INHERIT, DIRECTORY_INHERIT, NO_PROPAGATE_INHERIT, INHERIT_ONLY, SUCCESSFUL_ACCESS, FAILED_ACCESS,
 -- IDENTIFIER_GROUP and INHERITED

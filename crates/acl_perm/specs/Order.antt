@@ -1,4 +1,4 @@
--- The order of principals, and of principals with a type (this library's own: RFC 8881 has no order). Names are
+-- The order of principals, and of principals with a kind (this library's own: RFC 8881 has no order). Names are
 -- compared byte by byte, and a proper beginning of a name comes before the name.
 use Rattle.std.specs.Prelude.{◌≡◌, ◌↔◌, ℕ, List}
 use Rattle.std.specs.declared.cmp.Ordering.{Ordering}
@@ -29,16 +29,16 @@ abbrev pub kind_rank : Kind → ℕ
 kind_rank Deny = 0
 kind_rank Allow = 1
 
--- a principal and a type
+-- a principal and a kind
 pub record Key : Type 0 where
   pub principal : Principal
   pub kind : Kind
 
--- the principal and the type that a key of the code holds
+-- the principal and the kind that a key of the code holds
 abbrev pub key_of : KeyOfCode → Key
 key_of k = record { principal = principal k.principal; kind = k.kind }
 
--- by principal, and then by type
+-- by principal, and then by kind
 abbrev pub key_cmp : Key → Key → Ordering
 key_cmp k l =
     ordering_then (principal_cmp k.principal l.principal) (nat_cmp (kind_rank k.kind) (kind_rank l.kind))

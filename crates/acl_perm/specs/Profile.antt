@@ -17,6 +17,6 @@ profile_of p = record { masks = p.masks.bits; flags = p.flags.bits }
 abbrev pub full : Profile
 full = record { masks = all_rights; flags = all_flags }
 
--- without WRITE_RETENTION, WRITE_RETENTION_HOLD and INHERITED_ACE
+-- without WRITE_RETENTION, WRITE_RETENTION_HOLD and INHERITED
 abbrev pub narrow : Profile
 narrow = record { masks = 0x001f01ff; flags = 0x7f }

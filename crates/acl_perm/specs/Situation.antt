@@ -25,12 +25,12 @@ matches s group = is_one_of s.owning_group s.groups
 matches s (group_named name) = is_one_of name s.groups
 matches s everyone = true
 
--- each name of a situation has at least one byte; grants are defined for such situations, overlaps of principals also
--- for those with empty names
+-- a name: at least one byte, and each byte is below 256
 abbrev pub IsName : List ℕ → Type 0
 IsName name = (0 < length name) × All (λ b. b < 256) name
 
--- each name of the situation has at least one byte
+-- each name of the situation is a name: grants are defined for such situations, overlaps of principals also for those
+-- with empty names
 pub record IsSituation (s : Situation) : Type 0 where
   pub owner_name : IsName s.owner_name
   pub owning_group : IsName s.owning_group

@@ -10,3 +10,5 @@ pub mod FedAlike
 pub mod RightsLeft
 -- how a definition continues with the value of a step before it
 pub mod Steps
+-- a table that names bits, as the code holds it
+pub mod NameTable

@@ -14,7 +14,7 @@ pub struct Bit {
 }
 
 impl Bit {
-    /// The number of bits.
+    /// The number of bits, one more than the greatest number of a bit.
     pub const COUNT: usize = 21;
 
     /// Returns whether the mask has the bit.

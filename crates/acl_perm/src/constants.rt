@@ -1,8 +1,7 @@
 //! Private functions that return the constants, so that their clauses can give the values.
 ghost use Rattle.std.specs.Prelude.{◌≡◌, [], ◌∷◌, map};
-ghost use Rattle.acl_perm.specs.Bits.{all_flags, all_rights};
+ghost use Rattle.acl_perm.specs.Bits.{all_flags, all_mode_bits, all_permissions, all_rights};
 ghost use Rattle.acl_perm.specs.Numbers.{flags_in_order, mask_bits, flag_bits, numbers_of, perm_bits, permissions_in_order, rights_of_directories, rights_in_order};
-ghost use Rattle.acl_perm.specs.Mode.{mode_of_parts};
 ghost use Rattle.acl_perm.specs.Profile.{full, narrow, profile_of};
 
 use crate::flags::Flags;
@@ -18,7 +17,8 @@ fn empty_sets() -> (Perm, Mode, Mask, Flags)
 }
 
 fn full_sets() -> (Perm, Mode, Mask, Flags)
-    ensures { numbers_of result ≡ 7 ∷ mode_of_parts 7 7 7 ∷ all_rights ∷ all_flags ∷ [] }
+    ensures { numbers_of result
+        ≡ all_permissions ∷ all_mode_bits ∷ all_rights ∷ all_flags ∷ [] }
 {
     (Perm::ALL, Mode::ALL, Mask::ALL, Flags::ALL)
 }

@@ -1,4 +1,4 @@
-//! A principal and a type together. ACEs are sorted by them.
+//! A principal and a kind together. ACEs are sorted by them.
 ghost use Rattle.std.specs.Prelude.{◌≡◌, ◌↔◌, IsTrue, Some, refl};
 ghost use Rattle.std.specs.Ordering.{as_partial_cmp, eq_by_cmp, on};
 ghost use Rattle.std.specs.Cmp.{eq_by_cmp_equiv, on_equiv, on_per, on_total, partial_equiv_from_equiv, partial_order_from_total};
@@ -9,7 +9,7 @@ use crate::kind::Kind;
 use crate::principal::Principal;
 use std::cmp::Ordering;
 
-/// A principal and a type. Keys are ordered by principal; of the two keys of one principal, DENY comes before ALLOW.
+/// A principal and a kind. Keys are ordered by principal; of the two keys of one principal, DENY comes before ALLOW.
 #[derive(Clone, Copy, Debug)]
 pub struct Key<'a> {
     pub principal: Principal<'a>,

@@ -1,4 +1,4 @@
-//! The two types of an NFSv4 ACE.
+//! The two kinds of an NFSv4 ACE.
 ghost use Rattle.std.specs.Prelude.{◌≡◌, Some};
 ghost use Rattle.acl_perm.specs.Kind.{is_allow, other_kind};
 ghost use Rattle.acl_perm.specs.Names.{kind_name};
@@ -15,7 +15,7 @@ pub enum Kind {
 }
 
 impl Kind {
-    /// Returns the other type.
+    /// Returns the other kind.
     pub fn other(self) -> Kind
         ensures { result ≡ other_kind self }
     {
@@ -25,7 +25,7 @@ impl Kind {
         }
     }
 
-    /// Returns whether the type is ALLOW.
+    /// Returns whether the kind is ALLOW.
     pub fn is_allow(self) -> bool
         ensures { result ≡ is_allow self }
     {

@@ -2,6 +2,7 @@
 #![tactic(auto)]
 
 mod bit;
+mod bit_names;
 mod constants;
 mod counted;
 mod devices;
@@ -20,6 +21,7 @@ mod place;
 mod principal;
 mod profile;
 mod right;
+mod right_names;
 mod rights;
 #[cfg(test)]
 mod tests;

@@ -1,5 +1,5 @@
 //! The nine file mode bits.
-ghost use Rattle.std.specs.Prelude.{◌≡◌, ◌<◌, Some, IfSome, IsSome, IsTrue, ◌↔◌, ◌==◌, bit_and, bit_or};
+ghost use Rattle.std.specs.Prelude.{◌≡◌, ◌≤◌, Some, IfSome, IsSome, IsTrue, ◌↔◌, ◌==◌, bit_and, bit_or};
 ghost use Rattle.std.specs.Int.{bit_not, w16};
 ghost use Rattle.acl_perm.specs.Bits.{IsDifference, IsIntersection, IsSubset, IsUnion, all_mode_bits};
 ghost use Rattle.acl_perm.specs.Shown.{mode_text};
@@ -14,7 +14,7 @@ use std::ops::{BitAnd, BitOr, Not, Sub};
 #[derive(Clone, Copy, Debug, PartialEq, Eq, PartialOrd, Ord, Hash)]
 pub struct Mode {
     pub bits: u16,
-    ghost within: { bits < 512 },
+    ghost within: { bits ≤ all_mode_bits },
 }
 
 impl Mode {
@@ -26,10 +26,10 @@ impl Mode {
 
     /// Returns the set that a number stands for, or `None` if the number is above `0o777`.
     pub fn new(bits: u16) -> Option<Mode>
-        ensures within { IsSome result ↔ (bits < 512) }
+        ensures within { IsSome result ↔ (bits ≤ all_mode_bits) }
         ensures value { IfSome result (λ mode. mode.bits ≡ bits) }
     {
-        if bits < 512 {
+        if bits <= Mode::ALL.bits {
             Some(Mode { bits })
         } else {
             None
@@ -39,7 +39,7 @@ impl Mode {
     /// Returns the number that the set stands for.
     pub fn bits(self) -> u16
         ensures value { result ≡ self.bits }
-        ensures within { result < 512 }
+        ensures within { result ≤ all_mode_bits }
     {
         self.bits
     }

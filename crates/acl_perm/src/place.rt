@@ -5,58 +5,67 @@ ghost use Rattle.acl_perm.specs.internal.Places.{IsPlaceIn};
 
 use std::simd::prelude::*;
 
+// The number of bytes that are looked at together in a short text.
+const SHORT: usize = 8;
+
+// The number of bytes that are looked at together in a long text.
+const LONG: usize = 16;
+
+// The greatest number of bytes that are looked at together: each is one bit of a number.
+const MOST_LANES: usize = 64;
+
 /// Returns the first place of a byte, if it is among these bytes.
 pub fn place_of(bytes: &[u8], wanted: u8) -> Option<usize>
     ensures { result ≡ position (λ b. b == wanted) bytes.now }
 {
     let len = bytes.len();
     let place = match len {
-        0..8 => return bytes.iter().position(|byte| *byte == wanted),
-        8..16 => place_in_short(bytes, wanted),
+        0..SHORT => return bytes.iter().position(|byte| *byte == wanted),
+        SHORT..LONG => place_in_short(bytes, wanted),
         _ => place_in_long(bytes, wanted),
     };
     if place < len { Some(place) } else { None }
 }
 
-// Returns the first place in 8 to 16 bytes, or the number of bytes: looks at the first eight, and then at the last
-// eight.
+// Returns the first place in a short text, or the number of its bytes: looks at the first eight bytes, and then at the
+// last eight.
 #[inline(always)]
 fn place_in_short(bytes: &[u8], wanted: u8) -> usize
-    requires least { 8 ≤ length bytes.now }
-    requires most { length bytes.now ≤ 16 }
+    requires least { SHORT ≤ length bytes.now }
+    requires most { length bytes.now ≤ LONG }
     ensures { result ≡ position_or_len (λ b. b == wanted) bytes.now }
 {
-    let place = place_in::<8>(bytes, 0, wanted);
-    if place < 8 {
+    let place = place_in::<SHORT>(bytes, 0, wanted);
+    if place < SHORT {
         return place;
     }
-    let last = bytes.len() - 8;
-    last + place_in::<8>(bytes, last, wanted)
+    let last = bytes.len() - SHORT;
+    last + place_in::<SHORT>(bytes, last, wanted)
 }
 
-// Returns the first place in 16 bytes or more, or the number of bytes: looks at sixteen at a time, and then at the last
-// sixteen.
+// Returns the first place in a long text, or the number of its bytes: looks at sixteen bytes at a time, and then at the
+// last sixteen.
 #[inline(always)]
 fn place_in_long(bytes: &[u8], wanted: u8) -> usize
-    requires { 16 ≤ length bytes.now }
+    requires { LONG ≤ length bytes.now }
     ensures { result ≡ position_or_len (λ b. b == wanted) bytes.now }
 {
-    let last = bytes.len() - 16;
+    let last = bytes.len() - LONG;
     let mut at = 0;
     while at < last {
-        let place = place_in::<16>(bytes, at, wanted);
-        if place < 16 {
+        let place = place_in::<LONG>(bytes, at, wanted);
+        if place < LONG {
             return at + place;
         }
-        at += 16;
+        at += LONG;
     }
-    last + place_in::<16>(bytes, last, wanted)
+    last + place_in::<LONG>(bytes, last, wanted)
 }
 
-// Returns which of the N bytes from there on is the first that is wanted, or N.
+// Returns which of the N bytes from `at` on is the first that is wanted, or N.
 #[inline(always)]
 fn place_in<const N: usize>(bytes: &[u8], at: usize, wanted: u8) -> usize
-    requires lanes { N ≤ 64 }
+    requires lanes { N ≤ MOST_LANES }
     requires inside { at + N ≤ length bytes.now }
     ensures { IsPlaceIn wanted bytes.now at N result }
 {

@@ -19,7 +19,7 @@ impl Profile {
         flags: Flags::ALL,
     };
 
-    /// The rights and flags without WRITE_RETENTION, WRITE_RETENTION_HOLD and INHERITED_ACE, which some servers do not
+    /// The rights and flags without WRITE_RETENTION, WRITE_RETENTION_HOLD and INHERITED, which some servers do not
     /// know (this library's own choice).
     pub const NARROW: Profile = Profile {
         masks: Mask { bits: 0x001f_01ff },

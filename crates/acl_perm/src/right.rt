@@ -4,7 +4,9 @@ ghost use Rattle.acl_perm.specs.Bits.{all_rights, has_bit};
 ghost use Rattle.acl_perm.specs.Names.{right_name};
 
 use crate::bit::Bit;
+use crate::bit_names::first_name;
 use crate::mask::Mask;
+use crate::right_names::RIGHTS;
 use std::fmt;
 
 /// One of the sixteen access rights of an NFSv4 ACE, as the number of its bit: 0 to 10, or 16 to 20 (RFC 8881, section
@@ -16,8 +18,8 @@ pub struct Right {
 }
 
 impl Right {
-    /// One more than the greatest number of a right. It is not the number of rights, which is sixteen.
-    pub const COUNT: usize = 21;
+    /// One more than the greatest number of a right.
+    pub const END: usize = Bit::COUNT;
 
     /// Returns the right of a bit, or `None` if the number is not that of one of the sixteen rights.
     #[tactic(auto, using(crate::proofs::Sets::right_below))]
@@ -44,24 +46,10 @@ impl Right {
     pub fn name(self) -> &'static str
         ensures { Some result.now ≡ right_name self.bit }
     {
-        match self.bit {
-            0 => "READ_DATA",
-            1 => "WRITE_DATA",
-            2 => "APPEND_DATA",
-            3 => "READ_NAMED_ATTRS",
-            4 => "WRITE_NAMED_ATTRS",
-            5 => "EXECUTE",
-            6 => "DELETE_CHILD",
-            7 => "READ_ATTRIBUTES",
-            8 => "WRITE_ATTRIBUTES",
-            9 => "WRITE_RETENTION",
-            10 => "WRITE_RETENTION_HOLD",
-            16 => "DELETE",
-            17 => "READ_ACL",
-            18 => "WRITE_ACL",
-            19 => "WRITE_OWNER",
-            // The bit is 20: it is the only right that is left.
-            _ => "SYNCHRONIZE",
+        match first_name(&RIGHTS, Mask::from(self).bits) {
+            Some(name) => name,
+            // The table has a row of each right.
+            None => unreachable!(),
         }
     }
 }

@@ -12,7 +12,7 @@ pub use Rattle.acl_posix.specs.Equal.{acls_of, default_acls, same_entry, same_fi
 pub use Rattle.acl_posix.specs.Fields.{id_in, id_of, is_default, is_permission, occurrences, permissions_of, word_of}
 pub use Rattle.acl_posix.specs.Grammar.{access_of, colon, default_of, EntryFields, fields_of, HasEntryFields, HasTag, IsAclOf, IsDefaultOf, line_pieces, numbered, PartEntry, pieces_from, pieces_of, Reads, SpellAll, Spells, SpellsTag, TextPiece, three_of}
 pub use Rattle.acl_posix.specs.Id.{greatest_id, IsId}
-pub use Rattle.acl_posix.specs.Mask.{class_union, effective_of, with_mask}
+pub use Rattle.acl_posix.specs.Mask.{class_union, effective_of, masked_by, with_mask}
 pub use Rattle.acl_posix.specs.Names.{AreIds, Ids, is_number, IsNameTable, Table}
 pub use Rattle.acl_posix.specs.Tag.{group, group_obj, is_masked, is_named, IsTag, mask, other, qualifier, rank, Tag, tag_cmp, tag_of, tag_row, user, user_obj}
 pub use Rattle.acl_posix.specs.TextFault.{acl_fault, IsFirstInvalid, IsFirstTextFault, IsInvalidText, IsPieceFault, IsPlace, IsTextFault, IsTextFaultOrMemory, MayName, qualifier_names}
@@ -31,11 +31,11 @@ pub use Rattle.acl_posix.specs.declared.text_fault.TextFault.{TextFault}
 pub use Rattle.acl_posix.specs.internal.GroupSearch.{group_contains}
 pub use Rattle.acl_posix.specs.internal.NameMaps.{ids_of}
 pub use Rattle.acl_posix.specs.internal.Packed.{IsPacked, packed, unpacked}
-pub use Rattle.acl_posix.specs.internal.Reading.{added, FailsWith, IsDefaultFault, IsPartFault, Lists, lists_of, no_lists, read_fields, read_named, read_piece, read_pieces, read_three, read_unnamed, ReadsOn}
+pub use Rattle.acl_posix.specs.internal.Reading.{added, FailsWith, IsDefaultFault, IsPartFault, Lists, lists_of, mapped, no_lists, read_both, read_fields, read_piece, read_pieces, read_qualifier, read_three, ReadsOn, tag_alone, tag_with}
 pub use Rattle.acl_posix.specs.internal.Search.{IsGap, IsTagAt}
 pub use Rattle.acl_posix.specs.internal.TagCode.{code_cmp, codes_total, tag_again, tag_from, tags_total}
-pub use Rattle.acl_posix.specs.internal.TagMap.{map_pairs, repeat_fault}
-pub use Rattle.acl_posix.specs.internal.Writing.{default_out, ending, entry_lead, entry_out, form_word, IsPut, masked_by, part_out, text_out}
+pub use Rattle.acl_posix.specs.internal.TagMap.{repeat_fault}
+pub use Rattle.acl_posix.specs.internal.Writing.{default_out, ending, entry_lead, entry_out, form_word, IsPut, part_out, text_out}
 pub use Rattle.acl_posix.specs.internal.WrittenLine.{IsEntryBefore, IsFirstLine, IsIdBefore, IsPermBefore, letter_of}
 pub use Rattle.std.proofs.Common.{[], ap, append-nil, append_assoc, arith, Bool, Bor, cond, drop, eqb, Err, false, get_or, inl, inr, length, length-append, length-drop, length-take, List, None, Ok, Option, refl, Result, rules, slice_index_or, Some, subst, suc, sym, take, true, zero, ℕ, ◌%◌, ◌*◌, ◌++◌, ◌+◌, ◌-◌, ◌/◌, ◌<◌, ◌^◌, ◌∙◌, ◌∷◌, ◌≡◌, ◌≤◌}
 pub use Rattle.std.proofs.lemmas.Bool.{cases_lt, eq-eqb, eqb-true, leb-true}

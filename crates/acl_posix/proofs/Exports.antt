@@ -1,4 +1,4 @@
--- The lemmas that the proofs of the crates above use. A folder that has the name of a module is not seen from there.
+-- The lemmas that the proofs of the crates above use. A directory that has the name of a module is not seen from there.
 pub use Rattle.acl_posix.proofs.reader.Limits.{file_of_text}
 pub use Rattle.acl_posix.proofs.reader.Settled.{one_file}
 pub use Rattle.acl_posix.proofs.sorted.Groups.{any_group, contains_empty}

@@ -48,7 +48,8 @@ tag_matches owning_group groups other = false
 
 -- some GROUP_OBJ or GROUP entry matches
 abbrev pub any_matches : Entries → ℕ → List ℕ → Bool
-any_matches entries owning_group groups = list_any (λ entry. tag_matches owning_group groups entry.0) (set.entries entries)
+any_matches entries owning_group groups =
+    list_any (λ entry. tag_matches owning_group groups entry.0) (set.entries entries)
 
 -- some entry matches and contains all that is requested; two entries that contain it only together are not enough
 abbrev pub any_contains : Entries → ℕ → List ℕ → ℕ → Bool

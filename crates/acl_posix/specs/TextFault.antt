@@ -128,18 +128,18 @@ acl_fault (cause.Multi place) = acl.Multi place
 acl_fault (cause.Duplicate place) = acl.Duplicate place
 acl_fault (cause.Miss tag) = acl.Miss tag
 
--- the cause is that of the first part that is not a valid ACL; a default part without entries is no ACL and has no
--- fault
-abbrev pub IsFirstInvalid : List PartEntry → Part → Cause → Type 0
-IsFirstInvalid entries part.Access why = IsFaultOf (access_of entries) (acl_fault why)
-IsFirstInvalid entries part.Default why = IsValidList (access_of entries)
-    × (0 < length (default_of entries)) × IsFaultOf (default_of entries) (acl_fault why)
+-- the cause is that of the first part that is not a valid ACL, given the entries of both parts; a default part without
+-- entries is no ACL and has no fault
+abbrev pub IsFirstInvalid : List (EntryTag × ℕ) → List (EntryTag × ℕ) → Part → Cause → Type 0
+IsFirstInvalid access default part.Access why = IsFaultOf access (acl_fault why)
+IsFirstInvalid access default part.Default why =
+    IsValidList access × (0 < length default) × IsFaultOf default (acl_fault why)
 
 -- each piece spells an entry, and the entries of a part are not a valid ACL
 pub record IsInvalidText (text : List ℕ) (names : Table) (which : Part) (why : Cause) : Type 0 where
   pub entries : List PartEntry
   pub spelled : SpellAll names (pieces_of text) entries
-  pub wrong : IsFirstInvalid entries which why
+  pub wrong : IsFirstInvalid (access_of entries) (default_of entries) which why
 
 -- what each fault says about a text; `Memory` says nothing about it
 abbrev pub IsTextFault : List ℕ → Table → TextFault → Type 0

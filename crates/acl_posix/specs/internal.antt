@@ -2,12 +2,14 @@
 
 -- the order of the tags of the code with its proof, and tags and sets of entries as numbers
 pub mod TagCode
--- what is built while a repeat is looked for, and the fault of a tag that occurs twice
+-- the fault of a tag that occurs twice
 pub mod TagMap
 -- entries as single numbers, which are sorted
 pub mod Packed
 -- the place of a tag in a list in canonical order, or the place where it would be inserted
 pub mod Search
+-- which entries a valid set cannot lose
+pub mod Required
 -- what one group is granted
 pub mod GroupSearch
 -- the table of the maps of names, and tables as numbers

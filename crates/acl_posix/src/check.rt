@@ -62,12 +62,9 @@ impl SortedEntries {
     fn any_contains(&self, owning_group: Id, groups: &[Id], request: Perm) -> bool
         ensures { result ≡ any_contains self.now owning_group.value (ids groups.now) request.bits }
     {
-        for group in groups {
-            if self.group_contains(owning_group, *group, request) {
-                return true;
-            }
-        }
-        false
+        groups
+            .iter()
+            .any(|group| self.group_contains(owning_group, *group, request))
     }
 
     /// Returns whether an entry that matches by this group contains all that is requested.

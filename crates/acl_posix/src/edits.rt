@@ -55,14 +55,10 @@ impl SortedEntries {
     /// Sets the permissions of a tag that has an entry.
     fn set(&mut self, tag: Tag, perm: Perm)
         requires { IsSome (set.get self.old (tag_of tag)) }
-        ensures set { self.new ≡ set.insert self.old (tag_of tag) perm.bits }
-        ensures tags { set.keys self.new ≡ set.keys self.old }
+        ensures { self.new ≡ set.insert self.old (tag_of tag) perm.bits }
     {
         match self.place_of(tag) {
-            Ok(place) => {
-                let entry = &mut self.items[place];
-                entry.perm = perm;
-            }
+            Ok(place) => self.items[place] = Entry { tag, perm },
             Err(_) => {}
         }
     }

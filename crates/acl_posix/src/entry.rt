@@ -1,7 +1,7 @@
 //! An entry of a list: a tag and its permissions.
 ghost use Rattle.std.specs.Prelude.{◌≡◌, option_map};
 ghost use Rattle.acl_posix.specs.Entries.{pair_of};
-ghost use Rattle.acl_posix.specs.internal.Writing.{masked_by};
+ghost use Rattle.acl_posix.specs.Mask.{masked_by};
 
 use crate::tag::Tag;
 use acl_perm::Perm;

@@ -37,13 +37,10 @@ impl SortedEntries {
         ensures no_memory { IfErr result (λ fault. IsTrue (is_refusal fault)) }
         ensures valid { IsValid self.new }
     {
-        let Ok(place) = self.place_of(tag) else {
-            return Ok(());
-        };
         if self.needs(tag) {
             return Err(AclFault::Miss(tag));
         }
-        self.items.remove(place);
+        self.items.retain(|entry| entry.tag != tag);
         Ok(())
     }
 }

@@ -44,14 +44,7 @@ pub(crate) fn rises(keys: &[u64]) -> bool
     requires { All IsPacked keys.now }
     ensures { IsTrue result ↔ IsSorted (map unpacked keys.now) }
 {
-    let mut place = 1;
-    while place < keys.len() {
-        if keys[place - 1] / PERMS >= keys[place] / PERMS {
-            return false;
-        }
-        place += 1;
-    }
-    true
+    keys.is_sorted_by(|a, b| *a / PERMS < *b / PERMS)
 }
 
 /// Writes the entries of the numbers over those of the vector.

@@ -42,22 +42,13 @@ impl SortedEntries {
 }
 
 /// Returns whether the entries are in canonical order, so that no tag and qualifier occur twice.
-#[tactic(auto, using(crate::proofs::sorting::Repeats::rising_start, crate::proofs::sorting::Repeats::rising_more))]
 fn is_in_order(entries: &[Entry]) -> bool
     ensures { IsTrue result ↔ IsSorted (pairs entries.now) }
 {
-    let mut place = 1;
-    while place < entries.len() {
-        if !entries[place - 1].tag.cmp(&entries[place].tag).is_lt() {
-            return false;
-        }
-        place += 1;
-    }
-    true
+    entries.is_sorted_by(|a, b| a.tag < b.tag)
 }
 
 /// Returns the fault of the first entry whose tag an earlier entry has too.
-#[tactic(auto, using(crate::proofs::sorting::Repeats::collected_none))]
 fn first_repeat(alloc: Global, entries: &[Entry]) -> Result<AclFault, AllocError>
     requires { IsDistinct (pairs entries.now) → ⊥ }
     ensures fault { IfOk result (IsFaultOf (pairs entries.now)) }

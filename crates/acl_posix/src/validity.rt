@@ -1,9 +1,10 @@
 //! Which tag a valid list lacks.
-ghost use Rattle.std.specs.Prelude.{◌≡◌, IsFalse, IsTrue, Some, option_map};
+ghost use Rattle.std.specs.Prelude.{◌≡◌, option_map};
 ghost use Rattle.std.specs.List.{list_any};
 ghost use Rattle.std.specs.FinMap as set;
 ghost use Rattle.acl_posix.specs.Tag.{is_named, tag_of};
-ghost use Rattle.acl_posix.specs.Valid.{IsValid, missing};
+ghost use Rattle.acl_posix.specs.Valid.{missing};
+ghost use Rattle.acl_posix.specs.internal.Required.{is_required};
 
 use crate::entry::Entry;
 use crate::sorted::SortedEntries;
@@ -30,10 +31,7 @@ impl SortedEntries {
 
     /// Returns whether a valid list is not valid without the entry of a tag.
     pub(crate) fn needs(&self, tag: Tag) -> bool
-        requires { IsValid self.now }
-        ensures absent { IsTrue result
-            → missing (set.remove self.now (tag_of tag)) ≡ Some (tag_of tag) }
-        ensures valid { IsFalse result → IsValid (set.remove self.now (tag_of tag)) }
+        ensures { result ≡ is_required self.now (tag_of tag) }
     {
         match tag {
             Tag::UserObj | Tag::GroupObj | Tag::Other => true,

@@ -1,5 +1,5 @@
 -- Names of a requester.
-use Rattle.std.proofs.Common.{◌≡◌, ◌<◌, true, false, cond, List, length, Option, Some, None, refl, sym, ◌∙◌}
+use Rattle.std.proofs.Common.{◌≡◌, ◌<◌, true, false, cond, List, length, Option, Some, None, refl, sym}
 use Rattle.std.specs.Prelude.{◌&&◌, ◌↔◌, All, IfSome, IsSome, option_map}
 use Rattle.std.proofs.lemmas.Bool.{ltb-true, lt-ltb}
 use Rattle.std.proofs.lemmas.List.Sums.{AllPass-from_list_all, list_all-from_AllPass}
@@ -8,7 +8,7 @@ use Rattle.acl_perm.proofs.Bools.{and_true}
 use Rattle.acl_eval.specs.Situation.{groups_of, user_of}
 use Rattle.acl_eval.specs.declared.situation.Requester.{Requester}
 use Rattle.aclck.specs.Values.{are_names, is_name}
-use Rattle.aclck.specs.CheckNfs.{RequesterNames, requester_named, requester_names}
+use Rattle.aclck.specs.commands.CheckNfs.{RequesterNames, requester_named, requester_names}
 
 -- each name has at least one byte
 abbrev HasNames : List Text → Type 0

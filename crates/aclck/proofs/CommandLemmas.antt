@@ -1,12 +1,12 @@
 -- What the exit status says about the result of a run.
 use Rattle.std.proofs.Common.{◌≡◌, ℕ, Bool, true, false, List, Option, Some, None, Result, Ok, Err, refl, sym, ap, subst, ◌∙◌, arith, inl, inr}
 use Rattle.std.proofs.lemmas.Bool.{true≢false}
-use Rattle.std.specs.Prelude.{◌⊎◌, ◌<◌, ◌≤◌, IsSome}
+use Rattle.std.specs.Prelude.{◌⊎◌, ◌<◌, IsSome}
 use Rattle.clap.specs.Words.{Text}
 use Rattle.acl_perm.specs.Devices.{failures_after, one_more}
 use Rattle.aclck.specs.Answer.{Answer, Begins, FailsBy, Refuses, cause_of, is_input, is_read, is_input_fault, is_sink, is_source, is_write}
 use Rattle.aclck.specs.Command.{IsBegun, IsDone, IsRefused, IsStopped, RunsWords, outcome_at}
-use Rattle.aclck.specs.internal.Performing.{Performs, RunsTask, is_read_fault, is_write_fault, status_of}
+use Rattle.aclck.specs.internal.Performing.{Performs, RunsTask, is_write_fault, status_of}
 use Rattle.aclck.specs.Task.{Answers, Task, is_command, task_of}
 use Rattle.aclck.specs.declared.answer.Cause.{Cause}
 use Rattle.aclck.specs.declared.answer.Cause.TheVariants as cause

@@ -12,17 +12,18 @@ use Rattle.acl_eval.specs.Grant.{SameGrants}
 use Rattle.acl_normal.specs.Difference.{situation_of}
 use Rattle.acl_normal.specs.SmallSets.{IsFirstDifference}
 use Rattle.acl_normal.specs.declared.comparison.Difference.{Difference}
-use Rattle.aclck.specs.Compare.{Compares, decision, difference_text, compare_line}
+use Rattle.aclck.specs.Answer.{decision}
+use Rattle.aclck.specs.commands.Compare.{Compares, answer_lines, compare_line, difference_text, situation_lines}
 use Rattle.aclck.specs.internal.Compared.{compared_outcome, compared_text}
 use Rattle.aclck.specs.declared.answer.Outcome.{Outcome}
 
--- seven parts behind a first one
+-- seven parts behind a first one, in two groups
 parts_joined : (t0 t1 t2 t3 t4 t5 t6 t7 a b c d e f g : List ℕ) → t1 ≡ t0 ++ a → t2 ≡ t1 ++ b → t3 ≡ t2 ++ c
     → t4 ≡ t3 ++ d → t5 ≡ t4 ++ e → t6 ≡ t5 ++ f → t7 ≡ t6 ++ g
-    → t7 ≡ t0 ++ (a ++ (b ++ (c ++ (d ++ (e ++ (f ++ g))))))
-parts_joined t0 t1 t2 t3 t4 t5 t6 t7 a b c d e f g h1 h2 h3 h4 h5 h6 h7 =
-    h7 ∙ ap (λ v. v ++ g) (h6 ∙ ap (λ v. v ++ f) (h5 ∙ ap (λ v. v ++ e) (h4 ∙ ap (λ v. v ++ d)
-    (h3 ∙ ap (λ v. v ++ c) (h2 ∙ ap (λ v. v ++ b) h1))))) ∙ simp append_assoc
+    → t7 ≡ t0 ++ ((a ++ (b ++ (c ++ d))) ++ (e ++ (f ++ g)))
+parts_joined t0 t1 t2 t3 t4 t5 t6 t7 a b c d e f g one two three four five six seven =
+    seven ∙ ap (λ v. v ++ g) (six ∙ ap (λ v. v ++ f) (five ∙ ap (λ v. v ++ e) (four ∙ ap (λ v. v ++ d)
+    (three ∙ ap (λ v. v ++ c) (two ∙ ap (λ v. v ++ b) one))))) ∙ simp append_assoc
 
 -- the text of a difference, line by line
 pub text_is : (s : Situation) (mask : ℕ) (first : Bool) (t0 t1 t2 t3 t4 t5 t6 t7 : List ℕ)
@@ -30,15 +31,12 @@ pub text_is : (s : Situation) (mask : ℕ) (first : Bool) (t0 t1 t2 t3 t4 t5 t6 
     → t2 ≡ t1 ++ compare_line (codes "group") s.owning_group → t3 ≡ t2 ++ compare_line (codes "user") s.user_name
     → t4 ≡ t3 ++ flat_map (compare_line (codes "member")) s.groups
     → t5 ≡ t4 ++ compare_line (codes "mask") (unwrap_or (first_name rights mask) [])
-    → t6 ≡ t5 ++ compare_line (codes "first") (decision first) → t7 ≡ t6 ++ compare_line (codes "second") (decision (not first))
+    → t6 ≡ t5 ++ compare_line (codes "first") (decision first)
+    → t7 ≡ t6 ++ compare_line (codes "second") (decision (not first))
     → t7 ≡ difference_text s mask first
-text_is s mask first t0 t1 t2 t3 t4 t5 t6 t7 h0 h1 h2 h3 h4 h5 h6 h7 =
-    parts_joined t0 t1 t2 t3 t4 t5 t6 t7 _ _ _ _ _ _ _ h1 h2 h3 h4 h5 h6 h7
-    ∙ ap (λ v. v ++ (compare_line (codes "owner") s.owner_name ++ (compare_line (codes "group") s.owning_group
-    ++ (compare_line (codes "user") s.user_name ++ (flat_map (compare_line (codes "member")) s.groups
-    ++ (compare_line (codes "mask") (unwrap_or (first_name rights mask) []) ++ (compare_line (codes "first") (decision first)
-    ++ compare_line (codes "second") (decision (not first)))))))))
-    h0
+text_is s mask first t0 t1 t2 t3 t4 t5 t6 t7 differ owner group user members asked answer other =
+    parts_joined t0 t1 t2 t3 t4 t5 t6 t7 _ _ _ _ _ _ _ owner group user members asked answer other
+    ∙ ap (λ v. v ++ (situation_lines s ++ answer_lines mask first)) differ
 
 -- what the library answers is the outcome and the text
 pub compares_is : (list other : List Ace) (found : Option Difference) (o : Outcome) (text : List ℕ)
@@ -46,8 +44,8 @@ pub compares_is : (list other : List Ace) (found : Option Difference) (o : Outco
     → (IsNone found ↔ SameGrants all_rights list other)
     → IfSome found (λ d. IsFirstDifference list other (situation_of d) d.bit.bits d.first_grants)
     → Compares list other o text
-compares_is list other None o text same is h first = rw same (h.0 refl, is)
-compares_is list other (Some d) o text same is h first = rw same (record {
+compares_is list other None o text same is grants first = rw same (grants.0 refl, is)
+compares_is list other (Some d) o text same is grants first = rw same (record {
   situation = situation_of d;
   mask = d.bit.bits;
   first_grants = d.first_grants;

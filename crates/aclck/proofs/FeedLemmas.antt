@@ -86,9 +86,9 @@ fed_value {p} {left} {pulled} {pull} {new_left} {old} {new} {feed} {fed} feed_af
 
 -- no value of a feed that is done, because memory ran out
 pub fed_none : {p : Profile} {left pulled pull : List ℕ} {old new : Option (List ℕ)} {feed : StreamState} {fed : ℕ}
-    (feed_after : StreamState) (t : ℕ) → IsFed p left pulled old new feed fed → pull ≡ pulled → length pulled ≤ piece_len → IsBytes pull
-    → Feeds feed pull (Done t) feed_after → (r : Result Value ListFault) → FinishesNot feed_after r
-    → IfErr r (λ e. ReadsNone p left old new e)
+    (feed_after : StreamState) (t : ℕ) → IsFed p left pulled old new feed fed → pull ≡ pulled
+    → length pulled ≤ piece_len → IsBytes pull → Feeds feed pull (Done t) feed_after
+    → (r : Result Value ListFault) → FinishesNot feed_after r → IfErr r (λ e. ReadsNone p left old new e)
 fed_none {p} {left} {pulled} {pull} {old} {new} {feed} {fed} feed_after t h same short bytes feeds r is =
     let d = rw h.stands at feeds in
     done_none p left h.given h.text pulled pull old new t feed_after d.0 r h.parts h.taken same short d.1 d.3
@@ -96,8 +96,8 @@ fed_none {p} {left} {pulled} {pull} {old} {new} {feed} {fed} feed_after t h same
 
 -- a feed that refuses the last pull
 pub fed_refused : {p : Profile} {left pulled pull : List ℕ} {old new : Option (List ℕ)} {feed : StreamState} {fed : ℕ}
-    {f : Fault} {e : ListFault} (feed_after : StreamState) → IsProfile p → IsFed p left pulled old new feed fed → pull ≡ pulled
-    → length pulled ≤ piece_len → IsBytes pull → Feeds feed pull (Refused f) feed_after → IsTold e f
+    {f : Fault} {e : ListFault} (feed_after : StreamState) → IsProfile p → IsFed p left pulled old new feed fed
+    → pull ≡ pulled → length pulled ≤ piece_len → IsBytes pull → Feeds feed pull (Refused f) feed_after → IsTold e f
     → ReadsNone p left old new e
 fed_refused {p} {left} {pulled} {pull} {old} {new} {f} {e} feed_after ok h same short bytes feeds told =
     let d = rw h.stands at feeds in
@@ -106,9 +106,10 @@ fed_refused {p} {left} {pulled} {pull} {old} {new} {f} {e} feed_after ok h same 
 
 -- a feed that asks for more at the end of the source
 pub fed_end : {p : Profile} {left pulled pull new_pulled : List ℕ} {old mid : Option (List ℕ)} {feed : StreamState}
-    {fed : ℕ} (new : Option (List ℕ)) (feed_after : StreamState) → IsFed p left pulled old mid feed fed → pull ≡ pulled → IsBytes pull
-    → Feeds feed pull More feed_after → Consumes mid new new_pulled → (new_pulled ≡ []) × IsAtEnd new
-    → (r : Result Value ListFault) → FinishesNot feed_after r → IfErr r (λ e. ReadsNone p left old new e)
+    {fed : ℕ} (new : Option (List ℕ)) (feed_after : StreamState) → IsFed p left pulled old mid feed fed
+    → pull ≡ pulled → IsBytes pull → Feeds feed pull More feed_after → Consumes mid new new_pulled
+    → (new_pulled ≡ []) × IsAtEnd new → (r : Result Value ListFault) → FinishesNot feed_after r
+    → IfErr r (λ e. ReadsNone p left old new e)
 fed_end {p} {left} {pulled} {pull} {new_pulled} {old} {mid} {feed} new feed_after h same bytes feeds next end r
     is =
     let d = rw h.stands at feeds in

@@ -17,8 +17,8 @@ use Rattle.acl_nfs4.specs.declared.xdr.fault.Reason.{Reason}
 use Rattle.acl_nfs4.specs.declared.xdr.fault.Reason.TheVariants.{TrailingBytes, Truncated}
 use Rattle.acl_nfs4.proofs.Exports.{IsBytes-drop, begins, fault_stays, never_truncated}
 use Rattle.aclck.specs.Answer.{IsListFault, cause_of, is_read}
-use Rattle.aclck.specs.Compare.{IsFaultOfTwo}
-use Rattle.aclck.specs.Compare.IsFaultOfTwo.{of_first, of_second}
+use Rattle.aclck.specs.commands.Compare.{IsFaultOfTwo}
+use Rattle.aclck.specs.commands.Compare.IsFaultOfTwo.{of_first, of_second}
 use Rattle.aclck.specs.ListInput.{AreOpen, EndsBehind, IsOpen, ListEnds, RefusalEnds, TakesPart, TakesTo, TwoEnd, piece_len}
 use Rattle.aclck.specs.internal.Reading.{BytesEnd, EndsNot, HasInput, InputKind, ReadsInput, ReadsNone, ReadsValue, StandsBelow, Unread, is_failed_pull, later, one_list_input, told, two_list_input}
 use Rattle.aclck.specs.declared.answer.RunFault.{RunFault}
@@ -139,7 +139,8 @@ two_begin p = record {
 }
 
 -- the second of two lists is behind the first
-pub two_go_on : (p : Profile) (list : List Ace) (first : List ℕ) → Xdr p list first → Continues (two_list_input p) p first
+pub two_go_on : (p : Profile) (list : List Ace) (first : List ℕ) → Xdr p list first
+    → Continues (two_list_input p) p first
 two_go_on p list first x = record {
   refused = λ rest offset r has.
       told_at (IsFaultOfTwo p (first ++ rest)) (length first + offset) (offset + length first) r (omega arith)
@@ -233,9 +234,9 @@ later_none unread.Read = refl
 later_none unread.Memory = refl
 
 -- if a value has a fault, the input has it
-value_refused : (k : InputKind) (p : Profile) (before after given : List ℕ) (old mid new : Option (List ℕ)) (e : ListFault)
-    → Continues k p before → given ≡ before ++ after → Consumes old mid given → ReadsNone p after mid new e
-    → Unread (HasInput (λ input. k.HasFault input (told (later e (length before)))) old)
+value_refused : (k : InputKind) (p : Profile) (before after given : List ℕ) (old mid new : Option (List ℕ))
+    (e : ListFault) → Continues k p before → given ≡ before ++ after → Consumes old mid given
+    → ReadsNone p after mid new e → Unread (HasInput (λ input. k.HasFault input (told (later e (length before)))) old)
     (cause_of (told (later e (length before))))
 value_refused k p before after given old mid new (unread.Refused f) next parts c h =
     input_found _ (given ++ h.given) old new (Consumes-trans old mid new given h.given c h.taken) (λ left end.

@@ -1,5 +1,5 @@
 -- What a list that is read from pulls takes of its input.
-use Rattle.std.proofs.Common.{◌≡◌, ◌≢◌, ◌⊎◌, ℕ, ◌+◌, ◌-◌, ◌^◌, ◌<◌, ◌≤◌, List, [], ◌++◌, length, take, drop, Option, Result, Ok, Err, true, refl, sym, ap, subst, ◌∙◌, append_assoc, arith, inl, inr}
+use Rattle.std.proofs.Common.{◌≡◌, ◌≢◌, ◌⊎◌, ℕ, ◌+◌, ◌-◌, ◌^◌, ◌<◌, ◌≤◌, List, [], ◌++◌, length, take, drop, Option, Result, Ok, Err, true, sym, ap, subst, ◌∙◌, append_assoc, arith, inl, inr}
 use Rattle.std.specs.Prelude.{IfErr, IfOk}
 use Rattle.std.specs.Io.KnownBytes.{Consumes, IsAtEnd}
 use Rattle.std.proofs.KnownBytes.{Consumes-kept, Consumes-nil, Consumes-trans}
@@ -13,13 +13,12 @@ use Rattle.acl_nfs4.specs.Spelling.{Xdr}
 use Rattle.acl_nfs4.specs.Fault.{Border, Breaks, IsFault, IsFirstFault, Stage, refuses, size}
 use Rattle.acl_nfs4.specs.Fault.Stage.{count as at_count, kind as at_kind, flags as at_flags, mask as at_mask, len as at_len, who as at_who, padding as at_padding}
 use Rattle.acl_nfs4.specs.internal.Progress.{IsBytes}
-use Rattle.acl_nfs4.specs.internal.Reading.{Gives, value_at}
 use Rattle.acl_nfs4.specs.Stream.{FinishesStream, IsCutShort, RefusesStream, StreamState}
 use Rattle.acl_nfs4.specs.Stream.StreamState.{done, more}
 use Rattle.acl_nfs4.specs.declared.xdr.fault.Fault.{Fault}
 use Rattle.acl_nfs4.specs.declared.xdr.fault.Reason.{Reason}
 use Rattle.acl_nfs4.specs.declared.xdr.fault.Reason.TheVariants.{Truncated}
-use Rattle.acl_nfs4.proofs.Exports.{begins, breaks_whole, is_fault, is_found, never_truncated, one_reason, short_rest, spelling_short, stage_bounds, value_or_fault}
+use Rattle.acl_nfs4.proofs.Exports.{begins, breaks_whole, judges, never_truncated, one_reason, short_rest, spelling_short, stage_bounds, value_or_fault}
 use Rattle.aclck.specs.ListInput.{ListEnds, RefusalEnds, ValueEnds, piece_len}
 use Rattle.aclck.specs.internal.Reading.{EndsNot, IsTold, ReadsLittle, ReadsNone, ReadsPart, ReadsValue, is_failed_pull}
 use Rattle.aclck.specs.declared.input.xdr.ListFault.{ListFault}
@@ -59,26 +58,16 @@ cut_short p text c =
 
 -- ---- where a text ends
 
--- what was found, with its two parts
-gives_itself : (r : Result (List Ace × ℕ) Fault) → Gives (λ x. (x.0, x.1)) r r
-gives_itself (Ok x) = refl
-gives_itself (Err f) = refl
-
 -- the end of the value that a text begins with, or of its refused field
 abbrev pub Ends : Profile → List ℕ → Type 0
 Ends p text = (end : ℕ) × ListEnds p text end
 
--- if a value or a fault was found of a text, there is such an end
-ends_as : (p : Profile) (text : List ℕ) (r : Result (List Ace × ℕ) Fault) → IsBytes text
-    → Gives (λ x. (x.0, x.1)) r (value_at p text) → Ends p text
-ends_as p text (Ok x) b g = (x.1, inl (record { list = x.0; spelled = (is_found p text (Ok x) b g).1 }))
-ends_as p text (Err f) b g =
-    let h = is_fault p text (Err f) b g in
-    (h.0, inr (record { offset = f.offset; reason = f.reason; has = h.1 }))
-
 -- each text begins with a value or has a fault
 pub ends_somewhere : (p : Profile) (text : List ℕ) → IsBytes text → Ends p text
-ends_somewhere p text b = ends_as p text (value_at p text) b (gives_itself (value_at p text))
+ends_somewhere p text b = elim (judges p text b) [
+  | inl v ↦ (v.1, inl (record { list = v.0; spelled = v.2 }))
+  | inr f ↦ (f.1.0, inr (record { offset = f.0.offset; reason = f.0.reason; has = f.1.1 }))
+]
 
 -- ---- a value
 
@@ -223,7 +212,8 @@ end_reads p left given text pulled pull new_pulled old mid new feed (Err e) part
     })
 end_reads p left given text pulled pull new_pulled old mid new feed (Err e) parts same c d none end is still bytes
     (inr (f, at, h)) =
-    let cut : FinishesStream (more p (text ++ pull)) (Err f) = subst (λ (s : StreamState). FinishesStream s (Err f)) is h in
+    let cut : FinishesStream (more p (text ++ pull)) (Err f) =
+    subst (λ (s : StreamState). FinishesStream s (Err f)) is h in
     let all : IsFirstFault p (text ++ pull) f.offset cut.1.0 Truncated =
     subst (λ (r : Reason). IsFirstFault p (text ++ pull) f.offset cut.1.0 r) cut.0 cut.1.1 in
     let whole = end_whole left given text pulled pull new_pulled parts same none in
@@ -285,8 +275,8 @@ memory_reads p left given text pulled pull old new ok parts c same short cut byt
 -- a stream is refused
 pub refused_reads : (p : Profile) (left given text pulled pull : List ℕ) (old new : Option (List ℕ)) (f : Fault)
     (e : ListFault) → IsProfile p → left ++ given ≡ text ++ pulled → Consumes old new given → pull ≡ pulled
-    → length pulled ≤ piece_len → IsCutShort p text → IsBytes (text ++ pull) → RefusesStream p (text ++ pull) f → IsTold e f
-    → ReadsNone p left old new e
+    → length pulled ≤ piece_len → IsCutShort p text → IsBytes (text ++ pull) → RefusesStream p (text ++ pull) f
+    → IsTold e f → ReadsNone p left old new e
 refused_reads p left given text pulled pull old new f e ok parts c same short cut bytes h (inl memory) =
     rw memory (memory_reads p left given text pulled pull old new ok parts c same short cut bytes)
 refused_reads p left given text pulled pull old new f e ok parts c same short cut bytes (inl m) (inr is) =

@@ -8,8 +8,8 @@ use Rattle.acl_nfs4.specs.Spelling.{Xdr, spelling}
 use Rattle.acl_nfs4.specs.Within.{IsProfile}
 use Rattle.acl_nfs4.proofs.Exports.{one, one_list, text_again}
 use Rattle.aclck.specs.Answer.{done}
-use Rattle.aclck.specs.Encode.{EncodeAnswer}
-use Rattle.aclck.specs.ShowNfs.{ShowNfsAnswer}
+use Rattle.aclck.specs.commands.Encode.{EncodeAnswer}
+use Rattle.aclck.specs.commands.ShowNfs.{ShowNfsAnswer}
 use Rattle.aclck.specs.declared.answer.Outcome.TheVariants as outcome
 
 -- the text of bytes is encoded to these bytes and no others

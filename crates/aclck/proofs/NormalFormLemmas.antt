@@ -16,7 +16,7 @@ use Rattle.acl_normal.proofs.unique.Spelled.{IsForm, form_of, forms_tell}
 use Rattle.acl_normal.proofs.unique.Unique.{unique}
 use Rattle.aclck.specs.Answer.{done}
 use Rattle.aclck.specs.Laws.{TellsListsApart}
-use Rattle.aclck.specs.Normalize.{NormalizeAnswer}
+use Rattle.aclck.specs.commands.Normalize.{NormalizeAnswer}
 use Rattle.aclck.specs.declared.answer.Outcome.TheVariants as outcome
 
 -- bytes spell one list

@@ -18,7 +18,7 @@ use Rattle.aclck.specs.Answer.{done}
 use Rattle.aclck.specs.Headline.{GrantAtPaths}
 use Rattle.aclck.specs.Laws.{IsFiveForms, TellsListsApart}
 use Rattle.acl_normal.specs.Programs.{NormalisesAtPaths}
-use Rattle.aclck.specs.Normalize.{NormalizeInheritAnswer}
+use Rattle.aclck.specs.commands.Normalize.{NormalizeInheritAnswer}
 use Rattle.aclck.specs.declared.answer.Outcome.TheVariants as outcome
 use Rattle.aclck.proofs.NormalFormLemmas.{one_of, own_bytes, told_by}
 

@@ -3,24 +3,24 @@ use Rattle.std.proofs.Common.{◌≡◌, ◌∷◌, [], ℕ, Bool, List, None, S
 use Rattle.std.specs.Prelude.{◌==◌}
 use Rattle.std.specs.List.{slice_split}
 use Rattle.clap.proofs.OnLiterals.{clap_on_literals}
-use Rattle.clap.specs.Words.{Row, Text, first_of}
+use Rattle.clap.specs.Words.{Row, Text}
 use Rattle.acl_perm.specs.Profile.{Profile, full, narrow}
 use Rattle.acl_nfs4.specs.AceText.{space}
 use Rattle.acl_nfs4.specs.BitNames.{set_named}
 use Rattle.acl_posix.specs.Names.{empty_table}
 use Rattle.acl_eval.specs.declared.inherit.ChildKind.TheVariants as kind
-use Rattle.aclck.specs.Line.{Term, app_from, default, flag, is_given, is_taken, optional, rows_at}
-use Rattle.aclck.specs.BitTable.{right_named, table_in}
-use Rattle.aclck.specs.CheckNfs.{CheckNfsValues, check_nfs_in}
-use Rattle.aclck.specs.CheckPosix.{CheckPosixValues, check_posix_in}
-use Rattle.aclck.specs.Child.{child_in, kind_value}
-use Rattle.aclck.specs.Chmod.{chmod_in}
-use Rattle.aclck.specs.Create.{create_in}
+use Rattle.aclck.specs.Line.{Term, app_from, default, flag, is_given, is_taken, optional, rows_at, value_of}
+use Rattle.aclck.specs.commands.BitTable.{right_named, table_in}
+use Rattle.aclck.specs.commands.CheckNfs.{CheckNfsValues, check_nfs_in}
+use Rattle.aclck.specs.commands.CheckPosix.{CheckPosixValues, check_posix_in}
+use Rattle.aclck.specs.commands.Child.{child_in, kind_value}
+use Rattle.aclck.specs.commands.Chmod.{chmod_in}
+use Rattle.aclck.specs.commands.Create.{create_in}
 use Rattle.aclck.specs.NameWords.{named_id, names_value}
 use Rattle.aclck.specs.NameWords as words
-use Rattle.aclck.specs.Normalize.{normalize_in}
+use Rattle.aclck.specs.commands.Normalize.{normalize_in}
 use Rattle.aclck.specs.ProfileArgument.{profile_in, profile_value}
-use Rattle.aclck.specs.ShowPosix.{form_value, show_posix_in}
+use Rattle.aclck.specs.commands.ShowPosix.{form_value, show_posix_in}
 use Rattle.aclck.specs.Task.{definition_of, task_at, task_named, task_of}
 use Rattle.aclck.specs.Values.{id_value, ids_value, mask_value, mode_value, want_value}
 use Rattle.acl_posix.specs.declared.form.Form.TheVariants as form
@@ -228,9 +228,21 @@ bridge_lines = (refl, refl)
 
 -- ---- arguments of other kinds, in a command x that has them
 
--- a flag, an option that may be absent, and one with a default
+-- a flag
+abbrev quiet : Term
+quiet = flag (codes "quiet")
+
+-- an option that may be absent
+abbrev named : Term
+named = optional (codes "name")
+
+-- an option with a default
+abbrev unit : Term
+unit = default (codes "unit") (codes "ace")
+
+-- all three
 abbrev terms : List Term
-terms = flag (codes "quiet") ∷ optional (codes "name") ∷ default (codes "unit") (codes "ace") ∷ []
+terms = quiet ∷ named ∷ unit ∷ []
 
 -- the values of the arguments at a line
 abbrev rows_on : Text → List Row
@@ -242,17 +254,17 @@ takes line = is_taken (app_from (codes "x") terms) (words_on line)
 
 given_arguments :
     -- a flag that is given
-    (is_given (codes "quiet") (rows_on (codes "x --quiet")) ≡ true)
+    (is_given quiet (rows_on (codes "x --quiet")) ≡ true)
     -- the same argument, which is not given
-    × (is_given (codes "quiet") (rows_on (codes "x")) ≡ false)
+    × (is_given quiet (rows_on (codes "x")) ≡ false)
     -- an option that is given
-    × (first_of (codes "name") (rows_on (codes "x --name=n")) ≡ Some (codes "n"))
+    × (value_of named (rows_on (codes "x --name=n")) ≡ Some (codes "n"))
     -- the same argument, which is not given
-    × (first_of (codes "name") (rows_on (codes "x")) ≡ None)
+    × (value_of named (rows_on (codes "x")) ≡ None)
     -- a default that is not used
-    × (first_of (codes "unit") (rows_on (codes "x --unit bit")) ≡ Some (codes "bit"))
+    × (value_of unit (rows_on (codes "x --unit bit")) ≡ Some (codes "bit"))
     -- a default that is used
-    × (first_of (codes "unit") (rows_on (codes "x")) ≡ Some (codes "ace"))
+    × (value_of unit (rows_on (codes "x")) ≡ Some (codes "ace"))
     -- a flag takes no value
     × (takes (codes "x --quiet=true") ≡ false)
     -- a word that no argument takes

@@ -27,10 +27,14 @@ abbrev pub is_yes : Outcome → Bool
 is_yes outcome.Yes = true
 is_yes outcome.No = false
 
+-- the word that reports a decision
+abbrev pub decision : Bool → List ℕ
+decision true = codes "granted"
+decision false = codes "denied"
+
 -- the line that reports a decision
 abbrev pub decision_line : Outcome → List ℕ
-decision_line outcome.Yes = codes "granted" ++ line_feed ∷ []
-decision_line outcome.No = codes "denied" ++ line_feed ∷ []
+decision_line o = decision (is_yes o) ++ line_feed ∷ []
 
 -- the fault is one that a list or lists have, in this sense of having one
 pub record IsListFault (Has : ℕ → Reason → Type 0) (f : RunFault) : Type 0 where

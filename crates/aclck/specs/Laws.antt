@@ -15,10 +15,10 @@ use Rattle.acl_posix.specs.Grammar.{Reads}
 use Rattle.acl_posix.specs.Names.{Table, IsNameTable}
 use Rattle.acl_posix.specs.declared.file.PosixFile.{PosixFile}
 use Rattle.aclck.specs.Answer.{done}
-use Rattle.aclck.specs.Encode.{EncodeAnswer}
-use Rattle.aclck.specs.Normalize.{NormalizeAnswer, NormalizeInheritAnswer}
-use Rattle.aclck.specs.ShowNfs.{ShowNfsAnswer}
-use Rattle.aclck.specs.ShowPosix.{ShowPosixAnswer}
+use Rattle.aclck.specs.commands.Encode.{EncodeAnswer}
+use Rattle.aclck.specs.commands.Normalize.{NormalizeAnswer, NormalizeInheritAnswer}
+use Rattle.aclck.specs.commands.ShowNfs.{ShowNfsAnswer}
+use Rattle.aclck.specs.commands.ShowPosix.{ShowPosixAnswer}
 use Rattle.aclck.specs.declared.answer.Outcome.TheVariants as outcome
 use Rattle.acl_posix.specs.declared.form.Form.TheVariants as form
 

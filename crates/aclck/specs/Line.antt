@@ -30,6 +30,10 @@ pub data Term : Type 0 where
   flag : Text → Term
   any_words : Term
 
+-- the id of the argument that takes the words that are no option
+abbrev pub words_id : Text
+words_id = codes "words"
+
 -- `clap`'s rule for an argument: `--NAME VALUE` that is required, that may be absent, or that is VALUE if it is absent;
 -- `--NAME`; any number of words
 abbrev pub rule_from : Term → Rule
@@ -37,7 +41,15 @@ rule_from (required name) = record (new_rule name) { long = Some name; required 
 rule_from (optional name) = record (new_rule name) { long = Some name }
 rule_from (default name value) = record (new_rule name) { long = Some name; defaults = value ∷ [] }
 rule_from (flag name) = record (new_rule name) { long = Some name; action = Some SetTrue }
-rule_from any_words = record (new_rule (codes "words")) { action = Some Append }
+rule_from any_words = record (new_rule words_id) { action = Some Append }
+
+-- the id of an argument among the values of a parse
+abbrev pub term_id : Term → Text
+term_id (required name) = name
+term_id (optional name) = name
+term_id (default name value) = name
+term_id (flag name) = name
+term_id any_words = words_id
 
 -- ---- commands
 
@@ -76,8 +88,12 @@ ReadsValues held expected (Err line.Memory) = Unit {0}
 
 -- the words that are no option
 abbrev pub words_of : List Row → List Text
-words_of rows = unwrap_or (all_of (codes "words") rows) []
+words_of rows = unwrap_or (all_of words_id rows) []
+
+-- the first value of an option
+abbrev pub value_of : Term → List Row → Option Text
+value_of option rows = first_of (term_id option) rows
 
 -- the flag was given
-abbrev pub is_given : Text → List Row → Bool
-is_given id rows = option_map_or (λ text. bytes_eq text (codes "true")) (first_of id rows) false
+abbrev pub is_given : Term → List Row → Bool
+is_given option rows = option_map_or (λ text. bytes_eq text (codes "true")) (value_of option rows) false

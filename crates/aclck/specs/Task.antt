@@ -8,20 +8,20 @@ use Rattle.aclck.specs.Line.{app_from, is_taken, rows_at, words_of}
 use Rattle.aclck.specs.Answer.{Answer}
 use Rattle.aclck.specs.Definition.{Definition}
 use Rattle.aclck.specs.Run.{Shape}
-use Rattle.aclck.specs.BitTable.{table, table_held}
-use Rattle.aclck.specs.Bridge.{bridge}
-use Rattle.aclck.specs.CalcMask.{calc_mask}
-use Rattle.aclck.specs.CheckNfs.{check_nfs, check_nfs_held}
-use Rattle.aclck.specs.CheckPosix.{check_posix, check_posix_held}
-use Rattle.aclck.specs.Child.{child, child_held}
-use Rattle.aclck.specs.Chmod.{chmod, chmod_held}
-use Rattle.aclck.specs.Compare.{compare}
-use Rattle.aclck.specs.Create.{create, create_held}
-use Rattle.aclck.specs.Encode.{encode}
-use Rattle.aclck.specs.ListMode.{mode}
-use Rattle.aclck.specs.Normalize.{normalize, normalize_held}
-use Rattle.aclck.specs.ShowNfs.{show_nfs}
-use Rattle.aclck.specs.ShowPosix.{show_posix, show_posix_held}
+use Rattle.aclck.specs.commands.BitTable.{table, table_held}
+use Rattle.aclck.specs.commands.Bridge.{bridge}
+use Rattle.aclck.specs.commands.CalcMask.{calc_mask}
+use Rattle.aclck.specs.commands.CheckNfs.{check_nfs, check_nfs_held}
+use Rattle.aclck.specs.commands.CheckPosix.{check_posix, check_posix_held}
+use Rattle.aclck.specs.commands.Child.{child, child_held}
+use Rattle.aclck.specs.commands.Chmod.{chmod, chmod_held}
+use Rattle.aclck.specs.commands.Compare.{compare}
+use Rattle.aclck.specs.commands.Create.{create, create_held}
+use Rattle.aclck.specs.commands.Encode.{encode}
+use Rattle.aclck.specs.commands.ListMode.{mode}
+use Rattle.aclck.specs.commands.Normalize.{normalize, normalize_held}
+use Rattle.aclck.specs.commands.ShowNfs.{show_nfs}
+use Rattle.aclck.specs.commands.ShowPosix.{show_posix, show_posix_held}
 use Rattle.aclck.specs.declared.task.Name.{Name}
 use Rattle.aclck.specs.declared.task.Name.TheVariants as name
 use Rattle.aclck.specs.declared.task.Task.{Task as HeldTask}

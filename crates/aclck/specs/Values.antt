@@ -7,7 +7,8 @@ use Rattle.std.specs.Str.{bytes_eq}
 use Rattle.std.specs.Str.Parse.{digits_value}
 use Rattle.clap.specs.Words.{Text}
 use Rattle.acl_perm.specs.Ascii.{letter_r, letter_w, letter_x}
-use Rattle.acl_nfs4.specs.Rights.{mask_named, no_rights}
+use Rattle.acl_nfs4.specs.BitNames.{no_names}
+use Rattle.acl_nfs4.specs.Rights.{mask_named}
 use Rattle.acl_posix.specs.Grammar.{comma}
 use Rattle.acl_posix.specs.Fields.{occurrences}
 use Rattle.acl_posix.specs.Id.{greatest_id}
@@ -23,12 +24,19 @@ are_names texts = list_all is_name texts
 -- the rights that a value of `--mask` names: `none`, or a field of names; `-` names none here
 unfoldable pub mask_value : Text → Option ℕ
 mask_value text = if bytes_eq text (codes "none") then Some 0
-    else (if bytes_eq text no_rights then None else mask_named text)
+    else (if bytes_eq text no_names then None else mask_named text)
+
+-- the mask, if the set of rights has all of its rights
+abbrev pub within : ℕ → ℕ → Option ℕ
+within rights mask = if bit_and rights mask == mask then Some mask else None
 
 -- the rights that a value of `--mask` names, if the set of rights has all of them
 abbrev pub mask_within : ℕ → Text → Option ℕ
-mask_within rights text =
-    option_and_then (λ mask. if bit_and rights mask == mask then Some mask else None) (mask_value text)
+mask_within rights text = option_and_then (within rights) (mask_value text)
+
+-- a value that is made of two, if both are there
+abbrev pub of_both : {A B C : Type 0} → (A → B → C) → Option A → Option B → Option C
+of_both make first second = option_and_then (λ a. option_map (λ b. make a b) second) first
 
 -- ---- values of the POSIX commands
 

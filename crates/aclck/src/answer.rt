@@ -1,7 +1,7 @@
 //! The result of an engine.
 ghost use Rattle.std.specs.Prelude.{◌≡◌};
 ghost use Rattle.acl_nfs4.specs.Spelling.{spelling};
-ghost use Rattle.aclck.specs.Answer.{cause_of, decision_line, is_input_fault, is_yes};
+ghost use Rattle.aclck.specs.Answer.{cause_of, decision_line, is_input_fault, is_yes, run_fault_of};
 ghost use Rattle.aclck.specs.internal.Telling.{Tells};
 
 use acl_nfs4::{AceTextFault, Acl, Fault, ReadFault, WriteFault};
@@ -56,9 +56,6 @@ pub enum RunFault {
 }
 
 impl From<ReadFault> for RunFault {
-    ghost use Rattle.std.specs.Prelude.{◌≡◌};
-    ghost use Rattle.aclck.specs.Answer.{run_fault_of};
-
     ghost from_gives = { λ fault run. run ≡ run_fault_of fault };
 
     fn from(fault: ReadFault) -> RunFault {
@@ -70,7 +67,6 @@ impl From<ReadFault> for RunFault {
 }
 
 impl From<WriteFault> for RunFault {
-    ghost use Rattle.std.specs.Prelude.{◌≡◌};
     ghost use Rattle.aclck.specs.declared.answer.RunFault.TheVariants.{Write};
 
     ghost from_gives = { λ fault run. run ≡ Write fault };
@@ -94,7 +90,7 @@ pub enum Cause {
 }
 
 impl RunFault {
-    /// Returns whether the fault is one of the input.
+    /// Returns whether the input is refused: memory did not run out, and no read or write failed.
     pub(crate) fn is_input_fault(self) -> bool
         ensures { result ≡ is_input_fault self }
     {
@@ -119,7 +115,6 @@ impl RunFault {
 }
 
 impl From<AllocError> for RunFault {
-    ghost use Rattle.std.specs.Prelude.{◌≡◌};
     ghost use Rattle.aclck.specs.declared.answer.RunFault.TheVariants.{Memory};
 
     ghost from_gives = { λ _ run. run ≡ Memory };

@@ -3,10 +3,10 @@ ghost use Rattle.std.specs.Prelude.{◌≡◌, IfOk, Err, false};
 ghost use Rattle.aclck.specs.Line.{rows_in, texts, words_of};
 ghost use Rattle.aclck.specs.Task.{is_command, task_in, task_of};
 ghost use Rattle.aclck.specs.Command.{RunsWords};
-ghost use Rattle.aclck.specs.internal.Performing.{RunsTask, status_of};
+ghost use Rattle.aclck.specs.internal.Performing.{RunsTask, command_fault_of, status_of};
 
 use crate::answer::{Outcome, RunFault};
-use crate::line::LineFault;
+use crate::line::{LineFault, other_words};
 use crate::task::{Name, Task};
 use acl_perm::{Sink, Source, put_all};
 use clap::ArgMatches;
@@ -23,9 +23,6 @@ pub enum CommandFault {
 }
 
 impl From<LineFault> for CommandFault {
-    ghost use Rattle.std.specs.Prelude.{◌≡◌};
-    ghost use Rattle.aclck.specs.internal.Performing.{command_fault_of};
-
     ghost from_gives = { λ fault command. command ≡ command_fault_of fault };
 
     fn from(fault: LineFault) -> CommandFault {
@@ -37,7 +34,6 @@ impl From<LineFault> for CommandFault {
 }
 
 impl From<RunFault> for CommandFault {
-    ghost use Rattle.std.specs.Prelude.{◌≡◌};
     ghost use Rattle.aclck.specs.declared.command.CommandFault.TheVariants.{Run};
 
     ghost from_gives = { λ fault command. command ≡ Run fault };
@@ -48,7 +44,6 @@ impl From<RunFault> for CommandFault {
 }
 
 impl From<AllocError> for CommandFault {
-    ghost use Rattle.std.specs.Prelude.{◌≡◌};
     ghost use Rattle.aclck.specs.declared.answer.RunFault.TheVariants.{Memory};
     ghost use Rattle.aclck.specs.declared.command.CommandFault.TheVariants.{Run};
 
@@ -60,6 +55,7 @@ impl From<AllocError> for CommandFault {
 }
 
 impl CommandFault {
+    // The exit status of a run that ends with the fault.
     fn status(self) -> u8
         ensures { result ≡ status_of self }
     {
@@ -70,9 +66,9 @@ impl CommandFault {
     }
 }
 
-/// Runs the command that the words name. The words come without the program's name. Returns the exit status: 0 done or
-/// granted, 1 denied, 2 the input is refused, 3 usage, 4 a device or memory. From 2 on, one line on `err` says why; a
-/// fault of `err` changes nothing.
+/// Runs the command that the words name. The words come without the program's name. Returns the exit status: 0 done,
+/// granted or the same, 1 denied or different, 2 the input is refused, 3 usage, 4 a device or memory. From 2 on, one
+/// line on `err` says why; a fault of `err` changes nothing.
 pub fn command<S: Source, K: Sink, E: Sink>(
     alloc: Global,
     words: &[&str],
@@ -145,7 +141,7 @@ fn perform_named<S: Source, K: Sink>(
 fn words_in<'a>(alloc: Global, matches: &ArgMatches<'a>) -> Result<Vec<&'a [u8]>, AllocError>
     ensures { IfOk result (λ v. texts v.items ≡ words_of (rows_in matches.now)) }
 {
-    match matches.get_strs("words") {
+    match other_words(matches) {
         Some(words) => bytes_of(alloc, words),
         None => Ok(Vec::new(alloc)),
     }

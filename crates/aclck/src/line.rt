@@ -1,9 +1,9 @@
 //! The words of a command, by `clap`'s rule for a simple command.
-ghost use Rattle.std.specs.Prelude.{◌≡◌, ◌≢◌, IfErr, IfOk, OnOk, codes, false, map, true};
+ghost use Rattle.std.specs.Prelude.{◌≡◌, ◌≢◌, [], IfErr, IfOk, OnOk, codes, false, map, option_map, true, unwrap_or};
 ghost use Rattle.std.specs.Option.{option_map_or};
 ghost use Rattle.std.specs.Str.{bytes_eq};
-ghost use Rattle.clap.specs.Words.{app_of, first_of, is_simple_and_free, kind_of, rule_of, with_rule};
-ghost use Rattle.aclck.specs.Line.{app_from, is_given, is_taken, plain_app, rows_at, rows_in, rule_from, text_if_any, texts};
+ghost use Rattle.clap.specs.Words.{app_of, is_simple_and_free, kind_of, rule_of, with_rule};
+ghost use Rattle.aclck.specs.Line.{app_from, is_given, is_taken, plain_app, rows_at, rows_in, rule_from, term_id, text_if_any, texts, value_of, words_of};
 ghost use Rattle.aclck.specs.internal.Held.{term};
 
 use clap::error::ErrorKind;
@@ -25,6 +25,24 @@ pub enum Argument {
     Words,
 }
 
+// The id of the argument that takes the words that are no option.
+const WORDS_ID: &str = "words";
+
+impl Argument {
+    // The id of the argument among the values of a parse.
+    fn id(self) -> &'static str
+        ensures { result.now ≡ term_id (term self) }
+    {
+        match self {
+            Argument::Required(name)
+            | Argument::Optional(name)
+            | Argument::Default(name, _)
+            | Argument::Flag(name) => name,
+            Argument::Words => WORDS_ID,
+        }
+    }
+}
+
 /// Why words ask for nothing.
 #[derive(Clone, Copy, Debug, PartialEq, Eq)]
 pub enum LineFault {
@@ -35,7 +53,6 @@ pub enum LineFault {
 }
 
 impl From<AllocError> for LineFault {
-    ghost use Rattle.std.specs.Prelude.{◌≡◌};
     ghost use Rattle.aclck.specs.declared.line.LineFault.TheVariants.{Memory};
 
     ghost from_gives = { λ _ fault. fault ≡ Memory };
@@ -46,7 +63,6 @@ impl From<AllocError> for LineFault {
 }
 
 impl<T: Drop> From<AllocFailed<T>> for LineFault {
-    ghost use Rattle.std.specs.Prelude.{◌≡◌};
     ghost use Rattle.aclck.specs.declared.line.LineFault.TheVariants.{Memory};
 
     ghost from_gives = { λ _ fault. fault ≡ Memory };
@@ -100,7 +116,7 @@ fn arg_of<'a>(alloc: Global, argument: Argument) -> Arg<'a>
         Argument::Optional(name) => Arg::new(alloc, name).long(name),
         Argument::Default(name, value) => Arg::new(alloc, name).long(name).default_value(value),
         Argument::Flag(name) => Arg::new(alloc, name).long(name).action(ArgAction::SetTrue),
-        Argument::Words => Arg::new(alloc, "words").action(ArgAction::Append),
+        Argument::Words => Arg::new(alloc, WORDS_ID).action(ArgAction::Append),
     }
 }
 
@@ -133,10 +149,10 @@ fn line_fault(error: &clap::Error) -> LineFault
 }
 
 /// Returns whether a flag was given.
-pub(crate) fn is_set(matches: &ArgMatches<'_>, id: &str) -> bool
-    ensures { result ≡ is_given id.now (rows_in matches.now) }
+pub(crate) fn is_set(matches: &ArgMatches<'_>, flag: Argument) -> bool
+    ensures { result ≡ is_given (term flag) (rows_in matches.now) }
 {
-    is_true(text_of(matches, id))
+    is_true(text_of(matches, flag))
 }
 
 fn is_true(text: Option<&str>) -> bool
@@ -150,8 +166,16 @@ fn is_true(text: Option<&str>) -> bool
 }
 
 /// Returns the first value of an option.
-pub(crate) fn text_of<'a>(matches: &ArgMatches<'a>, id: &str) -> Option<&'a str>
-    ensures { text_if_any result ≡ first_of id.now (rows_in matches.now) }
+pub(crate) fn text_of<'a>(matches: &ArgMatches<'a>, option: Argument) -> Option<&'a str>
+    ensures { text_if_any result ≡ value_of (term option) (rows_in matches.now) }
 {
-    matches.get_str(id)
+    matches.get_str(option.id())
+}
+
+/// Returns the words that are no option, if there are any.
+pub(crate) fn other_words<'a, 'm>(matches: &'m ArgMatches<'a>) -> Option<&'m [&'a str]>
+    ensures { unwrap_or (option_map (λ ws. texts ws.now) result) []
+        ≡ words_of (rows_in matches.now) }
+{
+    matches.get_strs(WORDS_ID)
 }

@@ -1,4 +1,10 @@
+-- failures of the bridge
 pub mod Bridges
-pub mod FileFaults
+-- what a call promises, by what it made
+pub mod Endings
+-- failures of names and of texts
+pub mod FileFailures
+-- calls over two lists
+pub mod Pairs
 -- masks of one right
 pub mod Rights

@@ -29,6 +29,11 @@ pub record AreDifferent (p : Profile) (first second : List ℕ) : Type 0 where
   pub second_spelled : Xdr p other second
   pub different : SameGrants all_rights list other → ⊥
 
+-- both spell lists, and this is whether these grant everybody the same
+abbrev pub AreSameOrNot : Profile → List ℕ → List ℕ → Bool → Type 0
+AreSameOrNot p first second true = AreSame p first second
+AreSameOrNot p first second false = AreDifferent p first second
+
 -- a name and the byte 0 behind it
 abbrev pub ended : List ℕ → List ℕ
 ended name = name ++ 0 ∷ []
@@ -37,7 +42,7 @@ ended name = name ++ 0 ∷ []
 abbrev pub names_text : Situation → List ℕ
 names_text s = ended s.owner_name ++ ended s.owning_group ++ ended s.user_name ++ flat_map ended s.groups
 
--- the number of an answer
+-- what `first_grants` of `struct aclck_difference` is for an answer
 abbrev pub truth_number : Bool → ℕ
 truth_number false = 0
 truth_number true = 1

@@ -1,4 +1,6 @@
+pub mod Call
 pub mod CheckPosix
+pub mod Common
 pub mod Compare
 pub mod Create
 pub mod Encode
@@ -12,6 +14,7 @@ pub mod Out
 pub mod Posix
 pub mod Refusal
 pub mod Requests
+pub mod Status
 pub mod Table
 pub mod Version
 pub mod Words

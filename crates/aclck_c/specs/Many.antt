@@ -7,6 +7,7 @@ use Rattle.acl_nfs4.specs.Ace.{Ace}
 use Rattle.acl_nfs4.specs.Spelling.{Xdr}
 use Rattle.aclck_c.specs.Requests.{AreGranted, asked}
 use Rattle.aclck_c.specs.declared.nfs4.check_many.Asker.{Asker}
+use Rattle.aclck_c.specs.Options.{IsProfileOption}
 
 -- the situation in which a requester requests access
 abbrev pub asked_by : List ℕ → List ℕ → Asker → Situation
@@ -22,7 +23,7 @@ pub record IsGoodCall (owner group : List ℕ) (mask options : ℕ) : Type 0 whe
   pub named_owner : 0 < length owner
   pub named_group : 0 < length group
   pub is_mask : IsMask mask
-  pub is_profile : options < 2
+  pub is_profile : IsProfileOption options
 
 -- the call is good, no name of a requester is empty, and there is a place for each answer
 pub record AreGoodMany (owner group : List ℕ) (requesters : List Asker) (mask options places : ℕ) : Type 0 where

@@ -1,6 +1,7 @@
 -- The table of names that a call from C is given (this library's own).
-use Rattle.std.specs.Prelude.{◌≡◌, ◌==◌, ℕ, [], ◌∷◌, IsSome, List, None, Option, Some, if◌then◌else◌, nat_lt}
+use Rattle.std.specs.Prelude.{◌≡◌, ◌==◌, ℕ, [], ◌∷◌, IsSome, List, None, Option, Some, if◌then◌else◌, nat_le}
 use Rattle.std.specs.Option.{is_none, option_and_then}
+use Rattle.acl_posix.specs.Id.{greatest_id}
 use Rattle.acl_posix.specs.Names.{Table, name_fault, empty_table, with_group, with_user}
 use Rattle.aclck_c.specs.declared.posix.names.Name.{Name}
 
@@ -21,7 +22,7 @@ half_added is_group table name id =
 -- the table with one more name, if its id is an id
 abbrev pub name_added : Table → Name → Option Table
 name_added table n =
-    if nat_lt n.id 4294967295 then half_added n.is_group table n.name.now n.id else None
+    if nat_le n.id greatest_id then half_added n.is_group table n.name.now n.id else None
 
 -- the table with some more names, one after the other
 abbrev pub names_added : Table → List Name → Option Table

@@ -1,5 +1,6 @@
 -- What the bits of `options` and modes mean in calls from C (this library's own).
-use Rattle.std.specs.Prelude.{◌==◌, ◌<◌, ℕ, bit_and, if◌then◌else◌}
+use Rattle.std.specs.Prelude.{◌==◌, ◌<◌, ◌≤◌, ℕ, bit_and, if◌then◌else◌}
+use Rattle.acl_perm.specs.Bits.{all_mode_bits}
 use Rattle.acl_perm.specs.Profile.{Profile, full, narrow}
 use Rattle.acl_eval.specs.declared.inherit.ChildKind.{ChildKind}
 use Rattle.acl_eval.specs.declared.inherit.ChildKind.TheVariants.{Directory, File}
@@ -12,6 +13,14 @@ profile_from options = if bit_and options 1 == 1 then narrow else full
 abbrev pub child_kind_from : ℕ → ChildKind
 child_kind_from options = if bit_and options 2 == 2 then Directory else File
 
--- the number is a mode, at most 0o777
+-- the options are those of a call that reads a profile and nothing else
+abbrev pub IsProfileOption : ℕ → Type 0
+IsProfileOption options = options < 2
+
+-- the options are those of a call that creates an object
+abbrev pub IsCreationOption : ℕ → Type 0
+IsCreationOption options = options < 4
+
+-- the number is a mode: it has no other bit than the nine file mode bits
 abbrev pub IsMode : ℕ → Type 0
-IsMode number = number < 512
+IsMode number = number ≤ all_mode_bits

@@ -1,5 +1,5 @@
 -- What calls from C make of the text of POSIX ACLs (this library's own, over acl(5)).
-use Rattle.std.specs.Prelude.{◌≡◌, ◌==◌, ℕ, Bool, List, None, Option, Some, if◌then◌else◌}
+use Rattle.std.specs.Prelude.{◌≡◌, ◌==◌, ◌⊎◌, ℕ, Bool, List, None, Option, Some, if◌then◌else◌}
 use Rattle.acl_posix.specs.Grammar.{Reads}
 use Rattle.acl_posix.specs.Names.{Table}
 use Rattle.acl_posix.specs.TextFault.{IsTextFault}
@@ -14,8 +14,9 @@ use Rattle.acl_posix.specs.declared.text_fault.Part.{Part}
 use Rattle.acl_posix.specs.declared.text_fault.Part.TheVariants as part
 use Rattle.acl_posix.specs.declared.text_fault.TextFault.{TextFault}
 use Rattle.acl_posix.specs.declared.text_fault.TextFault.TheVariants as fault
+use Rattle.acl_eval.specs.Programs.{IsPastLimits}
 use Rattle.aclck_c.specs.Names.{AreNames}
-use Rattle.aclck_c.specs.Refusal.{at_place, in_part}
+use Rattle.aclck_c.specs.Refusal.{at_place, in_part, past_limits}
 use Rattle.aclck_c.specs.declared.posix.names.Name.{Name}
 use Rattle.aclck_c.specs.declared.refusal.Refusal.{Refusal}
 
@@ -54,7 +55,7 @@ is_directory options = options == 2
 
 -- ---- what is refused
 
--- the number of a tag
+-- the number of a tag in `enum aclck_tag`
 abbrev pub tag_number : Tag → ℕ
 tag_number tag.UserObj = 1
 tag_number (tag.User id) = 2
@@ -63,7 +64,7 @@ tag_number (tag.Group id) = 4
 tag_number tag.Mask = 5
 tag_number tag.Other = 6
 
--- the number of a part
+-- the number of a part in `enum aclck_part`
 abbrev pub part_number : Part → ℕ
 part_number part.Access = 0
 part_number part.Default = 1
@@ -87,3 +88,8 @@ pub record IsRefusedPosix (names : List Name) (text : List ℕ) (shown : Refusal
   pub fault : TextFault
   pub has : HasFault names text fault
   pub is : Some shown ≡ posix_refusal fault
+
+-- the text has this fault, or the list of its file is above a limit
+abbrev pub IsRefusedBridge : List Name → List ℕ → Refusal → Type 0
+IsRefusedBridge names text shown =
+    IsRefusedPosix names text shown ⊎ (IsPastLimits (SpellsFile names text) × (shown ≡ past_limits))

@@ -4,7 +4,7 @@ use Rattle.acl_nfs4.specs.declared.xdr.fault.Reason.{Reason}
 use Rattle.acl_nfs4.specs.declared.xdr.fault.Reason.TheVariants as reason
 use Rattle.aclck_c.specs.declared.refusal.Refusal.{Refusal}
 
--- the number of a reason for which a list is refused
+-- the number of a reason in `enum aclck_reason`, for which a list is refused
 abbrev pub reason_number : Reason → ℕ
 reason_number reason.Truncated = 1
 reason_number reason.TooManyAces = 2

@@ -9,6 +9,7 @@ use Rattle.acl_nfs4.specs.Ace.{Ace}
 use Rattle.acl_nfs4.specs.Spelling.{Xdr, kind_number}
 use Rattle.acl_eval.specs.Deciding.{deciding_kind, deciding_place}
 use Rattle.acl_eval.specs.Grant.{grants_bit}
+use Rattle.aclck_c.specs.Options.{IsProfileOption}
 
 -- the situation of these names; the names of groups are behind references
 abbrev pub asked : List ℕ → List ℕ → List ℕ → List (Bor (List ℕ)) → Situation
@@ -26,7 +27,7 @@ pub record AreGood (owner group user : List ℕ) (groups : List (Bor (List ℕ))
   pub named_user : 0 < length user
   pub named_groups : All (λ g. 0 < length g) (map (λ g. g.now) groups)
   pub is_mask : IsMask mask
-  pub is_profile : options < 2
+  pub is_profile : IsProfileOption options
 
 -- the mask has this bit and no other
 abbrev pub IsRight : ℕ → ℕ → Type 0
@@ -36,7 +37,7 @@ IsRight mask bit = (bit < 21) × (mask ≡ 2 ^ bit)
 abbrev pub IsSomeRight : ℕ → Type 0
 IsSomeRight mask = (bit : ℕ) × IsRight mask bit
 
--- the bytes spell a list, and the ACE at this place, which has this type, decides the right
+-- the bytes spell a list, and the ACE at this place, which has this kind, decides the right
 pub record IsDecidedAt (p : Profile) (bytes : List ℕ) (s : Situation) (right place number : ℕ) : Type 0 where
   pub list : List Ace
   pub bit : ℕ

@@ -1,11 +1,11 @@
 -- The rights for which a call from C gives the table of a list (this library's own, over RFC 8881, section 6.2.1).
-use Rattle.std.specs.Prelude.{◌==◌, ◌&&◌, ◌<◌, ℕ, Bool, IsTrue, bit_and}
+use Rattle.std.specs.Prelude.{◌==◌, ◌&&◌, ℕ, Bool, IsTrue, bit_and}
 use Rattle.std.specs.Option.{is_some}
 use Rattle.acl_perm.specs.Bits.{IsMask}
 use Rattle.acl_perm.specs.Profile.{Profile}
 use Rattle.acl_nfs4.specs.BitNames.{first_name}
 use Rattle.acl_nfs4.specs.Rights.{rights}
-use Rattle.aclck_c.specs.Options.{profile_from}
+use Rattle.aclck_c.specs.Options.{IsProfileOption, profile_from}
 
 -- the table of names has the right (RFC 8881, section 6.2.1.3.1), and so has the profile
 abbrev pub is_right_of : Profile → ℕ → Bool
@@ -18,5 +18,5 @@ pub record IsRightOf (p : Profile) (right : ℕ) : Type 0 where
 
 -- the options are those of a profile, which has the right
 pub record IsGoodTable (right options : ℕ) : Type 0 where
-  pub is_profile : options < 2
+  pub is_profile : IsProfileOption options
   pub right_of : IsRightOf (profile_from options) right

@@ -1,5 +1,5 @@
 -- Names of rights and of reasons in calls from C (this library's own).
-use Rattle.std.specs.Prelude.{◌==◌, ℕ, List, None, Option, Some, codes, if◌then◌else◌}
+use Rattle.std.specs.Prelude.{◌==◌, ◌∷◌, [], ℕ, List, None, Option, Some, codes, if◌then◌else◌}
 use Rattle.acl_nfs4.specs.BitNames.{set_text}
 use Rattle.acl_nfs4.specs.Rights.{rights}
 
@@ -8,35 +8,21 @@ use Rattle.acl_nfs4.specs.Rights.{rights}
 abbrev pub rights_text : ℕ → List ℕ
 rights_text mask = set_text rights mask
 
--- the name of the reason of a number, as the program prints it
+-- the reasons of `enum aclck_reason` by their numbers, with the names that the program prints
+abbrev pub reasons : List (ℕ × List ℕ)
+reasons = (1, codes "Truncated") ∷ (2, codes "TooManyAces") ∷ (3, codes "AuditOrAlarm") ∷ (4, codes "AceType")
+    ∷ (5, codes "FlagBits") ∷ (6, codes "MaskBits") ∷ (7, codes "TooHeavy") ∷ (8, codes "WhoLength")
+    ∷ (9, codes "WhoUtf8") ∷ (10, codes "WhoControl") ∷ (11, codes "SpecialWho") ∷ (12, codes "Padding")
+    ∷ (13, codes "TrailingBytes") ∷ (14, codes "Read") ∷ (15, codes "Memory") ∷ (16, codes "Fields")
+    ∷ (17, codes "Flag") ∷ (18, codes "Mask") ∷ (19, codes "Tag") ∷ (20, codes "Qualifier") ∷ (21, codes "Id")
+    ∷ (22, codes "UnknownName") ∷ (23, codes "Permission") ∷ (24, codes "EmptyEntry") ∷ (25, codes "Multi")
+    ∷ (26, codes "Duplicate") ∷ (27, codes "Miss") ∷ (28, codes "Limits") ∷ []
+
+-- the name of a number in a table of names
+abbrev pub name_in : List (ℕ × List ℕ) → ℕ → Option (List ℕ)
+name_in [] number = None
+name_in (reason ∷ more) number = if number == reason.0 then Some reason.1 else name_in more number
+
+-- the name of the reason of a number
 abbrev pub reason_name : ℕ → Option (List ℕ)
-reason_name number =
-    if number == 1 then Some (codes "Truncated")
-    else (if number == 2 then Some (codes "TooManyAces")
-    else (if number == 3 then Some (codes "AuditOrAlarm")
-    else (if number == 4 then Some (codes "AceType")
-    else (if number == 5 then Some (codes "FlagBits")
-    else (if number == 6 then Some (codes "MaskBits")
-    else (if number == 7 then Some (codes "TooHeavy")
-    else (if number == 8 then Some (codes "WhoLength")
-    else (if number == 9 then Some (codes "WhoUtf8")
-    else (if number == 10 then Some (codes "WhoControl")
-    else (if number == 11 then Some (codes "SpecialWho")
-    else (if number == 12 then Some (codes "Padding")
-    else (if number == 13 then Some (codes "TrailingBytes")
-    else (if number == 14 then Some (codes "Read")
-    else (if number == 15 then Some (codes "Memory")
-    else (if number == 16 then Some (codes "Fields")
-    else (if number == 17 then Some (codes "Flag")
-    else (if number == 18 then Some (codes "Mask")
-    else (if number == 19 then Some (codes "Tag")
-    else (if number == 20 then Some (codes "Qualifier")
-    else (if number == 21 then Some (codes "Id")
-    else (if number == 22 then Some (codes "UnknownName")
-    else (if number == 23 then Some (codes "Permission")
-    else (if number == 24 then Some (codes "EmptyEntry")
-    else (if number == 25 then Some (codes "Multi")
-    else (if number == 26 then Some (codes "Duplicate")
-    else (if number == 27 then Some (codes "Miss")
-    else (if number == 28 then Some (codes "Limits")
-    else None)))))))))))))))))))))))))))
+reason_name number = name_in reasons number

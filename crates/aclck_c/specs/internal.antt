@@ -1,10 +1,10 @@
 -- What only the code and its proofs need (this library's own): no clause of an export cites it.
 
--- why there is no list for a POSIX ACL
-pub mod Bridging
--- why a call over the text of POSIX ACLs fails
-pub mod Files
--- why a call over a list fails, and what it then returns
-pub mod Stops
+-- the ACE that decides a right
+pub mod Deciding
+-- how calls end
+pub mod Endings
+-- why calls fail
+pub mod Failures
 -- the first difference of two lists
 pub mod Told

@@ -1,6 +1,7 @@
 //! The library for C: one call for each question, over bytes that are not copied (`include/aclck.h`).
 #![tactic(auto)]
 
+mod failure;
 pub mod laws;
 mod mask_text;
 mod nfs4;
@@ -8,6 +9,7 @@ mod options;
 mod out;
 mod posix;
 mod refusal;
+mod status;
 #[cfg(test)]
 mod tests;
 mod version;

@@ -1,10 +1,12 @@
 //! The names of the rights of a mask.
-ghost use Rattle.std.specs.Prelude.{◌≡◌, ◌≢◌, ◌⊎◌};
 ghost use Rattle.acl_perm.specs.Bits.{IsMask};
-ghost use Rattle.aclck_c.specs.Out.{HandsOut, IsShortFor};
+ghost use Rattle.aclck_c.specs.Status as status;
 ghost use Rattle.aclck_c.specs.Words.{rights_text};
+ghost use Rattle.std.specs.Prelude.{◌≡◌, ◌⊎◌};
+ghost use Rattle.aclck_c.specs.Common.{JudgesArguments, WritesBytes};
 
 use crate::out::put;
+use crate::status::BAD_ARGUMENT;
 use acl_nfs4::internal::rights_text;
 use acl_perm::Mask;
 
@@ -13,18 +15,14 @@ use acl_perm::Mask;
 /// no memory.
 #[unsafe(no_mangle)]
 pub extern "C" fn aclck_mask_text(mask: u32, out: &mut [u8], needed: &mut usize) -> u32
-    ensures done { result ≡ 0 → HandsOut (λ text. text ≡ rights_text mask)
-        out.old out.new needed.new }
-    ensures short { result ≡ 5 → IsShortFor (λ text. text ≡ rights_text mask)
-        out.old needed.new }
-    ensures bad { result ≡ 3 → IsMask mask → ⊥ }
-    ensures good { (result ≢ 3) → IsMask mask }
-    ensures unwritten { (result ≢ 0) → out.new ≡ out.old }
-    ensures untold { (result ≢ 0) → (result ≢ 5) → needed.new ≡ needed.old }
-    ensures known { (result ≡ 0) ⊎ ((result ≡ 3) ⊎ (result ≡ 5)) }
+    ensures names { WritesBytes status.done (λ text. text ≡ rights_text mask)
+        out.old out.new needed.old needed.new result }
+    ensures arguments { JudgesArguments (IsMask mask) result }
+    ensures known { (result ≡ status.done)
+        ⊎ ((result ≡ status.bad_argument) ⊎ (result ≡ status.short)) }
 {
     let Some(mask) = Mask::new(mask) else {
-        return 3;
+        return BAD_ARGUMENT;
     };
     let text = rights_text(mask);
     put(text.as_slice(), out, needed)

@@ -7,7 +7,6 @@ pub(crate) mod compare;
 pub(crate) mod deciding;
 pub(crate) mod encode;
 pub(crate) mod granted;
-pub(crate) mod list_fault;
 pub(crate) mod mode;
 pub(crate) mod normalize;
 pub(crate) mod reading;

@@ -1,20 +1,26 @@
-//! What the bits of `options` mean.
-ghost use Rattle.std.specs.Prelude.{◌≡◌, ◌<◌, ◌↔◌, IfSome, IsSome};
-ghost use Rattle.acl_perm.specs.Profile.{profile_of};
-ghost use Rattle.aclck_c.specs.Options.{IsMode, child_kind_from, profile_from};
+//! What the bits of `options` mean: `enum aclck_option` of `aclck.h`.
+ghost use Rattle.std.specs.Prelude.{◌≡◌, ◌↔◌};
+ghost use Rattle.aclck_c.specs.Common.{IfSome, IsSome, profile_of, IsCreationOption, IsMode, IsProfileOption, child_kind_from, profile_from};
 
 use acl_eval::ChildKind;
 use acl_perm::{Mode, Profile};
 
 const NARROW: u32 = 1;
 
-const DIRECTORY: u32 = 2;
+/// The new object is a directory.
+pub(crate) const DIRECTORY: u32 = 2;
 
 const NARROW_DIRECTORY: u32 = 3;
 
+/// The text has comments on entries that the mask limits.
+pub(crate) const FORM_SHOWN: u32 = 4;
+
+/// The text has commas between the entries.
+pub(crate) const FORM_SHORT: u32 = 8;
+
 /// Returns the profile of options, if they have no other bit.
 pub(crate) fn profile_from(options: u32) -> Option<Profile>
-    ensures known { IsSome result ↔ (options < 2) }
+    ensures known { IsSome result ↔ IsProfileOption options }
     ensures value { IfSome result (λ profile. profile_of profile ≡ profile_from options) }
 {
     match options {
@@ -33,7 +39,7 @@ pub(crate) struct Creation {
 
 /// Returns the profile and the kind of options, if they have no other bit.
 pub(crate) fn creation_from(options: u32) -> Option<Creation>
-    ensures known { IsSome result ↔ (options < 4) }
+    ensures known { IsSome result ↔ IsCreationOption options }
     ensures profile { IfSome result (λ c. profile_of c.profile ≡ profile_from options) }
     ensures kind { IfSome result (λ c. c.kind ≡ child_kind_from options) }
 {

@@ -1,21 +1,35 @@
-//! Texts in the buffers of callers.
-ghost use Rattle.std.specs.Prelude.{◌≡◌, ◌<◌, ◌⊎◌, length};
-ghost use Rattle.aclck_c.specs.Out.{Puts};
+//! Bytes in the buffers of callers.
+ghost use Rattle.aclck_c.specs.internal.Endings.{EndsCall, PutsIfRoom};
 
-/// Puts a text at the front of the buffer, and returns 0. If the text is longer than the buffer, it puts nothing and
-/// returns 5. It reports the length of the text in both cases.
-pub(crate) fn put(text: &[u8], out: &mut [u8], needed: &mut usize) -> u32
-    ensures needed { needed.new ≡ length text.now }
-    ensures put { result ≡ 0 → Puts text.now out.old out.new }
-    ensures short { result ≡ 5 → length out.old < length text.now }
-    ensures unwritten { result ≡ 5 → out.new ≡ out.old }
-    ensures known { (result ≡ 0) ⊎ (result ≡ 5) }
+use crate::failure::Failure;
+use crate::refusal::Refusal;
+use crate::status::{DONE, SHORT};
+
+/// Puts the bytes that a call made at the front of the buffer, or reports why the call failed. Returns the status.
+pub(crate) fn answer(
+    made: Result<Vec<u8>, Failure>,
+    out: &mut [u8],
+    needed: &mut usize,
+    fault: &mut Refusal,
+) -> u32
+    ensures { EndsCall made out.old out.new needed.old needed.new fault.old fault.new result }
 {
-    *needed = text.len();
-    if text.len() > out.len() {
-        return 5;
+    match made {
+        Ok(bytes) => put(&bytes, out, needed),
+        Err(failure) => failure.report(fault),
     }
-    let (front, _) = out.split_at_mut(text.len());
-    front.copy_from_slice(text);
-    0
+}
+
+/// Puts bytes at the front of the buffer, or nothing if they are longer than the buffer. It reports their number in
+/// both cases, and returns the status.
+pub(crate) fn put(bytes: &[u8], out: &mut [u8], needed: &mut usize) -> u32
+    ensures { PutsIfRoom bytes.now out.old out.new needed.new result }
+{
+    *needed = bytes.len();
+    if bytes.len() > out.len() {
+        return SHORT;
+    }
+    let (front, _) = out.split_at_mut(bytes.len());
+    front.copy_from_slice(bytes);
+    DONE
 }

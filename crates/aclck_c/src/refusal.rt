@@ -14,7 +14,7 @@ pub struct Refusal {
     pub line: u64,
     /// The column of a text, from 1.
     pub column: u64,
-    /// The reason.
+    /// The number of the reason in `enum aclck_reason`.
     pub reason: u32,
     /// 1 for the second of two lists.
     pub list: u32,
@@ -87,7 +87,7 @@ impl Refusal {
     }
 }
 
-// The number of a reason.
+// The numbers are those of `enum aclck_reason`.
 fn reason_number(reason: Reason) -> u32
     ensures { result ≡ reason_number reason }
 {

@@ -1,27 +1,28 @@
 //! Names of rights and of reasons.
-ghost use Rattle.std.specs.Prelude.{◌≡◌, ◌≢◌, ◌≤◌, ◌⊎◌, ℕ, None, Some, option_map};
 ghost use Rattle.acl_nfs4.specs.Rights.{SpellsMask};
-ghost use Rattle.aclck_c.specs.Out.{HandsOut, IsShortFor};
+ghost use Rattle.aclck_c.specs.Status as status;
 ghost use Rattle.aclck_c.specs.Words.{reason_name};
+ghost use Rattle.std.specs.Prelude.{◌≡◌, ◌≤◌, ◌⊎◌};
+ghost use Rattle.aclck_c.specs.Common.{ℕ, IsSome, Some, option_map, JudgesArguments, WritesBytes, WritesValue};
 
 use crate::out::put;
+use crate::status::{BAD_ARGUMENT, NO, YES};
 use acl_nfs4::read_mask;
 
 /// Reads the rights that a text names: names with `|` between them, or `-` for none. Returns 0 if they are in `mask`,
 /// and 1 if the text names no mask. It takes no memory.
 #[unsafe(no_mangle)]
 pub extern "C" fn aclck_read_mask(text: &[u8], mask: &mut u32) -> u32
-    ensures named { result ≡ 0 → SpellsMask text.now mask.new }
-    ensures none { result ≡ 1 → (rights : ℕ) → SpellsMask text.now rights → ⊥ }
-    ensures unwritten { (result ≢ 0) → mask.new ≡ mask.old }
-    ensures known { result ≤ 1 }
+    ensures named { WritesValue (SpellsMask text.now) mask.old mask.new result }
+    ensures none { result ≡ status.no → (rights : ℕ) → SpellsMask text.now rights → ⊥ }
+    ensures known { result ≤ status.no }
 {
     match read_mask(text) {
         Some(found) => {
             *mask = found.bits();
-            0
+            YES
         }
-        None => 1,
+        None => NO,
     }
 }
 
@@ -29,22 +30,19 @@ pub extern "C" fn aclck_read_mask(text: &[u8], mask: &mut u32) -> u32
 /// this number; 5 if `out` is too short. At 0 and 5 `needed` is the number of bytes. It takes no memory.
 #[unsafe(no_mangle)]
 pub extern "C" fn aclck_reason_text(reason: u32, out: &mut [u8], needed: &mut usize) -> u32
-    ensures done { result ≡ 0 → HandsOut (λ name. reason_name reason ≡ Some name)
-        out.old out.new needed.new }
-    ensures short { result ≡ 5 → IsShortFor (λ name. reason_name reason ≡ Some name)
-        out.old needed.new }
-    ensures bad { result ≡ 3 → reason_name reason ≡ None }
-    ensures unwritten { (result ≢ 0) → out.new ≡ out.old }
-    ensures untold { (result ≢ 0) → (result ≢ 5) → needed.new ≡ needed.old }
-    ensures known { (result ≡ 0) ⊎ ((result ≡ 3) ⊎ (result ≡ 5)) }
+    ensures name { WritesBytes status.done (λ name. reason_name reason ≡ Some name)
+        out.old out.new needed.old needed.new result }
+    ensures arguments { JudgesArguments (IsSome (reason_name reason)) result }
+    ensures known { (result ≡ status.done)
+        ⊎ ((result ≡ status.bad_argument) ⊎ (result ≡ status.short)) }
 {
     match reason_name(reason) {
         Some(name) => put(name, out, needed),
-        None => 3,
+        None => BAD_ARGUMENT,
     }
 }
 
-// The name of the reason of a number.
+// The numbers are those of `enum aclck_reason`.
 fn reason_name(number: u32) -> Option<&'static [u8]>
     ensures { option_map (λ name. name.now) result ≡ reason_name number }
 {

@@ -8,7 +8,7 @@ use acl_perm::Mask;
 use std::alloc::Global;
 use std::process::Abort;
 
-// An ACE as its type, mask and who.
+// An ACE as its kind, mask and who.
 type Entry = (Kind, u32, &'static [u8]);
 
 const ALICE: Entry = (ALLOW, 1, b"alice");

@@ -21,7 +21,7 @@ fn decisions_of(
     Some([alone, among_all])
 }
 
-// A list of an object of bob's, the requester and the requester's groups, the bit of a right, and the place and type of
+// A list of an object of bob's, the requester and the requester's groups, the bit of a right, and the place and kind of
 // the ACE that decides it by RFC 8881, section 6.2.1.
 static DECISIONS: [(&[u8], &str, &[&[u8]], usize, Option<(usize, Kind)>); 11] = [
     (THREE, "bob", &[], 0, Some((0, Kind::Allow))),

@@ -4,7 +4,7 @@ use acl_nfs4::{AceRef, Acl, PushFault};
 use acl_perm::{Flags, Kind, Mask};
 use std::alloc::Global;
 
-/// An ACE as its type, flags, mask and who.
+/// An ACE as its kind, flags, mask and who.
 pub type AceRow = (Kind, u32, u32, &'static [u8]);
 
 pub const ALLOW: Kind = Kind::Allow;

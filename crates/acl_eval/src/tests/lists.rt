@@ -31,6 +31,19 @@ pub const LONG_NAMES: &[u8; 68] = b"\0\0\0\x02\
     \0\0\0\x01\0\0\0\0\0\0\0\x01\0\0\0\x0dx-long-name@a\0\0\0\
     \0\0\0\0\0\0\0\0\0\0\0\x01\0\0\0\x0dy-long-name@a\0\0\0";
 
+// Returns a list, an object of this owner and of the group staff, and a requester.
+fn question<'a>(
+    bytes: &'a [u8],
+    owner: &'a str,
+    user: &'a str,
+    groups: &'a [&'a [u8]],
+) -> Option<(AclView<'a>, Object<'a>, Requester<'a>)> {
+    let list = AclView::parse_whole(bytes).ok()?;
+    let object = Object::new(owner.as_bytes(), b"staff")?;
+    let requester = Requester::new(user.as_bytes(), groups)?;
+    Some((list, object, requester))
+}
+
 /// Returns whether a list of an object of this owner and of the group staff grants the requester the rights.
 pub fn is_granted(
     bytes: &[u8],
@@ -39,9 +52,7 @@ pub fn is_granted(
     groups: &[&[u8]],
     bits: u32,
 ) -> Option<bool> {
-    let list = AclView::parse_whole(bytes).ok()?;
-    let object = Object::new(owner.as_bytes(), b"staff")?;
-    let requester = Requester::new(user.as_bytes(), groups)?;
+    let (list, object, requester) = question(bytes, owner, user, groups)?;
     Some(grants(list.aces(), &object, &requester, Mask::new(bits)?))
 }
 
@@ -53,8 +64,6 @@ pub fn granted_of(
     groups: &[&[u8]],
     bits: u32,
 ) -> Option<u32> {
-    let list = AclView::parse_whole(bytes).ok()?;
-    let object = Object::new(owner.as_bytes(), b"staff")?;
-    let requester = Requester::new(user.as_bytes(), groups)?;
+    let (list, object, requester) = question(bytes, owner, user, groups)?;
     Some(granted(list.aces(), &object, &requester, Mask::new(bits)?).bits())
 }

@@ -1,83 +1,44 @@
 -- The bytes before a border begin the spelling of a list: of the ACEs that are whole, of the ACE that is begun, and of
 -- further ACEs without bits, up to the number that the count says.
-use Rattle.acl_nfs4.proofs.Common.{[], Ace, All-replicate, AllByRecursion, Allow, ap, append-nil, append_assoc, arith, BeginsSpelling, Border, count_ones, counted, ends_in_at, eqb, false, flagged, flat_map, get_or, get_or-replicate, is_no_who_len, is_plain, is_unknown_special, is_utf8, is_utf8-from_IsUtf8, IsAce, IsAscii-from_all, IsFault, IsUtf8-from_ascii, IsWho, IsWithin, Kind, kind_number, le-ltb, length, length-append, length-replicate, List, list_all, longest_who, ltb, masked, measured, most_aces, most_weight, named, ones_le_self, or_from, pad_len, padded, piece, Profile, Reason, refl, replicate, Stage, start, subst, suc, sym, take, take_at, true, typed, weight, word, Xdr, zero, ℕ, ◌++◌, ◌+◌, ◌-◌, ◌<◌, ◌∙◌, ◌∷◌, ◌≡◌, ◌≤◌}
-use Rattle.acl_nfs4.specs.Fault.Stage.{count as at_count, kind as at_kind, flags as at_flags, mask as at_mask, len as at_len, who as at_who, padding as at_padding}
+use Rattle.acl_nfs4.proofs.Common.{[], Ace, All-replicate, AllByRecursion, Allow, ap, append-nil, append_assoc, arith, BeginsSpelling, Border, count_ones, counted, ends_in_at, eqb, false, flagged, flat_map, get_or, get_or-replicate, is_no_who_len, is_plain, is_unknown_special, is_utf8, is_utf8-from_IsUtf8, IsAce, IsAscii-from_all, IsFault, IsUtf8-from_ascii, IsWho, Kind, kind_number, le-ltb, length, length-append, length-replicate, List, list_all, longest_who, ltb, masked, measured, most_aces, most_weight, named, ones_le_self, or_from, pad_len, padded, piece, Profile, Reason, refl, replicate, Stage, start, subst, suc, sym, take, take_at, true, typed, weight, word, Xdr, zero, ℕ, ◌++◌, ◌+◌, ◌-◌, ◌<◌, ◌∙◌, ◌∷◌, ◌≡◌, ◌≤◌}
+use Rattle.acl_nfs4.specs.Fault.Stage.{kind as at_kind, flags as at_flags, mask as at_mask, len as at_len, who as at_who, padding as at_padding}
 use Rattle.acl_nfs4.proofs.xdr.Faults.{weight-push, regroup, border_after}
 use Rattle.acl_nfs4.proofs.list.Push.{each_push, flat_map-push}
 
--- the ACEs that are whole, and the number of ACEs that the count says
-pub record IsBegun (profile : Profile) (n : ℕ) (list : List Ace) : Type 0 where
-  pub small : n ≤ most_aces
-  pub light : weight list ≤ most_weight
-  pub each : AllByRecursion (IsAce profile) list
-
--- the text before the ACE that is being read
+-- the text before a border: the word of the count, and the pieces of the ACEs that are whole
 abbrev pub head : ℕ → List Ace → List ℕ
 head n list = word n ++ flat_map piece list
 
--- the bytes of a text before a border
-abbrev pub Shape : Profile → Stage → List ℕ → Type 0
-Shape profile at_count t = t ≡ []
-Shape profile (at_kind n list) t = IsBegun profile n list × (length list ≤ n) × (t ≡ head n list)
-Shape profile (at_flags n list k) t =
-    IsBegun profile n list × (length list < n) × (t ≡ head n list ++ word (kind_number k))
-Shape profile (at_mask n list k f) t =
-    IsBegun profile n list × (length list < n) × IsWithin profile.flags f
-    × (t ≡ (head n list ++ word (kind_number k)) ++ word f)
-Shape profile (at_len n list k f m) t =
-    IsBegun profile n list × (length list < n) × IsWithin profile.flags f × IsWithin profile.masks m
-    × (weight list + count_ones m ≤ most_weight)
-    × (t ≡ ((head n list ++ word (kind_number k)) ++ word f) ++ word m)
-Shape profile (at_who n list k f m l) t =
-    IsBegun profile n list × (length list < n) × IsWithin profile.flags f × IsWithin profile.masks m
-    × (weight list + count_ones m ≤ most_weight)
-    × (t ≡ (((head n list ++ word (kind_number k)) ++ word f) ++ word m) ++ word l)
-Shape profile (at_padding n list k f m w) t =
-    IsBegun profile n list × (length list < n) × IsWithin profile.flags f × IsWithin profile.masks m
-    × (weight list + count_ones m ≤ most_weight)
-    × IsWho w × (t ≡ ((((head n list ++ word (kind_number k)) ++ word f) ++ word m) ++ word (length w)) ++ w)
-
-abbrev onto : List ℕ → List ℕ → List ℕ
-onto more t = t ++ more
+-- the ACEs that are whole, and the number of ACEs that the count says
+pub record IsBegun (profile : Profile) (n : ℕ) (list : List Ace) (t : List ℕ) : Type 0 where
+  pub small : n ≤ most_aces
+  pub light : weight list ≤ most_weight
+  pub each : AllByRecursion (IsAce profile) list
+  pub fewer : length list ≤ n
+  pub text : t ≡ head n list
 
 head_push : (n : ℕ) (list : List Ace) (a : Ace) → head n list ++ piece a ≡ head n (list ++ a ∷ [])
 head_push n list a = append_assoc (word n) (flat_map piece list) (piece a)
     ∙ ap (λ (t : List ℕ). word n ++ t) (sym (flat_map-push list a))
 
-begun_push : (profile : Profile) (n : ℕ) (list : List Ace) (a : Ace) → IsBegun profile n list → IsAce profile a
-    → weight list + count_ones a.mask ≤ most_weight → IsBegun profile n (list ++ a ∷ [])
-begun_push profile n list a b is light =
-    record {
-      small = b.small;
-      light = omega (arith, light, weight-push list a);
-      each = each_push profile list a b.each is;
-    }
-
--- a text up to a border has its shape
-pub shape : (profile : Profile) (s : Stage) (t : List ℕ) → Border profile s t → Shape profile s t
-shape profile _ _ start = refl
-shape profile _ _ (counted n le) =
-    (record { small = le; light = omega arith; each = tt }, omega arith, sym (append-nil (word n)))
-shape profile _ _ (typed n list k t b lt) = let h = shape profile (at_kind n list) t b in
-    (h.0, lt, ap (onto (word (kind_number k))) h.2)
-shape profile _ _ (flagged n list k f t b is) = let h = shape profile (at_flags n list k) t b in
-    (h.0, h.1, is, ap (onto (word f)) h.2)
-shape profile _ _ (masked n list k f m t b is light) = let h = shape profile (at_mask n list k f) t b in
-    (h.0, h.1, h.2, is, light, ap (onto (word m)) h.3)
-shape profile _ _ (measured n list k f m l t b some short) = let h = shape profile (at_len n list k f m) t b in
-    (h.0, h.1, h.2, h.3, h.4, ap (onto (word l)) h.5)
-shape profile _ _ (named n list k f m w t b is) = let h = shape profile (at_who n list k f m (length w)) t b in
-    (h.0, h.1, h.2, h.3, h.4, is, ap (onto w) h.5)
-shape profile _ _ (padded n list k f m w t b) =
-    let h = shape profile (at_padding n list k f m w) t b in
+-- a text up to the border before an ACE
+pub begun : (profile : Profile) (n : ℕ) (list : List Ace) (t : List ℕ) → Border profile (at_kind n list) t
+    → IsBegun profile n list t
+begun profile n _ _ (counted _ le) =
+    record { small = le; light = omega arith; each = tt; fewer = omega arith; text = sym (append-nil (word n)) }
+begun profile n _ _ (padded _ list k f m w _
+    (named _ _ _ _ _ _ _ (measured _ _ _ _ _ _ _ (masked _ _ _ _ _ _ (flagged _ _ _ _ _ (typed _ _ _ t b lt) fi)
+    mi light) some short) wi)) =
+    let h = begun profile n list t b in
     let a : Ace = record { kind = k; flags = f; mask = m; who = w } in
-    let is : IsAce profile a = record { flags = h.2; mask = h.3; who = h.5 } in (
-      begun_push profile n list a h.0 is h.4,
-      omega (arith, h.1, length-append list (a ∷ [])),
-      ap (onto (replicate (pad_len (length w)) 0)) h.6
-          ∙ regroup (head n list) (word (kind_number k)) (word f) (word m) (word (length w)) w
-          (replicate (pad_len (length w)) 0) ∙ head_push n list a,
-    )
+    record {
+      small = h.small;
+      light = omega (arith, light, weight-push list a);
+      each = each_push profile list a h.each (record { flags = fi; mask = mi; who = wi });
+      fewer = omega (arith, lt, length-append list (a ∷ []));
+      text = regroup t (word (kind_number k)) (word f) (word m) (word (length w)) w (replicate (pad_len (length w)) 0)
+          ∙ ap (λ (x : List ℕ). x ++ piece a) h.text ∙ head_push n list a;
+    }
 
 -- ---- a who of any length
 
@@ -129,12 +90,12 @@ longer profile t more b = (b.0, more ++ b.1, subst (Xdr profile b.0) (append_ass
 all_there : (profile : Profile) (n : ℕ) (list : List Ace) (t : List ℕ) → Border profile (at_kind n list) t
     → length list ≡ n → BeginsSpelling profile t
 all_there profile n list t b e =
-    let h = shape profile (at_kind n list) t b in (
+    let h = begun profile n list t b in (
       list,
       [],
       record {
-        accepted = record { count = omega (arith, e, h.0.small); weight = h.0.light; each = h.0.each };
-        spelled = append-nil t ∙ h.2 ∙ ap (λ (k : ℕ). word k ++ flat_map piece list) (sym e);
+        accepted = record { count = omega (arith, e, h.small); weight = h.light; each = h.each };
+        spelled = append-nil t ∙ h.text ∙ ap (λ (k : ℕ). head k list) (sym e);
       },
     )
 
@@ -142,15 +103,15 @@ fill : (profile : Profile) (todo n : ℕ) (list : List Ace) (t : List ℕ) → l
     → Border profile (at_kind n list) t → BeginsSpelling profile t
 fill profile zero n list t e b = all_there profile n list t b (omega (arith, e))
 fill profile (suc todo) n list t e b =
-    let h = shape profile (at_kind n list) t b in
     longer profile t (piece filler) (fill profile todo n (list ++ filler ∷ []) (t ++ piece filler)
     (omega (arith, e, length-append list (filler ∷ [])))
-    (border_after profile n list t filler b (omega (arith, e)) (filler_is profile) (omega (arith, h.0.light, no_ones))))
+    (border_after profile n list t filler b (omega (arith, e)) (filler_is profile)
+    (let h = begun profile n list t b in omega (arith, h.light, no_ones))))
 
 from_kind : (profile : Profile) (n : ℕ) (list : List Ace) (t : List ℕ) → Border profile (at_kind n list) t
     → BeginsSpelling profile t
-from_kind profile n list t b = let h = shape profile (at_kind n list) t b in
-    fill profile (n - length list) n list t (omega (arith, h.1)) b
+from_kind profile n list t b =
+    let h = begun profile n list t b in fill profile (n - length list) n list t (omega (arith, h.fewer)) b
 
 from_padding : (profile : Profile) (n : ℕ) (list : List Ace) (k : Kind) (f m : ℕ) (w t : List ℕ)
     → Border profile (at_padding n list k f m w) t → BeginsSpelling profile t
@@ -172,10 +133,10 @@ from_len profile n list k f m t b =
 
 from_mask : (profile : Profile) (n : ℕ) (list : List Ace) (k : Kind) (f : ℕ) (t : List ℕ)
     → Border profile (at_mask n list k f) t → BeginsSpelling profile t
-from_mask profile n list k f t b =
-    let h = shape profile (at_mask n list k f) t b in
-    longer profile t (word 0) (from_len profile n list k f 0 (t ++ word 0)
-    (masked n list k f 0 t b refl (omega (arith, h.0.light, no_ones))))
+from_mask profile n list k f _ (flagged _ _ _ _ _ (typed _ _ _ t b lt) is) =
+    let h = begun profile n list t b in
+    longer profile _ (word 0) (from_len profile n list k f 0 _
+    (masked n list k f 0 _ (flagged n list k f _ (typed n list k t b lt) is) refl (omega (arith, h.light, no_ones))))
 
 from_flags : (profile : Profile) (n : ℕ) (list : List Ace) (k : Kind) (t : List ℕ)
     → Border profile (at_flags n list k) t → BeginsSpelling profile t
@@ -190,19 +151,11 @@ WhoBounds _ = Unit {0}
 -- a border keeps the bounds of a who
 pub who_bounds : (profile : Profile) (s : Stage) (t : List ℕ) → Border profile s t → WhoBounds s
 who_bounds profile _ _ (measured n list k f m l t b some short) = (some, short)
-who_bounds profile _ _ (named n list k f m w t b is) = tt
-who_bounds profile _ _ start = tt
-who_bounds profile _ _ (counted n le) = tt
-who_bounds profile _ _ (typed n list k t b lt) = tt
-who_bounds profile _ _ (flagged n list k f t b is) = tt
-who_bounds profile _ _ (masked n list k f m t b is light) = tt
-who_bounds profile _ _ (padded n list k f m w t b) = tt
+who_bounds profile _ _ b = tt
 
 -- a text up to a border begins the spelling of an accepted list
 pub begins : (profile : Profile) (s : Stage) (t : List ℕ) → Border profile s t → BeginsSpelling profile t
-begins profile at_count t b =
-    subst (BeginsSpelling profile) (sym (shape profile at_count t b))
-    (longer profile [] (word 0) (from_kind profile 0 [] (word 0) (counted 0 (omega arith))))
+begins profile _ _ start = longer profile [] (word 0) (from_kind profile 0 [] (word 0) (counted 0 (omega arith)))
 begins profile (at_kind n list) t b = from_kind profile n list t b
 begins profile (at_flags n list k) t b = from_flags profile n list k t b
 begins profile (at_mask n list k f) t b = from_mask profile n list k f t b

@@ -1,11 +1,12 @@
 -- The answer of a feed for the stream so far, and many pieces as one.
-use Rattle.acl_nfs4.proofs.Common.{[], Ace, ap, append-nil, append_assoc, arith, concat, done, drop, Fault, Fed, FedExactly, Feeds, FeedsEach, further, inl, inr, IsCutShort, IsFault, IsFeed, IsProfile, length, length-append, length-take, List, more, no_memory, Profile, Progress, Reason, refl, refused, RefusesStream, SameOrFails, standing, StreamState, subst, sym, take, take-append-drop, together, Truncated, Xdr, ℕ, ◌++◌, ◌+◌, ◌-◌, ◌∙◌, ◌∷◌, ◌≡◌, ◌≤◌}
+use Rattle.acl_nfs4.proofs.Common.{[], Ace, ap, append-nil, append_assoc, arith, concat, done, drop, Fault, Fed, FedExactly, Feeds, FeedsEach, inl, inr, IsCutShort, IsFault, IsFeed, IsProfile, length, length-append, length-take, List, more, no_memory, Profile, Progress, Reason, refl, refused, RefusesStream, SameOrFails, standing, StreamState, subst, sym, take, take-append-drop, together, Truncated, Xdr, ℕ, ◌++◌, ◌-◌, ◌∙◌, ◌∷◌, ◌≡◌, ◌≤◌, ◌⊎◌}
+use Rattle.acl_nfs4.specs.Stream.{IsFedOrFails}
 use Rattle.acl_nfs4.specs.declared.feed.step.Stage.{Stage}
 use Rattle.acl_nfs4.specs.declared.feed.step.Stage.TheVariants.{Open, Done, Refused}
 use Rattle.acl_nfs4.specs.declared.feed.fed.Fed.TheVariants as fed
-use Rattle.acl_nfs4.proofs.xdr.Body.{one}
+use Rattle.acl_nfs4.proofs.xdr.Resume.{one}
 use Rattle.acl_nfs4.proofs.xdr.OneFault.{one_place, value_or_fault}
-use Rattle.acl_nfs4.proofs.feed.Pieces.{done_on, none_taken, refused_on}
+use Rattle.acl_nfs4.proofs.feed.Pieces.{joins, longer}
 use Rattle.acl_nfs4.proofs.feed.Streaming.{text_short}
 
 -- a text has one fault
@@ -84,78 +85,43 @@ fed_so q stage so_far text old piece answer new is view h p s e =
 
 -- ---- many pieces
 
-apart_list : (p : Profile) (s piece : List ℕ) (t u : ℕ) (a b : List Ace) → IsProfile p → t ≤ length piece
-    → u ≤ length piece → Xdr p a (s ++ take t piece) → Xdr p b (s ++ take u piece) → (a ≡ b) × (t ≡ u)
-apart_list p s piece t u a b ok le lt x y =
-    let w = one p a b (s ++ take t piece) (s ++ take u piece) (drop t piece) (drop u piece) ok x y
-    (sym (whole_is s piece t) ∙ whole_is s piece u) in (
-      w.0,
-      omega (
-        arith,
-        ap length w.1,
-        length-append s (take t piece),
-        length-append s (take u piece),
-        length-take t piece,
-        length-take u piece,
-        le,
-        lt,
-      ),
-    )
+-- after one answer a feed represents one state
+one_state : (p : Profile) (s piece : List ℕ) (a : Fed) (x y : StreamState) → IsProfile p → Feeds (more p s) piece a x
+    → Feeds (more p s) piece a y → x ≡ y
+one_state p s piece fed.More x y ok h g = h.0 ∙ sym g.0
+one_state p s piece (fed.Done t) x y ok h g =
+    let text : List ℕ = s ++ take t piece in
+    h.1 ∙ ap (λ (l : List Ace). done l) (one p h.0 g.0 text text [] [] ok h.3 g.3 refl).0 ∙ sym g.1
+one_state p s piece (fed.Refused f) x y ok h g = h.0 ∙ sym g.0
 
-abbrev refused_so : Fault → Fed
-refused_so f = fed.Refused f
-
-two_refusals : (p : Profile) (text : List ℕ) (f g : Fault) (x y : StreamState) → IsProfile p → x ≡ refused f
-    → y ≡ refused g → RefusesStream p text f → RefusesStream p text g → SameOrFails (fed.Refused f) x (fed.Refused g) y
-two_refusals p text f g x y ok xe ye (inl m) h = inl (ap refused_so m)
-two_refusals p text f g x y ok xe ye (inr h) (inl m) = inr (inl (ap refused_so m))
-two_refusals p text f g x y ok xe ye (inr h) (inr k) =
-    let e : f ≡ g = same_fault p text f g.offset g.reason ok h.0 k.0 in
-    inr (inr (ap refused_so e, xe ∙ ap (λ (h : Fault). refused h) e ∙ sym ye))
-
-cut_refused : (p : Profile) (text : List ℕ) (f : Fault) → IsProfile p → IsCutShort p text → RefusesStream p text f → f ≡ no_memory
-cut_refused p text f ok cut (inl m) = m
-cut_refused p text f ok cut (inr h) = absurd (h.1 (one_reason p text f.offset cut.0 f.reason Truncated ok h.0 cut.1))
-
-ended_refused : (p : Profile) (s piece : List ℕ) (t : ℕ) (list : List Ace) (f : Fault) → IsProfile p
-    → Xdr p list (s ++ take t piece) → RefusesStream p (s ++ piece) f → f ≡ no_memory
-ended_refused p s piece t list f ok x (inl m) = m
-ended_refused p s piece t list f ok x (inr h) = absurd (ended_or_fault p s piece t list f.offset f.reason ok x h.0)
+-- the answer that is exact for a stream is that of each call, or a growth was refused
+exactly_this : (p : Profile) (s piece : List ℕ) (a b : Fed) (x : StreamState) → Feeds (more p s) piece a x
+    → FedExactly p (s ++ piece) (length s) b → (a ≡ fed.Refused no_memory) ⊎ IsFedOrFails b a
+exactly_this p s piece fed.More b x h e = inr (e.cut h.1.0 h.1.1)
+exactly_this p s piece (fed.Done t) b x h e =
+    let n : length (s ++ take t piece) - length s ≡ t =
+    omega (arith, length-append s (take t piece), length-take t piece, h.2) in
+    inr (subst (λ (k : ℕ). IsFedOrFails b (fed.Done k)) n
+    (e.whole h.0 (s ++ take t piece) (drop t piece) h.3 (whole_is s piece t)))
+exactly_this p s piece (fed.Refused f) b x h e = elim h.1 [
+  | inl m ↦ inl (ap (λ (g : Fault). fed.Refused g) m)
+  | inr r ↦ inr (e.fault f r.0 r.1)
+]
 
 -- there is one answer to a piece, and one state behind it
 pub one_answer : (p : Profile) (s piece : List ℕ) (a b : Fed) (x y : StreamState) → IsProfile p
     → Feeds (more p s) piece a x → Feeds (more p s) piece b y → SameOrFails a x b y
-one_answer p s piece fed.More fed.More x y ok h g = inr (inr (refl, h.0 ∙ sym g.0))
-one_answer p s piece fed.More (fed.Done u) x y ok h g = absurd
-    (ended_or_fault p s piece u g.0 h.1.0 Truncated ok g.3 h.1.1)
-one_answer p s piece fed.More (fed.Refused f) x y ok h g = inr
-    (inl (ap refused_so (cut_refused p (s ++ piece) f ok h.1 g.1)))
-one_answer p s piece (fed.Done t) fed.More x y ok h g = absurd
-    (ended_or_fault p s piece t h.0 g.1.0 Truncated ok h.3 g.1.1)
-one_answer p s piece (fed.Done t) (fed.Done u) x y ok h g =
-    let e = apart_list p s piece t u h.0 g.0 ok h.2 g.2 h.3 g.3 in
-    inr (inr (ap (λ (k : ℕ). fed.Done k) e.1, h.1 ∙ ap (λ (l : List Ace). done l) e.0 ∙ sym g.1))
-one_answer p s piece (fed.Done t) (fed.Refused f) x y ok h g = inr
-    (inl (ap refused_so (ended_refused p s piece t h.0 f ok h.3 g.1)))
-one_answer p s piece (fed.Refused f) fed.More x y ok h g = inl (ap refused_so (cut_refused p (s ++ piece) f ok g.1 h.1))
-one_answer p s piece (fed.Refused f) (fed.Done u) x y ok h g = inl
-    (ap refused_so (ended_refused p s piece u g.0 f ok g.3 h.1))
-one_answer p s piece (fed.Refused f) (fed.Refused q) x y ok h g = two_refusals p (s ++ piece) f q x y ok h.0 g.0 h.1 g.1
-
--- a piece that is taken, and an answer to what follows it
-joins : (p : Profile) (s x y : List ℕ) (a : Fed) (new : StreamState) → Feeds (more p (s ++ x)) y a new
-    → Feeds (more p s) (x ++ y) (further (length x) a) new
-joins p s x y fed.More new h =
-    let e : (s ++ x) ++ y ≡ s ++ (x ++ y) = append_assoc s x y in
-    (h.0 ∙ ap (λ (t : List ℕ). more p t) e, subst (λ (t : List ℕ). IsCutShort p t) e h.1)
-joins p s x y (fed.Done t) new h =
-    let d : Feeds (more p s) (x ++ (y ++ [])) (fed.Done (length x + t)) new = done_on (more p s) (more p (s ++ x)) new
-    x y [] t refl h in
-    subst (λ (z : List ℕ). Feeds (more p s) (x ++ z) (fed.Done (length x + t)) new) (append-nil y) d
-joins p s x y (fed.Refused f) new h =
-    let d : Feeds (more p s) (x ++ (y ++ [])) (fed.Refused f) new = refused_on (more p s) (more p (s ++ x)) new x y []
-    f refl h in
-    subst (λ (z : List ℕ). Feeds (more p s) (x ++ z) (fed.Refused f) new) (append-nil y) d
+one_answer p s piece a b x y ok h g =
+    elim (exactly_this p s piece a b x h (fed_exactly p s piece b y ok g)) [
+      | inl fails ↦ inl fails
+      | inr other ↦ elim other [
+        | inl same ↦ inr (inr (
+          sym same,
+          one_state p s piece b x y ok (subst (λ (z : Fed). Feeds (more p s) piece z x) (sym same) h) g,
+        ))
+        | inr fails ↦ inr (inl fails)
+      ]
+    ]
 
 -- a list and a fault are kept
 done_kept : (list : List Ace) (pieces : List (List ℕ)) (answers : List Fed) (new : StreamState)
@@ -179,10 +145,14 @@ refused_kept g (x ∷ pieces) (fed.Refused f ∷ answers) new h = refused_kept g
     (subst (λ (n : StreamState). FeedsEach n pieces answers new) h.1.0 h.2)
 
 -- pieces that are fed one after the other are answered as all of them at once
-pub each_is : (p : Profile) (s : List ℕ) (pieces : List (List ℕ)) (answers : List Fed) (new : StreamState) → IsCutShort p s
+pub each_is : (p : Profile) (s : List ℕ) (pieces : List (List ℕ)) (answers : List Fed) (new : StreamState)
+    → IsCutShort p s
     → FeedsEach (more p s) pieces answers new → Feeds (more p s) (concat pieces) (together pieces answers) new
-each_is p s [] [] new cut h =
-    (h ∙ ap (λ (t : List ℕ). more p t) (sym (append-nil s)), subst (λ (t : List ℕ). IsCutShort p t) (sym (append-nil s)) cut)
+each_is p s [] [] new cut h = (
+  h ∙ ap (λ (t : List ℕ). more p t) (sym (append-nil s)),
+  subst (λ (t : List ℕ). IsCutShort p t)
+      (sym (append-nil s)) cut,
+)
 each_is p s [] (a ∷ answers) new cut h = absurd h
 each_is p s (x ∷ pieces) [] new cut h = absurd h
 each_is p s (x ∷ pieces) (fed.More ∷ answers) new cut h =
@@ -191,18 +161,15 @@ each_is p s (x ∷ pieces) (fed.More ∷ answers) new cut h =
 each_is p s (x ∷ pieces) (fed.Done t ∷ answers) new cut h =
     let kept : new ≡ done h.1.0 = done_kept h.1.0 pieces answers new
     (subst (λ (n : StreamState). FeedsEach n pieces answers new) h.1.1 h.2) in
-    let d : Feeds (more p s) x (fed.Done t) new = (h.1.0, kept, h.1.2, h.1.3) in
-    subst (λ (k : ℕ). Feeds (more p s) (x ++ concat pieces) (fed.Done k) new) (omega arith)
-    (done_on (more p s) (more p s) new [] x (concat pieces) t (none_taken (more p s)) d)
+    longer (more p s) new x (concat pieces) (fed.Done t) (λ e. cc) (h.1.0, kept, h.1.2, h.1.3)
 each_is p s (x ∷ pieces) (fed.Refused f ∷ answers) new cut h =
     let kept : new ≡ refused f = refused_kept f pieces answers new
     (subst (λ (n : StreamState). FeedsEach n pieces answers new) h.1.0 h.2) in
-    let d : Feeds (more p s) x (fed.Refused f) new = (kept, h.1.1) in
-    refused_on (more p s) (more p s) new [] x (concat pieces) f (none_taken (more p s)) d
+    longer (more p s) new x (concat pieces) (fed.Refused f) (λ e. cc) (kept, h.1.1)
 
 -- the empty text is cut short
 pub nothing_cut : (p : Profile) → IsCutShort p []
-nothing_cut p = (0, text_short p [] (λ i. omega arith) (omega arith))
+nothing_cut p = (0, text_short p [] (omega arith))
 
 -- the same for a new feed
 pub any_cutting : (p : Profile) (pieces : List (List ℕ)) (answers : List Fed) (new : StreamState) (once : Fed)

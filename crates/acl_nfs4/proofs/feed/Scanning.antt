@@ -11,6 +11,18 @@ pub none_scanned : (p : Profile) (body : List ℕ) → IsScanned p body (record 
 none_scanned p body = record
     { list = []; spells = no_spells; each = tt; long = refl; total = refl; inside = omega arith }
 
+-- what was judged of a body stays so in another that begins alike
+pub scanned_on : (p : Profile) (body whole : List ℕ) (at : Progress) → take at.used whole ≡ take at.used body
+    → at.used ≤ length whole → IsScanned p body at → IsScanned p whole at
+scanned_on p body whole at same inside s = record {
+  list = s.list;
+  spells = rw same s.spells;
+  each = s.each;
+  long = s.long;
+  total = s.total;
+  inside = inside;
+}
+
 -- one more ACE was judged
 pub record Scans (p : Profile) (body : List ℕ) (from : Progress) (a : Ace) (q : Place) : Type 0 where
   pub inside : length q.rest ≤ length body

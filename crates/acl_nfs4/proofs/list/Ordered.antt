@@ -21,7 +21,8 @@ fronts_first (c ∷ a) (d ∷ b) x y e =
     ∙ then_then (nat_cmp c d) (slice_cmp nat_cmp a b) (slice_cmp nat_cmp x y)
 
 -- the bytes of an owned list
-spelled : (count total : ℕ) (body : List ℕ) → IsOwned count total body → spelling (aces_of count body) ≡ word count ++ body
+spelled : (count total : ℕ) (body : List ℕ) → IsOwned count total body
+    → spelling (aces_of count body) ≡ word count ++ body
 spelled count total body is =
     ap (λ (n : ℕ). word n ++ flat_map piece (aces_of count body)) is.spells.whole
     ∙ ap (λ (b : List ℕ). word count ++ b) (sym is.spells.spells.spelled)

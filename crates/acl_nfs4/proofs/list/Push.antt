@@ -1,8 +1,8 @@
 -- One more ACE at the end of a list.
-use Rattle.acl_nfs4.proofs.Common.{[], Ace, ace, aces_of, AllByRecursion, ap, append-nil, append_assoc, arith, count_ones, false, flat_map, flat_map-cons, full, IsAccepted, IsAce, IsOwned, IsWho, le-ltb, leb, length, length-append, List, ltb, most_aces, most_weight, None, option_map, piece, Profile, refl, replicate, SpellsBody, sym, take, take-append-add, take-replicate, weight, who_fault, ℕ, ◌++◌, ◌+◌, ◌<◌, ◌∙◌, ◌∷◌, ◌≡◌, ◌≤◌}
+use Rattle.acl_nfs4.proofs.Common.{[], Ace, ace, aces_of, AllByRecursion, ap, append-nil, append_assoc, arith, count_ones, false, flat_map, flat_map-cons, full, IsAccepted, IsAce, IsOwned, IsWho, le-ltb, leb, length, length-append, List, ltb, most_aces, most_weight, None, piece, Profile, refl, replicate, SpellsBody, sym, take, take-append-add, take-replicate, weight, ℕ, ◌++◌, ◌+◌, ◌<◌, ◌∙◌, ◌∷◌, ◌≡◌, ◌≤◌}
 use Rattle.std.proofs.lemmas.Grind.{flat_map-append}
 use Rattle.acl_nfs4.specs.declared.ace.AceRef.{AceRef}
-use Rattle.acl_nfs4.specs.Push.{who_refusal, push_refusal}
+use Rattle.acl_nfs4.specs.Push.{push_refusal}
 use Rattle.acl_nfs4.proofs.xdr.Body.{aces_of-flat_map, is_body}
 use Rattle.acl_nfs4.proofs.xdr.Faults.{weight-push}
 use Rattle.acl_nfs4.proofs.list.Within.{flags_within}
@@ -81,9 +81,6 @@ pushed_item n w bytes list item o e small who room light =
     (record { flags = flags_within item.flags.bits small; mask = item.mask.within; who = who })
     (omega (arith, ap length e, o.spells.whole, room)) (omega (arith, ap weight e, o.heavy, light))
 
-who_passes : (who : List ℕ) → IsWho who → option_map who_refusal (who_fault who) ≡ None
-who_passes who is = rw is refl
-
 -- if the longer list is accepted, nothing refuses the ACE
 pub push_passes : (list : List Ace) (a : Ace) → IsAccepted full (list ++ a ∷ []) → push_refusal list a ≡ None
 push_passes list a ok =
@@ -91,7 +88,7 @@ push_passes list a ok =
     grind arith in
     let light : ltb most_weight (weight list + count_ones a.mask) ≡ false =
     le-ltb most_weight _ (omega (arith, ok.weight, weight-push list a)) in
-    rw (room, light) (who_passes a.who (each_last full list a ok.each).who)
+    rw (room, light, (each_last full list a ok.each).who) refl
 
 -- a head, a who and up to three zero bytes behind a text
 pub fields_appended : (old head who b c d : List ℕ) (n m pad : ℕ) → b ≡ old ++ head → c ≡ b ++ who

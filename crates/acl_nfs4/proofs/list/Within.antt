@@ -1,21 +1,16 @@
 -- Sets within sets.
-use Rattle.acl_nfs4.proofs.Common.{[], Ace, all_flags, all_rights, AllByRecursion, and_comm, and_le_r, and_mask, arith, bit_and, Bool, eq-eqb, eqb, eqb-true, Fits, full, IsAccepted, IsAce, IsMask, IsProfile, IsSubset, IsTrue, IsWithin, List, Profile, profile_of, refl, subset, subst, sym, true, ℕ, ◌<◌, ◌^◌, ◌↔◌, ◌∙◌, ◌∷◌, ◌≡◌, ◌≤◌}
+use Rattle.acl_nfs4.proofs.Common.{[], Ace, all_flags, all_rights, AllByRecursion, and_comm, ap, and_le_r, and_mask, arith, bit_and, Bool, eq-eqb, eqb, eqb-true, Fits, full, IsAccepted, IsAce, IsMask, IsProfile, IsTrue, IsWithin, List, Profile, profile_of, refl, subst, sym, true, ℕ, ◌<◌, ◌^◌, ◌↔◌, ◌∙◌, ◌∷◌, ◌≡◌, ◌≤◌}
+use Rattle.std.proofs.lemmas.Nat.{and_assoc}
 use Rattle.acl_perm.specs.declared.profile.Profile.{Profile as CodeProfile}
 
 -- a part is no larger than the whole
 pub within_le : (set n : ℕ) → IsWithin set n → n ≤ set
 within_le set n is = let le : bit_and n set ≤ set = and_le_r n set in rw is at le
 
-bits_of_part : (set n : ℕ) → IsWithin set n → IsSubset n set
-bits_of_part set n is = (subset set n).0 (and_comm set n ∙ is)
-
-part_of_bits : (set n : ℕ) → IsSubset n set → IsWithin set n
-part_of_bits set n h = and_comm n set ∙ (subset set n).1 h
-
 -- a part of a part is a part
 pub within_part : (whole set n : ℕ) → IsWithin whole set → IsWithin set n → IsWithin whole n
-within_part whole set n outer inner =
-    part_of_bits whole n (λ k h. bits_of_part whole set outer k (bits_of_part set n inner k h))
+within_part whole set n outer inner = ap (λ (x : ℕ). bit_and x whole) (sym inner) ∙ and_assoc whole n set
+    ∙ ap (bit_and n) outer ∙ inner
 
 -- a part of a mask is a mask
 pub mask_part : (set n : ℕ) → IsMask set → bit_and n set ≡ n → IsMask n
@@ -25,13 +20,12 @@ mask_part set n outer inner = within_part all_rights set n outer inner
 pub flags_within : (n : ℕ) → n ≤ 255 → IsWithin all_flags n
 flags_within n le = and_mask n 8 ∙ omega (arith, le)
 
--- the flags of a profile fit a byte, and its masks a word
-pub flags_small : (profile : Profile) (n : ℕ) → IsProfile profile → IsWithin profile.flags n → n ≤ 255
-flags_small profile n is within = within_le all_flags n (within_part all_flags profile.flags n is.flags within)
-
 -- the flags of a profile fit a word
 pub flags_lt : (profile : Profile) (n : ℕ) → IsProfile profile → IsWithin profile.flags n → n < 2 ^ 32
-flags_lt profile n is within = omega (arith, flags_small profile n is within)
+flags_lt profile n is within = omega (
+  arith,
+  within_le all_flags n (within_part all_flags profile.flags n is.flags within),
+)
 
 -- the masks of a profile fit a word
 pub mask_lt : (profile : Profile) (n : ℕ) → IsProfile profile → IsWithin profile.masks n → n < 2 ^ 32

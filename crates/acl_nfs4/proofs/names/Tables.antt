@@ -1,27 +1,30 @@
 -- Tables that name bits: the rows that words name, and the sets of them.
-use Rattle.acl_nfs4.proofs.Common.{[], all_rights, AllByRecursion, and_le_l, and_pow, and_true, ap, arith, bar, bit_and, bit_at, bit_at-lt, bit_in, bit_name_of, bit_names_of, bit_or, BitName, bits_in, Bool, Bor, bytes_eq, cond, drop, eq-eqb, eqb, eqb-true, eqb_tells, false, find, first_name, flag_names, get_or, has_bit, has_bit-and, has_bit-or, IfSome, inl, inr, is_name_of, is_rising, is_within, IsMask, IsMask-union, IsSome, IsWithin, join_with_byte, length, List, list_all, ltb, ltb-true, map, Mask, mask_named, names_of, no_bit, no_names, None, Option, option_and_then_some, option_map, option_map_or, refl, rights, same_set, same_Some, set_if_within, slice_split, Some, SpellsMask, SpellsSet, subst, suc, sym, true, zero, ℕ, ⊎_elim, ◌&&◌, ◌*◌, ◌<◌, ◌^◌, ◌||◌, ◌↔◌, ◌∙◌, ◌∷◌, ◌≡◌}
+use Rattle.acl_nfs4.proofs.Common.{[], all_rights, and_le_l, and_pow, and_true, ap, arith, bar, bit_and, bit_at, bit_at-lt, bit_in, bit_name_of, bit_names_of, bit_or, BitName, bits_in, Bool, Bor, cond, drop, eq-eqb, eqb, eqb-true, eqb_tells, false, find, first_name, get_or, has_bit, has_bit-and, has_bit-or, IfSome, inl, inr, is_rising, is_within, IsMask, IsMask-union, IsSome, IsWithin, join_with_byte, length, List, list_all, ltb, ltb-true, Mask, mask_named, names_of, no_names, None, Option, option_map, refl, rights, same_set, set_if_within, Some, SpellsMask, SpellsSet, subst, suc, true, zero, ℕ, ⊎_elim, ◌&&◌, ◌*◌, ◌<◌, ◌^◌, ◌↔◌, ◌∙◌, ◌∷◌, ◌≡◌}
 use Rattle.std.proofs.Math.Bool.{and-or_distrib_left}
+use Rattle.std.proofs.lemmas.List.Folds.{list_all-append}
+use Rattle.std.specs.Int.Bits.{and_zero_r, or_zero_l, or_zero_r}
 use Rattle.acl_nfs4.specs.BitNames.{set_named, set_text}
 use Rattle.acl_nfs4.specs.internal.NameTable.{set_within}
-use Rattle.acl_nfs4.specs.declared.names.bit_names.BitName.{BitName as Row}
-use Rattle.acl_nfs4.proofs.names.SetFields.{IsTable, map_some, named_again, or_zero, spelled, zero_or}
+use Rattle.acl_perm.specs.declared.bit_names.BitName.{BitName as Row}
+use Rattle.acl_nfs4.proofs.names.SetFields.{AreBits, IsTable, NameThemselves, first_named, named_again, rights_table, row_of, spelled}
 
 -- ---- rows of the code
 
--- the bit of the row that a word names
-pub row_found : (table : List Row) (word : List ℕ)
-    → option_map (λ r. r.bit) (find (λ r. is_name_of word (bit_name_of r)) table) ≡ bit_in (bit_names_of table) word
-row_found [] word = refl
-row_found (r ∷ rows) word =
-    elim (is_name_of word (bit_name_of r))
-    as (λ t. option_map (λ (x : Row). x.bit) (cond t (Some r) (find (λ x. is_name_of word (bit_name_of x)) rows))
-    ≡ option_map (λ (x : BitName). x.bit) (cond t (Some (bit_name_of r)) (find (is_name_of word) (bit_names_of rows)))) [
+-- what a search finds in a table of the code is what it finds in the table
+pub row_found : (test : BitName → Bool) (table : List Row)
+    → option_map bit_name_of (find (λ r. test (bit_name_of r)) table) ≡ find test (bit_names_of table)
+row_found test [] = refl
+row_found test (r ∷ rows) =
+    elim (test (bit_name_of r))
+    as (λ t. option_map bit_name_of (cond t (Some r) (find (λ x. test (bit_name_of x)) rows))
+    ≡ cond t (Some (bit_name_of r)) (find test (bit_names_of rows))) [
       | true ↦ refl
-      | false ↦ row_found rows word
+      | false ↦ row_found test rows
     ]
 
 -- ---- the names behind a row
 
+-- a number does not have a greater bit
 above_all : (bits bit : ℕ) → bits < bit → eqb (bit_and bits bit) bit ≡ false
 above_all bits bit lt = ⊎_elim (λ h. absurd (omega (arith, lt, h.1, and_le_l bits bit))) (λ h. h.0)
     (eqb_tells (bit_and bits bit) bit)
@@ -46,62 +49,26 @@ none_from (r ∷ rows) set (suc i) d rising inside lt =
     let both = and_true (list_all (λ next. ltb r.bit next.bit) rows) (is_rising rows) rising in
     none_from rows set i d both.1 (omega (arith, inside)) lt
 
--- the name of the row of a bit
-pub row_of_bit_found : (table : List Row) (bit : ℕ)
-    → option_map (λ r. r.name.now) (find (λ r. eqb r.bit bit) table) ≡ first_name (bit_names_of table) bit
-row_of_bit_found [] bit = refl
-row_of_bit_found (r ∷ rows) bit =
-    elim (eqb r.bit bit)
-    as (λ t. option_map (λ (x : Row). x.name.now) (cond t (Some r) (find (λ x. eqb x.bit bit) rows))
-    ≡ option_map (λ (x : BitName). x.name) (cond t (Some (bit_name_of r)) (find (λ x. eqb x.bit bit) (bit_names_of rows)))) [
-      | true ↦ refl
-      | false ↦ row_of_bit_found rows bit
-    ]
-
 -- ---- names give a set of rights
 
-abbrev are_rights : List BitName → Type 0
-are_rights table = list_all (λ r. is_within all_rights r.bit) table ≡ true
+-- the bit that a word names is a right
+right_named : (word : List ℕ) (bit : ℕ) → bit_in rights word ≡ Some bit → IsMask bit
+right_named word bit e = let r = row_of (λ row. is_within all_rights row.bit) rights word bit refl e in
+    subst IsMask r.same_bit (eqb-true _ _ r.passes)
 
-found_right : (test : BitName → Bool) (table : List BitName) (row : BitName) → are_rights table
-    → find test table ≡ Some row → IsMask row.bit
-found_right test [] row all e = absurd cc
-found_right test (r ∷ rows) row all e =
-    let both = and_true (is_within all_rights r.bit) (list_all (λ x. is_within all_rights x.bit) rows) all in
-    elim (test r) as (λ t. cond t (Some r) (find test rows) ≡ Some row → IsMask row.bit) [
-      | true ↦ λ h. let same : r ≡ row = cc in subst (λ (x : BitName). IsMask x.bit) same (eqb-true _ _ both.0)
-      | false ↦ λ h. found_right test rows row both.1 h
-    ] e
-
-bit_right : (table : List BitName) (word : List ℕ) (bit : ℕ) → are_rights table → bit_in table word ≡ Some bit
-    → IsMask bit
-bit_right table word bit all e = among (find (is_name_of word) table) refl e where
-  among : (o : Option BitName) → find (is_name_of word) table ≡ o → option_map (λ r. r.bit) o ≡ Some bit → IsMask bit
-  among None is h = absurd cc
-  among (Some r) is h = let same : r.bit ≡ bit = cc in
-      subst IsMask same (found_right (is_name_of word) table r all is)
-
-joined_right : (bit m n : ℕ) → IsMask bit → IsMask m → bit_or bit m ≡ n → IsMask n
-joined_right bit m n one two e = subst IsMask e (IsMask-union bit m one two)
-
-words_right : (table : List BitName) (words : List (List ℕ)) (n : ℕ) → are_rights table
-    → bits_in table words ≡ Some n → IsMask n
-words_right table [] n all e = let same : 0 ≡ n = cc in subst IsMask same refl
-words_right table (word ∷ words) n all e =
-    option_and_then_some (λ bit. option_map (bit_or bit) (bits_in table words)) (bit_in table word) n e
-    (λ bit named rest. map_some (bit_or bit) (bits_in table words) n rest (λ m others.
-    let same : bit_or bit m ≡ n = same_Some _ _ (sym (ap (option_map (bit_or bit)) others) ∙ rest) in
-    joined_right bit m n (bit_right table word bit all named) (words_right table words m all others) same))
+-- the set that words name is a set of rights
+rights_named : (words : List (List ℕ)) (n : ℕ) → bits_in rights words ≡ Some n → IsMask n
+rights_named [] n e = let same : 0 ≡ n = cc in subst IsMask same refl
+rights_named (word ∷ words) n e = let f = first_named rights word words n e in
+    subst IsMask f.union
+    (IsMask-union f.bit f.others (right_named word f.bit f.named) (rights_named words f.others f.rest))
 
 -- a field that names a set of rights names a mask
 pub named_right : (field : List ℕ) (n : ℕ) → mask_named field ≡ Some n → IsMask n
-unfolding set_named
-named_right field n e =
-    elim (bytes_eq field no_names)
-    as (λ t. cond t (Some 0) (bits_in rights (slice_split (λ b. eqb b 0x7c) field)) ≡ Some n → IsMask n) [
-      | true ↦ λ h. let same : 0 ≡ n = cc in subst IsMask same refl
-      | false ↦ λ h. words_right rights (slice_split (λ b. eqb b 0x7c) field) n refl h
-    ] e
+named_right field n e = elim (spelled rights field n e) [
+  | inl none ↦ rw none.1 refl
+  | inr some ↦ rights_named some.0 n some.3
+]
 
 -- the mask of a number that is a mask
 pub mask_made : (r : Option Mask) (bits : ℕ) → (IsSome r ↔ IsMask bits) → IfSome r (λ m. m.bits ≡ bits) → IsMask bits
@@ -111,57 +78,26 @@ mask_made (Some m) bits is value h = ap (λ (n : ℕ). Some n) value
 
 -- ---- names of a table
 
--- the name of a row names its bit in the table
-abbrev pub names_itself : List BitName → BitName → Bool
-names_itself table row = option_map_or (λ bit. eqb bit row.bit) (bit_in table row.name) false
-
--- the name of each row names its bit
-abbrev pub NameThemselves : List BitName → List BitName → Type 0
-NameThemselves table rows = list_all (names_itself table) rows ≡ true
-
-itself : (table : List BitName) (row : BitName) → names_itself table row ≡ true → bit_in table row.name ≡ Some row.bit
-itself table row e = among (bit_in table row.name) e where
-  among : (o : Option ℕ) → option_map_or (λ bit. eqb bit row.bit) o false ≡ true → o ≡ Some row.bit
-  among None h = absurd cc
-  among (Some bit) h = ap (λ (n : ℕ). Some n) (eqb-true _ _ h)
-
--- the name of each right names its bit
-pub rights_name : NameThemselves rights rights
-rights_name = refl
-
--- the name of each flag names its bit
-pub flags_name : NameThemselves flag_names flag_names
-flags_name = refl
-
-one_word : (table : List BitName) (word : List ℕ) (bit : ℕ) → bit_in table word ≡ Some bit
-    → bits_in table (word ∷ []) ≡ Some bit
-one_word table word bit e = rw e (ap (λ (n : ℕ). Some n) (or_zero bit))
-
 -- the first name of a bit spells it
 pub first_spells : (table rows : List BitName) (bit : ℕ) (name : List ℕ) → NameThemselves table rows
     → first_name rows bit ≡ Some name → SpellsSet table name bit
-first_spells table [] bit name all e = absurd cc
-first_spells table (row ∷ rows) bit name all e =
-    let both = and_true (names_itself table row) (list_all (names_itself table) rows) all in
+first_spells table [] bit name named e = absurd cc
+first_spells table (row ∷ rows) bit name named e =
     elim (eqb row.bit bit) as (λ t. eqb row.bit bit ≡ t
     → option_map (λ (x : BitName). x.name) (cond t (Some row) (find (λ x. eqb x.bit bit) rows)) ≡ Some name
     → SpellsSet table name bit) [
       | true ↦ λ is h.
-          let same : row.name ≡ name = cc in
-          let named : bit_in table name ≡ Some bit =
-          subst (λ (w : List ℕ). bit_in table w ≡ Some bit) same
-          (itself table row both.0 ∙ ap (λ (n : ℕ). Some n) (eqb-true _ _ is)) in
-          inr (name ∷ [], λ none. absurd (some_names none), refl, one_word table name bit named)
-      | false ↦ λ is h. first_spells table rows bit name both.1 h
-    ] refl e where
-      some_names : name ∷ [] ≡ [] → ⊥
-      some_names h = cc
+          let same : row.bit ≡ bit = eqb-true _ _ is in
+          let word : bit_in table name ≡ Some bit = cc in
+          inr (name ∷ [], (λ none. cc), refl, rw (word, or_zero_r bit) refl)
+      | false ↦ λ is h. let others : NameThemselves table rows = cc in first_spells table rows bit name others h
+    ] refl e
 
 -- the name of a right spells it
 pub name_spells : (r : Option (Bor (List ℕ))) (bit : ℕ) → option_map (λ name. name.now) r ≡ first_name rights bit
     → IfSome r (λ name. SpellsMask name.now bit)
 name_spells None bit e = tt
-name_spells (Some name) bit e = first_spells rights rights bit name.now rights_name (sym e)
+name_spells (Some name) bit e = first_spells rights rights bit name.now rights_table.named cc
 
 -- ---- the field that is written spells the set
 
@@ -170,102 +106,100 @@ abbrev pub all_of : List BitName → ℕ
 all_of [] = 0
 all_of (row ∷ rows) = bit_or row.bit (all_of rows)
 
--- each row has one bit
-abbrev pub AreBits : List BitName → Type 0
-AreBits rows = AllByRecursion (λ row. (k : ℕ) × (row.bit ≡ 2 ^ k)) rows
-
 -- the part of a set that is in one of two other sets
 and_or : (a b c : ℕ) → bit_and a (bit_or b c) ≡ bit_or (bit_and a b) (bit_and a c)
 and_or a b c = same_set _ _ (λ k.
-    has_bit-and a (bit_or b c) k ∙ ap (λ (x : Bool). has_bit a k && x) (has_bit-or b c k)
-    ∙ and-or_distrib_left (has_bit a k) (has_bit b k) (has_bit c k)
-    ∙ sym (has_bit-or (bit_and a b) (bit_and a c) k
-    ∙ ap (λ (x : Bool). x || has_bit (bit_and a c) k) (has_bit-and a b k)
-    ∙ ap (λ (x : Bool). (has_bit a k && has_bit b k) || x) (has_bit-and a c k)))
+    simp (has_bit-and, has_bit-or) (and-or_distrib_left (has_bit a k) (has_bit b k) (has_bit c k)))
 
+-- a digit times a power is the power or 0
 zero_and : (d p : ℕ) → d < 2 → (eqb (d * p) p ≡ false) → d * p ≡ 0
 zero_and zero p lt h = omega arith
 zero_and (suc zero) p lt h = let same : 1 * p ≡ p = omega arith in grind arith
 zero_and (suc (suc d)) p lt h = absurd (omega (arith, lt))
 
 -- a set has a bit, or the intersection with the bit is empty
-misses : (set bit k : ℕ) → bit ≡ 2 ^ k → eqb (bit_and set bit) bit ≡ false → bit_and set bit ≡ 0
-misses set bit k e h =
-    let same : bit_and set bit ≡ bit_at set k * 2 ^ k = ap (bit_and set) e ∙ and_pow set k in
-    let h2 : eqb (bit_at set k * 2 ^ k) (2 ^ k) ≡ false =
-    sym (ap (λ (n : ℕ). eqb n bit) same ∙ ap (λ (n : ℕ). eqb (bit_at set k * 2 ^ k) n) e) ∙ h in
-    same ∙ zero_and (bit_at set k) (2 ^ k) (bit_at-lt set k) h2
+misses : (set k : ℕ) → eqb (bit_and set (2 ^ k)) (2 ^ k) ≡ false → bit_and set (2 ^ k) ≡ 0
+misses set k h =
+    rw (and_pow set k) (zero_and (bit_at set k) (2 ^ k) (bit_at-lt set k) (rw (and_pow set k) at h))
 
 -- the names of the bits of a set name the part of the set that is in the table
-names_spell : (table rows : List BitName) (set : ℕ) → NameThemselves table rows → AreBits rows
+names_spell : (table rows : List BitName) (places : List ℕ) (set : ℕ) → NameThemselves table rows → AreBits rows places
     → bits_in table (names_of rows set) ≡ Some (bit_and set (all_of rows))
-names_spell table [] set all bits = ap (λ (n : ℕ). Some n) (same_set _ _ (λ k. no_bit k
-    ∙ sym (has_bit-and set 0 k ∙ ap (λ (x : Bool). has_bit set k && x) (no_bit k) ∙ never (has_bit set k)))) where
-      never : (x : Bool) → (x && false) ≡ false
-      never true = refl
-      never false = refl
-names_spell table (row ∷ rows) set all bits =
-    let both = and_true (names_itself table row) (list_all (names_itself table) rows) all in
-    let rest = names_spell table rows set both.1 bits.1 in
+names_spell table [] places set named bits = rw (and_zero_r set) refl
+names_spell table (row ∷ rows) [] set named bits = absurd cc
+names_spell table (row ∷ rows) (k ∷ places) set named bits =
+    let name : bit_in table row.name ≡ Some row.bit = cc in
+    let bit : row.bit ≡ 2 ^ k = cc in
+    let others : NameThemselves table rows = cc in
+    let powers : AreBits rows places = cc in
+    let rest = names_spell table rows places set others powers in
     elim (eqb (bit_and set row.bit) row.bit) as (λ t. eqb (bit_and set row.bit) row.bit ≡ t
     → bits_in table (cond t (row.name ∷ names_of rows set) (names_of rows set))
     ≡ Some (bit_and set (bit_or row.bit (all_of rows)))) [
-      | true ↦ λ is. rw (itself table row both.0, rest) (ap (λ (n : ℕ). Some n)
-          (ap (λ (n : ℕ). bit_or n (bit_and set (all_of rows))) (sym (eqb-true _ _ is))
-          ∙ sym (and_or set row.bit (all_of rows))))
-      | false ↦ λ is. rest ∙ ap (λ (n : ℕ). Some n)
-          (sym (zero_or (bit_and set (all_of rows)))
-          ∙ ap (λ (n : ℕ). bit_or n (bit_and set (all_of rows))) (sym (misses set row.bit bits.0.0 bits.0.1 is))
-          ∙ sym (and_or set row.bit (all_of rows)))
+      | true ↦ λ has. rw (name, rest, and_or set row.bit (all_of rows), eqb-true _ _ has) refl
+      | false ↦ λ lacks.
+          let none : bit_and set row.bit ≡ 0 = rw bit (misses set k (rw bit at lacks)) in
+          rw (rest, and_or set row.bit (all_of rows), none, or_zero_l (bit_and set (all_of rows))) refl
     ] refl
 
 -- the field of a set with bits of the table spells the set
-pub text_spells : (table : List BitName) (set : ℕ) → NameThemselves table table → AreBits table
-    → IsWithin (all_of table) set → SpellsSet table (set_text table set) set
+pub text_spells : (table : List BitName) (set : ℕ) → IsTable table → IsWithin (all_of table) set
+    → SpellsSet table (set_text table set) set
 unfolding set_text
-text_spells table set all bits within =
+text_spells table set is within =
+    let named : bits_in table (names_of table set) ≡ Some set =
+    names_spell table table is.places set is.named is.bits ∙ ap (λ (n : ℕ). Some n) within in
     elim (eqb set 0) as (λ t. eqb set 0 ≡ t
     → SpellsSet table (cond t no_names (join_with_byte bar (names_of table set))) set) [
       | true ↦ λ none. inl (refl, eqb-true _ _ none)
-      | false ↦ λ some. inr (
-        names_of table set,
-        (λ e. absurd (not_empty some (sym (ap (bits_in table) e) ∙ all_named))),
-        refl,
-        all_named,
-      )
+      | false ↦ λ some. inr (names_of table set, (λ e. not_empty some (rw e at named)), refl, named)
     ] refl where
-      all_named : bits_in table (names_of table set) ≡ Some set
-      all_named = names_spell table table set all bits ∙ ap (λ (n : ℕ). Some n) within
-
       not_empty : eqb set 0 ≡ false → Some 0 ≡ Some set → ⊥
-      not_empty h e =
-          let same : 0 ≡ set = cc in
-          let wrong : eqb 0 0 ≡ false = subst (λ (n : ℕ). eqb n 0 ≡ false) (sym same) h in
-          cc
+      not_empty some e = let same : 0 ≡ set = cc in let wrong = rw (← same) at some in cc
 
--- the bits of rows are the powers of these numbers
-bits_are : (rows : List BitName) (ks : List ℕ) → map (λ (row : BitName). row.bit) rows ≡ map (λ k. 2 ^ k) ks
-    → AreBits rows
-bits_are [] ks e = tt
-bits_are (row ∷ rows) [] e = absurd cc
-bits_are (row ∷ rows) (k ∷ ks) e =
-    let first : row.bit ≡ 2 ^ k = cc in
-    let others : map (λ (row : BitName). row.bit) rows ≡ map (λ k. 2 ^ k) ks = cc in
-    ((k, first), bits_are rows ks others)
+-- ---- the bytes of the field that is written
 
--- the bits of the rights
-pub rights_bits : AreBits rights
-rights_bits = bits_are rights (0 ∷ 1 ∷ 2 ∷ 3 ∷ 4 ∷ 5 ∷ 6 ∷ 7 ∷ 8 ∷ 9 ∷ 10 ∷ 16 ∷ 17 ∷ 18 ∷ 19 ∷ 20 ∷ []) refl
+-- `-`, `|` and the bytes of the first names pass a test
+abbrev pub names_pass : (ℕ → Bool) → List BitName → Bool
+names_pass test table = list_all test (bar ∷ no_names) && list_all (λ row. list_all test row.name) table
 
--- the bits of the flags
-pub flags_bits : AreBits flag_names
-flags_bits = bits_are flag_names (0 ∷ 1 ∷ 2 ∷ 3 ∷ 4 ∷ 5 ∷ 6 ∷ 7 ∷ []) refl
+-- the bytes of the names of a set pass a test that the bytes of all names pass
+names_of-pass : (test : ℕ → Bool) (rows : List BitName) (set : ℕ)
+    → list_all (λ (row : BitName). list_all test row.name) rows ≡ true
+    → list_all (list_all test) (names_of rows set) ≡ true
+names_of-pass test [] set h = refl
+names_of-pass test (row ∷ rows) set h =
+    let both = and_true (list_all test row.name) (list_all (λ (r : BitName). list_all test r.name) rows) h in
+    elim (eqb (bit_and set row.bit) row.bit)
+    as (λ t. list_all (list_all test) (cond t (row.name ∷ names_of rows set) (names_of rows set)) ≡ true) [
+      | true ↦ rw both.0 (names_of-pass test rows set both.1)
+      | false ↦ names_of-pass test rows set both.1
+    ]
+
+-- so do the bytes of names with `|` between them
+join-pass : (test : ℕ → Bool) (words : List (List ℕ)) → test bar ≡ true → list_all (list_all test) words ≡ true
+    → list_all test (join_with_byte bar words) ≡ true
+join-pass test [] at_bar h = refl
+join-pass test (word ∷ []) at_bar h = (and_true (list_all test word) true h).0
+join-pass test (word ∷ next ∷ words) at_bar h =
+    let both = and_true (list_all test word) (list_all (list_all test) (next ∷ words)) h in
+    rw (list_all-append test word (bar ∷ join_with_byte bar (next ∷ words)), both.0, at_bar)
+    (join-pass test (next ∷ words) at_bar both.1)
+
+-- the bytes of the field of a set pass it too
+pub set_text-pass : (test : ℕ → Bool) (table : List BitName) (set : ℕ) → names_pass test table ≡ true
+    → list_all test (set_text table set) ≡ true
+unfolding set_text
+set_text-pass test table set h =
+    let both = and_true (list_all test (bar ∷ no_names)) (list_all (λ (row : BitName). list_all test row.name) table) h
+    in
+    let marks = and_true (test bar) (list_all test no_names) both.0 in
+    elim (eqb set 0) as (λ t. list_all test (cond t no_names (join_with_byte bar (names_of table set))) ≡ true) [
+      | true ↦ marks.1
+      | false ↦ join-pass test (names_of table set) marks.0 (names_of-pass test table set both.1)
+    ]
 
 -- ---- a field whose bits are all in a set
-
--- the flags make a table
-pub flags_table : IsTable flag_names
-flags_table = record { whole = refl; no_dash = refl }
 
 -- the set that is read is named and is a part of the whole
 pub record NamesPart (table : List BitName) (whole : ℕ) (field : List ℕ) (set : ℕ) : Type 0 where
@@ -281,28 +215,24 @@ PartSays table whole field (Some set) = NamesPart table whole field set
 pub part_read : (table : List BitName) (whole : ℕ) (field : List ℕ) (set : ℕ) → IsTable table
     → SpellsSet table field set → IsWithin whole set → set_within table whole field ≡ Some set
 unfolding set_within
-part_read table whole field set is s within =
-    ap (set_if_within whole) (named_again table field set is s)
-    ∙ ap (λ t. cond t (Some set) None) (eq-eqb _ _ within)
+part_read table whole field set is s within = rw (named_again table field set is s, eq-eqb _ _ within) refl
 
 -- what is read is true of the field
 pub part_says : (table : List BitName) (whole : ℕ) (field : List ℕ) → IsTable table
     → PartSays table whole field (set_within table whole field)
 unfolding set_within
 part_says table whole field is =
-    elim (set_named table field) as (λ o. set_named table field ≡ o → PartSays table whole field (set_if_within whole o)) [
-      | None ↦ λ none set s within. absurd (apart (sym none ∙ named_again table field set is s))
+    elim (set_named table field)
+    as (λ o. set_named table field ≡ o → PartSays table whole field (set_if_within whole o)) [
+      | None ↦ λ none set s within. let e = named_again table field set is s in cc
       | Some set ↦ λ named.
           elim (is_within whole set) as (λ t. is_within whole set ≡ t
           → PartSays table whole field (cond t (Some set) None)) [
             | true ↦ λ inside. record { spelled = spelled table field set named; within = eqb-true _ _ inside }
             | false ↦ λ outside other s within.
-                let same : set ≡ other = same_Some _ _ (sym named ∙ named_again table field other is s) in
-                absurd (misfit (sym outside ∙ eq-eqb _ _ (subst (IsWithin whole) (sym same) within)))
+                let e = named_again table field other is s in
+                let inside = eq-eqb _ _ within in
+                let same : set ≡ other = cc in
+                cc
           ] refl
-    ] refl where
-      apart : {x : ℕ} → None ≡ Some x → ⊥
-      apart h = cc
-
-      misfit : false ≡ true → ⊥
-      misfit h = cc
+    ] refl

@@ -62,21 +62,17 @@ plain_front bytes n len fits most inside short behind = λ k d from to.
     let long : length lanes ≡ n = length-chunk 0 n bytes room in
     let is : beyond n lanes ≡ mask_l (map is_beyond lanes) = beyond_is n lanes long most in
     let first = first_set_mask_l is_beyond lanes n long most in
-    let run : len ≤ prefix_len (λ b. not (is_beyond b)) lanes =
-    subst (λ (z : ℕ). len ≤ z) first (front_le (mask_l (map is_beyond lanes)) n len short
-    (subst (λ (z : ℕ). len ≤ count_trailing_zeros 64 z) is behind)) in
+    let hits = mask_l (map is_beyond lanes) in
+    let least : len ≤ cond (eqb hits 0) n (count_trailing_zeros 64 hits) =
+    elim (eqb hits 0) as (λ b. len ≤ cond b n (count_trailing_zeros 64 hits)) [
+      | true ↦ short
+      | false ↦ subst (λ (z : ℕ). len ≤ count_trailing_zeros 64 z) is behind
+    ] in
+    let run : len ≤ prefix_len (λ b. not (is_beyond b)) lanes = subst (λ (z : ℕ). len ≤ z) first least in
     let here : get_or bytes k d ≡ get_or bytes k 0 = get_or_default bytes k d 0 (omega (arith, to, short, inside)) in
     rw here (plain_byte (get_or bytes k 0) (fits k).fits
     (run_in_chunk_fails is_beyond bytes 0 n (prefix_len (λ b. not (is_beyond b)) lanes) 0 room refl k from
     (omega (arith, to, run))))
-  where
-    front_le : (hits n len : ℕ) → len ≤ n → len ≤ count_trailing_zeros 64 hits
-        → len ≤ cond (eqb hits 0) n (count_trailing_zeros 64 hits)
-    front_le hits n len short behind = by (eqb hits 0)
-      where
-        by : (b : Bool) → len ≤ cond b n (count_trailing_zeros 64 hits)
-        by true = short
-        by false = behind
 
 -- a front of plain ASCII passes the test of each byte
 pub plain_front_whole : (bytes : List ℕ) (len : ℕ) → len ≤ length bytes → ArePlain bytes 0 len

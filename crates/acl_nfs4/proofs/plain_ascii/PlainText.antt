@@ -1,5 +1,7 @@
 -- The test for UTF-8, from the contract of `from_utf8`; and plain ASCII.
-use Rattle.acl_nfs4.proofs.Common.{[], All-from_recursion, AllByRecursion, and_true, arith, Bool, false, false_from_ne_true, is_no_who_len, is_plain, is_plain_ascii, is_unknown_special, is_utf8, is_utf8-from_IsUtf8, IsAscii-from_all, IsUtf8, IsUtf8-from_ascii, IsUtf8-from_is_utf8, leb, length, length-take-le, List, list_all, ltb, None, not, not-true, refl, subst, sym, take, true, who_fault, ℕ, ◌<◌, ◌∙◌, ◌∷◌, ◌≡◌, ◌≤◌}
+use Rattle.acl_nfs4.proofs.Common.{arith, list_all-from_AllPass, nat_tests, Bool, false, false_from_ne_true, is_no_who_len, is_plain, is_plain_ascii, is_unknown_special, is_utf8, is_utf8-from_IsUtf8, IsAscii-from_all, IsUtf8, IsUtf8-from_ascii, IsUtf8-from_is_utf8, length, length-take-le, List, list_all, None, not, not-true, refl, sym, take, true, who_fault, ℕ, ◌<◌, ◌∙◌, ◌≡◌, ◌≤◌}
+use Rattle.std.proofs.lemmas.List.Elements.{All-weaker}
+use Rattle.std.proofs.lemmas.List.Sums.{AllPass-from_list_all}
 
 -- a true answer
 pub yes : (bytes : List ℕ) → IsUtf8 bytes → true ≡ is_utf8 bytes
@@ -13,44 +15,36 @@ pub ruleset text_tests = (yes, no)
 
 -- ---- plain ASCII
 
-all_ascii : (bytes : List ℕ) → list_all is_plain_ascii bytes ≡ true → AllByRecursion (λ b. b < 128) bytes
-all_ascii [] e = tt
-all_ascii (b ∷ bytes) e =
-    let h = and_true (is_plain_ascii b) (list_all is_plain_ascii bytes) e in
-    let t = and_true (leb 0x20 b) (ltb b 0x7f) h.0 in
-    (let lt : b < 128 = grind (arith, t.1) in lt, all_ascii bytes h.1)
+-- bytes that pass a test pass a weaker test
+pub all_weaker : (p q : ℕ → Bool) (bytes : List ℕ) → ((b : ℕ) → p b ≡ true → q b ≡ true) → list_all p bytes ≡ true
+    → list_all q bytes ≡ true
+all_weaker p q bytes each h = list_all-from_AllPass q bytes
+    (All-weaker (λ b. p b ≡ true) (λ b. q b ≡ true) each bytes (AllPass-from_list_all p bytes h))
 
 -- plain ASCII is UTF-8
 pub plain_ascii_is_utf8 : (bytes : List ℕ) → list_all is_plain_ascii bytes ≡ true → is_utf8 bytes ≡ true
-plain_ascii_is_utf8 bytes e =
-    is_utf8-from_IsUtf8 bytes (IsUtf8-from_ascii bytes
-    (IsAscii-from_all bytes (All-from_recursion (λ b. b < 128) bytes (all_ascii bytes e))))
-
-plain_byte : (b : ℕ) → is_plain_ascii b ≡ true → is_plain b ≡ true
-plain_byte b e =
-    let t = and_true (leb 0x20 b) (ltb b 0x7f) e in
-    grind (arith, t.0, t.1)
+plain_ascii_is_utf8 bytes e = is_utf8-from_IsUtf8 bytes (IsUtf8-from_ascii bytes (IsAscii-from_all bytes
+    (All-weaker (λ b. is_plain_ascii b ≡ true) (λ b. b < 128) (λ b h. grind (arith, nat_tests, h)) bytes
+    (AllPass-from_list_all is_plain_ascii bytes e))))
 
 -- plain ASCII has no control byte
 pub plain_ascii_is_plain : (bytes : List ℕ) → list_all is_plain_ascii bytes ≡ true → list_all is_plain bytes ≡ true
-plain_ascii_is_plain [] e = refl
-plain_ascii_is_plain (b ∷ bytes) e =
-    let h = and_true (is_plain_ascii b) (list_all is_plain_ascii bytes) e in
-    rw (plain_byte b h.0, plain_ascii_is_plain bytes h.1) refl
+plain_ascii_is_plain bytes e = all_weaker is_plain_ascii is_plain bytes (λ b h. grind (arith, nat_tests, h)) e
 
 -- what the test of a who needs
 pub ruleset plain_ascii = (plain_ascii_is_utf8, plain_ascii_is_plain)
 
--- plain ASCII of an allowed length is a who, unless it is an unknown special identifier
-plain_is_who : (who : List ℕ) → is_no_who_len (length who) ≡ false → list_all is_plain_ascii who ≡ true
-    → is_unknown_special who ≡ false → who_fault who ≡ None
-plain_is_who who some plain other =
-    rw (some, plain_ascii_is_utf8 who plain, plain_ascii_is_plain who plain, other) refl
-
--- the same for a front of bytes
+-- plain ASCII of an allowed length at the front of bytes is a who, unless it is an unknown special identifier
 pub plain_front_is_who : (bytes : List ℕ) (len : ℕ) (special : Bool) → is_no_who_len len ≡ false → len ≤ length bytes
     → list_all is_plain_ascii (take len bytes) ≡ true → special ≡ is_unknown_special (take len bytes)
     → not special ≡ true → who_fault (take len bytes) ≡ None
-plain_front_is_who bytes len special some inside plain is other = plain_is_who (take len bytes)
-    (subst (λ (n : ℕ). is_no_who_len n ≡ false) (sym (length-take-le len bytes inside)) some) plain
-    (sym is ∙ not-true special other)
+plain_front_is_who bytes len special some inside plain is other =
+    let known : is_unknown_special (take len bytes) ≡ false = sym is ∙ not-true special other in
+    rw (
+      known,
+      length-take-le len bytes inside,
+      some,
+      plain_ascii_is_utf8 (take len bytes) plain,
+      plain_ascii_is_plain (take len bytes) plain,
+    )
+    refl

@@ -1,104 +1,38 @@
 -- The text that is written, and what it spells.
-use Rattle.acl_nfs4.proofs.Common.{[], Ace, ace_lines_from, ace_text, all_flags, all_rights, AllByRecursion, Allow, and_true, ap, append_assoc, bar, bit_and, BitName, Bool, cond, Deny, eqb, eqb-true, false, first_name, flag_names, flat_map-cons, HasNoSpace, is_no_who_len, is_plain, is_skipped, is_unknown_special, is_utf8, IsAccepted, IsAce, IsAceText, IsProfile, IsWho, join_with_byte, Kind, kind_name, length, List, list_all, names_of, no_names, None, not, Profile, refl, rights, slice_split_at, Some, SpellEach, SpellsAce, SpellsMask, subst, sym, TextLine, true, ℕ, ◌&&◌, ◌++◌, ◌+◌, ◌↔◌, ◌∙◌, ◌∷◌, ◌≡◌}
+use Rattle.acl_nfs4.proofs.Common.{[], Ace, ace_lines_from, ace_text, arith, nat_tests, all_flags, all_rights, AllByRecursion, Allow, ap, append_assoc, Bool, cond, Deny, eqb, false, first_name, flag_names, flat_map-cons, is_no_who_len, is_plain, is_skipped, is_unknown_special, is_utf8, IsAccepted, IsAce, IsAceText, IsProfile, IsWho, Kind, kind_name, length, List, list_all, None, not, Profile, refl, rights, slice_split_at, Some, SpellEach, SpellsAce, SpellsMask, subst, sym, true, ℕ, ◌++◌, ◌+◌, ◌↔◌, ◌∙◌, ◌∷◌, ◌≡◌}
 use Rattle.std.proofs.lemmas.List.Folds.{list_all-append}
 use Rattle.acl_perm.specs.Lines.{lines_of}
 use Rattle.acl_nfs4.specs.AceText.{ace_line}
 use Rattle.acl_nfs4.specs.BitNames.{set_text}
 use Rattle.acl_nfs4.specs.declared.who.WhoFault.TheVariants as who
 use Rattle.acl_nfs4.proofs.text.AceLines.{one_list}
-use Rattle.acl_nfs4.proofs.names.SetFields.{all_apart, named_again, rights_table}
-use Rattle.acl_nfs4.proofs.names.Tables.{first_spells, flags_bits, flags_name, rights_bits, rights_name, text_spells}
+use Rattle.acl_nfs4.proofs.names.SetFields.{all_apart, flags_table, named_again, rights_table}
+use Rattle.acl_nfs4.proofs.names.Tables.{first_spells, set_text-pass, text_spells}
 use Rattle.acl_nfs4.proofs.list.Within.{within_part}
+use Rattle.acl_nfs4.proofs.plain_ascii.PlainText.{all_weaker}
 
 -- ---- the bytes of a line
-
--- no space and no line feed
-abbrev is_inner : ℕ → Bool
-is_inner b = not (eqb b 0x20) && not (eqb b 10)
 
 -- no line feed
 abbrev is_no_feed : ℕ → Bool
 is_no_feed b = not (eqb b 10)
 
--- bytes that pass a test pass a weaker test
-all_weaker : (p q : ℕ → Bool) → ((b : ℕ) → p b ≡ true → q b ≡ true) → (bytes : List ℕ) → list_all p bytes ≡ true
-    → list_all q bytes ≡ true
-all_weaker p q each [] h = refl
-all_weaker p q each (b ∷ bytes) h =
-    let both = and_true (p b) (list_all p bytes) h in
-    rw (each b both.0) (all_weaker p q each bytes both.1)
-
-all_both : (p : ℕ → Bool) (xs ys : List ℕ) → list_all p xs ≡ true → list_all p ys ≡ true → list_all p (xs ++ ys) ≡ true
-all_both p xs ys h k = rw (list_all-append p xs ys, h) k
-
-inner_names : (rows : List BitName) (set : ℕ) → list_all (λ row. list_all is_inner row.name) rows ≡ true
-    → list_all (list_all is_inner) (names_of rows set) ≡ true
-inner_names [] set h = refl
-inner_names (row ∷ rows) set h =
-    let both = and_true (list_all is_inner row.name) (list_all (λ r. list_all is_inner r.name) rows) h in
-    elim (eqb (bit_and set row.bit) row.bit)
-    as (λ t. list_all (list_all is_inner) (cond t (row.name ∷ names_of rows set) (names_of rows set)) ≡ true) [
-      | true ↦ rw both.0 (inner_names rows set both.1)
-      | false ↦ inner_names rows set both.1
-    ]
-
-inner_join : (words : List (List ℕ)) → list_all (list_all is_inner) words ≡ true
-    → list_all is_inner (join_with_byte bar words) ≡ true
-inner_join [] h = refl
-inner_join (word ∷ []) h = (and_true (list_all is_inner word) true h).0
-inner_join (word ∷ next ∷ words) h =
-    let both = and_true (list_all is_inner word) (list_all (list_all is_inner) (next ∷ words)) h in
-    all_both is_inner word (bar ∷ join_with_byte bar (next ∷ words)) both.0 (inner_join (next ∷ words) both.1)
-
--- the field of a set has no space and no line feed
-inner_set : (table : List BitName) (set : ℕ) → list_all (λ row. list_all is_inner row.name) table ≡ true
-    → list_all is_inner (set_text table set) ≡ true
-unfolding set_text
-inner_set table set h =
-    elim (eqb set 0) as (λ t. list_all is_inner (cond t no_names (join_with_byte bar (names_of table set))) ≡ true) [
-      | true ↦ refl
-      | false ↦ inner_join (names_of table set) (inner_names table set h)
-    ]
-
-inner_kind : (kind : Kind) → list_all is_inner (kind_name kind) ≡ true
-inner_kind Allow = refl
-inner_kind Deny = refl
-
-no_space : (bytes : List ℕ) → list_all is_inner bytes ≡ true → HasNoSpace bytes
-no_space bytes h = all_weaker is_inner (λ b. not (eqb b 0x20))
-    (λ b e. (and_true (not (eqb b 0x20)) (not (eqb b 10)) e).0) bytes h
-
-no_feed : (bytes : List ℕ) → list_all is_inner bytes ≡ true → list_all is_no_feed bytes ≡ true
-no_feed bytes h = all_weaker is_inner is_no_feed (λ b e. (and_true (not (eqb b 0x20)) (not (eqb b 10)) e).1) bytes h
-
+-- a who has no control byte
 plain_who : (name : List ℕ) → IsWho name → list_all is_plain name ≡ true
-plain_who name h =
-    elim (is_no_who_len (length name))
-    as (λ a. cond a (Some who.Length) (cond (not (is_utf8 name)) (Some who.Utf8)
-    (cond (not (list_all is_plain name)) (Some who.Control)
-    (cond (is_unknown_special name) (Some who.Special) None))) ≡ None → list_all is_plain name ≡ true) [
-      | true ↦ λ e. absurd cc
-      | false ↦ λ e.
-          elim (not (is_utf8 name)) as (λ a. cond a (Some who.Utf8)
-          (cond (not (list_all is_plain name)) (Some who.Control)
-          (cond (is_unknown_special name) (Some who.Special) None)) ≡ None → list_all is_plain name ≡ true) [
-            | true ↦ λ e. absurd cc
-            | false ↦ λ e.
-                elim (list_all is_plain name) as (λ a. cond (not a) (Some who.Control)
-                (cond (is_unknown_special name) (Some who.Special) None) ≡ None → a ≡ true) [
-                  | true ↦ λ e. refl
-                  | false ↦ λ e. absurd cc
-                ] e
-          ] e
-    ] h
+plain_who name h = no_control (is_no_who_len (length name)) (is_utf8 name) (list_all is_plain name)
+    (is_unknown_special name) h where
+      no_control : (long text plain special : Bool) → cond long (Some who.Length) (cond (not text) (Some who.Utf8)
+          (cond (not plain) (Some who.Control) (cond special (Some who.Special) None))) ≡ None → plain ≡ true
+      no_control true text plain special h = absurd cc
+      no_control false false plain special h = absurd cc
+      no_control false true true special h = refl
+      no_control false true false special h = absurd cc
 
-plain_no_feed : (b : ℕ) → is_plain b ≡ true → is_no_feed b ≡ true
-plain_no_feed b h =
-    elim (eqb b 10) as (λ t. eqb b 10 ≡ t → not t ≡ true) [
-      | true ↦ λ e. let same : b ≡ 10 = eqb-true _ _ e in
-          let wrong : is_plain 10 ≡ true = subst (λ (n : ℕ). is_plain n ≡ true) same h in absurd cc
-      | false ↦ λ e. refl
-    ] refl
+-- the bytes of a type pass a test that the bytes of both pass
+kind_pass : (test : ℕ → Bool) → list_all test (kind_name Allow) ≡ true → list_all test (kind_name Deny) ≡ true
+    → (kind : Kind) → list_all test (kind_name kind) ≡ true
+kind_pass test allow deny Allow = allow
+kind_pass test allow deny Deny = deny
 
 -- ---- lines
 
@@ -106,35 +40,28 @@ plain_no_feed b h =
 abbrev body : Ace → List ℕ
 body a = kind_name a.kind ++ 0x20 ∷ (set_text flag_names a.flags ++ 0x20 ∷ (set_text rights a.mask ++ 0x20 ∷ a.who))
 
+-- a line is its body and a line feed
 line_is : (a : Ace) → ace_line a ≡ body a ++ 10 ∷ []
 unfolding ace_line
-line_is a = sym (
-    append_assoc (kind_name a.kind)
-    (0x20 ∷ (set_text flag_names a.flags ++ 0x20 ∷ (set_text rights a.mask ++ 0x20 ∷ a.who))) (10 ∷ [])
-    ∙ ap (λ (l : List ℕ). kind_name a.kind ++ 0x20 ∷ l)
-    (append_assoc (set_text flag_names a.flags) (0x20 ∷ (set_text rights a.mask ++ 0x20 ∷ a.who)) (10 ∷ [])
-    ∙ ap (λ (l : List ℕ). set_text flag_names a.flags ++ 0x20 ∷ l)
-    (append_assoc (set_text rights a.mask) (0x20 ∷ a.who) (10 ∷ [])))
-    )
+line_is a = simp append_assoc
 
+-- a body has no line feed
 no_feed_in : (a : Ace) → IsWho a.who → list_all is_no_feed (body a) ≡ true
 no_feed_in a h =
-    let name : list_all is_no_feed (0x20 ∷ a.who) ≡ true =
-    all_weaker is_plain is_no_feed plain_no_feed a.who (plain_who a.who h) in
-    let mask = all_both is_no_feed (set_text rights a.mask) (0x20 ∷ a.who)
-    (no_feed (set_text rights a.mask) (inner_set rights a.mask refl)) name in
-    let flags = all_both is_no_feed (set_text flag_names a.flags) (0x20 ∷ (set_text rights a.mask ++ 0x20 ∷ a.who))
-    (no_feed (set_text flag_names a.flags) (inner_set flag_names a.flags refl)) mask in
-    all_both is_no_feed (kind_name a.kind)
-    (0x20 ∷ (set_text flag_names a.flags ++ 0x20 ∷ (set_text rights a.mask ++ 0x20 ∷ a.who)))
-    (no_feed (kind_name a.kind) (inner_kind a.kind)) flags
+    let kind : list_all is_no_feed (kind_name a.kind) ≡ true = kind_pass is_no_feed refl refl a.kind in
+    let flags = set_text-pass is_no_feed flag_names a.flags refl in
+    let mask = set_text-pass is_no_feed rights a.mask refl in
+    let who = all_weaker is_plain is_no_feed a.who (λ b plain. grind (arith, nat_tests, plain)) (plain_who a.who h) in
+    simp (list_all-append {X = ℕ}) (rw (kind, flags, mask, who) refl)
 
+-- a body is no line that is skipped
 kept : (a : Ace) → is_skipped (body a) ≡ false
 kept a = by_kind a.kind (0x20 ∷ (set_text flag_names a.flags ++ 0x20 ∷ (set_text rights a.mask ++ 0x20 ∷ a.who))) where
   by_kind : (kind : Kind) (rest : List ℕ) → is_skipped (kind_name kind ++ rest) ≡ false
   by_kind Allow rest = refl
   by_kind Deny rest = refl
 
+-- a body spells its ACE
 spells_line : (p : Profile) (a : Ace) → IsProfile p → IsAce p a → SpellsAce (body a) a
 spells_line p a is h = record {
   fields = record {
@@ -145,13 +72,13 @@ spells_line p a is h = record {
   };
   has = record {
     order = refl;
-    kind = no_space (kind_name a.kind) (inner_kind a.kind);
-    flags = no_space (set_text flag_names a.flags) (inner_set flag_names a.flags refl);
-    mask = no_space (set_text rights a.mask) (inner_set rights a.mask refl);
+    kind = kind_pass (λ b. not (eqb b 0x20)) refl refl a.kind;
+    flags = set_text-pass (λ b. not (eqb b 0x20)) flag_names a.flags refl;
+    mask = set_text-pass (λ b. not (eqb b 0x20)) rights a.mask refl;
   };
   kind = refl;
-  flags = text_spells flag_names a.flags flags_name flags_bits (within_part all_flags p.flags a.flags is.flags h.flags);
-  mask = text_spells rights a.mask rights_name rights_bits (within_part all_rights p.masks a.mask is.masks h.mask);
+  flags = text_spells flag_names a.flags flags_table (within_part all_flags p.flags a.flags is.flags h.flags);
+  mask = text_spells rights a.mask rights_table (within_part all_rights p.masks a.mask is.masks h.mask);
   who = refl;
 }
 
@@ -163,17 +90,12 @@ lines_next p a list h =
     ∙ append_assoc (body a) (10 ∷ []) (ace_text list))
     ∙ slice_split_at (λ b. eqb b 10) (body a) 10 (ace_text list) (all_apart 10 (body a) (no_feed_in a h.who)) refl
 
+-- the lines of the written text spell the ACEs
 spelled_from : (p : Profile) (number : ℕ) (list : List Ace) → IsProfile p → AllByRecursion (IsAce p) list
     → SpellEach (ace_lines_from number (lines_of (ace_text list))) list
 spelled_from p number [] is each = tt
 spelled_from p number (a ∷ list) is each =
-    let lines : ace_lines_from number (lines_of (ace_text (a ∷ list)))
-    ≡ record { number = number; bytes = body a } ∷ ace_lines_from (number + 1) (lines_of (ace_text list)) =
-    ap (ace_lines_from number) (lines_next p a list each.0)
-    ∙ ap (λ t. cond t (ace_lines_from (number + 1) (lines_of (ace_text list)))
-    (record { number = number; bytes = body a } ∷ ace_lines_from (number + 1) (lines_of (ace_text list)))) (kept a) in
-    subst (λ (ls : List TextLine). SpellEach ls (a ∷ list)) (sym lines)
-    (spells_line p a is each.0, spelled_from p (number + 1) list is each.1)
+    rw (lines_next p a list each.0, kept a) (spells_line p a is each.0, spelled_from p (number + 1) list is each.1)
 
 -- the written text spells the list
 pub text_again : (p : Profile) (list : List Ace) → IsProfile p → IsAccepted p list → IsAceText p list (ace_text list)
@@ -192,9 +114,9 @@ reads_back p list other is h = (
 -- the name of a right names its bit alone
 pub name_is_read : (bit n : ℕ) (name : List ℕ) → first_name rights bit ≡ Some name → SpellsMask name n ↔ (n ≡ bit)
 name_is_read bit n name e =
-    let spells = first_spells rights rights bit name rights_name e in (
-      λ s. same (sym (named_again rights name n rights_table s) ∙ named_again rights name bit rights_table spells),
+    let spells = first_spells rights rights bit name rights_table.named e in (
+      λ s. let one = named_again rights name n rights_table s in
+          let two = named_again rights name bit rights_table spells in
+          cc,
       λ is. subst (SpellsMask name) (sym is) spells,
-    ) where
-      same : Some n ≡ Some bit → n ≡ bit
-      same h = cc
+    )

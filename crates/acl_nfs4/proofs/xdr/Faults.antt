@@ -1,21 +1,15 @@
 -- A fault that reading returns is the first fault of the text.
-use Rattle.acl_nfs4.proofs.Common.{[], Ace, ap, append_assoc, arith, Bool, Border, cases_lt, cond, count_of, count_ones, counted, Err, Fault, fault_at, field, flagged, flags_of, Gives, IfErr, inl, inr, IsAce, IsFault, IsOwed, judged, Kind, kind_number, kind_of, le-ltb, length, length-append, List, longest_who, lt-ltb, mask_of, masked, measured, most_weight, named, number, Ok, pad_len, padded, padding_of, piece, Place, Profile, Reason, refl, refuses, replicate, Result, size, Stage, start, subst, suc, sum_by_push, sym, take, Truncated, typed, value_at, weight, who_len_of, who_of, word, word_field, zero, ℕ, ◌++◌, ◌+◌, ◌<◌, ◌>>=◌, ◌∙◌, ◌∷◌, ◌≡◌, ◌≤◌}
-use Rattle.acl_nfs4.specs.internal.Reading.{ace_at, aces_at, read_list}
-use Rattle.acl_nfs4.specs.Fault.Stage.{count as at_count, kind as at_kind, flags as at_flags, mask as at_mask, len as at_len, who as at_who, padding as at_padding}
-use Rattle.acl_nfs4.proofs.xdr.Fields.{IsBytes, Takes, field_takes, word_takes, who_bounds, count_is, kind_is, flags_are, mask_is, who_len_is, who_is}
-use Rattle.acl_nfs4.proofs.xdr.Lists.{ace_takes}
+use Rattle.acl_nfs4.proofs.Common.{[], Ace, ap, append_assoc, arith, Bool, Border, cases_lt, cond, count_ones, Err, Fault, fault_at, field, flagged, flags_of, inl, inr, IsAce, IsFault, IsOwed, judged, Kind, kind_number, kind_of, le-ltb, length, length-append, List, longest_who, lt-ltb, mask_of, masked, measured, most_weight, named, number, Ok, pad_len, padded, padding_of, piece, Place, Profile, Reason, refl, refuses, replicate, Result, size, Stage, subst, suc, sum_by_push, sym, take, Truncated, typed, weight, who_len_of, who_of, word, word_field, zero, ℕ, ◌++◌, ◌+◌, ◌<◌, ◌>>=◌, ◌∙◌, ◌∷◌, ◌≡◌, ◌≤◌, Breaks, IsFirstFault, AllByRecursion, append-nil, flat_map, flat_map-cons}
+use Rattle.acl_nfs4.specs.internal.Reading.{ace_at, from_who}
+use Rattle.acl_nfs4.specs.Fault.Stage.{kind as at_kind, flags as at_flags, mask as at_mask, len as at_len, who as at_who, padding as at_padding}
+use Rattle.acl_nfs4.proofs.xdr.Fields.{IsBytes, Takes, field_takes, word_takes, who_bounds, kind_is, flags_are, mask_is, who_len_is, who_is}
+use Rattle.acl_nfs4.proofs.xdr.Lists.{weight-cons}
 
 abbrev bad : {A E : Type 0} → E → Result A E
 bad e = Err e
 
 abbrev good : {A : Type 0} → A → Result A Fault
 good x = Ok x
-
-abbrev tail_at : Kind → ℕ → ℕ → ℕ → Place → Result (Ace × Place) Fault
-tail_at k f m l p = do
-  who ← field l who_of p
-  padding ← field (pad_len l) padding_of who.1
-  Ok (record { kind = k; flags = f; mask = m; who = who.0 }, padding.1)
 
 -- the weight with one more ACE
 pub weight-push : (list : List Ace) (a : Ace) → weight list + count_ones a.mask ≡ weight (list ++ a ∷ [])
@@ -31,12 +25,13 @@ bind_fails (Ok x) f e h first later = later x refl h
 bind_fails {A = A} {E = E} (Err d) f e h first later = first (ap (λ (x : E). bad {A = A} x) (bad_is d e h))
 
 -- how far reading has come in a text
-record Carried (bytes t : List ℕ) (p : Place) : Type 0 where
+pub record Carried (bytes t : List ℕ) (p : Place) : Type 0 where
   pub parts : bytes ≡ t ++ p.rest
   pub here : length t ≡ p.at
   pub fits : IsBytes p.rest
 
-Carried-then : (bytes t : List ℕ) (p : Place) (x : List ℕ) (q : Place) → Carried bytes t p → Takes p x q
+-- reading goes on
+pub Carried-then : (bytes t : List ℕ) (p : Place) (x : List ℕ) (q : Place) → Carried bytes t p → Takes p x q
     → Carried bytes (t ++ x) q
 Carried-then bytes t p x q c k = record {
   parts = c.parts ∙ ap (λ (y : List ℕ). t ++ y) k.parts ∙ sym (append_assoc t x q.rest);
@@ -55,6 +50,24 @@ pub judged_err : {A : Type 0} (n : ℕ) (p : Place) (r : Result A Reason) (f : F
 judged_err n p (Ok x) f e = absurd cc
 judged_err n p (Err d) f e = (d, refl, cc)
 
+-- accepted fields up to a border, and a field behind it that is wrong
+pub first_at : {p : Profile} {bytes : List ℕ} {o t : ℕ} {r : Reason} (s : Stage) (front rest : List ℕ) (n : ℕ)
+    → bytes ≡ front ++ rest → Border p s front → length front ≡ o → IsOwed s → 0 < size s → Breaks p s rest n r
+    → o + n ≡ t → IsFirstFault p bytes o t r
+first_at s front rest n parts border here owed some breaks ends = record {
+  stage = s;
+  front = front;
+  rest = rest;
+  more = n;
+  parts = parts;
+  border = border;
+  here = here;
+  owed = owed;
+  some = some;
+  breaks = breaks;
+  ends = ends;
+}
+
 -- the next field is the one that fails
 here : {A : Type 0} (profile : Profile) (bytes t : List ℕ) (p : Place) (s : Stage) (value : List ℕ → Result A Reason)
     (f : Fault) → Carried bytes t p → Border profile s t → IsOwed s
@@ -70,19 +83,7 @@ here profile bytes t p s value f c b owed some means e =
           let same : fault_at p Truncated ≡ f = cc in
           subst (λ (g : Fault). IsFault profile bytes g.offset g.reason) same (
             p.at + length p.rest,
-            record {
-              stage = s;
-              front = t;
-              rest = p.rest;
-              more = length p.rest;
-              parts = c.parts;
-              border = b;
-              here = c.here;
-              owed = owed;
-              some = omega arith;
-              breaks = inl (short, refl, refl);
-              ends = refl;
-            },
+            first_at s t p.rest _ c.parts b c.here owed (omega arith) (inl (short, refl, refl)) refl,
           )
       | inr whole ↦
           let h : judged (size s) p (value (take (size s) p.rest)) ≡ Err f =
@@ -92,19 +93,7 @@ here profile bytes t p s value f c b owed some means e =
           let m = means j.0 j.1 in
           subst (λ (g : Fault). IsFault profile bytes g.offset g.reason) j.2 (
             p.at + size s,
-            record {
-              stage = s;
-              front = t;
-              rest = p.rest;
-              more = size s;
-              parts = c.parts;
-              border = b;
-              here = c.here;
-              owed = owed;
-              some = some j.0 m;
-              breaks = inr (whole, refl, m);
-              ends = refl;
-            },
+            first_at s t p.rest _ c.parts b c.here owed (some j.0 m) (inr (whole, refl, m)) refl,
           )
     ]
 
@@ -138,13 +127,30 @@ border_after profile n list t a b lt is light =
     (regroup t (word (kind_number a.kind)) (word a.flags) (word a.mask) (word (length a.who)) a.who
     (replicate (pad_len (length a.who)) 0)) b6
 
+-- behind so many whole ACEs too
+pub borders_after : (profile : Profile) (n : ℕ) (list more : List Ace) (t : List ℕ) → Border profile (at_kind n list) t
+    → AllByRecursion (IsAce profile) more → length list + length more ≤ n → weight list + weight more ≤ most_weight
+    → Border profile (at_kind n (list ++ more)) (t ++ flat_map piece more)
+borders_after profile n list [] t b each few light =
+    subst (λ (l : List Ace). Border profile (at_kind n l) (t ++ [])) (sym (append-nil list))
+    (subst (λ (x : List ℕ). Border profile (at_kind n list) x) (sym (append-nil t)) b)
+borders_after profile n list (a ∷ more) t b each few light =
+    let h = borders_after profile n (list ++ a ∷ []) more (t ++ piece a)
+    (border_after profile n list t a b (omega arith) each.0 (omega (arith, light, weight-cons a more))) each.1
+    (omega (arith, few, length-append list (a ∷ [])))
+    (omega (arith, light, weight-push list a, weight-cons a more)) in
+    subst (λ (l : List Ace). Border profile (at_kind n l) (t ++ flat_map piece (a ∷ more)))
+    (append_assoc list (a ∷ []) more)
+    (subst (λ (x : List ℕ). Border profile (at_kind n ((list ++ a ∷ []) ++ more)) x)
+    (append_assoc t (piece a) (flat_map piece more) ∙ ap (λ (x : List ℕ). t ++ x) (sym (flat_map-cons piece a more))) h)
+
 ok_no_err : {A : Type 0} (x : A) (f : Fault) → good x ≡ bad f → ⊥
 ok_no_err x f e = cc
 
 -- a fault in the who or the padding
 tail_fails : (profile : Profile) (bytes : List ℕ) (n : ℕ) (list : List Ace) (k : Kind) (f m l : ℕ) (t : List ℕ)
     (p : Place) (fault : Fault) → Carried bytes t p → Border profile (at_who n list k f m l) t → 1 ≤ l → l ≤ longest_who
-    → tail_at k f m l p ≡ Err fault → IsFault profile bytes fault.offset fault.reason
+    → from_who k f m l p ≡ Err fault → IsFault profile bytes fault.offset fault.reason
 tail_fails profile bytes n list k f m l t p fault c b some short e =
     bind_fails (field l who_of p) _ fault e (λ h. here profile bytes t p (at_who n list k f m l) who_of fault c b tt
     (λ r _. some) (λ r m. m) h) (λ w we wr.
@@ -160,7 +166,7 @@ tail_fails profile bytes n list k f m l t p fault c b some short e =
     (λ z ze zr. absurd (ok_no_err _ fault zr)))
 
 -- a fault in an ACE
-ace_fails : (profile : Profile) (bytes : List ℕ) (n : ℕ) (list : List Ace) (t : List ℕ) (p : Place) (fault : Fault)
+pub ace_fails : (profile : Profile) (bytes : List ℕ) (n : ℕ) (list : List Ace) (t : List ℕ) (p : Place) (fault : Fault)
     → Carried bytes t p → Border profile (at_kind n list) t → length list < n
     → ace_at profile (weight list) p ≡ Err fault → IsFault profile bytes fault.offset fault.reason
 unfolding ace_at
@@ -193,46 +199,3 @@ ace_fails profile bytes n list t p fault c b lt e =
     let cl = Carried-then bytes _ m.1 (word l.0) l.1 cm (subst (λ (x : ℕ). Takes m.1 (word x) l.1) li.0 lt'.2) in
     let bl = measured n list k.0 f.0 m.0 l.0 _ bm li.1 li.2 in
     tail_fails profile bytes n list k.0 f.0 m.0 l.0 _ l.1 fault cl bl li.1 li.2 lr))))
-
--- a fault in the list, from any place on
-aces_fail : (profile : Profile) (todo : ℕ) (bytes : List ℕ) (n : ℕ) (list : List Ace) (t : List ℕ) (p : Place)
-    (fault : Fault) → Carried bytes t p → Border profile (at_kind n list) t → length list + todo ≡ n
-    → aces_at profile todo (weight list) p ≡ Err fault → IsFault profile bytes fault.offset fault.reason
-unfolding aces_at
-aces_fail profile zero bytes n list t p fault c b e h = absurd (ok_no_err _ fault h)
-aces_fail profile (suc todo) bytes n list t p fault c b e h =
-    bind_fails (ace_at profile (weight list) p) _ fault h
-    (λ a. ace_fails profile bytes n list t p fault c b (omega arith) a) (λ a ae ar.
-    let at = ace_takes profile (weight list) p a c.fits ae in
-    let ca = Carried-then bytes t p (piece a.0) a.1 c at.takes in
-    let ba = border_after profile n list t a.0 b (omega arith) at.is at.light in
-    let w : weight list + count_ones a.0.mask ≡ weight (list ++ a.0 ∷ []) = weight-push list a.0 in
-    bind_fails (aces_at profile todo (weight list + count_ones a.0.mask) a.1) _ fault ar
-    (λ d. aces_fail profile todo bytes n (list ++ a.0 ∷ []) (t ++ piece a.0) a.1 fault ca ba
-    (omega (arith, e, length-append list (a.0 ∷ [])))
-    (subst (λ (x : ℕ). aces_at profile todo x a.1 ≡ Err fault) w d))
-    (λ o oe or. absurd (ok_no_err _ fault or)))
-
--- a fault that reading returns is the first fault of the text
-pub fault_is : (profile : Profile) (bytes : List ℕ) (fault : Fault) → IsBytes bytes → value_at profile bytes ≡ Err fault
-    → IsFault profile bytes fault.offset fault.reason
-unfolding read_list
-fault_is profile bytes fault fits e =
-    let c : Carried bytes [] (record { at = 0; rest = bytes }) = record { parts = refl; here = refl; fits = fits } in
-    bind_fails (read_list profile bytes) _ fault e
-    (λ r. bind_fails (word_field count_of (record { at = 0; rest = bytes })) _ fault r
-    (λ h. here profile bytes [] (record { at = 0; rest = bytes }) at_count (λ x. count_of (number x)) fault c start tt
-    (λ r _. some_word r) (λ r m. m) h)
-    (λ n ne nr.
-    let t = word_takes count_of (record { at = 0; rest = bytes }) n fits ne in
-    let ci = count_is t.0 n.0 t.1 in
-    let cn = Carried-then bytes [] (record { at = 0; rest = bytes }) (word n.0) n.1 c
-    (subst (λ (x : ℕ). Takes (record { at = 0; rest = bytes }) (word x) n.1) ci.0 t.2) in
-    aces_fail profile n.0 bytes n.0 [] (word n.0) n.1 fault cn (counted n.0 ci.1) (omega arith) nr))
-    (λ x xe xr. absurd (ok_no_err _ fault xr))
-
--- the fault that is returned is a fault of the bytes
-pub is_fault : (profile : Profile) (bytes : List ℕ) (r : Result (List Ace × ℕ) Fault) → IsBytes bytes
-    → Gives (λ x. (x.0, x.1)) r (value_at profile bytes) → IfErr r (λ f. IsFault profile bytes f.offset f.reason)
-is_fault profile bytes (Ok x) fits given = tt
-is_fault profile bytes (Err f) fits given = fault_is profile bytes f fits given

@@ -1,5 +1,5 @@
 -- A field that is read is the field that was written, and what was written is read again.
-use Rattle.acl_nfs4.proofs.Common.{[], Allow, and_true, ap, append_assoc, arith, be_bytes_4, bit_and, Bool, cases_lt, cond, count_of, count_ones, Deny, drop, drop_at, eq-eqb, eqb, eqb-true, Err, false, fault_at, field, flags_of, from_be_bytes-to_be_bytes_4, get_or, get_or-append_right, get_or-drop, get_or-take, get_or_append_left, get_or_past, inl, inr, is_no_who_len, is_within, IsWho, IsWithin, judged, Kind, kind_number, kind_of, le-ltb, length, length-append, length-take, List, list_all, longest_who, ltb, ltb-false, mask_of, most_aces, most_weight, moved, None, not, number, Ok, Option, option_map, or_from, or_parts, padding_of, Place, Profile, Reason, refl, replicate, Result, Some, subst, suc, sym, take, take-append-drop, take_at, true, Truncated, unless, who_fault, who_len_of, who_of, who_reason, WhoFault, word, word_field, zero, ℕ, ◌++◌, ◌+◌, ◌-◌, ◌<◌, ◌>>=◌, ◌^◌, ◌∙◌, ◌∷◌, ◌≡◌, ◌≤◌}
+use Rattle.acl_nfs4.proofs.Common.{[], Allow, and_true, ap, append_assoc, arith, be_bytes_4, bit_and, Bool, cases_lt, cond, count_of, count_ones, Deny, drop, drop_at, eq-eqb, eqb, eqb-true, Err, false, fault_at, field, flags_of, from_be_bytes-to_be_bytes_4, get_or, get_or-append_right, get_or-drop, get_or-take, get_or_append_left, get_or_past, inl, inr, is_no_who_len, IsWho, IsWithin, judged, Kind, kind_number, kind_of, le-ltb, length, length-append, length-take, List, list_all, longest_who, ltb, ltb-false, mask_of, most_aces, most_weight, moved, None, number, Ok, Option, option_map, padding_of, Place, Profile, Reason, refl, replicate, Result, Some, subst, suc, sym, take, take-append-drop, take_at, true, Truncated, unless, who_fault, who_len_of, who_of, who_reason, WhoFault, word, word_field, zero, ℕ, ◌++◌, ◌+◌, ◌-◌, ◌<◌, ◌>>=◌, ◌^◌, ◌∙◌, ◌∷◌, ◌≡◌, ◌≤◌, take-append-add, nat_tests}
 
 -- numbers that are bytes
 abbrev pub IsBytes : List ℕ → Type 0
@@ -30,6 +30,13 @@ pub front_is : (whole front back : List ℕ) → whole ≡ front ++ back → tak
 front_is whole front back e =
     let n : length whole - length back ≡ length front = omega (arith, ap length e, length-append front back) in
     ap (λ (k : ℕ). take k whole) n ∙ ap (take (length front)) e ∙ take_at front back (length front) refl
+
+-- the front of two texts, up to a place behind the first
+pub front_behind : (text more : List ℕ) (n : ℕ) → length text ≤ n
+    → take n (text ++ more) ≡ text ++ take (n - length text) more
+front_behind text more n le =
+    let k : n ≡ length text + (n - length text) = omega arith in
+    ap (λ (i : ℕ). take i (text ++ more)) k ∙ take-append-add text more (n - length text)
 
 -- the value of a step that did not fail, where what follows is shown for each value: the value is then a variable,
 -- and goals stay short
@@ -136,15 +143,11 @@ word_again value at n rest x lt e =
 
 -- the number of ACEs
 pub count_is : (n m : ℕ) → count_of n ≡ Ok m → (n ≡ m) × (m ≤ most_aces)
-count_is n m e =
-    let g = guard_ok (ltb most_aces n) _ _ m e in
-    let le : n ≤ most_aces = ltb-false _ _ g.0 in
-    let same : n ≡ m = ok_is n m g.1 in
-    (same, omega arith)
+count_is n m e = grind (arith, nat_tests)
 
 -- a number of ACEs within the limit is accepted
 pub count_again : (n : ℕ) → n ≤ most_aces → count_of n ≡ Ok n
-count_again n le = rw (le-ltb most_aces n le) refl
+count_again n le = grind (arith, nat_tests)
 
 -- the type that was read is the one of its number
 pub kind_is : (n : ℕ) (k : Kind) → kind_of n ≡ Ok k → n ≡ kind_number k
@@ -163,32 +166,16 @@ kind_lt Deny = omega arith
 
 -- flags that were read are ones of the profile
 pub flags_are : (profile : Profile) (n m : ℕ) → flags_of profile n ≡ Ok m → (n ≡ m) × IsWithin profile.flags m
-flags_are profile n m e =
-    let b : is_within profile.flags n ≡ true = guard_then (is_within profile.flags n) n _ m e in
-    let same : n ≡ m = ok_is n m (rw b at e) in
-    (same, subst (IsWithin profile.flags) same (eqb-true _ _ b))
+flags_are profile n m e = grind (arith, nat_tests)
 
 -- flags of the profile are accepted
 pub flags_again : (profile : Profile) (n : ℕ) → IsWithin profile.flags n → flags_of profile n ≡ Ok n
 flags_again profile n within = rw (eq-eqb (bit_and n profile.flags) n within) refl
 
-not_false : (b : Bool) → not b ≡ false → b ≡ true
-not_false true e = refl
-not_false false e = absurd cc
-
 -- a mask that was read is one of the profile, and light enough
 pub mask_is : (profile : Profile) (weight n m : ℕ) → mask_of profile weight n ≡ Ok m
     → (n ≡ m) × IsWithin profile.masks m × (weight + count_ones m ≤ most_weight)
-mask_is profile weight n m e =
-    let g = guard_ok (not (is_within profile.masks n)) _ _ m e in
-    let h = guard_ok (ltb most_weight (weight + count_ones n)) _ _ m g.1 in
-    let light : weight + count_ones n ≤ most_weight = ltb-false _ _ h.0 in
-    let within : IsWithin profile.masks n = eqb-true _ _ (not_false _ g.0) in
-    let same : n ≡ m = ok_is n m h.1 in (
-      same,
-      subst (IsWithin profile.masks) same within,
-      subst (λ (k : ℕ). weight + count_ones k ≤ most_weight) same light,
-    )
+mask_is profile weight n m e = grind (arith, nat_tests)
 
 -- a mask of the profile that is light enough is accepted
 pub mask_again : (profile : Profile) (weight n : ℕ) → IsWithin profile.masks n → weight + count_ones n ≤ most_weight
@@ -198,40 +185,23 @@ mask_again profile weight n within light =
 
 -- a number of bytes that some who has
 pub len_bounds : (n : ℕ) → is_no_who_len n ≡ false → (1 ≤ n) × (n ≤ longest_who)
-len_bounds n e =
-    let b = or_parts (eqb n 0) (ltb longest_who n) e in
-    let some : 1 ≤ n = grind (arith, b.0) in
-    let short : n ≤ longest_who = ltb-false _ _ b.1 in
-    (some, short)
+len_bounds n e = grind (arith, nat_tests)
 
 -- a length that was read is one that a who may have
 pub who_len_is : (n m : ℕ) → who_len_of n ≡ Ok m → (n ≡ m) × (1 ≤ m) × (m ≤ longest_who)
-who_len_is n m e =
-    let g = guard_ok (is_no_who_len n) _ _ m e in
-    let same : n ≡ m = ok_is n m g.1 in
-    let b = len_bounds n g.0 in
-    (same, omega (arith, same, b.0), omega (arith, same, b.1))
+who_len_is n m e = grind (arith, nat_tests)
 
 -- a length that is accepted is one that a who may have
 pub who_len_some : (n m : ℕ) → who_len_of n ≡ Ok m → is_no_who_len m ≡ false
-who_len_some n m e =
-    subst (λ (z : ℕ). is_no_who_len z ≡ false) (who_len_is n m e).0 (guard_ok (is_no_who_len n) _ _ m e).0
+who_len_some n m e = grind (arith, nat_tests)
 
 -- a length that a who may have is accepted
 pub who_len_again : (n : ℕ) → 1 ≤ n → n ≤ longest_who → who_len_of n ≡ Ok n
-who_len_again n some short =
-    let b : is_no_who_len n ≡ false =
-    or_from (eqb n 0) (ltb longest_who n) (grind arith) (le-ltb longest_who n short) in
-    rw b refl
-
--- a test that passed
-passes : {A : Type 0} (b : Bool) (x : A) (r : Option A) → cond b (Some x) r ≡ None → b ≡ false
-passes true x r e = absurd cc
-passes false x r e = refl
+who_len_again n some short = grind (arith, nat_tests)
 
 -- how many bytes a who has
 pub who_bounds : (who : List ℕ) → IsWho who → (1 ≤ length who) × (length who ≤ longest_who)
-who_bounds who is = len_bounds (length who) (passes (is_no_who_len (length who)) _ _ is)
+who_bounds who is = grind (arith, nat_tests)
 
 taken_is : (fault : Option WhoFault) (bytes who : List ℕ) → unless (option_map who_reason fault) bytes ≡ Ok who
     → (bytes ≡ who) × (fault ≡ None)

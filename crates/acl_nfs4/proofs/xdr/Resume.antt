@@ -1,38 +1,10 @@
 -- A text has one fault, and reading returns it.
-use Rattle.acl_nfs4.proofs.Common.{[], Ace, ap, append_assoc, arith, Border, Breaks, count_of, count_ones, counted, Err, Fault, fault_at, field, flagged, flags_of, Gives, inl, inr, IsFault, IsOwed, IsProfile, Kind, kind_number, kind_of, le-ltb, length, length-append, length-replicate, List, lt-ltb, mask_of, masked, measured, named, number, Ok, pad_len, padded, padding_of, Place, Profile, Reason, refl, replicate, Result, Stage, start, suc, sym, take, Truncated, typed, value_at, weight, who_len_of, who_of, word, word_field, ℕ, ◌++◌, ◌+◌, ◌-◌, ◌<◌, ◌>>=◌, ◌∙◌, ◌∷◌, ◌≡◌, ◌≤◌, ◌⊎◌}
-use Rattle.acl_nfs4.specs.internal.Reading.{ace_at, aces_at, read_list}
+use Rattle.acl_nfs4.proofs.Common.{[], Ace, ap, append_assoc, arith, Border, Breaks, count_of, count_ones, counted, Err, Fault, fault_at, field, flagged, flags_of, inl, inr, IsFault, IsOwed, IsProfile, Kind, kind_number, kind_of, le-ltb, length, length-append, length-replicate, List, lt-ltb, mask_of, masked, measured, named, number, Ok, pad_len, padded, padding_of, Place, Profile, Reason, refl, replicate, Result, Stage, start, suc, sym, take, Truncated, typed, weight, who_len_of, who_of, word, word_field, ℕ, ◌++◌, ◌+◌, ◌-◌, ◌<◌, ◌>>=◌, ◌∙◌, ◌∷◌, ◌≡◌, ◌≤◌, ◌⊎◌, append-nil, spelling, Xdr, subst}
+use Rattle.acl_nfs4.specs.internal.Reading.{ace_at, aces_at, from_flags, from_len, from_mask, from_padding, from_who, read_list}
 use Rattle.acl_nfs4.specs.Fault.Stage.{count as at_count, kind as at_kind, flags as at_flags, mask as at_mask, len as at_len, who as at_who, padding as at_padding}
-use Rattle.acl_nfs4.proofs.xdr.Fields.{goes_to, word_again, field_again, count_again, kind_again, kind_lt, flags_again, mask_again, who_len_again, who_again, padding_again}
-use Rattle.acl_nfs4.proofs.xdr.Body.{apart}
-use Rattle.acl_nfs4.proofs.xdr.Faults.{weight-push}
+use Rattle.acl_nfs4.proofs.xdr.Fields.{goes_to, ok_is, word_again, field_again, count_again, kind_again, kind_lt, flags_again, mask_again, who_len_again, who_again, padding_again}
+use Rattle.acl_nfs4.proofs.xdr.Faults.{borders_after, weight-push}
 use Rattle.acl_nfs4.proofs.list.Within.{flags_lt, mask_lt}
-
--- the rest of an ACE, from each of its fields on
-abbrev from_padding : Kind → ℕ → ℕ → List ℕ → Place → Result (Ace × Place) Fault
-from_padding k f m w p = do
-  padding ← field (pad_len (length w)) padding_of p
-  Ok (record { kind = k; flags = f; mask = m; who = w }, padding.1)
-
-abbrev from_who : Kind → ℕ → ℕ → ℕ → Place → Result (Ace × Place) Fault
-from_who k f m l p = do
-  who ← field l who_of p
-  padding ← field (pad_len l) padding_of who.1
-  Ok (record { kind = k; flags = f; mask = m; who = who.0 }, padding.1)
-
-abbrev from_len : Kind → ℕ → ℕ → Place → Result (Ace × Place) Fault
-from_len k f m p = do
-  len ← word_field who_len_of p
-  from_who k f m len.0 len.1
-
-abbrev from_mask : Profile → ℕ → Kind → ℕ → Place → Result (Ace × Place) Fault
-from_mask profile w k f p = do
-  mask ← word_field (mask_of profile w) p
-  from_len k f mask.0 mask.1
-
-abbrev from_flags : Profile → ℕ → Kind → Place → Result (Ace × Place) Fault
-from_flags profile w k p = do
-  flags ← word_field (flags_of profile) p
-  from_mask profile w k flags.0 flags.1
 
 -- the result of reading behind these ACEs
 abbrev pub behind : List Ace → Result (List Ace × Place) Fault → Result (List Ace × Place) Fault
@@ -51,7 +23,7 @@ resume profile (at_flags n list k) p = then_others profile n list (from_flags pr
 resume profile (at_mask n list k f) p = then_others profile n list (from_mask profile (weight list) k f p)
 resume profile (at_len n list k f m) p = then_others profile n list (from_len k f m p)
 resume profile (at_who n list k f m l) p = then_others profile n list (from_who k f m l p)
-resume profile (at_padding n list k f m w) p = then_others profile n list (from_padding k f m w p)
+resume profile (at_padding n list k f m w) p = then_others profile n list (from_padding k f m (length w) w p)
 
 abbrev place : ℕ → List ℕ → Place
 place n rest = record { at = n; rest = rest }
@@ -144,7 +116,8 @@ resumes profile _ _ rest ok (padded n list k f m w t b) =
     (resumes profile (at_padding n list k f m w) t (zeros_for w ++ rest) ok b)
     (padding_step profile n list k f m w (length t) rest)
 
-field_breaks : {A : Type 0} (size : ℕ) (value : List ℕ → Result A Reason) (p : Place) (n : ℕ) (r : Reason)
+-- a field that is cut short or refused
+pub field_breaks : {A : Type 0} (size : ℕ) (value : List ℕ → Result A Reason) (p : Place) (n : ℕ) (r : Reason)
     → ((length p.rest < size) × (n ≡ length p.rest) × (r ≡ Truncated))
     ⊎ ((size ≤ length p.rest) × (n ≡ size) × (value (take size p.rest) ≡ Err r))
     → field size value p ≡ Err (fault_at p r)
@@ -177,19 +150,32 @@ breaks_is profile (at_padding n list k f m w) p t r owed b =
 
 -- the fault of a text is the one that reading returns
 pub answers_fault : (profile : Profile) (bytes : List ℕ) (offset : ℕ) (r : Reason) → IsProfile profile
-    → IsFault profile bytes offset r → value_at profile bytes ≡ Err (record { offset = offset; reason = r })
+    → IsFault profile bytes offset r → read_list profile bytes ≡ Err (record { offset = offset; reason = r })
 answers_fault profile bytes offset r ok fault =
     let f = fault.1 in
-    let h : read_list profile bytes ≡ Err (record { offset = offset; reason = r }) =
     ap (read_list profile) f.parts ∙ resumes profile f.stage f.front f.rest ok f.border
     ∙ breaks_is profile f.stage (place (length f.front) f.rest) f.more r f.owed f.breaks
-    ∙ ap (λ (n : ℕ). Err (record { offset = n; reason = r })) f.here in
-    fails (read_list profile bytes) _ _ h
+    ∙ ap (λ (n : ℕ). Err (record { offset = n; reason = r })) f.here
 
--- the answer for bytes with a fault
-pub is_refused : (profile : Profile) (bytes : List ℕ) (result : Result (List Ace × ℕ) Fault) (offset : ℕ) (r : Reason)
-    → IsProfile profile → Gives (λ x. (x.0, x.1)) result (value_at profile bytes) → IsFault profile bytes offset r
-    → result ≡ Err (record { offset = offset; reason = r })
-is_refused profile bytes (Ok x) offset r ok given f =
-    absurd (apart (value_at profile bytes) _ _ given (answers_fault profile bytes offset r ok f))
-is_refused profile bytes (Err e) offset r ok given f = sym given ∙ answers_fault profile bytes offset r ok f
+-- a list that was written is read again
+pub read_again : (profile : Profile) (list : List Ace) (text rest : List ℕ) → IsProfile profile → Xdr profile list text
+    → read_list profile (text ++ rest) ≡ Ok (list, place (length text) rest)
+unfolding aces_at
+read_again profile list text rest ok x =
+    let n : ℕ = length list in
+    let end : Border profile (at_kind n list) (spelling list) = borders_after profile n [] list (word n)
+    (counted n x.accepted.count) x.accepted.each (omega arith) (omega (arith, x.accepted.weight)) in
+    let none : n - n ≡ 0 = omega arith in
+    resumes profile (at_kind n list) text rest ok
+    (subst (λ (t : List ℕ). Border profile (at_kind n list) t) (sym x.spelled) end)
+    ∙ ap (λ (k : ℕ). behind list (aces_at profile k (weight list) (place (length text) rest))) none
+    ∙ ap (λ (l : List Ace). Ok (l, place (length text) rest)) (append-nil list)
+
+-- no spelling begins another, and none spells two lists
+pub one : (profile : Profile) (a b : List Ace) (s t x y : List ℕ) → IsProfile profile → Xdr profile a s
+    → Xdr profile b t → s ++ x ≡ t ++ y → (a ≡ b) × (s ≡ t)
+one profile a b s t x y is p q e =
+    let h : (a, place (length s) x) ≡ (b, place (length t) y) = ok_is _ _ (sym (read_again profile a s x is p)
+    ∙ ap (read_list profile) e ∙ read_again profile b t y is q) in
+    let same : a ≡ b = ap (λ z. z.0) h in
+    (same, p.spelled ∙ ap spelling same ∙ sym q.spelled)

@@ -1,6 +1,6 @@
 -- How the code reads lines of ACEs one after the other, as functions: this library's own words, which only code needs.
 -- What public clauses say about texts is in AceText and AceTextFault.
-use Rattle.std.specs.Prelude.{◌≡◌, ◌+◌, ◌≤◌, ◌==◌, ℕ, List, [], ◌∷◌, ◌++◌, length, Option, None, Some, option_map, ok_or, Result, Ok, Err, nat_le, nat_lt, count_ones, if◌then◌else◌}
+use Rattle.std.specs.Prelude.{◌≡◌, ◌+◌, ◌≤◌, ◌==◌, ℕ, List, [], ◌∷◌, ◌++◌, length, take, drop, position, Option, None, Some, option_map, ok_or, Result, Ok, Err, nat_le, nat_lt, count_ones, if◌then◌else◌}
 use Rattle.std.specs.Option.{option_and_then}
 use Rattle.std.specs.Str.{bytes_eq}
 use Rattle.acl_perm.specs.Ascii.{space}
@@ -28,9 +28,7 @@ use Rattle.acl_nfs4.specs.declared.text.line.LineFields.{LineFields as HeldField
 
 -- the bytes before the first space, and the bytes behind it
 abbrev pub cut_space : List ℕ → Option (List ℕ × List ℕ)
-cut_space [] = None
-cut_space (b ∷ bytes) =
-    if b == space then Some ([], bytes) else option_map (λ parts. (b ∷ parts.0, parts.1)) (cut_space bytes)
+cut_space bytes = option_map (λ i. (take i bytes, drop (i + 1) bytes)) (position (λ b. b == space) bytes)
 
 -- the first field and the bytes behind it, as code holds them
 abbrev pub view_first : FirstField → List ℕ × List ℕ
@@ -58,7 +56,7 @@ LineFieldsFit fields line =
 
 -- ---- what a field holds
 
--- the type of a word
+-- the kind of a word
 unfoldable pub kind_named : List ℕ → Option Kind
 kind_named word = if bytes_eq word (kind_name Allow) then Some Allow
     else (if bytes_eq word (kind_name Deny) then Some Deny else None)

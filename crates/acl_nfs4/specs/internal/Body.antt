@@ -1,22 +1,32 @@
 -- The ACEs of a list without the word of their number, as a view or an iterator holds them: this library's own
--- definitions, for the fields of its types. They say what a view's bytes mean by reading them.
-use Rattle.std.specs.Prelude.{◌≡◌, ℕ, ◌≤◌, List, [], ◌++◌, length, Result, Ok, Err}
+-- definitions, for the fields of its types. They say what a view's bytes mean by where the fields are.
+use Rattle.std.specs.Prelude.{◌≡◌, ℕ, zero, suc, ◌+◌, ◌≤◌, List, [], ◌∷◌, ◌++◌, length, take, drop}
 use Rattle.std.specs.List.{flat_map, AllByRecursion}
-use Rattle.acl_nfs4.specs.declared.xdr.fault.Fault.{Fault}
 use Rattle.acl_perm.specs.Profile.{full}
 use Rattle.acl_nfs4.specs.Ace.{Ace}
 use Rattle.acl_nfs4.specs.Limits.{most_aces, most_weight}
-use Rattle.acl_nfs4.specs.Spelling.{piece, weight, IsAce}
-use Rattle.acl_nfs4.specs.internal.Reading.{Place, aces_at}
+use Rattle.acl_nfs4.specs.Fields.{number}
+use Rattle.acl_nfs4.specs.Spelling.{pad_len, piece, weight, IsAce}
+use Rattle.acl_nfs4.specs.internal.Reading.{kind_from}
 
--- the list that was read, if no field failed
-abbrev pub listed : Result (List Ace × Place) Fault → List Ace
-listed (Ok x) = x.0
-listed (Err f) = []
+-- the length of the who of the ACE at the front
+abbrev pub front_who_len : List ℕ → ℕ
+front_who_len bytes = number (take 4 (drop 12 bytes))
+
+-- the ACE at the front
+abbrev pub front_ace : List ℕ → Ace
+front_ace bytes = record {
+  kind = kind_from (number (take 4 bytes));
+  flags = number (take 4 (drop 4 bytes));
+  mask = number (take 4 (drop 8 bytes));
+  who = take (front_who_len bytes) (drop 16 bytes);
+}
 
 -- the first ACEs, so many, that the bytes spell
 unfoldable pub aces_of : ℕ → List ℕ → List Ace
-aces_of count bytes = listed (aces_at full count 0 (record { at = 0; rest = bytes }))
+aces_of zero bytes = []
+aces_of (suc n) bytes =
+    front_ace bytes ∷ aces_of n (drop (16 + front_who_len bytes + pad_len (front_who_len bytes)) bytes)
 
 -- the bytes spell this list of ACEs and nothing more
 pub record SpellsBody (list : List Ace) (bytes : List ℕ) : Type 0 where

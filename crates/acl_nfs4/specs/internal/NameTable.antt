@@ -1,17 +1,12 @@
--- A table of names as this library's code holds it, and how the code cuts a field of names. No public clause cites it.
-use Rattle.std.specs.Prelude.{◌≡◌, ◌+◌, ◌<◌, ◌==◌, ◌&&◌, ℕ, List, [], ◌∷◌, length, map, nat_le, nat_lt, Bool, true, ◌++◌, if◌then◌else◌, Option, None, Some, option_map}
+-- The tables of names of the code, and how the code cuts a field of names (this library's own). No public clause cites
+-- it.
+use Rattle.std.specs.Prelude.{◌≡◌, ◌+◌, ◌<◌, ◌==◌, ◌&&◌, ℕ, List, [], ◌∷◌, length, nat_le, nat_lt, Bool, true, ◌++◌, if◌then◌else◌, Option, None, Some}
 use Rattle.std.specs.List.{slice_split, join_with_byte, list_all}
 use Rattle.acl_nfs4.specs.BitNames.{BitName, bar, set_named}
 use Rattle.acl_nfs4.specs.Within.{is_within}
-use Rattle.acl_nfs4.specs.declared.names.bit_names.BitName.{BitName as Row}
-
--- a row of it
-abbrev pub bit_name_of : Row → BitName
-bit_name_of r = record { bit = r.bit; name = r.name.now; second = option_map (λ s. s.now) r.second }
-
--- the table
-abbrev pub bit_names_of : List Row → List BitName
-bit_names_of rows = map bit_name_of rows
+use Rattle.acl_perm.specs.declared.bit_names.BitName.{BitName as Row}
+-- a row of a table, and the table, as its code holds them
+pub use Rattle.acl_perm.specs.internal.NameTable.{bit_name_of, bit_names_of}
 
 -- the greatest number of bytes in a first name
 abbrev pub longest_bit_name : ℕ
@@ -25,7 +20,7 @@ is_short_row r = nat_le (length r.name.now) longest_bit_name
 abbrev pub row_room : ℕ
 row_room = 21
 
--- the room for a line: a type, all flags, all rights, the longest who, and the bytes between them
+-- the room for a line: a kind, all flags, all rights, the longest who, and the bytes between them
 abbrev pub ace_line_room : ℕ
 ace_line_room = 1600
 

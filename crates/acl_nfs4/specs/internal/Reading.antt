@@ -48,7 +48,7 @@ abbrev pub text_fault : List ℕ → Option WhoFault
 text_fault bytes = if not (is_utf8 bytes) then Some Utf8
     else (if not (list_all is_plain bytes) then Some Control else None)
 
--- the type of a number, if it is one
+-- the kind of a number, if it is one
 abbrev pub kind_from : ℕ → Kind
 kind_from n = if n == 0 then Allow else Deny
 
@@ -85,16 +85,41 @@ field n value p = if nat_lt (length p.rest) n then Err (fault_at p Truncated) el
 abbrev pub word_field : {A : Type 0} → (ℕ → Result A Reason) → Place → Result (A × Place) Fault
 word_field value p = field 4 (λ bytes. value (number bytes)) p
 
+-- the rest of an ACE, from its padding on
+abbrev pub from_padding : Kind → ℕ → ℕ → ℕ → List ℕ → Place → Result (Ace × Place) Fault
+from_padding kind flags mask len who at = do
+  padding ← field (pad_len len) padding_of at
+  Ok (record { kind = kind; flags = flags; mask = mask; who = who }, padding.1)
+
+-- from its who on
+abbrev pub from_who : Kind → ℕ → ℕ → ℕ → Place → Result (Ace × Place) Fault
+from_who kind flags mask len at = do
+  who ← field len who_of at
+  from_padding kind flags mask len who.0 who.1
+
+-- from the length of its who on
+abbrev pub from_len : Kind → ℕ → ℕ → Place → Result (Ace × Place) Fault
+from_len kind flags mask at = do
+  len ← word_field who_len_of at
+  from_who kind flags mask len.0 len.1
+
+-- from its mask on, after ACEs of this weight
+abbrev pub from_mask : Profile → ℕ → Kind → ℕ → Place → Result (Ace × Place) Fault
+from_mask p weight kind flags at = do
+  mask ← word_field (mask_of p weight) at
+  from_len kind flags mask.0 mask.1
+
+-- from its flags on, after ACEs of this weight
+abbrev pub from_flags : Profile → ℕ → Kind → Place → Result (Ace × Place) Fault
+from_flags p weight kind at = do
+  flags ← word_field (flags_of p) at
+  from_mask p weight kind flags.0 flags.1
+
 -- an ACE, after ACEs of this weight
 unfoldable pub ace_at : Profile → ℕ → Place → Result (Ace × Place) Fault
 ace_at p weight at = do
   kind ← word_field kind_of at
-  flags ← word_field (flags_of p) kind.1
-  mask ← word_field (mask_of p weight) flags.1
-  len ← word_field who_len_of mask.1
-  who ← field len.0 who_of len.1
-  padding ← field (pad_len len.0) padding_of who.1
-  Ok (record { kind = kind.0; flags = flags.0; mask = mask.0; who = who.0 }, padding.1)
+  from_flags p weight kind.0 kind.1
 
 -- so many ACEs, after ACEs of this weight
 unfoldable pub aces_at : Profile → ℕ → ℕ → Place → Result (List Ace × Place) Fault
@@ -109,11 +134,3 @@ unfoldable pub read_list : Profile → List ℕ → Result (List Ace × Place) F
 read_list p bytes = do
   count ← word_field count_of (record { at = 0; rest = bytes })
   aces_at p count.0 0 count.1
-
--- where reading ended, without the value
-abbrev pub place_read : {A : Type 0} → Result (A × Place) Fault → Result Place Fault
-place_read read = read >>= λ x. Ok x.1
-
--- the value at the front, and the number of its bytes
-abbrev pub value_at : Profile → List ℕ → Result (List Ace × ℕ) Fault
-value_at p bytes = read_list p bytes >>= λ x. Ok (x.0, x.1.at)

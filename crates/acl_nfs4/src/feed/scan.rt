@@ -36,6 +36,7 @@ impl Reach {
 }
 
 /// Judges the ACEs from there on, up to the first that is not whole or is refused.
+#[inline(always)]
 pub(crate) fn scan(body: &[u8], count: u32, from: Progress, profile: Profile) -> Reach
     requires scanned { IsScanned (profile_of profile) body.now from }
     requires seen { from.seen ≤ count }

@@ -9,8 +9,8 @@ ghost use Rattle.acl_nfs4.specs.internal.Progress.{IsFeed, IsProgress, Judged, s
 use crate::feed::fed::Fed;
 use crate::feed::scan::{Progress, Reach, scan};
 use crate::feed::stream::Text;
-use crate::limits::MOST_ACES;
 use crate::xdr::fault::{Fault, Reason};
+use crate::xdr::judges;
 use acl_perm::Profile;
 
 /// The state of a stream. With `Open` it is cut short, and the fault is the one to report if it ends here.
@@ -106,11 +106,9 @@ fn judge(text: &Text, from: Progress, profile: Profile) -> Reach
 {
     match text.count() {
         None => Reach::at_fault(from, Fault::at_front(Reason::Truncated)),
-        Some(count) => {
-            if count > MOST_ACES {
-                return Reach::at_fault(from, Fault::at_front(Reason::TooManyAces));
-            }
-            scan(text.body(), count, from, profile)
-        }
+        Some(number) => match judges::count_of(number) {
+            Err(reason) => Reach::at_fault(from, Fault::at_front(reason)),
+            Ok(count) => scan(text.body(), count, from, profile),
+        },
     }
 }

@@ -81,7 +81,7 @@ impl<'a> Clone for Aces<'a> {
     }
 }
 
-// The ACE at the front of bytes that are already judged. It judges nothing again.
+// Returns the ACE at the front of bytes that are already judged, without judging it again.
 fn first_ace(bytes: &[u8]) -> FirstAce<'_>
     requires { BeginsWithAce bytes.now }
     ensures { (a : Ace) (more : List ℕ) → IsAce full a → bytes.now ≡ piece a ++ more

@@ -13,7 +13,7 @@ ghost use Rattle.acl_nfs4.specs.Who.{IsWho};
 ghost use Rattle.acl_perm.specs.Profile.{full, profile_of};
 
 use crate::ace::AceRef;
-use crate::limits::{MOST_ACES, MOST_WEIGHT};
+use crate::limits::{is_full, is_too_heavy};
 use crate::list::aces::Aces;
 use crate::list::push_fault::PushFault;
 use crate::who::judge;
@@ -169,11 +169,11 @@ impl Acl {
         ensures only { IsAccepted full (self.old ++ ace item.entry ∷ [])
             → push_refusal self.old (ace item.entry) ≡ None }
     {
-        if self.count >= MOST_ACES {
+        if is_full(self.count as usize) {
             return Err(PushFault::TooManyAces);
         }
         let bits = item.mask.bits().count_ones();
-        if self.weight + bits > MOST_WEIGHT {
+        if is_too_heavy(self.weight + bits) {
             return Err(PushFault::TooHeavy);
         }
         judge(item.who)?;

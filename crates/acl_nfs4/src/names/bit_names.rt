@@ -1,31 +1,11 @@
-//! Tables of names, and the sets that fields name by them.
-ghost use Rattle.std.specs.Prelude.{◌≡◌, ◌==◌, IfSome, find, option_copied, option_map, position};
+//! The sets that fields name by the names of a table.
+ghost use Rattle.std.specs.Prelude.{◌≡◌, ◌==◌, IfSome, find, option_copied, position};
 ghost use Rattle.std.specs.List.{slice_split};
-ghost use Rattle.acl_nfs4.specs.BitNames.{bar, bit_in, bits_in, first_name, is_name_of, set_named};
+ghost use Rattle.acl_nfs4.specs.BitNames.{bar, bit_in, bits_in, is_name_of, set_named};
 ghost use Rattle.acl_nfs4.specs.internal.NameTable.{IsFieldCut, bit_name_of, set_within, bit_names_of};
 ghost use Rattle.acl_nfs4.specs.Within.{IsWithin};
 
-use acl_perm::internal::place_of;
-
-/// A row of a table: a bit, its name, and its second name if it has two.
-pub(crate) struct BitName {
-    pub bit: u32,
-    pub name: &'static str,
-    pub second: Option<&'static str>,
-}
-
-impl BitName {
-    // Returns whether the word is one of its names.
-    fn is_named(&self, word: &[u8]) -> bool
-        ensures { result ≡ is_name_of word.now (bit_name_of self.now) }
-    {
-        word == self.name.as_bytes()
-            || match self.second {
-                Some(second) => word == second.as_bytes(),
-                None => false,
-            }
-    }
-}
+use acl_perm::internal::{BitName, place_of};
 
 /// Returns the set that a field names, if this set has all of it.
 #[tactic(auto, unfolding(crate::specs::internal::NameTable::set_within))]
@@ -103,21 +83,16 @@ fn bit_in(table: &[BitName], word: &[u8]) -> Option<u32>
 fn row_named<'a>(table: &'a [BitName], word: &[u8]) -> Option<&'a BitName>
     ensures { option_copied result ≡ find (λ r. is_name_of word.now (bit_name_of r)) table.now }
 {
-    table.iter().find(|row| row.is_named(word))
+    table.iter().find(|row| is_named(row, word))
 }
 
-/// Returns the first name of a bit.
-pub(crate) fn first_name(table: &[BitName], bit: u32) -> Option<&'static str>
-    ensures { option_map (λ name. name.now) result ≡ first_name (bit_names_of table.now) bit }
+// Returns whether the word is one of the row's names.
+fn is_named(row: &BitName, word: &[u8]) -> bool
+    ensures { result ≡ is_name_of word.now (bit_name_of row.now) }
 {
-    match row_of_bit(table, bit) {
-        Some(row) => Some(row.name),
-        None => None,
-    }
-}
-
-fn row_of_bit(table: &[BitName], bit: u32) -> Option<&BitName>
-    ensures { option_copied result ≡ find (λ r. r.bit == bit) table.now }
-{
-    table.iter().find(|row| row.bit == bit)
+    word == row.name.as_bytes()
+        || match row.second {
+            Some(second) => word == second.as_bytes(),
+            None => false,
+        }
 }

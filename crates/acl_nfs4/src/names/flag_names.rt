@@ -1,6 +1,6 @@
 //! The names of the flags in texts.
 
-use crate::names::bit_names::BitName;
+use acl_perm::internal::BitName;
 
 /// `FILE` is FILE_INHERIT, `DIR` DIRECTORY_INHERIT, `NOPROP` NO_PROPAGATE_INHERIT, `INHERITONLY` INHERIT_ONLY,
 /// `SUCCESS` SUCCESSFUL_ACCESS, `FAILED` FAILED_ACCESS, `GROUP` IDENTIFIER_GROUP and `INHERITED` INHERITED (RFC 8881,

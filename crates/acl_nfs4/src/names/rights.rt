@@ -3,92 +3,9 @@ ghost use Rattle.std.specs.Prelude.{◌≡◌, ℕ, IfSome, IsSomeAnd, option_ma
 ghost use Rattle.acl_nfs4.specs.BitNames.{first_name};
 ghost use Rattle.acl_nfs4.specs.Rights.{SpellsMask, mask_named, rights};
 
-use crate::names::bit_names::{BitName, first_name, set_in};
+use crate::names::bit_names::set_in;
 use acl_perm::Mask;
-
-// A right has a second name if it has another name for directories.
-pub(crate) static RIGHTS: [BitName; 16] = [
-    BitName {
-        bit: 0x0000_0001,
-        name: "READ_DATA",
-        second: Some("LIST_DIRECTORY"),
-    },
-    BitName {
-        bit: 0x0000_0002,
-        name: "WRITE_DATA",
-        second: Some("ADD_FILE"),
-    },
-    BitName {
-        bit: 0x0000_0004,
-        name: "APPEND_DATA",
-        second: Some("ADD_SUBDIRECTORY"),
-    },
-    BitName {
-        bit: 0x0000_0008,
-        name: "READ_NAMED_ATTRS",
-        second: None,
-    },
-    BitName {
-        bit: 0x0000_0010,
-        name: "WRITE_NAMED_ATTRS",
-        second: None,
-    },
-    BitName {
-        bit: 0x0000_0020,
-        name: "EXECUTE",
-        second: None,
-    },
-    BitName {
-        bit: 0x0000_0040,
-        name: "DELETE_CHILD",
-        second: None,
-    },
-    BitName {
-        bit: 0x0000_0080,
-        name: "READ_ATTRIBUTES",
-        second: None,
-    },
-    BitName {
-        bit: 0x0000_0100,
-        name: "WRITE_ATTRIBUTES",
-        second: None,
-    },
-    BitName {
-        bit: 0x0000_0200,
-        name: "WRITE_RETENTION",
-        second: None,
-    },
-    BitName {
-        bit: 0x0000_0400,
-        name: "WRITE_RETENTION_HOLD",
-        second: None,
-    },
-    BitName {
-        bit: 0x0001_0000,
-        name: "DELETE",
-        second: None,
-    },
-    BitName {
-        bit: 0x0002_0000,
-        name: "READ_ACL",
-        second: None,
-    },
-    BitName {
-        bit: 0x0004_0000,
-        name: "WRITE_ACL",
-        second: None,
-    },
-    BitName {
-        bit: 0x0008_0000,
-        name: "WRITE_OWNER",
-        second: None,
-    },
-    BitName {
-        bit: 0x0010_0000,
-        name: "SYNCHRONIZE",
-        second: None,
-    },
-];
+use acl_perm::internal::{RIGHTS, first_name};
 
 /// Returns the mask that a field of the text form names, or `None` if the field names no mask: the empty mask for `-`,
 /// or the union of rights with `|` between their names, each the first or the second name of a right (RFC 8881, section

@@ -1,35 +1,9 @@
 //! The names and the numbers of the standard.
 
 use crate::*;
+use acl_perm::internal::RIGHTS;
 use std::alloc::Global;
 use std::process::Abort;
-
-// The access rights of RFC 8881, section 6.2.1.3.1, without `ACE4_`, and their numbers.
-static RIGHTS: [(u32, &str); 16] = [
-    (0x0000_0001, "READ_DATA"),
-    (0x0000_0002, "WRITE_DATA"),
-    (0x0000_0004, "APPEND_DATA"),
-    (0x0000_0008, "READ_NAMED_ATTRS"),
-    (0x0000_0010, "WRITE_NAMED_ATTRS"),
-    (0x0000_0020, "EXECUTE"),
-    (0x0000_0040, "DELETE_CHILD"),
-    (0x0000_0080, "READ_ATTRIBUTES"),
-    (0x0000_0100, "WRITE_ATTRIBUTES"),
-    (0x0000_0200, "WRITE_RETENTION"),
-    (0x0000_0400, "WRITE_RETENTION_HOLD"),
-    (0x0001_0000, "DELETE"),
-    (0x0002_0000, "READ_ACL"),
-    (0x0004_0000, "WRITE_ACL"),
-    (0x0008_0000, "WRITE_OWNER"),
-    (0x0010_0000, "SYNCHRONIZE"),
-];
-
-// The three rights that have another name for directories.
-static AT_DIRECTORIES: [(u32, &str); 3] = [
-    (0x0000_0001, "LIST_DIRECTORY"),
-    (0x0000_0002, "ADD_FILE"),
-    (0x0000_0004, "ADD_SUBDIRECTORY"),
-];
 
 fn names(number: u32, name: &str) -> bool {
     match read_mask(name.as_bytes()) {
@@ -47,12 +21,12 @@ fn is_first_name(number: u32, name: &str) -> bool {
 
 #[test]
 fn each_right_has_its_name_and_number(rt: HostRuntime) {
-    for (number, name) in RIGHTS {
-        assert!(rt; names(number, name), "{name}");
-        assert!(rt; is_first_name(number, name), "{name}");
-    }
-    for (number, name) in AT_DIRECTORIES {
-        assert!(rt; names(number, name), "{name}");
+    for row in &RIGHTS {
+        assert!(rt; names(row.bit, row.name), "{}", row.name);
+        assert!(rt; is_first_name(row.bit, row.name), "{}", row.name);
+        if let Some(second) = row.second {
+            assert!(rt; names(row.bit, second), "{second}");
+        }
     }
 }
 

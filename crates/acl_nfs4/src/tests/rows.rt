@@ -4,7 +4,7 @@ use crate::*;
 use std::alloc::{AllocError, Global};
 use std::process::Abort;
 
-/// An ACE as a row: its type, flags, mask and who.
+/// An ACE as a row: its kind, flags, mask and who.
 pub type Row = (Kind, u32, u32, &'static [u8]);
 
 /// The row ALLOW READ_DATA EVERYONE@.

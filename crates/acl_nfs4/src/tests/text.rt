@@ -226,25 +226,6 @@ fn is_long(alloc: Global, (parts, size, added, fault): Long) -> Result<bool, All
     Ok(is_list && size_of(alloc, &text) == Err(fault))
 }
 
-#[test]
-fn the_name_of_a_bit_is_its_first(rt: HostRuntime) {
-    let rows = [
-        (0x0000_0001, Some("READ_DATA")),
-        (0x0000_0004, Some("APPEND_DATA")),
-        (0x0000_0400, Some("WRITE_RETENTION_HOLD")),
-        (0x0010_0000, Some("SYNCHRONIZE")),
-        (0, None),
-        (3, None),
-        (0x001f_07ff, None),
-    ];
-    for (bits, name) in rows {
-        let Some(mask) = Mask::new(bits) else {
-            return;
-        };
-        assert!(rt; bit_name(mask) == name);
-    }
-}
-
 mod ample {
     use super::*;
 

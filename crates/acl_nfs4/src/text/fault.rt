@@ -14,7 +14,7 @@ pub enum AceTextFault {
     /// The line has fewer than three spaces.
     #[error("Fields at line {line} column {column}")]
     Fields { line: usize, column: usize },
-    /// The type is neither `ALLOW` nor `DENY`.
+    /// The kind is neither `ALLOW` nor `DENY`.
     #[error("AceType at line {line} column {column}")]
     AceType { line: usize, column: usize },
     /// The field here names no flags, or a flag outside the profile.

@@ -10,13 +10,12 @@ ghost use Rattle.acl_nfs4.specs.internal.Reading.{Gives};
 ghost use Rattle.acl_nfs4.specs.Who.{IsWho};
 
 use crate::ace::AceRef;
-use crate::limits::{MOST_ACES, MOST_WEIGHT};
+use crate::limits::{is_full, is_too_heavy};
 use crate::names::bit_names::set_within;
 use crate::names::flag_names::FLAGS;
-use crate::names::rights::RIGHTS;
 use crate::text::fault::AceTextFault;
 use crate::who::{WhoFault, judge};
-use acl_perm::internal::{is_all_blank, place_of};
+use acl_perm::internal::{RIGHTS, is_all_blank, place_of};
 use acl_perm::{Flags, Kind, Mask, Profile};
 
 /// The fields of a line.
@@ -53,7 +52,7 @@ pub(crate) fn read_ace(
     ensures light { IfOk result (λ a. weight + count_ones a.mask.bits ≤ most_weight) }
     ensures who { IfOk result (λ a. IsWho a.who.now) }
 {
-    if count >= MOST_ACES as usize {
+    if is_full(count) {
         return Err(AceTextFault::TooManyAces {
             line: number,
             column: 1,
@@ -85,7 +84,7 @@ pub(crate) fn read_ace(
     })
 }
 
-/// Returns the bytes before the first space, and the bytes behind it.
+/// The bytes before the first space, and the bytes behind it.
 #[derive(Clone, Copy)]
 pub(crate) struct FirstField<'a> {
     pub field: &'a [u8],
@@ -171,7 +170,7 @@ fn mask_at(
     let Some(bits) = set_within(&RIGHTS, field, profile.masks.bits()) else {
         return Err(AceTextFault::Mask { line, column });
     };
-    if weight + bits.count_ones() > MOST_WEIGHT {
+    if is_too_heavy(weight + bits.count_ones()) {
         return Err(AceTextFault::TooHeavy { line, column });
     }
     Ok(Mask { bits })

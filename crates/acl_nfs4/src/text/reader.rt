@@ -1,5 +1,5 @@
 //! Lists from their text, line by line.
-ghost use Rattle.std.specs.Prelude.{◌≡◌, ◌⊎◌, ◌∷◌, [], IfErr, IfOk, List, MatchResult, Ok};
+ghost use Rattle.std.specs.Prelude.{◌≡◌, ◌⊎◌, ◌+◌, ◌∷◌, [], ℕ, IfErr, IfOk, List, MatchResult, Ok};
 ghost use Rattle.acl_perm.specs.Profile.{full, profile_of};
 ghost use Rattle.acl_nfs4.specs.Ace.{Ace};
 ghost use Rattle.acl_nfs4.specs.internal.AceReading.{read_lines, FailsAs};
@@ -75,13 +75,13 @@ fn read_text(alloc: Global, text: &[u8], profile: Profile) -> Result<Acl, AceTex
     Ok(acl)
 }
 
-// Adds the ACE of a line, if the line should spell one.
+// Adds the ACE of a line, if the line should spell one, before any lines that follow.
 fn add_line(acl: &mut Acl, line: &[u8], number: usize, profile: Profile) -> Result<(), AceTextFault>
-    ensures { MatchResult result
-        (λ _. read_lines (profile_of profile) acl.old (ace_lines_from number (line.now ∷ []))
-        ≡ Ok acl.new)
+    ensures { (more : List (List ℕ)) → MatchResult result
+        (λ _. read_lines (profile_of profile) acl.old (ace_lines_from number (line.now ∷ more))
+        ≡ read_lines (profile_of profile) acl.new (ace_lines_from (number + 1) more))
         (λ fault. FailsAs fault
-        (read_lines (profile_of profile) acl.old (ace_lines_from number (line.now ∷ [])))) }
+        (read_lines (profile_of profile) acl.old (ace_lines_from number (line.now ∷ more)))) }
 {
     if is_skipped(line) {
         return Ok(());

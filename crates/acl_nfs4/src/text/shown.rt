@@ -8,10 +8,9 @@ ghost use Rattle.acl_nfs4.specs.Rights.{rights};
 ghost use Rattle.acl_perm.specs.Principal.{principal};
 
 use crate::ace::AceRef;
-use crate::names::bit_names::BitName;
 use crate::names::flag_names::FLAGS;
-use crate::names::rights::RIGHTS;
 use crate::text::writer::{Line, add_set};
+use acl_perm::internal::RIGHTS;
 use acl_perm::{Flags, Mask, Principal};
 use std::fmt;
 

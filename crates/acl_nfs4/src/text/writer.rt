@@ -14,15 +14,13 @@ ghost use Rattle.acl_nfs4.specs.internal.NameTable.{bar_before, bit_names_of, is
 use crate::ace::AceRef;
 use crate::list::aces::Aces;
 use crate::list::acl::Acl;
-use crate::names::bit_names::BitName;
 use crate::names::flag_names::FLAGS;
-use crate::names::rights::RIGHTS;
 use crate::xdr::view::AclView;
-use acl_perm::internal::put_next;
+use acl_perm::internal::{BitName, RIGHTS, put_next};
 use acl_perm::{Kind, Sink, WriteFault};
 use arrayvec::ArrayVec;
 
-/// Room for a line: a type, all flags, all rights, the longest who, and the bytes between them.
+/// Room for a line: a kind, all flags, all rights, the longest who, and the bytes between them.
 pub type Line = ArrayVec<u8, LINE_ROOM>;
 
 pub const LINE_ROOM: usize = 1600;
@@ -80,7 +78,7 @@ fn put_lines<S: Sink>(sink: &mut S, aces: Aces<'_>) -> Result<u64, WriteFault>
     Ok(done)
 }
 
-// The line of an ACE.
+// Writes the line of an ACE into the buffer.
 #[tactic(auto, unfolding(crate::specs::AceText::ace_line))]
 fn fill(line: &mut Line, item: AceRef<'_>)
     requires { length item.who.now ≤ longest_who }
@@ -115,7 +113,8 @@ pub(crate) fn add_set(line: &mut Line, table: &[BitName], set: u32)
     requires rising { is_rising table.now ≡ true }
     requires room { array_vec_len line.old + row_room * length table.now + 1 ≤ ace_line_room }
     ensures text { line.new.items ≡ line.old.items ++ set_text (bit_names_of table.now) set }
-    ensures len { array_vec_len line.new ≤ array_vec_len line.old + row_room * length table.now + 1 }
+    ensures len { array_vec_len line.new
+        ≤ array_vec_len line.old + row_room * length table.now + 1 }
 {
     if set == 0 {
         line.push(b'-');

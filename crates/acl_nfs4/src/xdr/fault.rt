@@ -12,9 +12,9 @@ pub enum Reason {
     Truncated,
     /// The list would have more than 65,536 ACEs.
     TooManyAces,
-    /// The type is AUDIT or ALARM, which this library does not accept.
+    /// The kind is AUDIT or ALARM, which this library does not accept.
     AuditOrAlarm,
-    /// The type is not a type of the standard.
+    /// The kind is not a kind of the standard.
     AceType,
     /// A flag is not a flag of the standard, or is outside the profile.
     FlagBits,

@@ -8,7 +8,7 @@ ghost use Rattle.acl_nfs4.specs.internal.Reading.{Gives};
 ghost use Rattle.acl_nfs4.specs.Spelling.{pad_len};
 ghost use Rattle.acl_nfs4.specs.Who.{is_no_who_len};
 
-use crate::limits::{MOST_ACES, MOST_WEIGHT};
+use crate::limits::{is_too_heavy, is_too_long};
 use crate::who::{WhoFault, is_no_who_len, judge_text};
 use crate::xdr::fault::Reason;
 use acl_perm::{Flags, Kind, Mask, Profile};
@@ -20,13 +20,13 @@ pub(crate) fn count_of(number: u32) -> Result<u32, Reason>
     ensures exact { Gives (λ x. x) result (count_of number) }
     ensures small { IfOk result (λ x. x ≤ most_aces) }
 {
-    if number > MOST_ACES {
+    if is_too_long(number) {
         return Err(Reason::TooManyAces);
     }
     Ok(number)
 }
 
-/// The type.
+/// The kind.
 #[inline(always)]
 pub(crate) fn kind_of(number: u32) -> Result<Kind, Reason>
     ensures { Gives (λ x. x) result (kind_of number) }
@@ -62,7 +62,7 @@ pub(crate) fn mask_of(number: u32, weight: u32, profile: Profile) -> Result<Mask
     if number & profile.masks.bits() != number {
         return Err(Reason::MaskBits);
     }
-    if weight + number.count_ones() > MOST_WEIGHT {
+    if is_too_heavy(weight + number.count_ones()) {
         return Err(Reason::TooHeavy);
     }
     Ok(Mask { bits: number })

@@ -77,7 +77,7 @@ fn pull_words<S: Source>(source: &mut S, room: &mut [u8], next: NextAce) -> Resu
     })
 }
 
-// Reads the type and the flags of an ACE. The type is judged before the flags are asked for.
+// Reads the kind and the flags of an ACE. The kind is judged before the flags are asked for.
 #[inline(always)]
 fn pull_head<S: Source>(source: &mut S, room: &mut [u8], next: NextAce) -> Result<(), Fault>
     requires room { length room.old ≡ longest_ace }

@@ -1,9 +1,9 @@
 //! Reads the fields of a list in memory, one after the other, and gives the offset of a field that is refused.
 ghost use Rattle.std.specs.Prelude.{◌≡◌, ℕ, ◌+◌, ◌-◌, ◌<◌, ◌≤◌, ◌^◌, length, Ok, IfOk, IfSome, count_ones, false};
 ghost use Rattle.acl_perm.specs.Profile.{profile_of};
-ghost use Rattle.acl_nfs4.specs.Fields.{count_of, kind_of, flags_of, mask_of, who_len_of, who_of, padding_of};
-ghost use Rattle.acl_nfs4.specs.Limits.{most_aces, most_weight};
-ghost use Rattle.acl_nfs4.specs.internal.Reading.{Gives, Place, Placed, field, word_field, ace_at, aces_at, place_read};
+ghost use Rattle.acl_nfs4.specs.Fields.{kind_of, flags_of, mask_of, who_len_of, who_of, padding_of};
+ghost use Rattle.acl_nfs4.specs.Limits.{most_weight};
+ghost use Rattle.acl_nfs4.specs.internal.Reading.{Gives, Place, Placed, field, word_field, ace_at};
 ghost use Rattle.acl_nfs4.specs.Spelling.{pad_len};
 ghost use Rattle.acl_nfs4.specs.Who.{is_no_who_len};
 ghost use Rattle.acl_nfs4.specs.internal.Cursor.{place};
@@ -16,28 +16,6 @@ use crate::xdr::fault::{Fault, Reason};
 use crate::xdr::judges::{self, begins_zero, pad_len};
 use acl_perm::{Flags, Kind, Mask, Profile};
 use byteorder::{BigEndian, ByteOrder};
-
-pub(crate) fn count(cursor: &mut Cursor<'_>) -> Result<u32, Fault>
-    ensures exact { Gives (λ x. (x, place cursor.new)) result
-        (word_field count_of (place cursor.old)) }
-    ensures small { IfOk result (λ x. x ≤ most_aces) }
-{
-    let offset = offset_of(cursor);
-    placed(offset, judges::count_of(word(cursor)?))
-}
-
-#[inline(always)]
-pub(crate) fn skip_aces(cursor: &mut Cursor<'_>, count: u32, profile: Profile) -> Result<(), Fault>
-    ensures { Gives (λ _. place cursor.new) result
-        (place_read (aces_at (profile_of profile) count 0 (place cursor.old))) }
-{
-    let mut weight = 0;
-    for _ in 0..count {
-        let ace = next_ace(cursor, weight, profile)?;
-        weight += ace.mask.bits().count_ones();
-    }
-    Ok(())
-}
 
 // The next ACE. Most are plain, and their fields are read at one go. Any other is judged field by field, which also says
 // what refuses it.

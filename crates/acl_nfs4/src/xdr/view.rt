@@ -8,13 +8,13 @@ ghost use Rattle.acl_nfs4.specs.Front.{IsListOf, StandsAtFront};
 ghost use Rattle.acl_perm.specs.Profile.{full, profile_of};
 ghost use Rattle.acl_nfs4.specs.Fault.{IsFault, IsWholeFault};
 ghost use Rattle.acl_nfs4.specs.declared.xdr.fault.Reason.{Reason};
-ghost use Rattle.acl_nfs4.specs.internal.Reading.{Gives, value_at};
 
 use crate::ace::AceRef;
-use crate::list::aces::{Aces, fit, weight_of};
-use crate::xdr::cursor::Cursor;
+use crate::feed::scan::{Progress, scan};
+use crate::list::aces::{Aces, fit, weight_of, word_in};
 use crate::xdr::fault::{Fault, Reason};
-use crate::xdr::reading::{count, skip_aces};
+use crate::xdr::judges;
+use crate::xdr::reading::placed;
 use acl_perm::Profile;
 use std::alloc::AllocError;
 use std::marker::Model;
@@ -119,14 +119,7 @@ impl<'a> AclView<'a> {
             → IsWholeFault (profile_of profile) bytes.now offset r
             → result ≡ Err (record { offset = offset; reason = r }) }
     {
-        let (view, len) = AclView::parse_with(bytes, profile)?;
-        if len < bytes.len() {
-            return Err(Fault {
-                offset: len as u64,
-                reason: Reason::TrailingBytes,
-            });
-        }
-        Ok(view)
+        whole_of(bytes, profile)
     }
 
     /// Returns the number of ACEs, in constant time.
@@ -218,18 +211,46 @@ impl<'a> IntoIterator for &'a AclView<'_> {
     }
 }
 
-// Returns the list at the front, as `reading` gives it.
+// Returns the list that all of the bytes spell, or the fault of the bytes.
+#[inline(always)]
+fn whole_of(bytes: &[u8], profile: Profile) -> Result<AclView<'_>, Fault>
+    ensures found { IfOk result (λ list. Xdr (profile_of profile) list bytes.now) }
+    ensures fault { IfErr result (λ f. IsWholeFault
+        (profile_of profile) bytes.now f.offset f.reason) }
+{
+    let (view, len) = view_of(bytes, profile)?;
+    if len < bytes.len() {
+        return Err(Fault {
+            offset: len as u64,
+            reason: Reason::TrailingBytes,
+        });
+    }
+    Ok(view)
+}
+
+// Returns the list at the front, or the fault of the bytes.
 #[inline(always)]
 fn view_of(bytes: &[u8], profile: Profile) -> Result<(AclView<'_>, usize), Fault>
-    ensures { Gives (λ x. x) result (value_at (profile_of profile) bytes.now) }
+    ensures found { IfOk result (StandsAtFront (profile_of profile) bytes.now) }
+    ensures fault { IfErr result (λ f. IsFault (profile_of profile) bytes.now f.offset f.reason) }
 {
-    let mut cursor = Cursor {
-        len: bytes.len(),
-        rest: bytes,
+    if bytes.len() < 4 {
+        return Err(Fault::at_front(Reason::Truncated));
+    }
+    let count = placed(0, judges::count_of(word_in(bytes, 0)))?;
+    let (_, rest) = bytes.split_at(4);
+    let none = Progress {
+        seen: 0,
+        used: 0,
+        weight: 0,
     };
-    let count = count(&mut cursor)?;
-    let body = cursor.rest;
-    skip_aces(&mut cursor, count, profile)?;
-    let (body, _) = body.split_at(body.len() - cursor.rest.len());
-    Ok((AclView { count, body }, bytes.len() - cursor.rest.len()))
+    let reach = scan(rest, count, none, profile);
+    match reach.fault {
+        Some(fault) => Err(fault),
+        None => {
+            let Progress { seen, used, .. } = reach.progress;
+            let (body, _) = rest.split_at(used);
+            Ok((AclView { count: seen, body }, 4 + used))
+        }
+    }
 }

@@ -4,9 +4,8 @@ use Rattle.acl_normal.proofs.comparison.FirstPlaceLemmas.{whom_at}
 use Rattle.acl_normal.proofs.comparison.Numbers.{is_of_own}
 use Rattle.acl_normal.proofs.unique.Columns.{column_first}
 use Rattle.acl_normal.proofs.unique.Names.{principal_eq_same}
-use Rattle.acl_normal.specs.internal.FirstPlaces.{names_any, same_whom}
-use Rattle.acl_normal.specs.internal.RightsApart.{AreApart, HasOpenBits, say_the_same}
-use Rattle.acl_normal.specs.internal.SetSearch.{AreRightsOf}
+use Rattle.acl_normal.specs.internal.comparison.FirstPlaces.{names_any, same_whom}
+use Rattle.acl_normal.specs.internal.comparison.RightsApart.{HasOpenBits, say_the_same}
 use Rattle.acl_normal.specs.declared.comparison.apart.Statement.{Statement}
 
 -- whom the ACE at a place names
@@ -76,10 +75,6 @@ pub record AreWalked (refs others : List AceRef) (here there apart : ℕ) : Type
   pub same : (bit : ℕ) → has_bit apart bit ≡ false
       → column (aces_in (drop here refs)) bit ≡ column (aces_in (drop there others)) bit
       → column (aces_in refs) bit ≡ column (aces_in others) bit
-
--- before the first ACEs nothing is decided
-pub walk_starts : (refs others : List AceRef) → AreWalked refs others 0 0 0
-walk_starts refs others = record { same = λ bit e h. h }
 
 -- past an ACE of the first list without open rights
 pub walk_here : (whole : List Principal) (refs others : List AceRef) (ws : List Whom) (x : AceRef) (w : Whom)
@@ -158,19 +153,6 @@ walk_both whole refs others ws vs x y w v here there apart own theirs lh lt xa y
         (and_parts (has_bit x.mask.bits bit) (takes_part (ace x)) t).1)
         rest
         ∙ sym (column_at others y there bit lt ya ∙ column_first bit (ace y) (aces_in (drop (there + 1) others)))
-
--- with the rights of what is left, the lists are told apart
-pub walk_ends : (refs others left right : List AceRef) (here there apart own theirs more new : ℕ)
-    → left ≡ drop here refs → right ≡ drop there others → AreRightsOf (aces_in left) own
-    → AreRightsOf (aces_in right) theirs → IsUnion apart own more → IsUnion more theirs new
-    → AreWalked refs others here there apart → AreApart (aces_in refs) (aces_in others) new
-walk_ends refs others left right here there apart own theirs more new le re ho ht u z inv = record {
-  same = λ bit e.
-      let outer = or_parts (has_bit more bit) (has_bit theirs bit) (sym (z bit) ∙ e) in
-      let inner = or_parts (has_bit apart bit) (has_bit own bit) (sym (u bit) ∙ outer.0) in
-      inv.same bit inner.0 (ap (λ r. column (aces_in r) bit) (sym le) ∙ ho.unused bit inner.1
-      ∙ sym (ht.unused bit outer.1) ∙ ap (λ r. column (aces_in r) bit) re);
-}
 
 -- whom two ACEs name alike
 named_alike : (v w : Whom) → same_whom v w ≡ true → v ≡ w

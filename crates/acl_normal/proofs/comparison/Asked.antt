@@ -21,7 +21,7 @@ one_alone mask k is within =
     let some : 0 < 2 ^ k = pow_pos k in
     let low = lowest_is mask (λ none. absurd (omega (arith, none, is, some))) within in
     let t = trailing_zeros w32 mask in
-    let same : t ≡ k = power_has k t (subst (λ m. has_bit m t ≡ true) is low.has) in
+    let same : t ≡ k = power_has k t (subst (λ m. has_bit m t ≡ true) is low.0) in
     is ∙ ap (λ n. 2 ^ n) (sym same)
 
 -- there are no more group names than principals

@@ -8,9 +8,9 @@ use Rattle.acl_normal.proofs.unique.Names.{overlaps_back}
 use Rattle.acl_normal.proofs.comparison.PairGrants.{no_pairs, pair_granted, pairs_after}
 use Rattle.acl_normal.proofs.comparison.SetEvaluation.{granted_to-cons}
 use Rattle.acl_normal.proofs.comparison.SetSearchLemmas.{found_left, found_right}
-use Rattle.acl_normal.specs.internal.FirstPlaces.{Agrees, AlikeAlone, AlikeWith, AlikeWithAll, IsLeast, OnAll}
-use Rattle.acl_normal.specs.internal.SetSearch.{FindsSet}
-use Rattle.acl_normal.specs.internal.TwoLists.{AreAlikeTo, IsFirstMember, IsFirstPartner, IsFirstSingle, later_than, principal_at}
+use Rattle.acl_normal.specs.internal.comparison.FirstPlaces.{Agrees, AlikeAlone, AlikeWith, AlikeWithAll, IsLeast, OnAll}
+use Rattle.acl_normal.specs.internal.comparison.SetSearch.{FindsSet}
+use Rattle.acl_normal.specs.internal.comparison.TwoLists.{AreAlikeTo, IsFirstMember, IsFirstPartner, IsFirstSingle, later_than, principal_at}
 
 -- the first single principal at which the lists grant otherwise
 pub singles_first : (xs ys : List Ace) (ps : List Principal) (v : ℕ) → v < length ps

@@ -3,7 +3,7 @@ use Rattle.acl_normal.proofs.Common.{[], Ace, ace, AceRef, aces_in, ap, AreFirst
 use Rattle.std.proofs.lemmas.List.{get_or_past}
 use Rattle.acl_normal.proofs.Each.{zip_at, zip_length}
 use Rattle.acl_normal.proofs.comparison.SetEvaluation.{granted_to-cons}
-use Rattle.acl_normal.specs.internal.FirstPlaces.{IsFirstFrom, IsWhomWithin, is_of, no_first, put, stops, stops_at}
+use Rattle.acl_normal.specs.internal.comparison.FirstPlaces.{IsFirstFrom, IsWhomWithin, is_of, no_first, put, stops, stops_at}
 use Rattle.acl_normal.specs.declared.comparison.standing.First.{First}
 
 -- as many are named as there are ACEs

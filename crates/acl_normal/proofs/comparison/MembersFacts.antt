@@ -1,9 +1,7 @@
 -- What a list grants to principals by their numbers.
-use Rattle.acl_normal.proofs.Common.{Ace, all_mentioned, ap, arith, IsGrantedTo, AreWhoms, Bool, everyone, FindSet, has_bit, is_among, IsWhom, List, None, Option, Principal, principal_of, principals, set_of, SmallSet, Some, subst, sym, takes_part, TwoLists, Whom, ℕ, ◌&&◌, ◌∙◌, ◌∷◌, ◌≡◌}
-use Rattle.acl_normal.specs.internal.Compared.{IsCompared, lists_in}
-use Rattle.acl_normal.specs.internal.Members.{AreNumbered, is_matched, members_of, members_or_none}
-use Rattle.acl_normal.specs.internal.SetSearch.{HasBitsOf}
-use Rattle.acl_normal.specs.declared.comparison.compared.Compared.TheInside.{Inside}
+use Rattle.acl_normal.proofs.Common.{Ace, all_mentioned, ap, arith, Bool, everyone, FindSet, has_bit, is_among, IsWhom, List, None, Option, Principal, principal_of, set_of, SmallSet, Some, subst, sym, takes_part, TwoLists, Whom, ℕ, ◌&&◌, ◌∙◌, ◌∷◌, ◌≡◌}
+use Rattle.acl_normal.specs.internal.comparison.Members.{AreNumbered, is_matched, members_of, members_or_none}
+use Rattle.acl_normal.specs.internal.comparison.SetSearch.{HasBitsOf}
 use Rattle.acl_normal.specs.declared.comparison.members.Members.{Members}
 use Rattle.acl_normal.specs.declared.comparison.members.Members.TheVariants as code
 
@@ -25,18 +23,6 @@ matched_bits whole a w set mask h n is = record {
   where
     regroup : (x y z : Bool) → (x && (y && z)) ≡ ((x && y) && z)
     regroup x y z = grind arith
-
--- what is granted by a list that is compared to the principals of some numbers
-pub granted_part : (part : TwoLists → List Ace) (c : Inside) (both : TwoLists) (ws : List Whom) (set : Members)
-    (mask : ℕ) → IsCompared c → lists_in c ≡ both → AreWhoms (principals c.mentioned.now) (part (lists_in c)) ws
-    → ((whole : List Principal) → AreWhoms whole (part (lists_in c)) ws → AreNumbered whole set
-    → IsGrantedTo (part (lists_in c)) (members_of whole set) mask)
-    → AreNumbered (all_mentioned both) set → IsGrantedTo (part both) (members_of (all_mentioned both) set) mask
-granted_part part c both ws set mask h is named all n =
-    subst (λ b. IsGrantedTo (part b) (members_of (all_mentioned b) set) mask) is
-    (subst (λ ps. IsGrantedTo (part (lists_in c)) (members_of ps set) mask) h.mentioned
-    (all (principals c.mentioned.now) named
-    (subst (λ ps. AreNumbered ps set) (sym (h.mentioned ∙ ap all_mentioned is)) n)))
 
 -- the set that is found, read by what it is
 pub found_members : (both : TwoLists) (found : Option Members) (members : Members) (set : SmallSet)

@@ -1,10 +1,10 @@
 -- The principals that lists mention.
-use Rattle.acl_normal.proofs.Common.{[], Ace, AllByRecursion, ap, arith, Column, column, cond, Equal, everyone, false, Greater, HasName, HasNames, is_among, is_mentioning, IsRisingSet, length, Less, List, longest, longest_name, mentioned, mentioned_with, or_cases, or_left, Ordering, Principal, principal_cmp, principal_eq, principal_exact, principal_name, principal_of, principal_total, refl, true, ℕ, ⊎_elim, ◌+◌, ◌<◌, ◌∷◌, ◌≡◌, ◌≤◌}
+use Rattle.acl_normal.proofs.Common.{[], Ace, AllByRecursion, ap, arith, Column, column, cond, Equal, everyone, false, Greater, HasName, HasNames, is_among, is_mentioning, IsRisingSet, length, Less, List, longest, mentioned, mentioned_with, or_cases, or_left, Ordering, Principal, principal_cmp, principal_eq, principal_exact, principal_name, principal_of, principal_total, refl, true, ℕ, ⊎_elim, ◌+◌, ◌<◌, ◌∷◌, ◌≡◌, ◌≤◌}
 use Rattle.std.specs.BTreeSet.{insert_key}
 use Rattle.std.specs.Ordering.{match_ordering}
 use Rattle.std.proofs.lemmas.Bool.{cond_both}
 use Rattle.acl_normal.proofs.unique.Realised.{cond_holds}
-use Rattle.acl_normal.proofs.unique.Names.{principal_eq_itself, principal_eq_same}
+use Rattle.acl_normal.proofs.unique.Names.{principal_eq_itself, principal_eq_same, longest_name}
 use Rattle.acl_normal.proofs.unique.FirstKind.{HasOnly}
 use Rattle.acl_normal.proofs.unique.Small.{principal_greater}
 

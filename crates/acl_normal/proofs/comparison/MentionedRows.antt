@@ -1,5 +1,5 @@
 -- The principals that lists mention, by row and by number.
-use Rattle.acl_normal.proofs.Common.{[], Ace, ace, AceRef, aces_in, all_mentioned, AllByRecursion, ap, append-nil, AreRowNumbers, AreWhoms, arith, Bool, cases_eq, cases_lt, drop, Equal, everyone, false, get_or-append_seam, get_or-map, get_or-set_other, get_or-set_same, get_or_append_left, get_or_default, Greater, if◌then◌else◌, inl, inr, is_among, is_mentioning, is_principal_of, IsRisingSet, IsWhom, key_here, length, length-append, length-map, length-set, Less, List, map-append, mentioned_with, no_ace, None, Option, option_map, or_left, or_right, Ordering, Principal, principal, principal_cmp, principal_eq, principal_exact, principal_of, principals, refl, row_of, same_Some, slice_index_or, slice_set, Some, subst, suc, sym, take, take_more, true, two_lists, Whom, zero, ℕ, ◌++◌, ◌+◌, ◌<◌, ◌∙◌, ◌∷◌, ◌≡◌, ◌≤◌, ◌⊎◌}
+use Rattle.acl_normal.proofs.Common.{[], Ace, ace, AceRef, aces_in, all_mentioned, AllByRecursion, ap, append-nil, AreRowNumbers, AreWhoms, arith, Bool, cases_eq, cases_lt, drop, Equal, everyone, false, get_or-append_seam, get_or-map, get_or-set_other, get_or-set_same, get_or_append_left, get_or_default, Greater, if◌then◌else◌, inl, inr, is_among, is_mentioning, is_principal_of, IsRisingSet, IsWhom, key_here, length, length-append, length-map, length-set, Less, List, map-append, mentioned_with, no_ace, None, Option, option_map, or_left, or_right, Ordering, Principal, principal, principal_cmp, principal_eq, principal_exact, principal_of, principals, refl, row_of, same_Some, slice_index_or, slice_set, Some, subst, suc, sym, take, take_more, true, Whom, zero, ℕ, ◌++◌, ◌+◌, ◌<◌, ◌∙◌, ◌∷◌, ◌≡◌, ◌≤◌, ◌⊎◌}
 use Rattle.std.specs.BTreeSet.{insert_key}
 use Rattle.std.proofs.Math.Seq.{take-length}
 use Rattle.acl_normal.proofs.Each.{all_at, all_from, zip_length, zip_push}
@@ -11,10 +11,9 @@ use Rattle.acl_normal.proofs.comparison.SmallSetLemmas.{below_one}
 use Rattle.acl_normal.proofs.unique.Names.{principal_eq_itself}
 use Rattle.acl_normal.proofs.unique.Realised.{same_answers}
 use Rattle.acl_normal.proofs.unique.Small.{principal_greater}
-use Rattle.acl_normal.specs.internal.MentionedRows.{AreByRow, AreMentioned, AreMentionedRows, AreMentionedNumbers, HasNumber, IsMentionedAt, at_row, held, mentioned_by, noted, whom_of, with_found}
-use Rattle.acl_normal.specs.internal.Compared.{IsCompared, lists_in}
+use Rattle.acl_normal.specs.internal.comparison.MentionedRows.{AreByRow, AreMentionedRows, AreMentionedNumbers, HasNumber, IsMentionedAt, at_row, held, mentioned_by, noted, whom_of, with_found}
+use Rattle.acl_normal.specs.internal.comparison.Compared.{IsCompared, lists_in}
 use Rattle.acl_normal.specs.declared.comparison.compared.Compared.TheInside.{Inside}
-use Rattle.acl_normal.specs.declared.comparison.mentioned.Mentions.{Mentions}
 use Rattle.acl_perm.specs.declared.principal.Principal.{Principal as PrincipalRef}
 
 -- ---- a list's ACEs by place
@@ -428,13 +427,6 @@ whole_ready aces table t whole numbers te by n =
     n.whole_is ∙ ap (λ v. held (take (length v) v)) te ∙ ap held (take-length table)
     ∙ table_mentions (aces_in aces) table
     (subst (λ v. AreByRow (aces_in aces) v table) (sym (length-map aces ace)) by)
-
--- whom two lists mention, in the code's other borrows of the same lists
-pub mentions_same : (list other a b c d : List AceRef) (m : Mentions) → a ≡ list → b ≡ other → c ≡ list → d ≡ other
-    → AreMentioned (two_lists (aces_in a) (aces_in b)) m → AreMentioned (two_lists (aces_in c) (aces_in d)) m
-mentions_same list other a b c d m ae be ce de h =
-    subst (λ v. AreMentioned (two_lists (aces_in v) (aces_in d)) m) (ae ∙ sym ce)
-    (subst (λ v. AreMentioned (two_lists (aces_in a) (aces_in v)) m) (be ∙ sym de) h)
 
 -- whom the first list's ACEs name
 pub whoms_first : (ps : List Principal) (list other : List AceRef) (ws part : List Whom) (n : ℕ) → n ≡ length list

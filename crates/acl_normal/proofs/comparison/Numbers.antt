@@ -7,8 +7,8 @@ use Rattle.acl_normal.proofs.Each.{all_at}
 use Rattle.acl_normal.proofs.unique.Names.{principal_eq_itself, principal_eq_same}
 use Rattle.acl_normal.proofs.unique.Realised.{same_answers}
 use Rattle.acl_normal.proofs.comparison.SmallSetLemmas.{not_below_itself}
-use Rattle.acl_normal.specs.internal.FirstPlaces.{is_of}
-use Rattle.acl_normal.specs.internal.MentionedRows.{HasNumber, whom_of}
+use Rattle.acl_normal.specs.internal.comparison.FirstPlaces.{is_of}
+use Rattle.acl_normal.specs.internal.comparison.MentionedRows.{HasNumber, whom_of}
 
 -- the principal of a number
 pub numbered : (names : List PrincipalRef) (q : PrincipalRef) (i : ℕ) → i < length names

@@ -5,7 +5,7 @@ use Rattle.std.proofs.lemmas.Bool.Decides.{nat_tests}
 use Rattle.acl_normal.proofs.unique.Names.{bytes_eq_same}
 use Rattle.acl_normal.proofs.comparison.SetEvaluation.{granted_to-cons}
 use Rattle.acl_normal.proofs.comparison.SetSearchLemmas.{found_right}
-use Rattle.acl_normal.specs.internal.FirstPlaces.{Agrees}
+use Rattle.acl_normal.specs.internal.comparison.FirstPlaces.{Agrees}
 
 -- a choice among the same is the same
 cond_same : (l x v y w : Bool) → x ≡ v → y ≡ w → cond l x y ≡ cond l v w

@@ -6,8 +6,8 @@ use Rattle.acl_normal.proofs.Each.{all_at, all_drop, zip_at, zip_length, zip_pus
 use Rattle.acl_normal.proofs.unique.Bits.{below}
 use Rattle.acl_normal.proofs.comparison.Numbers.{numbered}
 use Rattle.acl_normal.proofs.comparison.PairGrants.{agrees_from_rows, inverted, not_agrees_from_rows, not_inverted}
-use Rattle.acl_normal.specs.internal.FirstPlaces.{AlikeAlone, AlikeWith, AlikeWithAll, IsFirst, IsFirstFrom, IsLeast, OnAll, no_first}
-use Rattle.acl_normal.specs.internal.TwoLists.{AlikeToOne, AlikeToPair, AlikeToPairs, HaveSameColumn, later_than, principal_at}
+use Rattle.acl_normal.specs.internal.comparison.FirstPlaces.{AlikeAlone, AlikeWith, AlikeWithAll, IsFirst, IsFirstFrom, IsLeast, OnAll, no_first}
+use Rattle.acl_normal.specs.internal.comparison.TwoLists.{AlikeToOne, AlikeToPair, AlikeToPairs, HaveSameColumn, later_than, principal_at}
 use Rattle.acl_normal.specs.declared.class.Class.{Class}
 use Rattle.acl_normal.specs.declared.comparison.standing.First.{First}
 

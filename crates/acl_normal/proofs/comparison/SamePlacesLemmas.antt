@@ -1,8 +1,7 @@
 -- Lists that name the same as another, place by place.
-use Rattle.acl_normal.proofs.Common.{[], ace, AceRef, aces_in, AllByRecursion, AllZip, ap, append-nil, ArePlacesOf, AreWhoms, arith, cases_lt, Err, everyone, get_or-append_seam, get_or-map, get_or_append_left, get_or_read, has_bit, IfOk, inl, inr, is_among, is_mentioning, IsWhom, length, length-append, length-map, List, map, map-append, mentioned, mentioned_with, no_ace, Nobody, not, Ok, Principal, principal_eq, principal_of, principals, Result, slice_index_or, subst, sym, take, take_all, take_more, takes_part, true, two_lists, Whom, ℕ, ◌&&◌, ◌++◌, ◌+◌, ◌<◌, ◌∙◌, ◌∷◌, ◌≡◌, ◌≤◌, ◌⊎◌}
+use Rattle.acl_normal.proofs.Common.{[], ace, AceRef, aces_in, AllByRecursion, AllZip, ap, ArePlacesOf, AreWhoms, arith, cases_lt, Err, everyone, get_or-append_seam, get_or-map, get_or_append_left, get_or_read, has_bit, IfOk, inl, inr, is_among, is_mentioning, IsWhom, length, length-append, length-map, List, map, map-append, mentioned, mentioned_with, no_ace, Nobody, not, Ok, Principal, principal_eq, principal_of, principals, Result, slice_index_or, subst, sym, takes_part, true, two_lists, Whom, ℕ, ◌&&◌, ◌++◌, ◌+◌, ◌<◌, ◌∙◌, ◌∷◌, ◌≡◌, ◌≤◌, ◌⊎◌}
 use Rattle.std.specs.declared.alloc.AllocError.{AllocError}
 use Rattle.std.proofs.Common.{suc}
-use Rattle.std.proofs.lemmas.List.{append_assoc}
 use Rattle.acl_normal.proofs.Each.{all_from}
 use Rattle.acl_normal.proofs.comparison.FirstPlaceLemmas.{whom_at, whoms_length}
 use Rattle.acl_normal.proofs.comparison.MentionedPrincipals.{all_with, mentioned_rising, stays_with}
@@ -10,9 +9,9 @@ use Rattle.acl_normal.proofs.comparison.MentionedRows.{among_at, mentioned_there
 use Rattle.acl_normal.proofs.comparison.Ordered.{rising_same}
 use Rattle.acl_normal.proofs.comparison.SmallSetLemmas.{below_one}
 use Rattle.acl_normal.proofs.unique.Realised.{same_answers}
-use Rattle.acl_normal.specs.internal.MentionedRows.{AreMentioned, AreMentionsOf}
+use Rattle.acl_normal.specs.internal.comparison.MentionedRows.{AreMentioned, AreMentionsOf}
 use Rattle.acl_normal.specs.declared.comparison.mentioned.Mentions.{Mentions}
-use Rattle.acl_normal.specs.internal.SamePlaces.{HasSameWho, HaveOneWho, with_copies}
+use Rattle.acl_normal.specs.internal.comparison.SamePlaces.{HasSameWho, HaveOneWho, with_copies}
 use Rattle.acl_perm.specs.Bits.{inherit_only}
 
 -- ACEs with one who are of one principal
@@ -38,7 +37,8 @@ whom_same whole a b w h i =
           ∙ ap (λ q. takes_part (ace b) && principal_eq q everyone) p) ∙ i.all;
       hit = λ k lt. sym (ap (λ v. v
           && is_among (principal_of (ace a)) (everyone ∷ slice_index_or whole k everyone ∷ [])) t
-          ∙ ap (λ q. takes_part (ace b) && is_among q (everyone ∷ slice_index_or whole k everyone ∷ [])) p) ∙ i.hit k lt;
+          ∙ ap (λ q. takes_part (ace b) && is_among q (everyone ∷ slice_index_or whole k everyone ∷ [])) p)
+          ∙ i.hit k lt;
     }
 
 -- whom the ACEs of a list name, by the places of others that name the same
@@ -162,37 +162,10 @@ pub places_all : (refs others : List AceRef) (places : List ℕ) (i : ℕ) → l
 places_all refs others places i le h ge =
     let e : i ≡ length others = omega arith in subst (λ v. ArePlacesOf refs others v places) e h
 
--- before the first place there is no copy
-pub copies_start : (ws : List Whom) (places : List ℕ) → ws ≡ with_copies ws (take 0 places)
-copies_start ws places = sym (append-nil ws)
-
 -- what was there stays
 pub copies_long : (ws now : List Whom) (places : List ℕ) → now ≡ with_copies ws places → length ws ≤ length now
 copies_long ws now places is =
     omega (arith, ap length is, length-append ws (map (λ q. slice_index_or ws q Nobody) places))
-
--- one more copy
-pub copies_more : (ws now new : List Whom) (places : List ℕ) (w : Whom) (i : ℕ) → i < length places
-    → slice_index_or places i 0 < length ws → w ≡ slice_index_or now (slice_index_or places i 0) w
-    → now ≡ with_copies ws (take i places) → new ≡ now ++ w ∷ [] → new ≡ with_copies ws (take (i + 1) places)
-copies_more ws now new places w i lt within wi inv is =
-    let p : ℕ = slice_index_or places i 0 in
-    let copy : w ≡ slice_index_or ws p Nobody =
-    get_or_read ws p w within (wi ∙ ap (λ v. slice_index_or v p w) inv
-    ∙ get_or_append_left ws (map (λ q. slice_index_or ws q Nobody) (take i places)) w p within) Nobody in
-    let longer : map (λ q. slice_index_or ws q Nobody) (take (i + 1) places)
-    ≡ map (λ q. slice_index_or ws q Nobody) (take i places) ++ slice_index_or ws p Nobody ∷ [] =
-    ap (map (λ q. slice_index_or ws q Nobody)) (take_more places i 0 lt)
-    ∙ map-append (λ q. slice_index_or ws q Nobody) (take i places) (p ∷ []) in
-    is ∙ ap (λ v. v ++ w ∷ []) inv
-    ∙ ap (λ v. (ws ++ map (λ q. slice_index_or ws q Nobody) (take i places)) ++ v ∷ []) copy
-    ∙ append_assoc ws (map (λ q. slice_index_or ws q Nobody) (take i places)) (slice_index_or ws p Nobody ∷ [])
-    ∙ ap (λ v. ws ++ v) (sym longer)
-
--- after the last place all copies are there
-pub copies_all : (ws now : List Whom) (places : List ℕ) (i : ℕ) → length places ≤ i
-    → now ≡ with_copies ws (take i places) → now ≡ with_copies ws places
-copies_all ws now places i le h = h ∙ ap (with_copies ws) (take_all i places le)
 
 -- at each place someone is named
 pub copies_there : (whole : List Principal) (refs others : List AceRef) (ws : List Whom) (places shown : List ℕ) (n : ℕ)

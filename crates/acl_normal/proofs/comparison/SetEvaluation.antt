@@ -1,11 +1,12 @@
 -- What a list grants to a small set of principals, as the code finds it: for all rights at once.
-use Rattle.acl_normal.proofs.Common.{Ace, ace, AceRef, aces_in, all_rights, Allow, ap, IsGrantedTo, arith, at_drop_more, bit_at, bits_from_mask, Bool, column, cond, Deny, differ, drop, drop_all, eq-eqb, everyone, false, false_from_ne_true, false≢true, GrantAlikeTo, has_bit, is_allow, is_among, is_granted_to, IsDifference, IsMask, IsMask-lt, IsSubset, IsTrue, IsUnion, length, List, ne_eqb, no_bit, not, or_parts, Principal, principal_of, refl, same_set, slice_index_or, subst, sym, takes_part, trailing_zeros, true, w32, ℕ, ◌&&◌, ◌+◌, ◌<◌, ◌==◌, ◌^◌, ◌||◌, ◌↔◌, ◌∙◌, ◌∷◌, ◌≡◌, ◌≢◌, ◌≤◌}
+use Rattle.acl_normal.proofs.Common.{Ace, ace, AceRef, aces_in, all_rights, Allow, ap, IsGrantedTo, arith, at_drop_more, bit_at, bits_from_mask, Bool, column, cond, Deny, differ, drop, eq-eqb, everyone, false, false_from_ne_true, false≢true, GrantAlikeTo, has_bit, is_allow, is_among, is_granted_to, IsDifference, IsMask, IsMask-lt, IsSubset, IsTrue, IsUnion, length, List, ne_eqb, no_bit, not, or_parts, Principal, principal_of, refl, same_set, slice_index_or, subst, sym, takes_part, trailing_zeros, true, w32, ℕ, ◌&&◌, ◌+◌, ◌<◌, ◌==◌, ◌^◌, ◌||◌, ◌↔◌, ◌∙◌, ◌∷◌, ◌≡◌, ◌≢◌}
 use Rattle.std.specs.Bool.{OnFalse}
 use Rattle.std.proofs.lemmas.Nat.Bits.{bit_at-trailing_zeros}
 use Rattle.acl_normal.proofs.unique.Bits.{has_power, power_has}
 use Rattle.acl_normal.proofs.unique.Realised.{same_answers}
 use Rattle.acl_normal.proofs.unique.SameKeys.{alike}
-use Rattle.acl_normal.specs.internal.SetSearch.{AreDiffering, AreRightsOf, HasBitsOf, IsLowestBit, IsLowestDifference}
+use Rattle.acl_normal.specs.Left.{IsLowest}
+use Rattle.acl_normal.specs.internal.comparison.SetSearch.{AreDiffering, HasBitsOf, IsLowestDifference}
 use Rattle.acl_perm.proofs.Sets.{mask_from_bits}
 
 -- an ACE that has the bit, takes part and is of the set or everyone decides, and else the rest of the list does
@@ -67,22 +68,6 @@ loop_deny refs x set granted decided was own now more i lt at old later v h k in
       ∙ sym (at_drop_more (λ r. decides granted decided (aces_in r) set bit) refs i x lt) ∙ inv.bits bit;
 }
 
--- before the first ACE nothing is granted or decided
-pub loop_starts : (refs : List AceRef) (set : List Principal) → DecidesAll refs set 0 0 0
-loop_starts refs set = record { bits = λ bit. rw (no_bit bit) refl }
-
--- after the last the list is decided
-pub loop_ends : (refs : List AceRef) (set : List Principal) (granted decided i : ℕ) → length refs ≤ i
-    → DecidesAll refs set i granted decided → IsGrantedTo (aces_in refs) set granted
-loop_ends refs set granted decided i le inv = record {
-  bits = λ bit.
-      sym (nothing (has_bit granted bit) (not (has_bit decided bit)))
-      ∙ sym (ap (λ r. decides granted decided (aces_in r) set bit) (drop_all i refs le)) ∙ inv.bits bit;
-}
-  where
-    nothing : (x y : Bool) → (x || (y && false)) ≡ x
-    nothing x y = grind arith
-
 -- answers that don't differ are the same
 differ_same : (x y : Bool) → differ x y ≡ false → x ≡ y
 differ_same x y h = grind arith
@@ -90,12 +75,6 @@ differ_same x y h = grind arith
 -- an answer does not differ from itself
 differ_itself : (x : Bool) → differ x x ≡ false
 differ_itself x = grind arith
-
--- what one mask has and the other doesn't, either way round
-pub unlike_is : (m n less more result : ℕ) → IsDifference m n less → IsDifference n m more → IsUnion less more result
-    → (bit : ℕ) → has_bit result bit ≡ differ (has_bit m bit) (has_bit n bit)
-unlike_is m n less more result d e u bit =
-    grind (arith, u bit, d bit, e bit)
 
 -- what one list grants and the other doesn't is what they differ on
 pub differing_are : (list other : List Ace) (set : List Principal) (m n result : ℕ)
@@ -130,13 +109,10 @@ tells_unlike list other set rights within h = go (rights == 0) refl
     go false e = λ alike. false≢true (sym e ∙ eq-eqb rights 0 ((none_differ list other set rights within h).1 alike))
 
 -- the number of zeros at the end of a set that isn't empty is its lowest bit
-pub lowest_is : (rights : ℕ) → rights ≢ 0 → IsMask rights → IsLowestBit rights (trailing_zeros w32 rights)
+pub lowest_is : (rights : ℕ) → rights ≢ 0 → IsMask rights → IsLowest (trailing_zeros w32 rights) rights
 lowest_is rights ne within =
     let t = bit_at-trailing_zeros w32 rights (omega arith) (IsMask-lt rights within) in
-    record {
-      has = ap (λ (d : ℕ). d == 1) t.1;
-      below = λ b l. ne_eqb (bit_at rights b) 1 (λ e. absurd (omega (arith, t.2 b l)));
-    }
+    (ap (λ (d : ℕ). d == 1) t.1, λ b l. ne_eqb (bit_at rights b) 1 (λ e. absurd (omega (arith, t.2 b l))))
 
 -- a bit of a set of rights is one right
 pub one_right : (rights mask k : ℕ) → IsMask rights → has_bit rights k ≡ true → mask ≡ 2 ^ k → IsMask mask
@@ -155,16 +131,16 @@ has_part mask granted k part is h = same_answers part (has_bit granted k)
 
 -- the lowest of the rights on which the lists differ
 pub lowest_difference : (list other : List Ace) (set : List Principal) (rights mask granted k : ℕ) (first : Bool)
-    → IsMask rights → AreDiffering list other set rights → IsLowestBit rights k → mask ≡ 2 ^ k
+    → IsMask rights → AreDiffering list other set rights → IsLowest k rights → mask ≡ 2 ^ k
     → IsGrantedTo list set granted → IsTrue first ↔ IsSubset mask granted
     → IsLowestDifference list other set mask first
 lowest_difference list other set rights mask granted k first within d l is g f = record {
   bit = k;
   one_bit = is;
-  of_rights = bits_from_mask rights k within l.has;
+  of_rights = bits_from_mask rights k within l.0;
   differs = λ e. false≢true (sym (differ_itself (is_granted_to other set k))
-      ∙ ap (λ v. differ v (is_granted_to other set k)) (sym e) ∙ sym (d.bits k) ∙ l.has);
-  lowest = λ b lt i. differ_same _ _ (sym (d.bits b) ∙ l.below b lt);
+      ∙ ap (λ v. differ v (is_granted_to other set k)) (sym e) ∙ sym (d.bits k) ∙ l.0);
+  lowest = λ b lt i. differ_same _ _ (sym (d.bits b) ∙ l.1 b lt);
   first = has_part mask granted k first is f ∙ g.bits k;
 }
 
@@ -187,10 +163,3 @@ covers_more refs x i rights more lt at u h = record {
     first_lacks : (a : Ace) (rest : List Ace) (bit : ℕ) → has_bit a.mask bit ≡ false
         → column (a ∷ rest) bit ≡ column rest bit
     first_lacks a rest bit e = rw e refl
-
--- after the last ACE no right is left out
-pub covers_all : (refs : List AceRef) (i rights : ℕ) → length refs ≤ i → Covers refs i rights
-    → AreRightsOf (aces_in refs) rights
-covers_all refs i rights le h = record {
-  unused = λ bit absent. sym (h.columns bit absent) ∙ ap (λ r. column (aces_in r) bit) (drop_all i refs le);
-}

@@ -2,7 +2,7 @@
 use Rattle.acl_normal.proofs.Common.{[], Ace, cond, drop, drop_all, drop_more, FindsFirst, GrantAlikeTo, inl, inr, length, List, may_overlap, None, Option, principal_pairs, partners, Principal, principal, principals, refl, singles, slice_index_or, small_sets, Some, subst, true, ℕ, ◌++◌, ◌+◌, ◌<◌, ◌∷◌, ◌≡◌, ◌≤◌}
 use Rattle.std.proofs.lemmas.Bool.{cases_Bool}
 use Rattle.acl_perm.specs.declared.principal.Principal.{Principal as PrincipalRef}
-use Rattle.acl_normal.specs.internal.SetSearch.{FindsSet}
+use Rattle.acl_normal.specs.internal.comparison.SetSearch.{FindsSet}
 
 -- whatever is found among the rest is found among all
 pub record GoesOn (xs ys : List Ace) (rest whole : List (List Principal)) : Type 0 where

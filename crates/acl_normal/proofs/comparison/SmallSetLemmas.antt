@@ -1,13 +1,13 @@
 -- The small situations of two lists decide whether the lists grant the same.
 use Rattle.std.specs.Prelude.{IsFalse}
-use Rattle.acl_normal.proofs.Common.{[], Ace, all_rights, AllByRecursion, ap, arith, Bool, column, Deny, everyone, false, false≢true, FindsFirst, GrantAlikeTo, has_bit, HasName, HasNames, inl, inr, is_allow, is_among, is_granted_to, IsRisingSet, IsSituation, IsTrue, Kind, length, Less, List, longest, longest_name, map, map-append, matches, may_overlap, mentioned, None, not, or_cases, or_left, principal_pairs, partners, Principal, principal_cmp, principal_eq, principal_name, principal_total, refl, SameGrants, singles, Situation, small_sets, small_situation, Some, subst, sym, true, unwrap_or, user, ℕ, ⊎_elim, ◌++◌, ◌+◌, ◌<◌, ◌^◌, ◌||◌, ◌↔◌, ◌∙◌, ◌∷◌, ◌≡◌, ◌≢◌, ◌⊎◌}
+use Rattle.acl_normal.proofs.Common.{[], Ace, all_rights, AllByRecursion, ap, arith, Bool, column, Deny, everyone, false, false≢true, FindsFirst, GrantAlikeTo, has_bit, HasName, HasNames, inl, inr, is_allow, is_among, is_granted_to, IsRisingSet, IsSituation, IsTrue, Kind, length, Less, List, longest, map, map-append, matches, may_overlap, mentioned, None, not, or_cases, or_left, principal_pairs, partners, Principal, principal_cmp, principal_eq, principal_name, principal_total, refl, SameGrants, singles, Situation, small_sets, small_situation, Some, subst, sym, true, unwrap_or, user, ℕ, ⊎_elim, ◌++◌, ◌+◌, ◌<◌, ◌^◌, ◌||◌, ◌↔◌, ◌∙◌, ◌∷◌, ◌≡◌, ◌≢◌, ◌⊎◌}
 use Rattle.acl_eval.specs.Grant.{Grant, grants_bit}
 use Rattle.std.proofs.lemmas.Bool.{cond_both}
 use Rattle.acl_normal.proofs.Each.{all_append, all_left, at_split, all_right}
 use Rattle.acl_normal.proofs.unique.Bits.{has_power, power_has}
 use Rattle.acl_normal.proofs.unique.ListColumns.{same_grants_from_columns, same_verdicts}
 use Rattle.acl_normal.proofs.comparison.MentionedPrincipals.{IsOneOf, column_is_short, first_has, mentioned_named, mentioned_others, mentioned_rising, one_is_short, second_has}
-use Rattle.acl_normal.proofs.unique.Names.{overlaps_itself, principal_eq_same}
+use Rattle.acl_normal.proofs.unique.Names.{overlaps_itself, principal_eq_same, longest_name}
 use Rattle.acl_normal.proofs.unique.Realised.{HasOneUser, first_kind_alike, one_user, small_is_situation, small_matches}
 use Rattle.acl_normal.proofs.unique.Small.{IsSmallSet, none, one, small_suffice, two}
 use Rattle.acl_normal.specs.SmallSets.{GrantAlike, IsFirstDifference, SmallSituationsSuffice, TellsApart, strange_length}
@@ -315,12 +315,14 @@ first_difference xs ys set bit mask first h is_power sixteen differs lowest gran
       alike_before = all_map_by (IsSmallSet (λ p. length (principal_name p) < n)) (GrantAlikeTo xs ys)
           (GrantAlike xs ys) (small_situation n) s.before (λ v k alike. (alike_in_situation xs ys v k).1 alike)
           earlier s.alike;
-      bit = bit;
-      one_bit = is_power;
-      of_rights = sixteen;
-      differs = λ e. differs (sym (at bit).0 ∙ e ∙ (at bit).1);
-      lowest = λ b l i. (at b).0 ∙ lowest b l i ∙ sym (at b).1;
-      first = grants ∙ sym (at bit).0;
+      right = record {
+        bit = bit;
+        one_bit = is_power;
+        of_rights = sixteen;
+        differs = λ e. differs (sym (at bit).0 ∙ e ∙ (at bit).1);
+        lowest = λ b l i. (at b).0 ∙ lowest b l i ∙ sym (at b).1;
+        first = grants ∙ sym (at bit).0;
+      };
     }
 
 -- a request of one bit is granted just as the bit is
@@ -345,7 +347,8 @@ false_by_not false = (λ _. refl, λ _. refl)
 -- the requester of a first difference tells the lists apart
 pub tells_apart : (xs ys : List Ace) (s : Situation) (mask : ℕ) (first : Bool) → IsSituation s
     → IsFirstDifference xs ys s mask first → TellsApart xs ys s mask first
-tells_apart xs ys s mask first valid d =
+tells_apart xs ys s mask first valid difference =
+    let d = difference.right in
     let second : not first ≡ grants_bit ys s d.bit = ap not d.first ∙ other_answer _ _ d.differs in
     let granted = one_bit_granted ys s d.bit mask (not first) d.one_bit second in
     let turned = false_by_not first in

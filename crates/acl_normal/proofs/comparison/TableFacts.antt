@@ -1,9 +1,9 @@
 -- Tables that show which standings invert another.
-use Rattle.acl_normal.proofs.Common.{[], Ace, all_mentioned, AllByRecursion, AllZip, and_parts, ap, arith, Bool, cases_eq, cond, differ, eq-eqb, false, false≢true, first_place, get_or-replicate, get_or-set_other, get_or-set_same, get_or_read, inl, inr, inverts, inverts_any, is_of_camp, is_users, IsStanding, Kind, le-ltb, length, length-replicate, length-set, List, max, nat_lt, ne_eqb, no_standing, not, Principal, refl, replicate, slice_index_or, slice_set, StandAs, Standing, subst, sym, take, take_all, take_more, true, TwoLists, ℕ, ◌&&◌, ◌++◌, ◌+◌, ◌-◌, ◌<◌, ◌==◌, ◌||◌, ◌∙◌, ◌∷◌, ◌≡◌, ◌≤◌, ◌⊎◌}
+use Rattle.acl_normal.proofs.Common.{[], Ace, all_mentioned, AllByRecursion, AllZip, and_parts, ap, arith, Bool, cases_eq, cond, differ, eq-eqb, false, first_place, get_or-replicate, get_or-set_other, get_or-set_same, get_or_read, inl, inr, inverts, inverts_any, is_of_camp, is_users, IsStanding, Kind, le-ltb, length, length-replicate, length-set, List, max, nat_lt, ne_eqb, no_standing, not, Principal, refl, replicate, slice_index_or, slice_set, StandAs, Standing, subst, sym, take, take_more, true, TwoLists, ℕ, ◌&&◌, ◌++◌, ◌+◌, ◌-◌, ◌<◌, ◌==◌, ◌||◌, ◌∙◌, ◌∷◌, ◌≡◌, ◌≤◌, ◌⊎◌}
 use Rattle.std.proofs.lemmas.Bool.Decides.{nat_tests}
 use Rattle.acl_normal.proofs.Each.{all_at}
-use Rattle.acl_normal.specs.internal.PlaceTables.{HasNone, IsStandingWithin, IsFirstOf, IsScattered, IsPlaceTable, Raises, is_counted, is_told, most_at, most_before, other_place, place_of}
-use Rattle.acl_normal.specs.internal.TwoLists.{AreWithin}
+use Rattle.acl_normal.specs.internal.comparison.PlaceTables.{IsStandingWithin, IsFirstOf, IsScattered, IsPlaceTable, Raises, is_counted, is_told, most_at, most_before, other_place, place_of}
+use Rattle.acl_normal.specs.internal.comparison.TwoLists.{AreWithin}
 use Rattle.acl_normal.specs.declared.class.Class.{Class}
 use Rattle.acl_normal.specs.declared.comparison.inversions.Camp.{Camp}
 use Rattle.acl_normal.specs.declared.comparison.inversions.Side.{Side}
@@ -158,12 +158,6 @@ pub record IsSummed (q : Camp) (w : Side) (size k : ℕ) (rows : List Standing) 
   pub done : (j : ℕ) → j < k → slice_index_or table j 0 ≡ most_before q w j rows
   pub left : (j : ℕ) → k ≤ j → j < size + 2 → slice_index_or table j 0 ≡ most_at q w j rows
 
--- after all standings
-pub scatter_all : (q : Camp) (w : Side) (size i : ℕ) (rows : List Standing) (table : List ℕ) → length rows ≤ i
-    → IsScattered q w size (take i rows) table → IsScattered q w size rows table
-scatter_all q w size i rows table le h =
-    record { count = h.count; each = λ k lt. h.each k lt ∙ ap (most_at q w k) (take_all i rows le) }
-
 -- nothing stands before place 0
 pub summed_start : (q : Camp) (w : Side) (size : ℕ) (rows : List Standing) (table : List ℕ)
     → IsScattered q w size rows table
@@ -314,15 +308,6 @@ not_of_camp q size k rows forward back fs bs t lt places f b fe be h e =
     found_false q size rows (slice_index_or rows k no_standing) fs bs t h e
     (all_at (IsStandingWithin size) rows k no_standing lt places)
     (subst (λ v. IsPlaceTable q Here size rows v) (sym fe) f) (subst (λ v. IsPlaceTable q There size rows v) (sym be) b)
-
--- where none is of the camp, none of it inverts another
-pub none_of_camp : (q : Camp) (limit : ℕ) (rows : List Standing) → limit ≤ length rows → HasNone q rows
-    → IsFirstOf q rows limit limit
-none_of_camp q limit rows le h = record {
-  within = omega arith;
-  before = λ k lt own. absurd (false≢true (sym (h.each k (omega arith)) ∙ own));
-  at = λ lt. absurd (omega arith);
-}
 
 -- a standing raises the table, or leaves it
 pub ruleset raising = (raises_set, raises_none)

@@ -1,14 +1,17 @@
 -- Chains of links: the queues of what waits, made from the last place to the first.
-use Rattle.acl_normal.proofs.Common.{[], Ace, AllByRecursion, and_from, and_parts, ap, AreNoted, AreQueues, arith, Bool, cases_eq, cases_lt, counts, false, get_or-set_other, get_or-set_same, has_bit, inl, inr, is_at, is_user, IsQueue, IsQueueAt, IsQuiet, Kind, kind_eq, length, length-set, Less, List, list_any, Marked, mask_here, nat_cmp, nat_cmp_is, or_cases, or_right, Principal, principal_here, principal_of, refl, same_class, slice_index_or, slice_set, slot_of, subst, suc, sym, take_out, true, waits, zero, ℕ, ⊎_elim, ◌&&◌, ◌++◌, ◌+◌, ◌<◌, ◌∙◌, ◌∷◌, ◌≡◌, ◌≢◌, ◌≤◌, ◌⊎◌, column, Enters, is_blocked, IsOnce, key_here}
+use Rattle.acl_normal.proofs.Common.{[], Ace, AllByRecursion, and_from, and_parts, ap, AreNoted, AreQueues, arith, Bool, cases_eq, cases_lt, counts, false, get_or-set_other, get_or-set_same, has_bit, inl, inr, is_at, is_user, IsQueue, IsQueueAt, IsQuiet, Kind, kind_eq, length, length-map, length-set, Less, List, list_any, Marked, mask_here, nat_cmp, nat_cmp_is, or_cases, or_right, Principal, principal_here, principal_of, refl, same_class, slice_index_or, slice_set, slot_of, subst, suc, sym, take_out, true, waits, without_bits, zero, ℕ, ⊎_elim, ◌&&◌, ◌++◌, ◌+◌, ◌<◌, ◌∙◌, ◌∷◌, ◌≡◌, ◌≢◌, ◌≤◌, ◌⊎◌, column, Enters, is_blocked, IsOnce, key_here}
 use Rattle.std.specs.List.Sorted.{IsStrictlySortedBy}
 use Rattle.acl_normal.specs.internal.Places.{kind_here}
-use Rattle.acl_normal.specs.internal.Ready.{AddsMark}
-use Rattle.acl_normal.specs.internal.Queues.{BeginsWaiting, IsChain, IsNoted, IsNotedAt, MovesOn, PutsPlace, head_in, link_in}
+use Rattle.acl_normal.specs.internal.emit.Ready.{AddsMark}
+use Rattle.acl_normal.specs.internal.emit.Queues.{BeginsWaiting, IsChain, IsNoted, IsNotedAt, MovesOn, PutsPlace, head_in, link_in}
+use Rattle.acl_normal.specs.internal.rows.Remaining.{IsRemainder}
 use Rattle.acl_normal.specs.declared.emit.queues.Link.{Link}
 use Rattle.acl_normal.specs.declared.emit.queues.Queues.{Queues}
 use Rattle.acl_normal.proofs.emit.RemainingLemmas.{queue_on, queue_taken, waits_has}
-use Rattle.acl_normal.proofs.emit.Walk.{Walks, head_in as first_in, head_kind, head_within, same_class_itself, waits_within, walk_done, walk_on, walk_past, walk_starts, walk_stops}
-use Rattle.acl_normal.proofs.rows.BitTaken.{class_same, is_eq_same, same_default, slot_below, slot_same}
+use Rattle.acl_normal.proofs.emit.Walk.{Walks, head_in as first_in, head_kind, head_within, waits_within, walk_done, walk_on, walk_past, walk_stops}
+use Rattle.acl_normal.proofs.rows.BitTaken.{class_same, is_eq_same, same_class_itself, same_default, slot_below, slot_same}
+use Rattle.acl_normal.proofs.rows.Quiet.{tidy_taken}
+use Rattle.acl_normal.proofs.rows.TakeOut.{none_taken}
 use Rattle.acl_normal.proofs.unique.Normal.{counts_mask}
 use Rattle.acl_normal.proofs.unique.Bits.{no_bits_of_zero}
 use Rattle.acl_normal.proofs.unique.Free.{kind_eq_itself, kind_eq_same}
@@ -143,12 +146,6 @@ pub record WalksAt (k : Kind) (u : Bool) (b : ℕ) (xs : List Ace) (links : List
   pub chain : IsChain links at places
   pub walks : Walks k u b xs places old new
 
--- before the first place
-pub walk_begins : (k : Kind) (u : Bool) (b : ℕ) (xs : List Ace) (links : List Link) (at : ℕ) (old : Marked)
-    → IsQueueAt k u b xs links at → WalksAt k u b xs links at old old
-walk_begins k u b xs links at old q =
-    record { places = q.places; chain = q.chain; walks = walk_starts k u b xs q.places old q.queue }
-
 -- the place of the link that a walk has reached
 module _ {k : Kind} {u : Bool} {b : ℕ} {xs : List Ace} {links : List Link} {at : ℕ} {l : Link} {old new : Marked}
     (w : WalksAt k u b xs links at old new) (d : Link) (some : at ≢ 0) (e : l ≡ slice_index_or links at d) where
@@ -204,6 +201,11 @@ walk_over {k} {u} {b} {xs} {links} {at} {old} {new} w once none =
 queues_taken : (p : Principal) (m : ℕ) (xs : List Ace) (queues : Queues) → AreQueues xs queues
     → AreQueues (take_out p m xs) queues
 queues_taken p m xs queues qs = record {
+  list = record {
+    few = omega (arith, qs.list.few, length-map xs (without_bits p m));
+    tidy = tidy_taken p m xs qs.list.tidy;
+    rights = λ b none. none_taken p m xs b (qs.list.rights b none);
+  };
   slots = qs.slots;
   each = λ k u b l.
       let q = qs.each k u b l in
@@ -237,6 +239,7 @@ pub queues_moved : (k : Kind) (u : Bool) (b : ℕ) (xs : List Ace) (old new : Qu
     → b < 21 → new.links.items ≡ old.links.items → new.heads.items ≡ slice_set old.heads.items (slot_of k u b) first
     → IsQueueAt k u b xs old.links.items first → AreQueues xs new
 queues_moved k u b xs old new first qs low links heads queue = record {
+  list = qs.list;
   slots = ap length heads ∙ length-set old.heads.items (slot_of k u b) first ∙ qs.slots;
   each = λ j v c l. rw links (from j v c l (cases_eq (slot_of j v c) (slot_of k u b)));
 }
@@ -350,6 +353,21 @@ noted_more : (n m b i : ℕ) → IsNoted n m b i → IsNoted n (m + 1) b i
 noted_more n m b i (inl h) = inl h
 noted_more n m b i (inr h) = inr (h.0, omega (arith, h.1))
 
+-- what is noted in one sense is noted in another, if what waits is noted in both or in neither, and the chain stays
+noted_as : (k : Kind) (u : Bool) (b : ℕ) (xs : List Ace) (n m i j : ℕ) (links more : List Link) (at : ℕ)
+    → ((places : List ℕ) → IsChain links at places → IsChain more at places)
+    → ((place : ℕ) → IsNoted n m b place → IsNoted i j b place)
+    → ((place : ℕ) → waits k u b xs place ≡ true → IsNoted i j b place → IsNoted n m b place)
+    → IsNotedAt k u b xs n m links at → IsNotedAt k u b xs i j more at
+noted_as k u b xs n m i j links more at chain there back q = record {
+  places = q.places;
+  chain = chain q.places q.chain;
+  sorted = q.sorted;
+  noted = λ place h. there place (q.noted place h);
+  waiting = q.waiting;
+  all = λ place noted w. q.all place (back place w noted) w;
+}
+
 -- before the first place none is noted
 pub noted_none : (xs : List Ace) (queues : Queues) → length queues.heads.items ≡ 84 → 0 < length queues.links.items
     → ((slot : ℕ) → head_in queues slot ≡ 0) → AreNoted xs (length xs) 0 queues
@@ -377,15 +395,8 @@ noted_skip xs place m queues lacks qs = record {
   slots = qs.slots;
   some = qs.some;
   each = λ k u b l.
-      let q = qs.each k u b l in
-      record {
-        places = q.places;
-        chain = q.chain;
-        sorted = q.sorted;
-        noted = λ i h. noted_more (place + 1) m b i (q.noted i h);
-        waiting = q.waiting;
-        all = λ i noted w. q.all i (less k u b i w noted) w;
-      };
+      noted_as k u b xs (place + 1) m (place + 1) (m + 1) _ _ _ (λ places chain. chain) (noted_more (place + 1) m b)
+      (less k u b) (qs.each k u b l);
 }
   where
     less : (k : Kind) (u : Bool) (b i : ℕ) → waits k u b xs i ≡ true → IsNoted (place + 1) (m + 1) b i
@@ -419,14 +430,9 @@ noted_on kind users xs place m old new waiting low puts qs = record {
     kept : (k : Kind) (u : Bool) (b : ℕ) → (slot_of k u b ≡ slot_of kind users m → ⊥)
         → IsNotedAt k u b xs (place + 1) m old.links.items (head_in old (slot_of k u b))
         → IsNotedAt k u b xs (place + 1) (m + 1) links (head_in old (slot_of k u b))
-    kept k u b d q = record {
-      places = q.places;
-      chain = chain_grows old.links.items link (head_in old (slot_of k u b)) q.places q.chain;
-      sorted = q.sorted;
-      noted = λ i h. noted_more (place + 1) m b i (q.noted i h);
-      waiting = q.waiting;
-      all = λ i noted w. q.all i (less i w noted) w;
-    }
+    kept k u b d =
+        noted_as k u b xs (place + 1) m (place + 1) (m + 1) _ _ _
+        (chain_grows old.links.items link (head_in old (slot_of k u b))) (noted_more (place + 1) m b) less
       where
         less : (i : ℕ) → waits k u b xs i ≡ true → IsNoted (place + 1) (m + 1) b i → IsNoted (place + 1) m b i
         less i w (inl h) = inl h
@@ -495,15 +501,8 @@ noted_place xs place queues qs = record {
   slots = qs.slots;
   some = qs.some;
   each = λ k u b l.
-      let q = qs.each k u b l in
-      record {
-        places = q.places;
-        chain = q.chain;
-        sorted = q.sorted;
-        noted = λ i h. inl (from i b (q.noted i h));
-        waiting = q.waiting;
-        all = λ i noted w. q.all i (back i b l noted) w;
-      };
+      noted_as k u b xs (place + 1) 21 place 0 _ _ _ (λ places chain. chain) (λ i h. inl (from i b h))
+      (λ i w noted. back i b l noted) (qs.each k u b l);
 }
   where
     from : (i b : ℕ) → IsNoted (place + 1) 21 b i → place ≤ i
@@ -518,8 +517,9 @@ noted_place xs place queues qs = record {
     back i b l (inr h) = absurd (omega (arith, h.1))
 
 -- all places
-pub noted_all : (xs : List Ace) (queues : Queues) → AreNoted xs 0 0 queues → AreQueues xs queues
-noted_all xs queues qs = record {
+pub noted_all : (xs : List Ace) (queues : Queues) → IsRemainder xs → AreNoted xs 0 0 queues → AreQueues xs queues
+noted_all xs queues list qs = record {
+  list = list;
   slots = qs.slots;
   each = λ k u b l.
       let q = qs.each k u b l in

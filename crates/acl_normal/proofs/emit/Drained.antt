@@ -1,9 +1,9 @@
 -- The loop that emits: what it keeps, what a turn does, and that it ends.
 use Rattle.acl_normal.proofs.unique.Shorter.{without_absent, without_no_longer, without_shorter}
-use Rattle.acl_normal.proofs.Common.{[], Ace, ace_key, all_rights, Allow, and_from, and_parts, ap, arith, bit_at-zero, Bool, bytes_eq, cases_eq, cases_lt, Column, column, compare_keys, cond, conflicts, count_left, Deny, Emitted, emitted_ace, emitted_aces, everyone_name, false, false_from_ne_true, first_kind, FitsKeys, flags_for, group_name, has_bit, HasOnceColumns, inl, inr, is_either, is_free, is_le, is_principal_of, is_user, IsEmission, IsMask, IsOnce, IsRowOf, IsStep, Key, key_eq, key_here, key_number, Kind, kind_eq, length, List, Marked, marks, may_overlap, None, not, nothing_left, or_cases, or_left, or_right, other_kind, owner_name, Principal, principal_eq, principal_of, refl, slice_index_or, slice_set, Some, subst, suc, sym, take_out, true, user, who_for, without_principal, zero, ℕ, ⊎_elim, ◌&&◌, ◌*◌, ◌++◌, ◌/◌, ◌<◌, ◌==◌, ◌∙◌, ◌∷◌, ◌≡◌, ◌≢◌, ◌≤◌, ◌⊎◌}
+use Rattle.acl_normal.proofs.Common.{[], Ace, ace_key, all_rights, Allow, and_from, and_parts, ap, arith, bit_at-zero, Bool, bytes_eq, cases_eq, cases_lt, Column, column, compare_keys, cond, conflicts, count_left, Deny, Emitted, emitted_ace, emitted_aces, everyone_name, false, false_from_ne_true, first_kind, FitsKeys, flags_for, group_name, has_bit, HasOnceColumns, inl, inr, is_either, is_free, is_le, is_principal_of, is_user, IsEmission, IsMask, IsOnce, IsRowOf, IsStep, Key, key_eq, key_here, key_number, Kind, kind_eq, length, List, Marked, marks, may_overlap, None, not, nothing_left, or_cases, or_left, or_right, other_kind, owner_name, Principal, principal_eq, principal_of, refl, slice_index_or, slice_set, Some, subst, suc, sym, take_out, true, user, who_for, without_principal, zero, ℕ, ⊎_elim, ◌&&◌, ◌++◌, ◌/◌, ◌<◌, ◌==◌, ◌∙◌, ◌∷◌, ◌≡◌, ◌≢◌, ◌≤◌, ◌⊎◌}
 use Rattle.acl_perm.proofs.Sets.{mask_from_bits}
 use Rattle.acl_normal.specs.internal.Places.{principal_named}
-use Rattle.acl_normal.specs.internal.Ready.{IsKeyNumber, IsLeastReady, Frees, HoldsFree, Popped, TakesBits, emitted}
+use Rattle.acl_normal.specs.internal.emit.Ready.{IsKeyNumber, IsLeastReady, Frees, HoldsFree, Popped, TakesBits, emitted}
 use Rattle.acl_normal.proofs.unique.Names.{principal_eq_same, principal_eq_itself, overlaps_itself, bytes_eq_same, bytes_eq_itself}
 use Rattle.acl_normal.proofs.unique.Free.{kind_eq_same, kind_eq_itself, ahead_from_free, no_conflict, some_same}
 use Rattle.acl_normal.proofs.unique.Realised.{same_answers}
@@ -15,7 +15,6 @@ use Rattle.acl_normal.proofs.rows.TakeOut.{column_taken, none_taken, once_taken,
 use Rattle.acl_normal.proofs.emit.Marks.{key_eq_same, key_eq_itself, fits_written, mark_named, mark_written, number_order, number_row, number_within, some_bits}
 use Rattle.acl_normal.proofs.rows.Rows.{named_outline, outline_taken, row_outline}
 use Rattle.acl_normal.proofs.emit.Walk.{stands_free}
-use Rattle.acl_normal.proofs.unique.Outline.{outline_length}
 
 kinds_differ : (j k : Kind) → not (kind_eq j k) ≡ true → k ≡ other_kind j
 kinds_differ Deny Allow h = refl
@@ -191,12 +190,6 @@ popped xs old new n m f l set k = record {
         let less : n ≤ key_number e xs = l.least (key_number e xs) (λ none. some (mark_named e xs old named ∙ none)) in
         number_order k.key e xs k.named named (subst (λ v. v ≤ key_number e xs) k.is less)
     go e some false unnamed = absurd (some (rw unnamed refl))
-
--- a number with bits is below twice as many as there are ACEs
-pub ready_within : (xs : List Ace) (old : List ℕ) (n m : ℕ) → FitsKeys (nothing_left xs) old → IsLeastReady old n m
-    → n < 2 * length xs
-ready_within xs old n m f l =
-    omega (arith, number_within old n (λ none. l.some (l.is ∙ none)), f.count, outline_length xs)
 
 -- the key of the least number is taken, whatever key has that number
 pub takes : (xs : List Ace) (old new : List ℕ) (n m : ℕ) (q : Key) → FitsKeys (nothing_left xs) old

@@ -1,6 +1,6 @@
 -- All that is free, bit by bit.
 use Rattle.acl_normal.proofs.Common.{[], Ace, Allow, ap, arith, bit_at-zero, Bool, cases_eq, cases_lt, column, Deny, Enters, false, Grows, has_bit, inl, inr, is_free, is_user, Key, Kind, List, Marked, Principal, refl, subst, sym, true, ℕ, ⊎_elim, ◌+◌, ◌<◌, ◌==◌, ◌∙◌, ◌≡◌, ◌≤◌, ◌⊎◌}
-use Rattle.acl_normal.specs.internal.Ready.{HoldsFree}
+use Rattle.acl_normal.specs.internal.emit.Ready.{HoldsFree}
 use Rattle.acl_normal.proofs.unique.Realised.{same_answers}
 use Rattle.acl_normal.proofs.emit.NewlyFree.{grows_nothing, grows_on}
 

@@ -5,7 +5,7 @@ use Rattle.std.specs.List.Sorted.{IsPermutation}
 use Rattle.std.specs.declared.cmp.Reverse.{Reverse}
 use Rattle.std.proofs.lemmas.List.Sorted.{sum_by-IsPermutation}
 use Rattle.std.proofs.lemmas.List.Sums.{sum_by-cons}
-use Rattle.acl_normal.specs.internal.Heaped.{backwards, times, IsHeapOf}
+use Rattle.acl_normal.specs.internal.emit.Heaped.{backwards, times, IsHeapOf}
 use Rattle.acl_normal.proofs.emit.Marks.{number_within}
 
 -- one number more in the heap

@@ -1,7 +1,7 @@
 -- What remains of a list, by its fields.
-use Rattle.acl_normal.proofs.Common.{Ace, AceRef, aces_in, all_rights, ap, AreRowNumbers, arith, bit_and, mask_numbers, column, Inside, IsOnce, IsRemaining, IsRowOf, IsTidy, key_here, length, List, Mask, mask_here, masks_left, nothing_left, Principal, remaining_of, row_of, slice_index_or, slice_set, subst, sym, take_out, vec_len, with_masks, without, ℕ, ◌<◌, ◌^◌, ◌∙◌, ◌≡◌}
+use Rattle.acl_normal.proofs.Common.{Ace, AceRef, aces_in, all_rights, ap, AreRowNumbers, arith, bit_and, mask_numbers, column, Inside, IsRemaining, IsRowOf, IsTidy, key_here, length, List, Mask, mask_here, masks_left, nothing_left, Principal, remaining_of, row_of, slice_index_or, slice_set, subst, sym, take_out, vec_len, with_masks, without, ℕ, ◌<◌, ◌^◌, ◌∙◌, ◌≡◌}
 use Rattle.std.specs.Vec.{with_item}
-use Rattle.acl_normal.specs.internal.Remaining.{IsNumbered}
+use Rattle.acl_normal.specs.internal.rows.Remaining.{IsNumbered}
 use Rattle.acl_normal.proofs.unique.Bits.{bits_length, bits_set, bits_within}
 use Rattle.acl_normal.proofs.emit.RemainingLemmas.{all_left, left_at, length_left, mask_shown, row_taken}
 use Rattle.acl_normal.proofs.rows.BitTaken.{same_default}
@@ -19,10 +19,6 @@ pub length_remaining : (s : Inside) → IsRemaining s → length (remaining_of s
 length_remaining s right =
     length_shown s.aces.items _
     (length_left (mask_numbers s.masks.items) s.rows.items (mask_numbers s.left.items) ∙ masks_count s right)
-
--- each column of what remains has each principal once
-pub remaining_once : (s : Inside) (xs : List Ace) → IsRemaining s → remaining_of s ≡ xs → (b : ℕ) → IsOnce (column xs b)
-remaining_once s xs right is b = subst (λ v. IsOnce (column v b)) is (right.list.tidy.once b)
 
 -- the places are shown with the outline that is left
 pub outline_of : (s : Inside) → IsRemaining s → nothing_left (remaining_of s) ≡ nothing_left (aces_in s.aces.items)
@@ -157,7 +153,8 @@ all_remains aces masks rows left e f numbers full =
 pub begins_right : (s : Inside) → length s.aces.items < 2 ^ 32 → vec_len s.masks ≡ length s.aces.items
     → vec_len s.left ≡ length s.aces.items
     → IsNumbered (with_masks s.aces.items (mask_numbers s.masks.items)) s.rows.items s.order.items
-    → masks_left (mask_numbers s.masks.items) s.rows.items (mask_numbers s.left.items) ≡ (mask_numbers s.masks.items) → IsRemaining s
+    → masks_left (mask_numbers s.masks.items) s.rows.items (mask_numbers s.left.items) ≡ mask_numbers s.masks.items
+    → IsRemaining s
 begins_right s few masks left reduced all = record {
   few = few;
   masks = masks;

@@ -1,7 +1,7 @@
 -- What is emitted stands in the row of its principal.
 use Rattle.acl_normal.proofs.Common.{[], Ace, arith, Emitted, emitted_ace, IsRowOf, Key, List, nothing_left, principal_of, refl, StandInRows, subst, sym, take_out, ℕ, ◌++◌, ◌∙◌, ◌∷◌, ◌≡◌, ap, marks}
 use Rattle.std.proofs.lemmas.List.Elements.{All-push}
-use Rattle.acl_normal.specs.internal.Ready.{Frees, TakesBits, emitted}
+use Rattle.acl_normal.specs.internal.emit.Ready.{Frees, TakesBits, emitted}
 use Rattle.acl_normal.proofs.emit.Drained.{Drains, drain_turn, emitted_principal, outline_left, popped_named}
 use Rattle.acl_normal.proofs.rows.Rows.{is_row_alike}
 
@@ -27,7 +27,8 @@ rows_turn whole xs next out new e q m keeps pushed row taken = record {
 }
 
 -- the state of the emission after a turn
-pub turned : (whole xs next : List Ace) (out new : List Emitted) (e : Emitted) (old rest more : List ℕ) (q : Key) (m : ℕ)
+pub turned : (whole xs next : List Ace) (out new : List Emitted) (e : Emitted) (old rest more : List ℕ)
+    (q : Key) (m : ℕ)
     → Drains whole out (marks (nothing_left xs) old) xs → TakesBits xs old rest e.row q m → KeepsRows whole xs out
     → new ≡ out ++ e ∷ [] → emitted_ace e ≡ emitted q m → next ≡ take_out q.0 m xs
     → Frees q m next (marks (nothing_left next) rest) (marks (nothing_left next) more)
@@ -36,5 +37,6 @@ turned whole xs next out new e old rest more q m drains takes keeps pushed is ta
     let named = popped_named whole out _ _ q m xs drains takes.popped in
     let principal : principal_of (emitted_ace e) ≡ q.0 = ap principal_of is ∙ emitted_principal q m named in (
       drain_turn whole out new old rest more e.row m q xs next e drains takes pushed is taken frees,
-      rows_turn whole xs next out new e q m keeps pushed (subst (λ p. IsRowOf e.row p xs) (sym principal) takes.at_row) taken,
+      rows_turn whole xs next out new e q m keeps pushed
+          (subst (λ p. IsRowOf e.row p xs) (sym principal) takes.at_row) taken,
     )

@@ -1,7 +1,7 @@
 -- The keys and bits that are marked as free, by number.
 use Rattle.acl_normal.proofs.Common.{Ace, Allow, and_from, and_parts, ap, arith, bit_at-zero, bit_or, Bool, cases_eq, cases_lt, compare_keys, cond, Deny, Equal, false, FitsKeys, get_or-replicate, get_or-set_other, get_or-set_same, Greater, has_bit, has_bit-or, inl, inr, is_le, is_principal_of, IsRowOf, Key, key_eq, key_number, Kind, kind_eq, kind_rank, length, length-replicate, length-set, Less, List, marks, nat_cmp, nothing_left, Ordering, principal_cmp, principal_eq, principal_exact, principal_order, refl, replicate, row_of, slice_index_or, slice_set, subst, sym, true, ℕ, ◌%◌, ◌&&◌, ◌*◌, ◌+◌, ◌/◌, ◌<◌, ◌==◌, ◌^◌, ◌||◌, ◌∙◌, ◌≡◌, ◌≢◌, ◌≤◌, ◌⊎◌}
 use Rattle.std.proofs.lemmas.List.{get_or_past}
-use Rattle.acl_normal.specs.internal.Ready.{IsKeyNumber, AddsMark}
+use Rattle.acl_normal.specs.internal.emit.Ready.{IsKeyNumber, AddsMark}
 use Rattle.acl_normal.proofs.unique.Names.{principal_eq_same, principal_eq_itself}
 use Rattle.acl_normal.proofs.unique.Free.{kind_eq_same, kind_eq_itself}
 use Rattle.acl_normal.proofs.unique.Bits.{has_power}

@@ -1,6 +1,6 @@
 -- What becomes free when bits of a key are taken out.
 use Rattle.acl_normal.proofs.Common.{Ace, ap, arith, Bool, cases_eq, cases_lt, column, Enters, false, Grows, has_bit, inl, inr, is_free, is_user, Key, List, Marked, other_kind, Principal, refl, subst, sym, true, ℕ, ⊎_elim, ◌&&◌, ◌+◌, ◌<◌, ◌∙◌, ◌≡◌, ◌≤◌, ◌⊎◌}
-use Rattle.acl_normal.specs.internal.Ready.{Frees}
+use Rattle.acl_normal.specs.internal.emit.Ready.{Frees}
 
 -- what `Frees` says, of the bits below a place
 pub record FreesBelow (k : Key) (bits : ℕ) (xs : List Ace) (old new : Marked) (n : ℕ) : Type 0 where

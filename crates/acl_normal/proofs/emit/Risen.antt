@@ -2,15 +2,15 @@
 use Rattle.acl_normal.proofs.Common.{[], Ace, ace_key, AceRef, all_cleared, AllByRecursion, ap, AreRowNumbers, arith, mask_numbers, Bool, cases_lt, cleared, compare_keys, drop, eqb-false, Equal, false, full, Greater, HasRisen, inl, inr, is_le, is_principal_of, IsAccepted, IsNormalFormOf, IsReducedOf, Key, key_here, key_number, key_order, key_record, kind_rank, left, length, Less, List, map-append, Mask, mask_here, ne_eqb, Ordering, refl, slice_index_or, subst, suc, sym, take, take_all, take_more, true, with_masks, zero, ℕ, ⊎_elim, ◌*◌, ◌++◌, ◌+◌, ◌<◌, ◌==◌, ◌∙◌, ◌∷◌, ◌≡◌, ◌≢◌, ◌≤◌, ◌⊎◌}
 use Rattle.acl_nfs4.proofs.Exports.{front_accepted}
 use Rattle.acl_eval.proofs.Children.{moved}
-use Rattle.acl_normal.specs.internal.Rising.{IsRising}
+use Rattle.acl_normal.specs.internal.emit.Rising.{IsRising}
 use Rattle.acl_normal.proofs.emit.Marks.{number_order}
 use Rattle.acl_normal.proofs.emit.RisingKeys.{rising_form}
 use Rattle.acl_normal.proofs.rows.BitsTaken.{key_there}
 use Rattle.acl_normal.proofs.rows.Rows.{named_here, row_below}
-use Rattle.acl_normal.proofs.rows.ByPlace.{length_masks, mask_there}
-use Rattle.acl_normal.proofs.unique.Bits.{bits_at, bits_length}
-use Rattle.acl_normal.proofs.unique.Forming.{form_from}
-use Rattle.acl_normal.proofs.unique.Taken.{taken}
+use Rattle.acl_normal.proofs.rows.ByPlace.{mask_there}
+use Rattle.acl_normal.proofs.unique.Bits.{bits_at}
+use Rattle.acl_normal.proofs.unique.Outline.{masked_count}
+use Rattle.acl_normal.proofs.unique.Taken.{form_of_reduced}
 
 -- numbers that rise are those of keys that rise
 number_less : (k l : Key) (xs : List Ace) → is_principal_of k.0 xs ≡ true → is_principal_of l.0 xs ≡ true
@@ -70,13 +70,6 @@ rises_from whole (a ∷ xs) named rise =
 before_or_here : (i place : ℕ) → i < place + 1 → (i < place) ⊎ (i ≡ place)
 before_or_here i place l = ⊎_elim inl (λ (g : place ≤ i). inr (omega (arith, l, g))) (cases_lt i place)
 
--- before the first place nothing has risen
-pub none_risen : (xs : List Ace) → HasRisen xs 0 0
-none_risen xs = record {
-  rising = λ i j less l. absurd (omega (arith, l));
-  below = λ i l. absurd (omega (arith, l));
-}
-
 -- a place with no mask is passed
 pub risen_past : (xs : List Ace) (place bound : ℕ) → mask_here xs place ≡ 0 → HasRisen xs place bound
     → HasRisen xs (place + 1) bound
@@ -130,16 +123,12 @@ number_few xs rows i numbers within =
 
 -- ---- a place of the ACEs and the masks of the code
 
--- there are as many ACEs with masks as ACEs
-pub masked_count : (aces : List AceRef) (masks : List Mask) → length masks ≡ length aces
-    → length (with_masks aces (mask_numbers masks)) ≡ length aces
-masked_count aces masks same = length_masks aces (mask_numbers masks) (bits_length masks ∙ same)
-
 -- the row of a place is there, and it is small
 pub record HasRow (count place : ℕ) (rows : List ℕ) : Type 0 where
   pub there : place < length rows
   pub few : 2 * slice_index_or rows place 0 + 2 ≤ 2 * count
 
+-- the row of a place of a list in memory is there, and it is small
 pub has_row : (aces : List AceRef) (masks : List Mask) (rows : List ℕ) (place : ℕ) → length masks ≡ length aces
     → AreRowNumbers (with_masks aces (mask_numbers masks)) rows → place < length aces → HasRow (length aces) place rows
 has_row aces masks rows place same numbers l =
@@ -273,9 +262,8 @@ all_places xs i list end so = so ∙ ap (λ v. all_cleared (left v)) (take_all i
 -- ---- the normal form
 
 -- a reduced list whose keys rise is, with its flags cleared, the normal form of its source
-pub rising_form_of : (list xs : List Ace) → IsReducedOf list xs → IsRising (left xs) → IsAccepted full list
+pub rising_form_of : (list xs : List Ace) → IsReducedOf list xs → IsRising (left xs)
     → IsNormalFormOf list (all_cleared (left xs))
-rising_form_of list xs reduced rising accepted =
+rising_form_of list xs reduced rising =
     let form = rising_form xs reduced.irreducible reduced.thinned.tidy.once reduced.thinned.tidy.quiet rising in
-    form_from list (all_cleared (left xs))
-    (taken list xs (all_cleared (left xs)) reduced.columns reduced.irreducible reduced.grants form.0 form.1) accepted
+    form_of_reduced list xs (all_cleared (left xs)) reduced form.0 form.1

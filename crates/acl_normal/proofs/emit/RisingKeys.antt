@@ -1,13 +1,10 @@
 -- A list whose keys rise stands in the order of its normal form.
-use Rattle.acl_normal.proofs.Common.{[], Ace, ace_key, all_cleared, all_rights, AllByRecursion, and_parts, ap, append_assoc, Bool, bytes_eq, cleared, column, compare_keys, conflicts, counts, eqb-false, Equal, everyone_name, false, false_from_ne_true, flags_for, group_name, has_bit, HasNoEmptyMask, HasNormalFlags, HasOnceColumns, identifier_group, is_free, is_inherit_only, is_le, IsAlike, IsEmission, IsIrreducibleList, IsNormal, IsOnce, IsQuiet, Key, key_order, key_record, kind_eq, left, Less, List, matches, ne_eqb, not, or_cases, owner_name, principal_eq, principal_of, refl, SameGrants, subst, sym, true, verdict, without_bit, ℕ, ⊎_elim, ◌&&◌, ◌++◌, ◌==◌, ◌∙◌, ◌∷◌, ◌≡◌}
+use Rattle.acl_normal.proofs.Common.{[], Ace, ace_key, all_cleared, all_rights, AllByRecursion, and_parts, ap, Bool, bytes_eq, cleared, column, compare_keys, conflicts, counts, eqb-false, Equal, everyone_name, false, false_from_ne_true, flags_for, group_name, has_bit, HasNoEmptyMask, HasNormalFlags, HasOnceColumns, identifier_group, is_free, is_le, IsAlike, IsEmission, IsIrreducibleList, IsNormal, IsOnce, IsQuiet, Key, key_order, key_record, kind_eq, left, Less, List, not, or_cases, owner_name, principal_eq, principal_of, refl, SameGrants, subst, sym, true, ℕ, ⊎_elim, ◌&&◌, ◌==◌, ◌∙◌, ◌∷◌, ◌≡◌}
 use Rattle.std.specs.List.Sorted.{IsStrictlySortedBy}
 use Rattle.acl_normal.specs.Normal.{IsOrdered}
-use Rattle.acl_normal.specs.internal.Rising.{IsRising}
+use Rattle.acl_normal.specs.internal.emit.Rising.{IsRising}
 use Rattle.acl_normal.proofs.unique.Names.{principal_eq_same}
-use Rattle.acl_normal.proofs.unique.Bits.{no_bits}
-use Rattle.acl_normal.proofs.unique.Irreducible.{clean}
-use Rattle.acl_normal.proofs.unique.ListColumns.{column-append, irreducible_column, needed_in, same_grants_from_columns}
-use Rattle.acl_normal.proofs.unique.Free.{kind_eq_same, once_from_clean}
+use Rattle.acl_normal.proofs.unique.Free.{kind_eq_same}
 use Rattle.acl_normal.proofs.unique.Unique.{column_with, column_lacking, head_is_free}
 use Rattle.acl_normal.proofs.unique.Columns.{column_has, column_lacks}
 use Rattle.acl_normal.proofs.unique.Normal.{counts_mask}

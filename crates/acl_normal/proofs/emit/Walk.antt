@@ -2,11 +2,11 @@
 use Rattle.acl_normal.proofs.Common.{[], Ace, AllByRecursion, Allow, and_from, and_parts, ap, arith, Bool, cases_eq, column, counts, Deny, Enters, eq-eqb, eqb-true, false, false_from_ne_true, first_at, Grows, has_bit, inl, inr, is_at, is_blocked, is_free, is_le, is_user, is_waiting, IsOnce, IsQueue, Key, key_eq, key_here, Kind, kind_eq, length, Less, List, list_any, Marked, mask_here, nat_cmp, None, not, Option, or_cases, or_left, or_right, other_kind, Principal, principal_eq, principal_of, refl, same_class, Some, subst, suc, sym, true, waits, waits_before, zero, ℕ, ⊎_elim, ◌&&◌, ◌<◌, ◌==◌, ◌∙◌, ◌∷◌, ◌≡◌, ◌≤◌, ◌⊎◌}
 use Rattle.std.specs.List.Sorted.{IsStrictlySortedBy}
 use Rattle.std.proofs.lemmas.Map.Keys.{sorted_head, sorted_tail, le_from_is_le}
-use Rattle.acl_normal.specs.internal.Ready.{AddsMark}
+use Rattle.acl_normal.specs.internal.emit.Ready.{AddsMark}
 use Rattle.acl_normal.proofs.unique.Names.{principal_eq_same, principal_eq_itself}
 use Rattle.acl_normal.proofs.unique.Free.{kind_eq_same, kind_eq_itself}
 use Rattle.acl_normal.proofs.rows.TakeOut.{IsHere, IsThere, first_cases, none_behind, once_rest, waits_first}
-use Rattle.acl_normal.proofs.rows.BitTaken.{class_same, is_eq_itself, is_eq_same}
+use Rattle.acl_normal.proofs.rows.BitTaken.{class_same, is_eq_itself, is_eq_same, same_class_itself}
 use Rattle.acl_normal.proofs.rows.FreeByPlaces.{free_at_first, none_free}
 use Rattle.acl_normal.proofs.emit.Marks.{key_eq_same, key_eq_itself}
 
@@ -107,11 +107,6 @@ pub record StandsFree (k : Kind) (u : Bool) (b : ℕ) (xs : List Ace) (q : Princ
   pub waits : waits k u b xs place ≡ true
   pub clear : is_blocked k u b xs place ≡ false
   pub plain_key : key_here xs place ≡ (q, k)
-
--- a class is the same as itself
-pub same_class_itself : (v : Bool) → same_class v v ≡ true
-same_class_itself true = refl
-same_class_itself false = refl
 
 -- a free key waits at a place
 pub stands_free : (k : Kind) (u : Bool) (b : ℕ) (xs : List Ace) (q : Principal) → IsOnce (column xs b) → is_user q ≡ u

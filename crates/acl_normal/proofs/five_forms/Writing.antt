@@ -1,6 +1,6 @@
 -- That the ACEs of a normal form, one after the other, are a list.
-use Rattle.std.proofs.Common.{◌≡◌, ℕ, ◌+◌, ◌≤◌, ◌<◌, zero, suc, List, [], ◌∷◌, ◌++◌, length, take, drop, refl}
-use Rattle.acl_normal.proofs.Common.{Ace, ap, arith, Emitted, emitted_ace, emitted_aces, full, IsAccepted, map-append, slice_index_or, subst, sym, take_all, take_more, ◌∙◌}
+use Rattle.std.proofs.Common.{◌≡◌, ℕ, ◌+◌, ◌<◌, zero, suc, List, [], ◌∷◌, ◌++◌, length, take, drop, refl}
+use Rattle.acl_normal.proofs.Common.{Ace, ap, arith, Emitted, emitted_ace, emitted_aces, full, IsAccepted, map-append, slice_index_or, subst, sym, take_more, ◌∙◌}
 use Rattle.acl_nfs4.proofs.Exports.{front_accepted}
 use Rattle.acl_eval.proofs.Children.{moved}
 
@@ -28,8 +28,3 @@ pub next_written : (es : List Emitted) (i : ℕ) (d : Emitted) (list new : List 
 next_written es i d list new a l so next is =
     is ∙ rw (so, next) (sym (map-append emitted_ace (take i es) (slice_index_or es i d ∷ [])))
     ∙ sym (ap emitted_aces (take_more es i d l))
-
--- at the end it has all
-pub all_written : (es : List Emitted) (i : ℕ) (list : List Ace) → length es ≤ i → list ≡ emitted_aces (take i es)
-    → list ≡ emitted_aces es
-all_written es i list l so = so ∙ ap emitted_aces (take_all i es l)

@@ -25,18 +25,6 @@ pub record Emitting (whole out left : List Ace) : Type 0 where
   pub full : HasNoEmptyMask out
   pub flags : HasNormalFlags out
 
--- nothing has come, and all is left
-pub emitting_none : (whole : List Ace) → HasOnceColumns whole → Emitting whole [] whole
-emitting_none whole once = record {
-  once = once;
-  completes = λ more h. h;
-  shorter = λ bit. omega arith;
-  taken = λ p h. tt;
-  kept = λ p h. h;
-  full = tt;
-  flags = tt;
-}
-
 -- ---- one step
 
 -- what of one list is left when an ACE has come

@@ -44,7 +44,8 @@ shadowed_nothing j before ((p, k) ∷ c) h =
           (append_some (is_either everyone everyone) before ((p, k) ∷ []) j h),
       λ (none : first_kind (is_either p everyone) before ≡ None).
           none_within (is_either p everyone) (is_either everyone everyone) before none
-          (either_within (is_either p everyone) everyone everyone (either_second p everyone) (either_second p everyone)),
+          (either_within (is_either p everyone) everyone everyone (either_second p everyone)
+          (either_second p everyone)),
     )
 
 unshadowed_clean : (before c : Column) → IsClean (unshadowed before c)

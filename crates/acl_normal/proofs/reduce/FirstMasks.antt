@@ -324,7 +324,8 @@ pub reaches_more : (aces : List AceRef) (rows : List ℕ) (place : ℕ) (masks s
     → Reaches aces (place + 1) (mask_numbers (masks ++ fresh ∷ []))
     (mask_numbers (slice_set seen (slice_index_or rows place 0) both)) all'
 reaches_more aces rows place masks seen all all' x here both fresh r next of_all = record {
-  count = ap length (bits_push masks fresh) ∙ length-append (mask_numbers masks) (fresh.bits ∷ []) ∙ ap (λ n. n + 1) r.count;
+  count = ap length (bits_push masks fresh) ∙ length-append (mask_numbers masks) (fresh.bits ∷ [])
+      ∙ ap (λ n. n + 1) r.count;
   firsts =
       subst (FirstsTo whole (place + 1)) (sym shown)
       (subst (λ n. FirstsTo whole n (so_far ++ masked (ace x) fresh.bits ∷ [])) (sym (add-one place))

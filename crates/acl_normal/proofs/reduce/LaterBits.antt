@@ -1,18 +1,11 @@
 -- The masks of what later ACEs have, and of what everyone is allowed.
 use Rattle.acl_normal.proofs.Common.{[], Ace, Allow, ap, arith, Bool, column, cond, counts, default, default_at, Deny, everyone, false, first_kind, has_bit, HasOnceColumns, is_either, is_inherit_only, IsOnce, IsUnion, kind_eq, length, List, None, principal_eq, principal_of, refl, slice_index_or, sym, take, take_all, take_more, true, ℕ, ◌&&◌, ◌++◌, ◌+◌, ◌<◌, ◌||◌, ◌∙◌, ◌∷◌, ◌≡◌, ◌≤◌}
-use Rattle.acl_normal.specs.declared.reduce.needless.ByClass.{ByClass}
-use Rattle.acl_normal.specs.internal.Needed.{class_mask}
 use Rattle.acl_normal.proofs.unique.Bits.{no_bits_of_zero}
 use Rattle.acl_normal.proofs.unique.Names.{principal_eq_same}
 use Rattle.acl_normal.proofs.unique.Normal.{counts_mask}
 use Rattle.acl_normal.proofs.unique.Columns.{column_first}
 
 -- ---- the masks by kind and class
-
--- the bits of a class that an ACE of another kind has nothing to say of
-pub noted_other : (c : ByClass) (users : Bool) (b : ℕ)
-    → has_bit (class_mask c users) b ≡ (has_bit (class_mask c users) b || false)
-noted_other c users b = grind arith
 
 -- ---- the default
 

@@ -1,6 +1,6 @@
 -- The needless bits dropped, from the last ACE to the first.
 use Rattle.acl_normal.proofs.Common.{[], Ace, ace, ace_key, AceRef, and_parts, ap, arith, Bool, Column, column, counts, default, default_at, drop, false, first_at, first_kind, get_or-set_other, get_or-set_same, has_bit, has_bit-without, has_opposite, HasOnceColumns, is_either, is_inherit_only, is_needed, is_user, IsOnce, IsTidy, KeepsFirsts, Key, Kind, length, length-set, List, mask_here, may_overlap, needed_keys, None, not, other_kind, Principal, principal_eq, principal_here, principal_of, refl, slice_index_or, slice_set, Some, subst, suc, sym, take_out, true, with_masks, without, without_bits, zero, ℕ, ⊎_elim, ◌&&◌, ◌+◌, ◌-◌, ◌<◌, ◌||◌, ◌∙◌, ◌∷◌, ◌≡◌, ◌≤◌, kind_eq, same_class}
-use Rattle.std.proofs.lemmas.List.{drop_all, drop-set-lt}
+use Rattle.std.proofs.lemmas.List.{drop-set-lt}
 use Rattle.acl_normal.specs.declared.reduce.needless.Later.{Later}
 use Rattle.acl_normal.specs.internal.Needed.{is_kept, is_of_kind_and_class, later_mask, opposes, some_of}
 use Rattle.acl_normal.proofs.unique.Bits.{masks_same}
@@ -137,7 +137,8 @@ cleared_there p m (x ∷ aces) (n ∷ masks) zero once first =
     here : masked a (without n m) ≡ without_bits p m a
     here = go (principal_eq (principal_of a) p && not (is_inherit_only a)) refl
       where
-        absent : (b : ℕ) (t : Bool) → has_bit m b ≡ t → (principal_eq (principal_of a) p && not (is_inherit_only a)) ≡ false
+        absent : (b : ℕ) (t : Bool) → has_bit m b ≡ t
+            → (principal_eq (principal_of a) p && not (is_inherit_only a)) ≡ false
             → (has_bit n b && not (has_bit m b)) ≡ has_bit n b
         absent b true h e = let f = (at_head b h).1 in grind (arith, f.counts, f.same)
         absent b false h e = grind arith
@@ -213,22 +214,6 @@ pub record Dropping (aces : List AceRef) (given masks : List ℕ) (done : ℕ) (
   pub drops : Drops aces given masks (length aces - done) l
   pub tidy : IsTidy (with_masks aces masks)
   pub firsts : KeepsFirsts (with_masks aces given) (with_masks aces masks)
-
--- before the first turn
-pub dropping_start : (aces : List AceRef) (given : List ℕ) (l : Later) → IsTidy (with_masks aces given)
-    → ((k : Kind) (users : Bool) (b : ℕ) → has_bit (later_mask l k users) b ≡ false) → Dropping aces given given 0 l
-dropping_start aces given l tidy none = record {
-  drops = record {
-    front = λ k h. refl;
-    columns = λ b. rw nothing refl;
-    later = λ k u b. none k u b ∙ rw nothing refl;
-  };
-  tidy = tidy;
-  firsts = λ b p k i h. h;
-}
-  where
-    nothing : drop (length aces - 0) aces ≡ []
-    nothing = drop_all (length aces - 0) aces (omega arith)
 
 -- what a turn knows: the ACE at the place, which of its bits are needless, and the masks of later keys with its own
 pub record IsTurn (aces : List AceRef) (given masks : List ℕ) (place allowed m : ℕ) (x : AceRef) (l l' : Later)
@@ -328,7 +313,11 @@ dropping_more aces given masks done allowed m x l l' whole low d t = record {
     taken : with_masks aces (clear_at masks place m) ≡ take_out p m shown
     taken =
         cleared_there p m aces masks place d.tidy.once
-        (λ b h. (_, first_by_place b p shown place (first_here b shown place (d.tidy.once b) d.tidy.quiet (has b h) inside)))
+        (λ b h. (
+          _,
+          first_by_place b p shown place (first_here b shown place (d.tidy.once b)
+              d.tidy.quiet (has b h) inside),
+        ))
 
 -- after the last turn
 pub dropping_end : (aces : List AceRef) (given masks : List ℕ) (done : ℕ) (l : Later)

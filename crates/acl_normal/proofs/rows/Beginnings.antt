@@ -2,8 +2,8 @@
 use Rattle.acl_normal.proofs.Common.{[], Ace, ace, AceRef, aces_in, ap, arith, BeginsWith, Bool, cases_lt, false, inl, inr, length, length-map, List, map, named_at, named_from, nat_cmp, Principal, principal_cmp, principal_here, principal_of, refl, slice_cmp, slice_index_or, subst, suc, sym, take, take_all, true, zero, ℕ, ◌+◌, ◌<◌, ◌∙◌, ◌∷◌, ◌≡◌, ◌≤◌, ◌⊎◌}
 use Rattle.std.specs.List.{All, Contains}
 use Rattle.acl_normal.specs.declared.rows.numbers.HeadedPlace.{HeadedPlace}
-use Rattle.acl_normal.specs.internal.Heads.{AllBegin, IsHeadOf, is_whole}
-use Rattle.acl_normal.specs.internal.RowNumbers.{AreHeaded, DoHeadsTell, tail_here}
+use Rattle.acl_normal.specs.internal.rows.Heads.{AllBegin, IsHeadOf, is_whole}
+use Rattle.acl_normal.specs.internal.rows.RowNumbers.{AreHeaded, DoHeadsTell, tail_here}
 use Rattle.acl_normal.proofs.rows.HeadOrder.{lesser_head, ranks_alike, whole_same}
 use Rattle.acl_normal.proofs.Whoms.{compared_by_whos}
 use Rattle.acl_normal.proofs.rows.RowNumbers.{named_in}
@@ -58,7 +58,8 @@ heads_tell start xs places begin h = record {
 }
   where
     alike : (m n : HeadedPlace) → IsHeaded (length start) xs m → IsHeaded (length start) xs n → m.head ≡ n.head
-        → (whole : Bool) → is_whole m.head ≡ whole → principal_cmp (principal_here xs m.place) (principal_here xs n.place)
+        → (whole : Bool) → is_whole m.head ≡ whole
+        → principal_cmp (principal_here xs m.place) (principal_here xs n.place)
         ≡ slice_cmp nat_cmp (tail_here xs m) (tail_here xs n)
     alike m n at other e true is =
         whole_same start m.head n.head (principal_here xs m.place) (principal_here xs n.place) at.head other.head

@@ -5,7 +5,8 @@ use Rattle.std.specs.Vec.{with_item}
 use Rattle.std.specs.declared.collections.BTreeSet.{BTreeSet}
 use Rattle.std.proofs.Common.{Global}
 use Rattle.acl_normal.specs.declared.merged.MergedRows.TheInside.{Inside}
-use Rattle.acl_normal.specs.internal.Merged.{IsMerged}
+use Rattle.acl_normal.specs.internal.rows.Merged.{IsMerged}
+use Rattle.acl_normal.specs.internal.rows.Waiting.{NoPlaces}
 use Rattle.acl_normal.proofs.unique.Free.{kind_eq_same}
 use Rattle.acl_normal.proofs.unique.Bits.{has_power, power_has}
 use Rattle.std.proofs.lemmas.Map.Lookups.{exact_unsigned}
@@ -31,6 +32,11 @@ pub class_same : (u v : Bool) → same_class u v ≡ true → u ≡ v
 class_same true true h = refl
 class_same false false h = refl
 class_same _ _ h = cc
+
+-- a class is the same as itself
+pub same_class_itself : (v : Bool) → same_class v v ≡ true
+same_class_itself true = refl
+same_class_itself false = refl
 
 -- a power of two has its one bit
 pub power_is : (b i : ℕ) → has_bit (2 ^ b) i ≡ (i == b)
@@ -62,16 +68,13 @@ removed_here i old new h = h i ∙ rw (is_eq_itself i) refl
 -- and the others are
 pub removed_apart : (i l : ℕ) (old new : List ℕ) → Without i old new → l ≢ i
     → list_any (is_at (nat_cmp l)) new ≡ list_any (is_at (nat_cmp l)) old
-removed_apart i l old new h n = h l ∙ rw (false_from_ne_true (is_at (nat_cmp i) l) (λ t. n (sym (is_eq_same i l t)))) refl
-
--- a set without places
-abbrev pub NoKeys : BTreeSet ℕ Global
-NoKeys = record { keys = [] }
+removed_apart i l old new h n =
+    h l ∙ rw (false_from_ne_true (is_at (nat_cmp i) l) (λ t. n (sym (is_eq_same i l t)))) refl
 
 -- the sets of places are right without the bit
 pub emit_right : (s : Inside) (p : Principal) (b : ℕ) (j : Kind) (i : ℕ) (set : BTreeSet ℕ Global) → IsMerged s → b < 21
     → first_at b p s.rest ≡ Some (j, i)
-    → Without i (slice_index_or s.waiting.items (slot_of j (is_user p) b) NoKeys).keys set.keys
+    → Without i (slice_index_or s.waiting.items (slot_of j (is_user p) b) NoPlaces).keys set.keys
     → IsMerged (record {
       rest = take_out p (2 ^ b) s.rest;
       waiting = with_item s.waiting (slot_of j (is_user p) b) set;
@@ -90,7 +93,8 @@ emit_right s p b j i set right low first less = record {
     at_below = omega (arith, slot_below j (is_user p) b low, right.sets, s.waiting.ok)
 
     old_keys : (l : ℕ)
-        → list_any (is_at (nat_cmp l)) (slice_index_or s.waiting.items at NoKeys).keys ≡ waits j (is_user p) b s.rest l
+        → list_any (is_at (nat_cmp l)) (slice_index_or s.waiting.items at NoPlaces).keys
+        ≡ waits j (is_user p) b s.rest l
     old_keys l = right.waiting j (is_user p) b l low
 
     in_set : (l : ℕ) → list_any (is_at (nat_cmp l)) set.keys ≡ waits j (is_user p) b (take_out p (2 ^ b) s.rest) l
@@ -131,23 +135,23 @@ emit_right s p b j i set right low first less = record {
 
     places : (k : Kind) (u : Bool) (c l : ℕ) → c < 21
         → list_any (is_at (nat_cmp l)) (slice_index_or (slice_set s.waiting.items at set) (slot_of k u c)
-        NoKeys).keys ≡ waits k u c (take_out p (2 ^ b) s.rest) l
+        NoPlaces).keys ≡ waits k u c (take_out p (2 ^ b) s.rest) l
     places k u c l h = ⊎_elim (λ e. here e) (λ n. there n) (cases_eq (slot_of k u c) at)
       where
         here : slot_of k u c ≡ at
             → list_any (is_at (nat_cmp l)) (slice_index_or (slice_set s.waiting.items at set) (slot_of k u c)
-            NoKeys).keys ≡ waits k u c (take_out p (2 ^ b) s.rest) l
+            NoPlaces).keys ≡ waits k u c (take_out p (2 ^ b) s.rest) l
         here e =
             let parts = slot_same k j u (is_user p) c b e in
-            ap (λ v. list_any (is_at (nat_cmp l)) (slice_index_or (slice_set s.waiting.items at set) v NoKeys).keys) e
-            ∙ ap (λ v. list_any (is_at (nat_cmp l)) v.keys) (get_or-set_same s.waiting.items at set NoKeys at_below)
+            ap (λ v. list_any (is_at (nat_cmp l)) (slice_index_or (slice_set s.waiting.items at set) v NoPlaces).keys) e
+            ∙ ap (λ v. list_any (is_at (nat_cmp l)) v.keys) (get_or-set_same s.waiting.items at set NoPlaces at_below)
             ∙ in_set l
             ∙ rw (← parts.0, ← parts.1, ← parts.2) refl
 
         there : (slot_of k u c ≡ at → ⊥)
             → list_any (is_at (nat_cmp l)) (slice_index_or (slice_set s.waiting.items at set) (slot_of k u c)
-            NoKeys).keys ≡ waits k u c (take_out p (2 ^ b) s.rest) l
+            NoPlaces).keys ≡ waits k u c (take_out p (2 ^ b) s.rest) l
         there n =
             ap (λ v. list_any (is_at (nat_cmp l)) v.keys)
-            (get_or-set_other s.waiting.items at (slot_of k u c) set NoKeys n) ∙ right.waiting k u c l h
+            (get_or-set_other s.waiting.items at (slot_of k u c) set NoPlaces n) ∙ right.waiting k u c l h
             ∙ sym (others k u c l n)

@@ -44,13 +44,6 @@ masks_push (y ∷ aces) [] x m h is =
 masks_push (y ∷ aces) (n ∷ masks) x m h is =
     ap (λ v. masked (ace y) n ∷ v) (masks_push aces masks x m (omega (arith, h)) is)
 
--- as many ACEs as masks
-pub length_masks : (aces : List AceRef) (masks : List ℕ) → length masks ≡ length aces
-    → length (with_masks aces masks) ≡ length aces
-length_masks [] masks h = refl
-length_masks (x ∷ aces) [] h = absurd (omega (arith, h))
-length_masks (x ∷ aces) (m ∷ masks) h = ap suc (length_masks aces masks (omega (arith, h)))
-
 -- the mask at a place
 pub mask_there : (aces : List AceRef) (masks : List ℕ) (i d : ℕ) → i < length (with_masks aces masks)
     → slice_index_or masks i d ≡ mask_here (with_masks aces masks) i

@@ -1,6 +1,7 @@
 -- Where each right of a principal stands: the place of its first ACE with the right.
 use Rattle.acl_normal.proofs.Common.{[], Ace, and_from, and_parts, ap, AreRowNumbers, arith, cases_lt, column, counts, false, first_at, first_place_of, has_bit, is_le, is_user, IsByPrincipal, IsOnce, IsQuiet, IsRowOf, Key, key_here, Kind, kind_eq, length, List, mask_here, None, Option, option_map, Principal, principal_cmp, principal_exact, principal_here, principal_of, principal_order, refl, row_of, same_class, same_Some, slice_index_or, Some, subst, suc, sym, true, waits, zero, ℕ, ⊎_elim, ◌&&◌, ◌<◌, ◌∙◌, ◌∷◌, ◌≡◌, ◌≤◌}
-use Rattle.acl_normal.proofs.emit.Walk.{key_from_first, same_class_itself, stands_at}
+use Rattle.acl_normal.proofs.emit.Walk.{key_from_first, stands_at}
+use Rattle.acl_normal.proofs.rows.BitTaken.{same_class_itself}
 use Rattle.acl_normal.proofs.rows.Rows.{named_here, row_same}
 use Rattle.acl_normal.proofs.rows.TakeOut.{IsHere, IsThere, first_cases}
 use Rattle.acl_normal.proofs.unique.Normal.{counts_mask}
@@ -58,7 +59,8 @@ has_first b p (a ∷ xs) j i h = ⊎_elim
     (first_cases b p a xs j i h)
 
 -- the ACE at a place that is first of a principal names it
-pub named_there : (b : ℕ) (p : Principal) (xs : List Ace) (i : ℕ) → first_place_of b p xs ≡ Some i → principal_here xs i ≡ p
+pub named_there : (b : ℕ) (p : Principal) (xs : List Ace) (i : ℕ) → first_place_of b p xs ≡ Some i
+    → principal_here xs i ≡ p
 named_there b p xs i h = ap (λ (k : Key). k.0) (key_from_first b p xs _ i (first_by_place b p xs i h))
 
 -- ---- the places of a row, in the order of the principals

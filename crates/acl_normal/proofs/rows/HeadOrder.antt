@@ -7,7 +7,7 @@ use Rattle.std.proofs.lemmas.Bool.{ltb-true}
 use Rattle.acl_perm.specs.Order.{principal_rank}
 use Rattle.acl_perm.specs.declared.principal.Principal.{Principal as PrincipalRef}
 use Rattle.acl_nfs4.specs.internal.Progress.{IsBytes}
-use Rattle.acl_normal.specs.internal.Heads.{HasHead, IsHeadOf, count_to, head_from, is_whole, principal_head}
+use Rattle.acl_normal.specs.internal.rows.Heads.{HasHead, IsHeadOf, count_to, head_from, is_whole, principal_head}
 
 less : (x y : ℕ) → x < y → nat_cmp x y ≡ Less
 less x y l = sym (nat_cmp_is x y Less l)
@@ -36,7 +36,8 @@ count_lowest zero m c xs l = omega (arith, l)
 count_lowest (suc n) m c xs l = count_lowest n (m * 256 + get_or xs 0 0) c (drop 1 xs) l
 
 -- what stands before decides
-before_decides : (n m k c d : ℕ) (xs ys : List ℕ) → c < 256 → IsBytes xs → m < k → head_from m n xs c < head_from k n ys d
+before_decides : (n m k c d : ℕ) (xs ys : List ℕ) → c < 256 → IsBytes xs → m < k
+    → head_from m n xs c < head_from k n ys d
 before_decides zero m k c d xs ys u h l = omega (arith, u, l)
 before_decides (suc n) m k c d xs ys u h l =
     before_decides n (m * 256 + get_or xs 0 0) (k * 256 + get_or ys 0 0) c d (drop 1 xs) (drop 1 ys) u (rest xs h)
@@ -55,7 +56,8 @@ nothing_first (suc n) m c d ys l u = go (nothing_first n (m * 256 + 0) c d (drop
         → head_from m (suc n) [] c ≤ head_from m (suc n) ys d
     go h zero e = rw e h
     go h (suc b) e =
-        let l = before_decides n (m * 256 + 0) (m * 256 + get_or ys 0 0) c d [] (drop 1 ys) u no_bytes (omega (arith, e)) in
+        let l = before_decides n (m * 256 + 0) (m * 256 + get_or ys 0 0) c d [] (drop 1 ys) u no_bytes
+        (omega (arith, e)) in
         omega (arith, l)
 
 -- one of two numbers is less, or they are one number
@@ -106,7 +108,8 @@ counts_on n before c d b e xs ys h = record {
 -- behind equal bytes the names decide
 names_agree : (n before m k c d : ℕ) (xs ys : List ℕ) → AreCounts n before c d xs ys → IsBytes xs → IsBytes ys → m ≡ k
     → Agrees (head_from m n xs c) (head_from k n ys d) (slice_cmp nat_cmp xs ys)
-names_agree zero before m k c d [] [] h f g e = rw (equal (m * 256 + c) (k * 256 + d) (omega (arith, e, h.first, h.second))) refl
+names_agree zero before m k c d [] [] h f g e =
+    rw (equal (m * 256 + c) (k * 256 + d) (omega (arith, e, h.first, h.second))) refl
 names_agree zero before m k c d [] (y ∷ ys) h f g e =
     rw (less (m * 256 + c) (k * 256 + d) (omega (arith, e, h.first, h.second))) refl
 names_agree zero before m k c d (x ∷ xs) [] h f g e =
@@ -214,18 +217,6 @@ heads_agree c m k p q f g alike =
     (compared_behind c (principal_name p) (principal_name q) (alike e))
     (names_agree 6 0 (principal_rank p) (principal_rank q) (count_of c p) (count_of c q) (rest_of c p) (rest_of c q)
     (counts_of c p q) (bytes_behind c (principal_name p) f.bytes) (bytes_behind c (principal_name q) g.bytes) e)))
-
--- a head that is made of a rank and of what is behind the first bytes of a name
-pub head_made : (common rank head : ℕ) (name rest : List ℕ) (p : Principal)
-    → head ≡ head_from rank 6 rest (count_to 7 rest)
-    → rest ≡ drop common name → IsBytes name → rank ≡ principal_rank p → name ≡ principal_name p
-    → IsHeadOf common head p
-head_made common rank head name rest p e behind bytes ranked named = record {
-  is = e ∙ ap (λ v. head_from rank 6 v (count_to 7 v)) behind
-      ∙ ap (λ v. head_from v 6 (drop common name) (count_to 7 (drop common name))) ranked
-      ∙ ap (λ v. head_from (principal_rank p) 6 (drop common v) (count_to 7 (drop common v))) named;
-  bytes = subst IsBytes named bytes;
-}
 
 -- unlike heads decide
 pub compared_as : (p q : PrincipalRef) (m k : ℕ) (answer : Ordering) → HasHead m p → HasHead k q

@@ -4,7 +4,7 @@ use Rattle.acl_normal.proofs.Common.{Ace, Allow, ap, arith, bits_from_mask, case
 use Rattle.acl_perm.specs.declared.bit.Bit.{Bit}
 use Rattle.acl_normal.specs.Left.{HasFree, IsLowest}
 use Rattle.acl_normal.specs.internal.NextRight.{IsNextRight, LacksFrom}
-use Rattle.acl_normal.proofs.unique.Bits.{below, no_bits_of_zero}
+use Rattle.acl_normal.proofs.unique.Bits.{below}
 
 -- a right is one of the first 21 bits
 pub right_below : (bits b : ℕ) → IsMask bits → has_bit bits b ≡ true → b < 21
@@ -23,10 +23,6 @@ free_either list p b = is_free (column list b) (p, Deny) || is_free (column list
 -- none of the bits below a place is free
 abbrev pub NoneFree : List Ace → Principal → ℕ → ℕ → Type 0
 NoneFree list p bits n = (b : ℕ) → b < n → has_bit bits b ≡ true → free_either list p b ≡ false
-
--- below the first place there is none
-pub none_free_yet : (list : List Ace) (p : Principal) (bits : ℕ) → NoneFree list p bits 0
-none_free_yet list p bits b l h = absurd (omega (arith, l))
 
 -- one more that isn't free
 pub none_free_more : (list : List Ace) (p : Principal) (bits n : ℕ) → NoneFree list p bits n
@@ -64,12 +60,7 @@ free_nowhere list p bits is none = (λ t. absurd cc, λ (b, kind, has, free). ab
 -- the next right from bit 0 on is the lowest, and a set without a next has no lowest
 pub lowest_is : (bits : ℕ) (next : Option Bit) → IsMask bits → IfSome next (λ right. IsNextRight bits 0 right.bit)
     → IfNone next (LacksFrom bits 0 21) → (b : ℕ) → IsLowest b bits → option_map (λ right. right.bit) next ≡ Some b
-lowest_is bits None is some none b (has, before) = absurd (grind (arith, none b (omega arith) (right_below bits b is has)))
+lowest_is bits None is some none b (has, before) =
+    absurd (grind (arith, none b (omega arith) (right_below bits b is has)))
 lowest_is bits (Some right) is some none b (has, before) =
     ap Some (grind (arith, before right.bit, some.has, some.lacks b (omega arith)))
-
--- the empty set has no next right
-pub no_lowest : (bits : ℕ) (next : Option Bit) → IfSome next (λ right. IsNextRight bits 0 right.bit) → bits ≡ 0
-    → next ≡ None
-no_lowest bits None some none = refl
-no_lowest bits (Some right) some none = grind (arith, no_bits_of_zero right.bit, some.has)

@@ -2,7 +2,7 @@
 use Rattle.acl_normal.proofs.Common.{[], Ace, ace, AceRef, aces_in, ap, AreRowNumbers, arith, cases_lt, cond, Equal, false, false_from_ne_true, get_or-append_seam, get_or_append_left, Greater, inl, inr, is_lt, IsByPrincipal, length, length-append, length-map, length-take-le, List, map, map-append, named_from, ordering_reverse, Principal, principal_cmp, principal_exact, principal_here, principal_of, principal_order, refl, row_of, slice_index_or, subst, suc, sym, take, take_more, true, zero, ℕ, ◌++◌, ◌+◌, ◌<◌, ◌∙◌, ◌∷◌, ◌≡◌, ◌≤◌, ◌⊎◌}
 use Rattle.std.specs.List.{range_with_len}
 use Rattle.std.proofs.lemmas.List.Sorted.{IsPermutation-refl}
-use Rattle.acl_normal.specs.internal.RowNumbers.{DoNotFall}
+use Rattle.acl_normal.specs.internal.rows.RowNumbers.{DoNotFall}
 use Rattle.acl_normal.proofs.rows.RowNumbers.{le_then_less, named_length, named_place, places_by_principal}
 use Rattle.acl_normal.proofs.rows.Rows.{not_below}
 

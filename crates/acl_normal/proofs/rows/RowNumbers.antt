@@ -10,7 +10,7 @@ use Rattle.std.proofs.lemmas.Map.Text.{is_eq-slice_cmp}
 use Rattle.std.proofs.lemmas.List.Recursion.{is_count_by}
 use Rattle.std.proofs.lemmas.List.Sorted.{All-permutation, Contains-permutation, IsPermutation-map, IsPermutation-sym, length_permutation, ranks_by, searchable_from_sorted, sorted_far, sum_by-IsPermutation}
 use Rattle.acl_perm.proofs.Orders.{principals_same, is_less}
-use Rattle.acl_normal.specs.internal.RowNumbers.{AreHeaded, AreSorted, AreSortedNames, DoHeadsTell, named_at as name_of, tail_here}
+use Rattle.acl_normal.specs.internal.rows.RowNumbers.{AreHeaded, AreSorted, AreSortedNames, DoHeadsTell, named_at as name_of, tail_here}
 use Rattle.acl_normal.specs.declared.rows.numbers.HeadedPlace.{HeadedPlace}
 use Rattle.acl_normal.proofs.rows.Rows.{named_at, named_here, not_below, row_below}
 
@@ -530,9 +530,14 @@ pub sorted_names : (xs : List Ace) (places new : List HeadedPlace) → AreHeaded
     → IsSortedByKey (λ n. (n.head, tail_here xs n)) head_cmp new → AreSorted xs new
 sorted_names xs places new h p s = record {
   names = record {
-    permutation = subst (λ v. IsPermutation v (map (name_of xs) new)) h.names (IsPermutation-map (name_of xs) places new p);
+    permutation = subst (λ v. IsPermutation v (map (name_of xs) new)) h.names
+        (IsPermutation-map (name_of xs) places new p);
     sorted = λ k d le l. let lower : k + 1 < length new = omega (arith, l, length-map new (name_of xs)) in
-        rw (get_or-map (name_of xs) new (k + 1) none d lower, get_or-map (name_of xs) new k none d (omega (arith, lower)))
+        rw (
+          get_or-map (name_of xs) new (k + 1) none d lower,
+          get_or-map (name_of xs) new k none d
+              (omega (arith, lower)),
+        )
         (in_order (slice_index_or new (k + 1) none) (slice_index_or new k none)
         (here (k + 1) lower) (here k (omega (arith, lower))) (s k none le lower));
   };

@@ -165,7 +165,8 @@ bits_absent b p a h =
     grind (
       arith,
       λ (lacks : has_bit a.mask b ≡ false).
-          masks_same (without a.mask (2 ^ b)) a.mask (λ i. has_bit-without a.mask (2 ^ b) i ∙ grind (arith, power_has b i)),
+          masks_same (without a.mask (2 ^ b)) a.mask
+          (λ i. has_bit-without a.mask (2 ^ b) i ∙ grind (arith, power_has b i)),
     )
 
 -- nothing of the principal has the bit

@@ -1,41 +1,91 @@
 -- Sets of the places that wait.
-use Rattle.acl_normal.proofs.Common.{[], Ace, AceRef, ace, ap, arith, Bool, cases_lt, cond, get_or-append_seam, get_or_append_left, has_bit, is_at, is_user, is_waiting, IsQuiet, Kind, kind_eq, length, length-append, length-take-le, List, list_any, nat_cmp, principal_of, refl, same_class, slice_index_or, slot_of, subst, suc, sym, take, take_more, true, waits, with_masks, zero, ℕ, ⊎_elim, ◌&&◌, ◌++◌, ◌+◌, ◌/◌, ◌<◌, ◌==◌, ◌||◌, ◌∙◌, ◌∷◌, ◌≡◌, ◌≤◌, cases_eq, false_from_ne_true, false}
+use Rattle.acl_normal.proofs.Common.{[], Ace, AceRef, ace, and_parts, ap, arith, Bool, cases_eq, cond, false, false_from_ne_true, get_or-set_other, get_or-set_same, has_bit, is_at, is_user, is_waiting, IsQuiet, Kind, kind_eq, length, length-set, length-take-le, List, list_any, nat_cmp, principal_of, refl, same_class, slice_index_or, slice_set, slot_of, subst, suc, sym, take, take_more, true, waits, with_masks, zero, ℕ, ⊎_elim, ◌&&◌, ◌++◌, ◌+◌, ◌<◌, ◌||◌, ◌∙◌, ◌∷◌, ◌≡◌, ◌≢◌, ◌≤◌}
 use Rattle.std.specs.declared.collections.BTreeSet.{BTreeSet}
 use Rattle.std.proofs.Common.{Global}
-use Rattle.acl_normal.specs.internal.Waiting.{has_place}
-use Rattle.acl_normal.proofs.rows.BitTaken.{NoKeys, is_eq_itself, is_eq_same}
+use Rattle.acl_normal.specs.internal.Places.{bit_count, slot_count}
+use Rattle.acl_normal.specs.internal.rows.Waiting.{has_place, HoldWaiting, NoPlaces, PutsBelow}
+use Rattle.acl_normal.proofs.rows.BitTaken.{class_same, is_eq_itself, is_eq_same, same_class_itself, same_default, slot_below, slot_same}
 use Rattle.acl_normal.proofs.rows.ByPlace.{masked, masked_at, quiet_index}
+use Rattle.acl_normal.proofs.unique.Free.{kind_eq_itself, kind_eq_same}
 use Rattle.acl_normal.proofs.unique.Normal.{counts_mask}
 use Rattle.acl_normal.proofs.unique.Outline.{length_shown}
 
--- a slot tells its kind and its class, if its bit is known
-pub slot_is : (k j : Kind) (users own : Bool) (b number : ℕ) → slot_of k users b ≡ number
-    → (slot_of j own (number / 4) == number) ≡ (kind_eq j k && same_class own users)
-slot_is k j users own b number e = grind arith
-
--- the sets of the slots below a number hold the places that wait
-pub record HoldWaiting (xs : List Ace) (sets : List (BTreeSet ℕ Global)) (n : ℕ) : Type 0 where
-  pub count : length sets ≡ n
-  pub waiting : (k : Kind) (users : Bool) (b i : ℕ) → slot_of k users b < n
-      → has_place sets (slot_of k users b) i ≡ waits k users b xs i
-
--- one set more
-pub holds_more : (xs : List Ace) (sets : List (BTreeSet ℕ Global)) (set : BTreeSet ℕ Global) (n : ℕ)
-    → HoldWaiting xs sets n
-    → ((k : Kind) (users : Bool) (b i : ℕ) → slot_of k users b ≡ n
-    → list_any (is_at (nat_cmp i)) set.keys ≡ waits k users b xs i)
-    → HoldWaiting xs (sets ++ set ∷ []) (n + 1)
-holds_more xs sets set n h own = record {
-  count = length-append sets (set ∷ []) ∙ ap (λ v. v + 1) h.count;
-  waiting = λ k u b i low. ⊎_elim
-      (λ (l : slot_of k u b < n). ap (λ v. list_any (is_at (nat_cmp i)) v.keys)
-      (get_or_append_left sets (set ∷ []) NoKeys (slot_of k u b) (omega (arith, l, h.count))) ∙ h.waiting k u b i l)
-      (λ (l : n ≤ slot_of k u b). let at : slot_of k u b ≡ length sets = omega (arith, l, low, h.count) in
-      ap (λ v. list_any (is_at (nat_cmp i)) (slice_index_or (sets ++ set ∷ []) v NoKeys).keys) at
-      ∙ ap (λ v. list_any (is_at (nat_cmp i)) v.keys) (get_or-append_seam sets set [] NoKeys)
-      ∙ own k u b i (at ∙ h.count))
-      (cases_lt (slot_of k u b) n);
+-- a place that was put into no set yet
+pub puts_none : (place : ℕ) (kind : Kind) (users : Bool) (mask : ℕ) (sets : List (BTreeSet ℕ Global))
+    → length sets ≡ slot_count → PutsBelow place kind users mask 0 sets sets
+puts_none place kind users mask sets count = record {
+  slots = count;
+  below = λ k u b i l. absurd (omega (arith, l));
+  above = λ k u b i l. refl;
 }
+
+-- a bit that the mask lacks
+pub puts_absent : (place : ℕ) (kind : Kind) (users : Bool) (mask : ℕ) (old new : List (BTreeSet ℕ Global)) (n : ℕ)
+    → PutsBelow place kind users mask n old new → has_bit mask n ≡ false
+    → PutsBelow place kind users mask (n + 1) old new
+puts_absent place kind users mask old new n before lacks = record {
+  slots = before.slots;
+  below = λ k u b i l. ⊎_elim
+      (λ (e : b ≡ n). before.above k u b i (omega (arith, e)) ∙ rw (e, lacks) refl)
+      (λ (other : b ≡ n → ⊥). before.below k u b i (grind arith)) (cases_eq b n);
+  above = λ k u b i l. before.above k u b i (omega (arith, l));
+}
+
+-- a bit that the mask has, where the place was inserted into its set
+pub puts_more : (place : ℕ) (kind : Kind) (users : Bool) (mask : ℕ) (old sets : List (BTreeSet ℕ Global)) (n slot : ℕ)
+    (got set d : BTreeSet ℕ Global) → PutsBelow place kind users mask n old sets → has_bit mask n ≡ true
+    → n < bit_count → slot ≡ slot_of kind users n → got ≡ slice_index_or sets slot d
+    → ((i : ℕ) → list_any (is_at (nat_cmp i)) set.keys
+    ≡ cond (is_at (nat_cmp place) i) true (list_any (is_at (nat_cmp i)) got.keys))
+    → PutsBelow place kind users mask (n + 1) old (slice_set sets slot set)
+puts_more place kind users mask old sets n slot got set d before has low is here put = record {
+  slots = length-set sets slot set ∙ before.slots;
+  below = λ k u b i l. ⊎_elim (λ e. same k u b i e) (λ m. other k u b i l m) (cases_eq (slot_of k u b) slot);
+  above = λ k u b i l. kept k u b i (λ e. apart k u b l e) ∙ before.above k u b i (omega (arith, l));
+}
+  where
+    within : slot < length sets
+    within = omega (arith, is, slot_below kind users n low, before.slots)
+
+    kept : (k : Kind) (u : Bool) (b i : ℕ) → slot_of k u b ≢ slot
+        → has_place (slice_set sets slot set) (slot_of k u b) i ≡ has_place sets (slot_of k u b) i
+    kept k u b i m =
+        ap (λ v. list_any (is_at (nat_cmp i)) v.keys) (get_or-set_other sets slot (slot_of k u b) set NoPlaces m)
+
+    apart : (k : Kind) (u : Bool) (b : ℕ) → n + 1 ≤ b → slot_of k u b ≡ slot → ⊥
+    apart k u b l e = omega (arith, l, (slot_same k kind u users b n (e ∙ is)).2)
+
+    same : (k : Kind) (u : Bool) (b i : ℕ) → slot_of k u b ≡ slot
+        → has_place (slice_set sets slot set) (slot_of k u b) i
+        ≡ cond ((has_bit mask b && (kind_eq kind k && same_class users u)) && is_at (nat_cmp place) i) true
+        (has_place old (slot_of k u b) i)
+    same k u b i e =
+        let parts = slot_same k kind u users b n (e ∙ is) in
+        ap (λ v. has_place (slice_set sets slot set) v i) e
+        ∙ ap (λ v. list_any (is_at (nat_cmp i)) v.keys) (get_or-set_same sets slot set NoPlaces within)
+        ∙ put i
+        ∙ ap (λ v. cond (is_at (nat_cmp place) i) true (list_any (is_at (nat_cmp i)) v.keys))
+        (here ∙ same_default sets slot d NoPlaces within)
+        ∙ ap (λ v. cond (is_at (nat_cmp place) i) true (has_place sets v i)) is
+        ∙ ap (λ v. cond (is_at (nat_cmp place) i) true v) (before.above kind users n i (omega arith))
+        ∙ rw (parts.0, parts.1, parts.2, has, kind_eq_itself kind, same_class_itself users) refl
+
+    other : (k : Kind) (u : Bool) (b i : ℕ) → b < n + 1 → slot_of k u b ≢ slot
+        → has_place (slice_set sets slot set) (slot_of k u b) i
+        ≡ cond ((has_bit mask b && (kind_eq kind k && same_class users u)) && is_at (nat_cmp place) i) true
+        (has_place old (slot_of k u b) i)
+    other k u b i l m = kept k u b i m ∙ ⊎_elim (λ e. at e) (λ o. before.below k u b i (grind arith)) (cases_eq b n)
+      where
+        differs : b ≡ n → (kind_eq kind k && same_class users u) ≡ false
+        differs e = false_from_ne_true _ (λ t. m (both (and_parts (kind_eq kind k) (same_class users u) t)))
+          where
+            both : (kind_eq kind k ≡ true) × (same_class users u ≡ true) → slot_of k u b ≡ slot
+            both (f, g) = rw (← kind_eq_same kind k f, ← class_same users u g, e) (sym is)
+
+        at : b ≡ n → has_place sets (slot_of k u b) i
+            ≡ cond ((has_bit mask b && (kind_eq kind k && same_class users u)) && is_at (nat_cmp place) i) true
+            (has_place old (slot_of k u b) i)
+        at e = before.above k u b i (omega (arith, e)) ∙ grind (arith, differs e)
 
 same_next : (i n : ℕ) → is_at (nat_cmp (suc i)) (suc n) ≡ is_at (nat_cmp i) n
 same_next i n = ⊎_elim
@@ -66,24 +116,24 @@ waits_more k u b (x ∷ xs) a zero =
 waits_more k u b (x ∷ xs) a (suc i) =
     waits_more k u b xs a i ∙ ap (λ t. waits k u b xs i || (t && is_waiting k u b a)) (sym (same_next (length xs) i))
 
--- the places up to the next, if a set of places gets it just if it waits
-pub waits_next : (aces : List AceRef) (masks : List ℕ) (i m : ℕ) (x : AceRef) (has : Bool) (old new : List ℕ)
-    (k : Kind) (u : Bool) (b : ℕ) → IsQuiet (with_masks aces masks) → length masks ≡ length aces → i < length aces
-    → x ≡ slice_index_or aces i x → slice_index_or masks i 0 ≡ m
-    → has ≡ (has_bit m b && (kind_eq x.kind k && same_class (is_user (principal_of (ace x))) u))
-    → ((q : ℕ) → list_any (is_at (nat_cmp q)) new
-    ≡ cond (has && is_at (nat_cmp i) q) true (list_any (is_at (nat_cmp q)) old))
-    → ((q : ℕ) → list_any (is_at (nat_cmp q)) old ≡ waits k u b (take i (with_masks aces masks)) q) → (q : ℕ)
-    → list_any (is_at (nat_cmp q)) new ≡ waits k u b (take (i + 1) (with_masks aces masks)) q
-waits_next aces masks i m x has old new k u b quiet count l is at waits_is put before q =
-    put q ∙ grind (
-      arith,
-      before q,
-      waits_is,
-      counts_mask b item (quiet_index xs i item quiet within here),
-      waits_more k u b (take i xs) item q,
-      length-take-le i xs (omega (arith, within)),
-    ) ∙ ap (λ v. waits k u b v q) (sym more)
+-- the sets with the next place
+pub holds_next : (aces : List AceRef) (masks : List ℕ) (place m : ℕ) (x : AceRef) (users : Bool)
+    (old new : List (BTreeSet ℕ Global)) → IsQuiet (with_masks aces masks) → length masks ≡ length aces
+    → place < length aces → x ≡ slice_index_or aces place x → slice_index_or masks place 0 ≡ m
+    → users ≡ is_user (principal_of (ace x)) → PutsBelow place x.kind users m bit_count old new
+    → HoldWaiting (take place (with_masks aces masks)) old
+    → HoldWaiting (take (place + 1) (with_masks aces masks)) new
+holds_next aces masks place m x users old new quiet count l is at class put before = record {
+  slots = put.slots;
+  waiting = λ k u b i low. put.below k u b i low ∙ grind (
+    arith,
+    before.waiting k u b i low,
+    class,
+    counts_mask b item (quiet_index xs place item quiet within here),
+    waits_more k u b (take place xs) item i,
+    length-take-le place xs (omega (arith, within)),
+  ) ∙ ap (λ v. waits k u b v i) (sym more);
+}
   where
     xs : List Ace
     xs = with_masks aces masks
@@ -91,11 +141,13 @@ waits_next aces masks i m x has old new k u b quiet count l is at waits_is put b
     item : Ace
     item = masked (ace x) m
 
-    within : i < length xs
+    within : place < length xs
     within = omega (arith, l, length_shown aces masks count)
 
-    here : slice_index_or xs i item ≡ item
-    here = subst (λ v. slice_index_or xs i (masked (ace x) v) ≡ masked (ace x) v) at (masked_at aces masks i x l count is)
+    here : slice_index_or xs place item ≡ item
+    here =
+        subst (λ v. slice_index_or xs place (masked (ace x) v) ≡ masked (ace x) v) at
+        (masked_at aces masks place x l count is)
 
-    more : take (i + 1) xs ≡ take i xs ++ item ∷ []
-    more = take_more xs i item within ∙ ap (λ v. take i xs ++ v ∷ []) here
+    more : take (place + 1) xs ≡ take place xs ++ item ∷ []
+    more = take_more xs place item within ∙ ap (λ v. take place xs ++ v ∷ []) here

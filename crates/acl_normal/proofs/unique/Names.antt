@@ -1,9 +1,13 @@
 -- When two principals are the same, and when they overlap.
-use Rattle.acl_normal.proofs.Common.{ap, arith, Bool, bytes_eq, everyone, group, group_named, is_either, is_either_or_everyone, List, matches, may_overlap, or_left, or_right, owner, Principal, principal_eq, refl, Situation, sym, true, user, ℕ, ◌≡◌}
+use Rattle.acl_normal.proofs.Common.{ap, arith, Bool, bytes_eq, everyone, group, group_named, is_either, is_either_or_everyone, List, matches, may_overlap, or_left, or_right, owner, Principal, principal_eq, refl, Situation, sym, true, user, ℕ, ◌≡◌, Column, longest, map}
 use Rattle.std.proofs.lemmas.Slice.Eq.{bytes_eq-Decides}
 use Rattle.acl_perm.proofs.Meetings.{overlap_is}
 use Rattle.acl_perm.proofs.Bools.{same_answers}
 use Rattle.acl_perm.specs.Principal.{is_everyone}
+
+-- the number of bytes of the longest name in a column
+abbrev pub longest_name : Column → ℕ
+longest_name c = longest (map (λ e. e.0) c)
 
 -- the test for everyone is that for the same principal
 pub everyone_test : (p : Principal) → is_everyone p ≡ principal_eq p everyone

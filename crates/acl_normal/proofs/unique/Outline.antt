@@ -1,5 +1,6 @@
 -- What lists of one outline have in common: all but the masks.
-use Rattle.acl_normal.proofs.Common.{[], Ace, AceRef, aces_in, ap, arith, key_here, length, List, nothing_left, refl, suc, sym, with_masks, zero, ℕ, ◌++◌, ◌∙◌, ◌∷◌, ◌≡◌}
+use Rattle.acl_normal.proofs.Common.{[], Ace, AceRef, aces_in, ap, arith, key_here, length, List, Mask, mask_numbers, nothing_left, refl, suc, sym, with_masks, zero, ℕ, ◌++◌, ◌∙◌, ◌∷◌, ◌≡◌}
+use Rattle.acl_normal.proofs.unique.Bits.{bits_length}
 
 -- the length
 pub outline_length : (xs : List Ace) → length (nothing_left xs) ≡ length xs
@@ -35,6 +36,11 @@ pub length_shown : (aces : List AceRef) (masks : List ℕ) → length masks ≡ 
 length_shown [] masks h = refl
 length_shown (x ∷ aces) [] h = absurd (omega (arith, h))
 length_shown (x ∷ aces) (m ∷ masks) h = ap suc (length_shown aces masks (omega (arith, h)))
+
+-- the same of the masks of the code
+pub masked_count : (aces : List AceRef) (masks : List Mask) → length masks ≡ length aces
+    → length (with_masks aces (mask_numbers masks)) ≡ length aces
+masked_count aces masks same = length_shown aces (mask_numbers masks) (bits_length masks ∙ same)
 
 -- the outline of a list in two parts
 pub nothing_append : (xs ys : List Ace) → nothing_left (xs ++ ys) ≡ nothing_left xs ++ nothing_left ys

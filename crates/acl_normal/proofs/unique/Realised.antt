@@ -1,11 +1,11 @@
 -- The small situations: which principals match in them.
-use Rattle.acl_normal.proofs.Common.{[], AllByRecursion, ap, arith, Bool, bytes_eq, Column, cond, Deny, everyone, false, false_from_ne_true, first_kind, group, group_named, HasName, inl, inr, is_among, is_either_or_everyone, IsName, IsSituation, length, length-replicate, List, lit<, longest_name, matches, max, may_overlap, None, Option, or_from, or_left, owner, Principal, principal_eq, principal_name, refl, replicate, same_Some, SameVerdicts, small_situation, Some, subst, suc, sym, true, unwrap_or, user, verdict, zero, ℕ, ◌<◌, ◌||◌, ◌∙◌, ◌∷◌, ◌≡◌, ◌⊎◌}
+use Rattle.acl_normal.proofs.Common.{[], AllByRecursion, ap, arith, Bool, bytes_eq, Column, cond, Deny, everyone, false, false_from_ne_true, first_kind, group, group_named, HasName, inl, inr, is_among, is_either_or_everyone, IsName, IsSituation, length, length-replicate, List, lit<, matches, max, may_overlap, None, Option, or_from, or_left, owner, Principal, principal_eq, principal_name, refl, replicate, same_Some, SameVerdicts, small_situation, Some, subst, suc, sym, true, unwrap_or, user, verdict, zero, ℕ, ◌<◌, ◌||◌, ◌∙◌, ◌∷◌, ◌≡◌, ◌⊎◌}
 use Rattle.std.proofs.lemmas.List.Elements.{All-replicate, All-from_recursion}
 use Rattle.std.proofs.lemmas.Slice.Eq.{bytes_eq-Decides}
 pub use Rattle.acl_perm.proofs.Bools.{same_answers}
 use Rattle.acl_perm.specs.Situation.{is_one_of}
 use Rattle.acl_normal.specs.SmallSituations.{first_user, group_names, first_or, names_or}
-use Rattle.acl_normal.proofs.unique.Names.{bytes_eq_itself, bytes_eq_turned, bytes_eq_same, principal_eq_same}
+use Rattle.acl_normal.proofs.unique.Names.{bytes_eq_itself, bytes_eq_turned, bytes_eq_same, principal_eq_same, longest_name}
 
 -- names of different lengths are different
 other_length : (a b : List ℕ) → (length a ≡ length b → ⊥) → bytes_eq a b ≡ false

@@ -1,6 +1,6 @@
 -- Small situations suffice to compare columns.
-use Rattle.acl_normal.proofs.Common.{[], ap, arith, Bool, Column, Deny, Equal, everyone, false, false≢true, Greater, inl, inr, is_among, is_either_or_everyone, length, Less, List, longest_name, matches, may_overlap, or_cases, or_left, Ordering, ordering_reverse, Principal, principal_cmp, principal_eq, principal_exact, principal_name, principal_total, refl, SameVerdicts, small_situation, sym, true, unwrap_or, user, verdict, ℕ, ⊎_elim, ◌<◌, ◌∙◌, ◌∷◌, ◌≡◌, ◌⊎◌}
-use Rattle.acl_normal.proofs.unique.Names.{principal_eq_same, overlaps_itself, overlaps_back}
+use Rattle.acl_normal.proofs.Common.{[], ap, arith, Bool, Column, Deny, Equal, everyone, false, false≢true, Greater, inl, inr, is_among, is_either_or_everyone, length, Less, List, matches, may_overlap, or_cases, or_left, Ordering, ordering_reverse, Principal, principal_cmp, principal_eq, principal_exact, principal_name, principal_total, refl, SameVerdicts, small_situation, sym, true, unwrap_or, user, verdict, ℕ, ⊎_elim, ◌<◌, ◌∙◌, ◌∷◌, ◌≡◌, ◌⊎◌}
+use Rattle.acl_normal.proofs.unique.Names.{principal_eq_same, overlaps_itself, overlaps_back, longest_name}
 use Rattle.acl_normal.proofs.unique.FirstKind.{HasOnly, clique_of, cliques_agree}
 use Rattle.acl_normal.proofs.unique.Realised.{AreShort, one_user, small_matches, first_kind_alike, HasOneUser, reorder}
 

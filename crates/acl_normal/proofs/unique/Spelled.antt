@@ -1,7 +1,8 @@
 -- Normal forms have equal spellings exactly if their sources grant the same.
 use Rattle.std.proofs.Common.{◌≡◌, List, [], refl}
-use Rattle.acl_normal.proofs.Common.{Ace, ap, append-nil, equivalence, Fits, IsAccepted, IsEquivalence, IsNormal, IsNormalFormOf, IsProfile, Profile, SameGrants, spelling, subst, sym, ◌↔◌, ◌∙◌}
+use Rattle.acl_normal.proofs.Common.{Ace, ap, append-nil, equivalence, Fits, IsAccepted, IsEquivalence, IsNormalFormOf, IsProfile, Profile, SameGrants, spelling, subst, sym, ◌↔◌, ◌∙◌}
 use Rattle.acl_nfs4.proofs.Exports.{accepted_where_it_fits, one}
+pub use Rattle.acl_normal.specs.Laws.{IsForm}
 use Rattle.acl_normal.proofs.unique.Unique.{unique}
 use Rattle.acl_normal.proofs.unique.Profiles.{same_within}
 
@@ -12,12 +13,6 @@ spelled_alike p list other is taken taken_other same =
     (one p list other (spelling list) (spelling other) [] [] is (record { accepted = taken; spelled = refl })
     (record { accepted = taken_other; spelled = refl })
     (append-nil (spelling list) ∙ same ∙ sym (append-nil (spelling other)))).0
-
--- an accepted normal list with the grants of a source, under a profile
-pub record IsForm (p : Profile) (source form : List Ace) : Type 0 where
-  pub accepted : IsAccepted p form
-  pub normal : IsNormal form
-  pub grants : SameGrants p.masks source form
 
 -- the spellings of two such lists are equal exactly if their sources grant the same
 pub forms_tell : (p : Profile) (a b n m : List Ace) → IsProfile p → IsForm p a n → IsForm p b m

@@ -1,7 +1,7 @@
 -- That the keys of the normal form are keys of the source.
 use Rattle.std.proofs.Common.{◌≡◌, ℕ, ◌≤◌, ◌<◌, Bool, true, false, List, [], ◌∷◌, ◌++◌, length, refl}
-use Rattle.acl_normal.proofs.Common.{Ace, all_rights, ap, arith, cases_lt, Column, column, default, everyone, false_from_ne_true, first_kind, Has, HasMasks, is_either, is_needed, is_none, IsAlike, IsIrreducibleList, IsNormal, IsOnce, Key, Kind, left, needed_keys, reduced, SameGrants, subst, unshadowed, ⊎_elim, ◌∙◌}
-use Rattle.acl_normal.proofs.unique.Forming.{IsTaken, first_same}
+use Rattle.acl_normal.proofs.Common.{Ace, all_rights, ap, arith, cases_lt, Column, column, default, everyone, false_from_ne_true, first_kind, Has, HasMasks, is_either, is_needed, is_none, IsAlike, IsIrreducibleList, IsNormal, IsOnce, Key, Kind, left, needed_keys, reduced, SameGrants, subst, unshadowed, ⊎_elim, ◌∙◌, IsNormalFormOf, IsReducedOf}
+use Rattle.acl_normal.proofs.unique.Forming.{IsTaken, first_same, form_from}
 use Rattle.acl_normal.proofs.unique.Free.{once_from_clean}
 use Rattle.acl_normal.proofs.unique.Irreducible.{clean}
 use Rattle.acl_normal.proofs.emit.Leaving.{alike_length, column_left, masks_of_quiet, same_left}
@@ -125,3 +125,9 @@ taken xs ys ns columns irr f n g = record {
           reduced_shorter (column xs b),
         ))
         (λ l. omega (arith, ap length (none b l))) (cases_lt b 21)
+
+-- a normal list that grants what is left of a list is the normal form of that list
+pub form_of_reduced : (list xs ns : List Ace) → IsReducedOf list xs → IsNormal ns → SameGrants all_rights xs ns
+    → IsNormalFormOf list ns
+form_of_reduced list xs ns r normal grants =
+    form_from list ns (taken list xs ns r.columns r.irreducible r.grants normal grants) r.accepted

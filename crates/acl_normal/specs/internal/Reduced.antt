@@ -3,7 +3,9 @@ use Rattle.std.specs.Prelude.{◌≡◌, ℕ, ◌<◌, false, List, []}
 use Rattle.acl_perm.specs.Bits.{all_rights, has_bit}
 use Rattle.acl_eval.specs.Column.{column}
 use Rattle.acl_eval.specs.Grant.{SameGrants}
+use Rattle.acl_perm.specs.Profile.{full}
 use Rattle.acl_nfs4.specs.Ace.{Ace}
+use Rattle.acl_nfs4.specs.Spelling.{IsAccepted}
 use Rattle.acl_normal.specs.internal.Places.{bit_count}
 use Rattle.acl_normal.specs.Left.{KeepsFirsts, left}
 use Rattle.acl_normal.specs.internal.Tidy.{IsTidy}
@@ -17,8 +19,9 @@ pub record IsThinned (source list : List Ace) : Type 0 where
   pub tidy : IsTidy list
   pub firsts : KeepsFirsts source list
 
--- the list is its source without the bits that no situation needs
+-- the source is accepted, and the list is the source without the bits that no situation needs
 pub record IsReducedOf (source list : List Ace) : Type 0 where
+  pub accepted : IsAccepted full source
   pub thinned : IsThinned source list
   pub rights : (b : ℕ) → has_bit all_rights b ≡ false → column list b ≡ []
   pub columns : (b : ℕ) → b < bit_count → column list b ≡ reduced (column source b)

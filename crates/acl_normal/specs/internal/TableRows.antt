@@ -5,7 +5,7 @@ use Rattle.acl_nfs4.specs.Ace.{Ace}
 use Rattle.acl_nfs4.specs.Who.{principal_of}
 use Rattle.acl_eval.specs.Column.{column, first_kind}
 use Rattle.acl_normal.specs.internal.Alike.{is_either}
-use Rattle.acl_normal.specs.internal.Rows.{IsRowOf, first_place_of}
+use Rattle.acl_normal.specs.internal.rows.Rows.{IsRowOf, first_place_of}
 use Rattle.acl_normal.specs.Normal.{counts}
 use Rattle.acl_normal.specs.declared.bit_table.BorrowedRow.{BorrowedRow}
 use Rattle.acl_normal.specs.Tables.{with_bit, of_borrowed, AreRows}

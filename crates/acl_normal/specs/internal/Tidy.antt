@@ -4,10 +4,10 @@ use Rattle.std.specs.List.{AllByRecursion}
 use Rattle.acl_perm.specs.Bits.{all_rights, IsSubset}
 use Rattle.acl_nfs4.specs.Ace.{Ace}
 use Rattle.acl_nfs4.specs.Who.{principal_of}
-use Rattle.acl_eval.specs.Column.{column}
+use Rattle.acl_eval.specs.Column.{Column, column}
 use Rattle.acl_normal.specs.internal.Places.{bit_count}
 use Rattle.acl_normal.specs.SmallSituations.{HasName}
-use Rattle.acl_normal.specs.internal.Emissions.{HasOnceColumns}
+use Rattle.acl_normal.specs.internal.emit.Emissions.{HasOnceColumns}
 use Rattle.acl_normal.specs.Normal.{is_inherit_only}
 
 -- an ACE that takes no part has no bit
@@ -21,6 +21,10 @@ HasMasks list = AllByRecursion (λ a. IsSubset a.mask all_rights) list
 -- each who that is a user or group name is a name that a situation may have
 abbrev pub HasNames : List Ace → Type 0
 HasNames list = AllByRecursion (λ a. HasName (principal_of a)) list
+
+-- each principal of the column has such a name
+abbrev pub HaveNames : Column → Type 0
+HaveNames c = AllByRecursion (λ e. HasName e.0) c
 
 -- each column has each principal once; an ACE that takes no part has no bit, and no bit is above the twenty-one
 pub record IsTidy (list : List Ace) : Type 0 where

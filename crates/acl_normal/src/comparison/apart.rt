@@ -1,10 +1,7 @@
 //! The rights on which two lists may differ, found by one walk over both.
-ghost use Rattle.std.specs.Prelude.{◌≡◌, List, length};
-ghost use Rattle.acl_perm.specs.Principal.{Principal};
-ghost use Rattle.acl_nfs4.specs.Ace.{ace};
-ghost use Rattle.acl_normal.specs.internal.Shown.{aces_in};
-ghost use Rattle.acl_normal.specs.internal.FirstPlaces.{AreWhoms};
-ghost use Rattle.acl_normal.specs.internal.RightsApart.{AreApart, HasOpenBits, say_the_same};
+ghost use Rattle.std.specs.Prelude.{◌≡◌};
+ghost use Rattle.acl_normal.specs.Common.{ace, aces_in, AreWhoms, length, List, Principal};
+ghost use Rattle.acl_normal.specs.internal.comparison.RightsApart.{AreApart, HasOpenBits, say_the_same};
 
 use super::evaluation::rights_of;
 use super::standing::Whom;
@@ -19,8 +16,9 @@ struct Statement {
     rights: Mask,
 }
 
-/// The rights past which two lists have the same ACEs in the same order. Both lists are walked together: where their
-/// next ACEs say different things, the rights of these two are apart, and ACEs with no other right are passed over.
+/// Returns the rights past which two lists have the same ACEs in the same order. Both lists are walked together: where
+/// their next ACEs say different things, the rights of these two are apart, and ACEs with no other right are passed
+/// over.
 pub(crate) fn rights_apart(
     list: &[AceRef<'_>],
     whoms: &[Whom],

@@ -1,15 +1,8 @@
 //! Two lists that are compared, seen as these two lists alone. What the search asks again and again is found once: whom
 //! they mention, whom of these each ACE names, and on which rights they may differ.
-ghost use Rattle.std.specs.Prelude.{◌≡◌, ◌<◌, ◌^◌, [], IfOk, false, length, true};
-ghost use Rattle.std.specs.Bool.{OnFalse, OnTrue};
-ghost use Rattle.acl_perm.specs.Bits.{all_rights, has_bit};
-ghost use Rattle.acl_perm.specs.Principal.{principal};
-ghost use Rattle.acl_normal.specs.internal.Shown.{aces_in};
-ghost use Rattle.acl_normal.specs.internal.CodeSets.{set_of};
-ghost use Rattle.acl_normal.specs.internal.Members.{AreNumbered, members_of};
-ghost use Rattle.acl_normal.specs.internal.MentionedRows.{AreMentioned};
-ghost use Rattle.acl_normal.specs.internal.SetSearch.{IsGrantedTo};
-ghost use Rattle.acl_normal.specs.internal.TwoLists.{AreAlikeTo, AreWithin, HaveSameColumn, StandAs, all_mentioned, principal_at, two_lists};
+ghost use Rattle.std.specs.Prelude.{◌<◌, ◌^◌, ◌≡◌};
+ghost use Rattle.acl_normal.specs.Common.{[], aces_in, all_mentioned, all_rights, AreAlikeTo, AreMentioned, AreNumbered, false, has_bit, IfOk, IsGrantedTo, length, members_of, OnFalse, OnTrue, principal, set_of, true, two_lists};
+ghost use Rattle.acl_normal.specs.internal.comparison.TwoLists.{AreWithin, HaveSameColumn, StandAs, principal_at};
 
 use super::apart::rights_apart;
 use super::evaluation::{granted_to, unlike};
@@ -40,8 +33,8 @@ pub(crate) struct Compared<'a, 'b> {
 }
 
 impl<'a, 'b> Model for Compared<'a, 'b> {
-    ghost use Rattle.acl_normal.specs.internal.Compared.{IsCompared, lists_in};
-    ghost use Rattle.acl_normal.specs.internal.TwoLists.{TwoLists};
+    ghost use Rattle.acl_normal.specs.internal.comparison.Compared.{IsCompared, lists_in};
+    ghost use Rattle.acl_normal.specs.internal.comparison.TwoLists.{TwoLists};
 
     ghost Value = { TwoLists };
 
@@ -51,7 +44,7 @@ impl<'a, 'b> Model for Compared<'a, 'b> {
 }
 
 impl<'a, 'b> Compared<'a, 'b> {
-    /// The two lists, once it is known whom they mention.
+    /// Holds two lists, once it is known whom they mention.
     #[tactic(auto, using(crate::proofs::comparison::MentionedRows::compared_parts))]
     pub(crate) fn of(
         first: &'b [AceRef<'a>],
@@ -72,7 +65,7 @@ impl<'a, 'b> Compared<'a, 'b> {
         }
     }
 
-    /// The small set of the principals of some numbers.
+    /// Returns the small set of the principals of some numbers.
     pub(crate) fn set(&self, members: Members) -> SmallSet<'a>
         requires { AreNumbered (all_mentioned self.now) members }
         ensures { set_of result ≡ members_of (all_mentioned self.now) members }
@@ -84,14 +77,14 @@ impl<'a, 'b> Compared<'a, 'b> {
         }
     }
 
-    /// How many principals the lists mention.
+    /// Returns how many principals the lists mention.
     pub(crate) fn count(&self) -> usize
         ensures { result ≡ length (all_mentioned self.now) }
     {
         self.mentioned.len()
     }
 
-    /// The principal of a number.
+    /// Returns the principal of a number.
     pub(crate) fn principal(&self, number: usize) -> Principal<'a>
         requires { number < length (all_mentioned self.now) }
         ensures { principal result ≡ principal_at self.now number }
@@ -100,7 +93,7 @@ impl<'a, 'b> Compared<'a, 'b> {
         mentioned[number]
     }
 
-    /// How many ACEs the longer list has.
+    /// Returns how many ACEs the longer list has.
     pub(crate) fn longer(&self) -> usize
         ensures within { AreWithin self.now result }
         ensures small { result < 2 ^ 63 }
@@ -108,7 +101,7 @@ impl<'a, 'b> Compared<'a, 'b> {
         self.first.len().max(self.second.len())
     }
 
-    /// Whether the lists may differ on a right. Where they can't, they have the same ACEs with it.
+    /// Returns whether the lists may differ on a right. Where they can't, they have the same ACEs with it.
     pub(crate) fn may_differ(&self, right: Bit) -> bool
         ensures right { result ≡ true → has_bit all_rights right.bit ≡ true }
         ensures same { result ≡ false → HaveSameColumn self.now right.bit }
@@ -116,7 +109,7 @@ impl<'a, 'b> Compared<'a, 'b> {
         right.is_in(self.apart)
     }
 
-    /// Whether the lists grant alike where everyone matches, and no principal that they mention.
+    /// Returns whether the lists grant alike where everyone matches, and no principal that they mention.
     pub(crate) fn grant_strangers_alike(&self) -> bool
         ensures alike { OnTrue result (AreAlikeTo self.now []) }
         ensures differ { OnFalse result (AreAlikeTo self.now [] → ⊥) }
@@ -130,7 +123,7 @@ impl<'a, 'b> Compared<'a, 'b> {
             == 0
     }
 
-    /// The rights that the first list grants where just the principals of some numbers match, and everyone.
+    /// Returns the rights that the first list grants where just the principals of some numbers match, and everyone.
     pub(crate) fn granted_by_first(&self, members: Members) -> Mask
         requires { AreNumbered (all_mentioned self.now) members }
         ensures { IsGrantedTo self.now.first
@@ -139,7 +132,7 @@ impl<'a, 'b> Compared<'a, 'b> {
         granted_to(self.first, self.first_whoms, members)
     }
 
-    /// The same of the second list.
+    /// Returns the rights that the second list grants there.
     pub(crate) fn granted_by_second(&self, members: Members) -> Mask
         requires { AreNumbered (all_mentioned self.now) members }
         ensures { IsGrantedTo self.now.second
@@ -148,7 +141,7 @@ impl<'a, 'b> Compared<'a, 'b> {
         granted_to(self.second, self.second_whoms, members)
     }
 
-    /// Where each principal stands in both lists, on a right.
+    /// Returns where each principal stands in both lists, on a right.
     pub(crate) fn standings(&self, alloc: Global, right: Bit) -> Result<Vec<Standing>, AllocError>
         ensures { IfOk result (λ v. StandAs self.now right.bit v.items) }
     {

@@ -1,7 +1,6 @@
 //! Two lists compared: the first small situation in which they grant otherwise.
-ghost use Rattle.std.specs.Prelude.{◌≡◌, ◌↔◌, IsNone, IsOk, IfOk, IfSome};
-ghost use Rattle.acl_perm.specs.Bits.{all_rights};
-ghost use Rattle.acl_eval.specs.Grant.{SameGrants};
+ghost use Rattle.std.specs.Prelude.{◌↔◌, ◌≡◌, IsNone};
+ghost use Rattle.acl_normal.specs.Common.{all_rights, IfOk, IfSome, IsOk, SameGrants};
 ghost use Rattle.acl_normal.specs.Difference.{IsComparison, situation_of};
 ghost use Rattle.acl_normal.specs.SmallSets.{IsFirstDifference, TellsApart};
 
@@ -12,10 +11,11 @@ use crate::reduce::collected::collect;
 use acl_nfs4::{Acl, AclView};
 use std::alloc::{AllocError, Global};
 
-/// The first of the small situations of two lists in which one grants a right and the other doesn't, or None where both
-/// grant the same in every situation (this library's own, over RFC 8881, section 6.2.1). A small situation is one in
-/// which just none, one or two of the principals match that the lists mention, and everyone. It takes time near linear
-/// in the ACEs, times the rights that either list has, and memory for some numbers an ACE. An error is want of memory.
+/// Returns the first of the small situations of two lists in which one grants a right and the other does not, or
+/// `None` if both grant the same in every situation (this library's own, over RFC 8881, section 6.2.1). In a small
+/// situation none, one or two of the principals that the lists mention match, and everyone. It takes time that is
+/// nearly linear in the ACEs, times the rights that either list has, and memory for some numbers per ACE. Fails if
+/// memory runs out.
 ///
 /// ```rust
 /// let first = parse_text(alloc, b"ALLOW - READ_DATA EVERYONE@")?;
@@ -27,16 +27,16 @@ use std::alloc::{AllocError, Global};
 /// assert!(rt; decision.is_some_and(|decision| decision.place == 0));
 /// ```
 pub fn compare(alloc: Global, first: &Acl, second: &Acl) -> Result<Option<Difference>, AllocError>
-    // None exactly if both lists grant the same.
+    // None if and only if both lists grant the same.
     ensures same { IfOk result (λ r. IsNone r ↔ SameGrants all_rights first.now second.now) }
-    // Else the first small situation in which they don't, the lowest right on which they differ there, and what the
-    // first list grants.
+    // Otherwise the first small situation in which they do not, the lowest right on which they differ there, and what
+    // the first list grants.
     ensures first { IfOk result (λ r. IfSome r (λ d. IsFirstDifference first.now second.now
         (situation_of d) d.bit.bits d.first_grants)) }
-    // Its names are names of an object and a requester, to whom one list grants that right and the other doesn't.
+    // Its names are names of an object and a requester, to whom one list grants that right and the other does not.
     ensures requester { IfOk result (λ r. IfSome r (λ d. TellsApart first.now second.now
         (situation_of d) d.bit.bits d.first_grants)) }
-    // Of equal lists nothing takes memory.
+    // For equal lists memory never runs out.
     ensures equal { first.now ≡ second.now → IsOk result }
 {
     if *first == *second {
@@ -54,13 +54,13 @@ pub fn compare_views(
     first: &AclView<'_>,
     second: &AclView<'_>,
 ) -> Result<Option<Difference>, AllocError>
-    // None exactly if both lists grant the same.
+    // None if and only if both lists grant the same.
     ensures same { IfOk result (λ r. IsNone r ↔ SameGrants all_rights first.now second.now) }
-    // Else the first small situation in which they don't, the lowest right on which they differ there, and what the
-    // first list grants.
+    // Otherwise the first small situation in which they do not, the lowest right on which they differ there, and what
+    // the first list grants.
     ensures first { IfOk result (λ r. IfSome r (λ d. IsFirstDifference first.now second.now
         (situation_of d) d.bit.bits d.first_grants)) }
-    // Its names are names of an object and a requester, to whom one list grants that right and the other doesn't.
+    // Its names are names of an object and a requester, to whom one list grants that right and the other does not.
     ensures requester { IfOk result (λ r. IfSome r (λ d. TellsApart first.now second.now
         (situation_of d) d.bit.bits d.first_grants)) }
 {

@@ -1,15 +1,8 @@
 //! What a list grants where just the principals of a set match, and everyone: all rights at once.
-ghost use Rattle.std.specs.Prelude.{◌≡◌, ◌≢◌, ◌&&◌, ◌^◌, ℕ, List, length};
-ghost use Rattle.std.specs.Bool.{OnFalse, OnTrue};
+ghost use Rattle.std.specs.Prelude.{◌&&◌, ◌^◌, ◌≡◌, ◌≢◌};
+ghost use Rattle.acl_normal.specs.Common.{ace, aces_in, AreNumbered, AreWhoms, GrantAlikeTo, has_bit, is_matched, IsGrantedTo, IsLowest, length, List, members_of, OnFalse, OnTrue, Principal, set_of, ℕ};
 ghost use Rattle.std.specs.Int.{trailing_zeros, w32};
-ghost use Rattle.acl_nfs4.specs.Ace.{ace};
-ghost use Rattle.acl_perm.specs.Bits.{has_bit};
-ghost use Rattle.acl_perm.specs.Principal.{Principal};
-ghost use Rattle.acl_normal.specs.internal.Shown.{aces_in};
-ghost use Rattle.acl_normal.specs.internal.CodeSets.{set_of};
-ghost use Rattle.acl_normal.specs.internal.FirstPlaces.{AreWhoms};
-ghost use Rattle.acl_normal.specs.internal.Members.{AreNumbered, is_matched, members_of};
-ghost use Rattle.acl_normal.specs.internal.SetSearch.{IsGrantedTo, AreRightsOf, GrantAlikeTo, HasBitsOf, IsLowestBit, differ};
+ghost use Rattle.acl_normal.specs.internal.comparison.SetSearch.{AreRightsOf, HasBitsOf, differ};
 
 use super::members::Members;
 use super::small_set::SmallSet;
@@ -17,7 +10,7 @@ use super::standing::Whom;
 use acl_nfs4::AceRef;
 use acl_perm::{Kind, Mask};
 
-/// Whether two lists grant alike where just the principals of a set match, and everyone.
+/// Returns whether two lists grant alike where just the principals of a set match, and everyone.
 pub(crate) fn grant_alike(list: &[AceRef<'_>], other: &[AceRef<'_>], set: SmallSet<'_>) -> bool
     ensures alike { OnTrue result
         (GrantAlikeTo (aces_in list.now) (aces_in other.now) (set_of set.entry)) }
@@ -27,7 +20,7 @@ pub(crate) fn grant_alike(list: &[AceRef<'_>], other: &[AceRef<'_>], set: SmallS
     unlike(granted(list, set), granted(other, set)).bits() == 0
 }
 
-/// The rights that just one of two masks has.
+/// Returns the rights that just one of two masks has.
 pub(crate) fn unlike(here: Mask, there: Mask) -> Mask
     ensures { (bit : ℕ) → has_bit result.bits bit
         ≡ differ (has_bit here.bits bit) (has_bit there.bits bit) }
@@ -35,7 +28,7 @@ pub(crate) fn unlike(here: Mask, there: Mask) -> Mask
     here.difference(there).union(there.difference(here))
 }
 
-/// The rights that a list grants where just the principals of a set match, and everyone.
+/// Returns the rights that a list grants where just the principals of a set match, and everyone.
 pub(crate) fn granted(list: &[AceRef<'_>], set: SmallSet<'_>) -> Mask
     ensures { IsGrantedTo (aces_in list.now) (set_of set.entry) result.bits }
 {
@@ -52,7 +45,8 @@ pub(crate) fn granted(list: &[AceRef<'_>], set: SmallSet<'_>) -> Mask
     granted
 }
 
-/// The same, where the set is given by numbers, and it is known whom of the numbered principals each ACE names.
+/// Returns the rights that a list grants there, where the set is given by numbers, and it is known whom of the numbered
+/// principals each ACE names.
 pub(crate) fn granted_to(list: &[AceRef<'_>], whoms: &[Whom], set: Members) -> Mask
     requires { length whoms.now ≡ length list.now }
     ensures { (whole : List Principal) → AreWhoms whole (aces_in list.now) whoms.now
@@ -95,11 +89,11 @@ fn own_rights(item: &AceRef<'_>, set: SmallSet<'_>) -> Mask
     }
 }
 
-/// The lowest of some rights.
+/// Returns the lowest of some rights.
 pub(crate) fn lowest(rights: Mask) -> Mask
     requires { rights.bits ≢ 0 }
     ensures value { result.bits ≡ 2 ^ trailing_zeros w32 rights.bits }
-    ensures lowest { IsLowestBit rights.bits (trailing_zeros w32 rights.bits) }
+    ensures lowest { IsLowest (trailing_zeros w32 rights.bits) rights.bits }
 {
     Mask {
         bits: lowest_bit(rights.bits()),
@@ -114,7 +108,7 @@ fn lowest_bit(bits: u32) -> u32
     1 << bits.trailing_zeros()
 }
 
-/// The rights that some ACE of the list has.
+/// Returns the rights that some ACE of the list has.
 pub(crate) fn rights_of(list: &[AceRef<'_>]) -> Mask
     ensures { AreRightsOf (aces_in list.now) result.bits }
 {

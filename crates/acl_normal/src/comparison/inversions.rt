@@ -1,16 +1,15 @@
 //! Which principals two lists name in opposite orders, found by tables instead of a test of each pair.
-ghost use Rattle.std.specs.Prelude.{◌≡◌, ◌&&◌, ◌+◌, ◌<◌, ◌≤◌, ◌^◌, IfOk, length, not, true, vec_len};
-ghost use Rattle.std.specs.List.{AllByRecursion};
-ghost use Rattle.acl_normal.specs.internal.Classes.{is_users};
-ghost use Rattle.acl_normal.specs.internal.FirstPlaces.{IsFirstInverted, IsFirstInverting, IsFirstUnlike, inverts};
-ghost use Rattle.acl_normal.specs.internal.PlaceTables.{HasNone, IsStandingWithin, IsFirstOf, IsScattered, IsPlaceTable, Raises, is_counted, is_of_camp, is_told, other_place, place_of};
+ghost use Rattle.std.specs.Prelude.{◌&&◌, ◌+◌, ◌<◌, ◌^◌, ◌≡◌, ◌≤◌};
+ghost use Rattle.acl_normal.specs.Common.{AllByRecursion, IfOk, is_users, length, not, true, vec_len};
+ghost use Rattle.acl_normal.specs.internal.comparison.FirstPlaces.{IsFirstInverted, IsFirstInverting, IsFirstUnlike, inverts};
+ghost use Rattle.acl_normal.specs.internal.comparison.PlaceTables.{HasNone, IsStandingWithin, IsFirstOf, IsScattered, IsPlaceTable, Raises, is_counted, is_of_camp, is_told, other_place, place_of};
 
 use super::standing::Standing;
 use crate::class::Class;
 use acl_perm::Kind;
 use std::alloc::{AllocError, Global};
 
-/// The first of the standings, below a limit, in which the lists say different things.
+/// Returns the first of the standings, below a limit, in which the lists say different things.
 pub(crate) fn first_unlike(standings: &[Standing], limit: usize) -> usize
     requires { limit ≤ length standings.now }
     ensures { IsFirstUnlike standings.now limit result }
@@ -23,8 +22,8 @@ pub(crate) fn first_unlike(standings: &[Standing], limit: usize) -> usize
     limit
 }
 
-/// The first principal, below a limit, that inverts another. The tables of a camp count the principals that those of
-/// the camp can invert, so that there is one search for each camp.
+/// Returns the first principal, below a limit, that inverts another. The tables of a camp count the principals that
+/// those of the camp can invert, so that there is one search for each camp.
 pub(crate) fn first_inverting(
     alloc: Global,
     standings: &[Standing],
@@ -68,7 +67,6 @@ fn first_of(
     Ok(limit)
 }
 
-// Whether no principal is of a camp.
 fn is_empty_camp(standings: &[Standing], camp: Camp) -> bool
     ensures { result ≡ true → HasNone camp standings.now }
 {
@@ -158,7 +156,7 @@ fn scattered(
     Ok(table)
 }
 
-// Raises what stands behind a principal's place in the one list to its place in the other, if it is counted.
+// Raises the number behind a principal's place in the one list to its place in the other, if the principal is counted.
 #[tactic(auto, using(crate::proofs::comparison::TableFacts::raising))]
 fn raise(table: &mut Vec<usize>, standing: Standing, camp: Camp, side: Side)
     requires within { place_of side standing + 1 < vec_len table.old }
@@ -179,7 +177,7 @@ fn is_counted(camp: Camp, standing: Standing) -> bool
     may_overlap(camp.class, standing.class) && camp.kind.is_allow() != standing.here.allows()
 }
 
-// Where a principal stands first in the list of a side.
+// The place of the first ACE that concerns a principal in the list of a side.
 fn place_of(standing: Standing, side: Side) -> usize
     ensures { result ≡ place_of side standing }
 {
@@ -189,7 +187,7 @@ fn place_of(standing: Standing, side: Side) -> usize
     }
 }
 
-// Where a principal stands first in the list of the other side.
+// The place of the first ACE that concerns a principal in the list of the other side.
 fn other_place(standing: Standing, side: Side) -> usize
     ensures { result ≡ other_place side standing }
 {
@@ -210,7 +208,6 @@ fn is_told(standing: Standing, camp: Camp, forward: &[usize], back: &[usize]) ->
             || standing.here.place < back[standing.there.place])
 }
 
-// Whether a principal is of a camp.
 fn is_of_camp(standing: Standing, camp: Camp) -> bool
     ensures { result ≡ is_of_camp camp standing }
 {
@@ -218,7 +215,7 @@ fn is_of_camp(standing: Standing, camp: Camp) -> bool
         && standing.class.is_users() == camp.class.is_users()
 }
 
-/// The first of the others, below a limit, that the principal inverts.
+/// Returns the first of the others, below a limit, that the principal inverts.
 pub(crate) fn first_inverted(standing: Standing, others: &[Standing], limit: usize) -> usize
     requires { limit ≤ length others.now }
     ensures { IsFirstInverted standing others.now limit result }

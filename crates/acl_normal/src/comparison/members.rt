@@ -1,6 +1,7 @@
 //! Sets of at most two of the principals that lists mention, by their numbers.
 ghost use Rattle.std.specs.Prelude.{◌≡◌};
-ghost use Rattle.acl_normal.specs.internal.Members.{has_number, is_matched};
+ghost use Rattle.acl_normal.specs.Common.{is_matched};
+ghost use Rattle.acl_normal.specs.internal.comparison.Members.{has_number};
 
 use super::standing::Whom;
 
@@ -13,7 +14,7 @@ pub(crate) enum Members {
 }
 
 impl Members {
-    /// Whether an ACE names a principal of the set, or everyone.
+    /// Returns whether an ACE names a principal of the set, or everyone.
     pub(crate) fn matches(self, whom: Whom) -> bool
         ensures { result ≡ is_matched self whom }
     {

@@ -1,16 +1,10 @@
 //! The principals that lists mention, by number: in order, each once.
-ghost use Rattle.std.specs.Prelude.{◌≡◌, ◌++◌, ◌<◌, ◌^◌, ℕ, IfOk, OnOk, length, option_map, slice_index_or, vec_len};
+ghost use Rattle.std.specs.Prelude.{◌++◌, ◌<◌, ◌^◌, ◌≡◌};
+ghost use Rattle.acl_normal.specs.Common.{ace, aces_in, AreMentioned, AreRowNumbers, AreWhoms, IfOk, length, OnOk, option_map, principal, principals, slice_index_or, two_lists, vec_len, ℕ};
 ghost use Rattle.acl_perm.specs.Order.{principal_name};
-ghost use Rattle.acl_perm.specs.Principal.{principal};
-ghost use Rattle.acl_nfs4.specs.Ace.{ace};
-ghost use Rattle.acl_normal.specs.SmallSets.{longest};
-ghost use Rattle.acl_normal.specs.internal.Shown.{aces_in};
-ghost use Rattle.acl_normal.specs.internal.FirstPlaces.{AreWhoms};
-ghost use Rattle.acl_normal.specs.internal.MentionedRows.{AreByRow, AreMentioned, AreMentionedRows, AreMentionsOf, AreMentionedNumbers, mentioned_by, noted, whom_of, with_found};
-ghost use Rattle.acl_normal.specs.internal.Rows.{AreRowNumbers};
-ghost use Rattle.acl_normal.specs.internal.SamePlaces.{with_copies};
-ghost use Rattle.acl_normal.specs.internal.SetSearch.{principals};
-ghost use Rattle.acl_normal.specs.internal.TwoLists.{two_lists};
+ghost use Rattle.acl_normal.specs.SmallSituations.{longest};
+ghost use Rattle.acl_normal.specs.internal.comparison.MentionedRows.{AreByRow, AreMentionedRows, AreMentionsOf, AreMentionedNumbers, mentioned_by, noted, whom_of, with_found};
+ghost use Rattle.acl_normal.specs.internal.comparison.SamePlaces.{with_copies};
 
 use super::same_places::same_places;
 use super::standing::Whom;
@@ -26,8 +20,8 @@ struct Numbers<'a> {
     by_row: Vec<usize>,
 }
 
-/// Whom two lists mention. Where the second names the same as the first does near the same places, only the first is
-/// sorted.
+/// Returns whom two lists mention. Where the second names the same as the first does near the same places, only the
+/// first is sorted.
 pub(crate) fn mentioned<'a>(
     alloc: Global,
     list: &[AceRef<'a>],
@@ -191,7 +185,7 @@ fn whom(item: &AceRef<'_>, number: usize) -> Whom
     }
 }
 
-/// The length of the longest name, and 0 where none is a name.
+/// Returns the length of the longest name, and 0 where none is a name.
 #[tactic(auto, using(crate::proofs::comparison::MentionedNames::longest_steps))]
 pub(crate) fn longest_of(whole: &[Principal<'_>]) -> usize
     ensures value { result ≡ longest (principals whole.now) }

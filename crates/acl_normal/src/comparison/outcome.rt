@@ -1,12 +1,10 @@
 //! The difference of two lists at a small set.
-ghost use Rattle.std.specs.Prelude.{◌≡◌, IfOk, IfSome};
+ghost use Rattle.std.specs.Prelude.{◌≡◌};
+ghost use Rattle.acl_normal.specs.Common.{all_mentioned, AreAlikeTo, AreNumbered, FindSet, IfOk, IfSome, IsGrantedTo, members_of, members_or_none, set_of, set_or_none};
 ghost use Rattle.acl_perm.specs.Situation.{IsSituation};
 ghost use Rattle.acl_normal.specs.Difference.{IsComparison};
 ghost use Rattle.acl_normal.specs.SmallSets.{strange_length};
-ghost use Rattle.acl_normal.specs.internal.CodeSets.{set_of, set_or_none};
-ghost use Rattle.acl_normal.specs.internal.Members.{AreNumbered, members_of, members_or_none};
-ghost use Rattle.acl_normal.specs.internal.SetSearch.{IsGrantedTo};
-ghost use Rattle.acl_normal.specs.internal.TwoLists.{AreAlikeTo, AreNamed, DifferLowestOn, FindSet, ShowsSituation, all_mentioned, situation_at};
+ghost use Rattle.acl_normal.specs.internal.comparison.TwoLists.{AreNamed, DifferLowestOn, ShowsSituation, situation_at};
 
 use super::Difference;
 use super::compared::Compared;
@@ -19,7 +17,7 @@ use acl_perm::Mask;
 use std::alloc::{AllocError, Global};
 
 impl Compared<'_, '_> {
-    /// What a comparison tells, by the first small set at which the lists grant otherwise.
+    /// Returns what a comparison tells, by the first small set at which the lists grant otherwise.
     pub(crate) fn difference(
         &self,
         alloc: Global,
@@ -39,7 +37,7 @@ impl Compared<'_, '_> {
         }
     }
 
-    /// The same, where the set is given by numbers.
+    /// Returns what a comparison tells, where the set is given by numbers.
     pub(crate) fn difference_of(
         &self,
         alloc: Global,

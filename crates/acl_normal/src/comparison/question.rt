@@ -1,5 +1,6 @@
 //! A difference as a question: the object, the requester and the right that `deciding_ace` takes.
-ghost use Rattle.std.specs.Prelude.{◌≡◌, ◌^◌, slice_index_or};
+ghost use Rattle.std.specs.Prelude.{◌^◌, ◌≡◌};
+ghost use Rattle.acl_normal.specs.Common.{slice_index_or};
 ghost use Rattle.acl_eval.specs.Situation.{groups_of, owner_of, owning_group_of, user_of};
 ghost use Rattle.acl_normal.specs.RequesterNames.{groups_in, user_in};
 ghost use Rattle.acl_normal.specs.Difference.{situation_of};

@@ -1,7 +1,8 @@
 //! Where a list names the same as another does. Each search begins near the place that was found before: lists that are
 //! compared mostly name the same in nearly the same order, and then only one of them is sorted.
-ghost use Rattle.std.specs.Prelude.{◌≡◌, IfOk, IfSome, length, true};
-ghost use Rattle.acl_normal.specs.internal.SamePlaces.{ArePlacesOf, HasSameWho, HaveOneWho};
+ghost use Rattle.std.specs.Prelude.{◌≡◌};
+ghost use Rattle.acl_normal.specs.Common.{IfOk, IfSome, length, true};
+ghost use Rattle.acl_normal.specs.internal.comparison.SamePlaces.{ArePlacesOf, HasSameWho, HaveOneWho};
 
 use acl_nfs4::AceRef;
 use std::alloc::{AllocError, Global};
@@ -9,8 +10,8 @@ use std::alloc::{AllocError, Global};
 // How far from the place that is expected an ACE is looked for.
 const NEAR: usize = 32;
 
-/// By place of the other list, the place of an ACE in the list that names the same; or None, where one of them is not
-/// near the place behind the one before.
+/// Returns, by place of the other list, the place of an ACE in the list that names the same; or None, where one of them
+/// is not near the place behind the one before.
 #[tactic(auto, using(crate::proofs::comparison::SamePlacesLemmas::place_steps))]
 pub(crate) fn same_places(
     alloc: Global,

@@ -1,8 +1,8 @@
 //! The search for the first small set for which two lists differ. A test of each pair of principals would take time in
 //! the square of their number, so the search finds one of the pair first, and then the other.
-ghost use Rattle.std.specs.Prelude.{◌<◌, IfOk, IfSome, length};
-ghost use Rattle.acl_normal.specs.internal.Members.{AreNumbered, members_or_none};
-ghost use Rattle.acl_normal.specs.internal.TwoLists.{AreAlikeAlone, FindSet, IsFirstMember, IsFirstPartner, IsFirstSingle, all_mentioned};
+ghost use Rattle.std.specs.Prelude.{◌<◌};
+ghost use Rattle.acl_normal.specs.Common.{all_mentioned, AreNumbered, FindSet, IfOk, IfSome, length, members_or_none};
+ghost use Rattle.acl_normal.specs.internal.comparison.TwoLists.{AreAlikeAlone, IsFirstMember, IsFirstPartner, IsFirstSingle};
 
 use super::compared::Compared;
 use super::inversions::{first_inverted, first_inverting, first_unlike};
@@ -11,9 +11,9 @@ use acl_perm::internal::Bit;
 use std::alloc::{AllocError, Global};
 
 impl Compared<'_, '_> {
-    /// The first small set at which the lists differ. The first pair has as its lesser member the least principal of
-    /// any pair at which they differ, whether the other comes before or behind it, and the least later one as the
-    /// other.
+    /// Returns the first small set at which the lists differ. The first pair has as its lesser member the least
+    /// principal of any pair at which they differ, whether the other comes before or behind it, and the least later one
+    /// as the other.
     pub(crate) fn first_set(&self, alloc: Global) -> Result<Option<Members>, AllocError>
         ensures found { IfOk result (λ r.
             FindSet self.now (members_or_none (all_mentioned self.now) r)) }

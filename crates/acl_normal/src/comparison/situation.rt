@@ -1,14 +1,13 @@
 //! The situation of a small set, by its names.
-ghost use Rattle.std.specs.Prelude.{◌≡◌, ◌∷◌, [], ◌++◌, IfOk, OnOk, map, replicate};
-ghost use Rattle.acl_perm.specs.Principal.{principal};
+ghost use Rattle.std.specs.Prelude.{◌++◌, ◌∷◌, ◌≡◌};
+ghost use Rattle.acl_normal.specs.Common.{[], IfOk, map, OnOk, principal, replicate, set_of};
 ghost use Rattle.acl_normal.specs.SmallSituations.{group_names, small_situation};
-ghost use Rattle.acl_normal.specs.internal.CodeSets.{set_of};
 
 use super::small_set::SmallSet;
 use acl_perm::Principal;
 use std::alloc::{AllocError, Global};
 
-/// The object's owner in the small situation of a set.
+/// Returns the object's owner in the small situation of a set.
 pub(crate) fn owner_in(alloc: Global, set: SmallSet<'_>, n: usize) -> Result<Vec<u8>, AllocError>
     ensures { IfOk result (λ v. v.items ≡ (small_situation n (set_of set.entry)).owner_name) }
 {
@@ -19,7 +18,7 @@ pub(crate) fn owner_in(alloc: Global, set: SmallSet<'_>, n: usize) -> Result<Vec
     }
 }
 
-/// The user in the small situation of a set.
+/// Returns the user in the small situation of a set.
 pub(crate) fn user_in(alloc: Global, set: SmallSet<'_>, n: usize) -> Result<Vec<u8>, AllocError>
     ensures { IfOk result (λ v. v.items ≡ (small_situation n (set_of set.entry)).user_name) }
 {
@@ -29,7 +28,7 @@ pub(crate) fn user_in(alloc: Global, set: SmallSet<'_>, n: usize) -> Result<Vec<
     }
 }
 
-/// The object's owning group in the small situation of a set.
+/// Returns the object's owning group in the small situation of a set.
 pub(crate) fn owning_group_in(
     alloc: Global,
     set: SmallSet<'_>,
@@ -46,7 +45,7 @@ pub(crate) fn owning_group_in(
     strange(alloc, b'g', n)
 }
 
-/// The groups of the user in the small situation of a set.
+/// Returns the groups of the user in the small situation of a set.
 pub(crate) fn groups_in(
     alloc: Global,
     set: SmallSet<'_>,

@@ -1,9 +1,7 @@
 //! Sets of at most two principals.
-ghost use Rattle.std.specs.Prelude.{◌≡◌, ◌∷◌, option_map};
-ghost use Rattle.acl_perm.specs.Principal.{everyone, principal};
-ghost use Rattle.acl_normal.specs.Keys.{principal_eq};
+ghost use Rattle.std.specs.Prelude.{◌∷◌, ◌≡◌};
+ghost use Rattle.acl_normal.specs.Common.{everyone, option_map, principal, principal_eq, set_of};
 ghost use Rattle.acl_normal.specs.SmallSituations.{first_user, is_among};
-ghost use Rattle.acl_normal.specs.internal.CodeSets.{set_of};
 
 use acl_perm::Principal;
 
@@ -16,7 +14,7 @@ pub(crate) enum SmallSet<'a> {
 }
 
 impl<'a> SmallSet<'a> {
-    /// Whether the principal is of the set, or everyone.
+    /// Returns whether the principal is of the set, or everyone.
     #[tactic(auto, using(crate::proofs::unique::Names::everyone_test))]
     pub(crate) fn matches(self, p: Principal<'_>) -> bool
         ensures { result ≡ is_among (principal p.entry) (everyone ∷ set_of self.entry) }
@@ -24,7 +22,7 @@ impl<'a> SmallSet<'a> {
         p.is_everyone() || self.has(p)
     }
 
-    /// Whether the principal is of the set.
+    /// Returns whether the principal is of the set.
     pub(crate) fn has(self, p: Principal<'_>) -> bool
         ensures { result ≡ is_among (principal p.entry) (set_of self.entry) }
     {
@@ -35,7 +33,7 @@ impl<'a> SmallSet<'a> {
         }
     }
 
-    /// The user name of the set, if it has one.
+    /// Returns the user name of the set, if it has one.
     pub(crate) fn user(self) -> Option<&'a [u8]>
         ensures { option_map (λ name. name.now) result ≡ first_user (set_of self.entry) }
     {

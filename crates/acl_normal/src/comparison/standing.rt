@@ -1,10 +1,8 @@
 //! Where two lists first speak of each principal, and what they say there.
-ghost use Rattle.std.specs.Prelude.{◌≡◌, ◌<◌, ◌≤◌, ℕ, IfOk, false, length, slice_index_or, true, vec_len};
+ghost use Rattle.std.specs.Prelude.{◌<◌, ◌≡◌, ◌≤◌};
+ghost use Rattle.acl_normal.specs.Common.{ace, aces_in, AreWhoms, false, IfOk, length, principals, slice_index_or, true, vec_len, ℕ};
 ghost use Rattle.acl_perm.specs.Kind.{is_allow};
-ghost use Rattle.acl_nfs4.specs.Ace.{ace};
-ghost use Rattle.acl_normal.specs.internal.Shown.{aces_in};
-ghost use Rattle.acl_normal.specs.internal.FirstPlaces.{AreFirstFrom, AreWhoms, IsWhomWithin, no_ace, put, same_whom, stops, stops_at};
-ghost use Rattle.acl_normal.specs.internal.SetSearch.{principals};
+ghost use Rattle.acl_normal.specs.internal.comparison.FirstPlaces.{AreFirstFrom, IsWhomWithin, no_ace, put, same_whom, stops, stops_at};
 
 use crate::class::Class;
 use acl_nfs4::AceRef;
@@ -12,8 +10,8 @@ use acl_perm::internal::Bit;
 use acl_perm::{Kind, Principal};
 use std::alloc::{AllocError, Global};
 
-/// The first ACE that speaks of a principal and has some right: its place in the list, and its kind. An ACE of everyone
-/// speaks of each principal.
+/// The first ACE that concerns a principal and has some right: its place in the list, and its kind. An ACE of everyone
+/// concerns each principal.
 #[derive(Clone, Copy)]
 pub(crate) struct First {
     pub place: usize,
@@ -21,7 +19,7 @@ pub(crate) struct First {
 }
 
 impl First {
-    /// Whether it allows.
+    /// Returns whether the ACE is an ALLOW.
     pub(crate) fn allows(self) -> bool
         ensures { result ≡ is_allow self.kind }
     {
@@ -29,7 +27,7 @@ impl First {
     }
 }
 
-/// Where a principal stands in two lists: what each of them says first, and the class of the principal.
+/// The first ACE in each of two lists that concerns a principal, and the class of the principal.
 #[derive(Clone, Copy)]
 pub(crate) struct Standing {
     pub here: First,
@@ -46,7 +44,7 @@ pub(crate) enum Whom {
 }
 
 impl Whom {
-    /// Whether both name the same.
+    /// Returns whether both name the same.
     pub(crate) fn is_same(self, other: Whom) -> bool
         ensures { result ≡ same_whom self other }
     {
@@ -59,8 +57,8 @@ impl Whom {
     }
 }
 
-/// What a list says first, on a right, of each of so many principals. All begin with what everyone is told, and the
-/// ACEs before that are put from the last to the first, so that the first of each principal stays.
+/// Returns the first ACE with a right that concerns each of so many principals. All begin with the first ACE of
+/// everyone. The ACEs before it are noted from the last to the first, so that the first of each principal remains.
 pub(crate) fn firsts(
     alloc: Global,
     whole: &[Principal<'_>],

@@ -1,21 +1,9 @@
 //! The order of a normal form: at each place the least key that has a free bit, with all its free bits.
-ghost use Rattle.std.specs.Prelude.{◌≡◌, ◌*◌, ◌<◌, ℕ, true, List, length, replicate, slice_index_or, IfNone, IfOk, IfSome, OnOk};
-ghost use Rattle.acl_perm.specs.Bits.{all_rights, has_bit};
-ghost use Rattle.acl_perm.specs.Principal.{is_user, principal};
-ghost use Rattle.acl_nfs4.specs.Ace.{Ace};
-ghost use Rattle.acl_eval.specs.Grant.{SameGrants};
+ghost use Rattle.std.specs.Prelude.{◌*◌, ◌<◌, ◌≡◌};
+ghost use Rattle.acl_normal.specs.Common.{Ace, all_rights, AreQueues, bit_count, count_left, emitted_aces, has_bit, IfNone, IfOk, IfSome, is_user, is_users, IsEmission, IsIrreducibleList, IsNormal, key_here, kind_here, left, length, List, nothing_left, OnOk, plain_key, principal, replicate, SameGrants, slice_index_or, StandInRows, true, ℕ};
 ghost use Rattle.acl_perm.specs.Order.{kind_rank};
-ghost use Rattle.acl_normal.specs.internal.Classes.{is_users};
-ghost use Rattle.acl_normal.specs.internal.Emissions.{IsEmission};
-ghost use Rattle.acl_normal.specs.internal.Emitted.{StandInRows, emitted_aces};
-ghost use Rattle.acl_normal.specs.Keys.{plain_key};
-ghost use Rattle.acl_normal.specs.Left.{left};
-ghost use Rattle.acl_normal.specs.Normal.{IsIrreducibleList, IsNormal};
-ghost use Rattle.acl_normal.specs.Places.{nothing_left};
-ghost use Rattle.acl_normal.specs.internal.Places.{bit_count, key_here, kind_here};
-ghost use Rattle.acl_normal.specs.internal.Queues.{AreQueues, BeginsWaiting};
-ghost use Rattle.acl_normal.specs.internal.Ready.{AddsMark, Enters, FitsKeys, Frees, HoldsFree, TakesBits, marks};
-ghost use Rattle.acl_normal.specs.internal.Counts.{count_left};
+ghost use Rattle.acl_normal.specs.internal.emit.Queues.{BeginsWaiting};
+ghost use Rattle.acl_normal.specs.internal.emit.Ready.{AddsMark, Enters, FitsKeys, Frees, HoldsFree, TakesBits, marks};
 
 use crate::bits::next_right;
 use crate::class::Class;
@@ -34,7 +22,7 @@ pub(crate) struct Emitted<'a> {
     pub(crate) row: usize,
 }
 
-/// The normal form of an irreducible list: it grants the same, and no other normal list does.
+/// Returns the normal form of an irreducible list: it grants the same, and no other normal list does.
 pub(crate) fn normalize_left<'a>(
     alloc: Global,
     rows: &mut Remaining<'a>,
@@ -49,8 +37,6 @@ pub(crate) fn normalize_left<'a>(
     ensures weight { IfOk result (λ v. count_left bit_count (emitted_aces v.items)
         ≡ count_left bit_count rows.old) }
 {
-    // The look at a field gives the proof the invariant of `rows`, here and in the bodies below. It does nothing.
-    let _ = &rows.masks;
     let out = drain(alloc, rows)?;
     Ok(out)
 }
@@ -62,8 +48,9 @@ pub(crate) fn drain<'a>(
 ) -> Result<Vec<Emitted<'a>>, AllocError>
     ensures emission { IfOk result (λ v. IsEmission rows.old (emitted_aces v.items)) }
     ensures rows { IfOk result (λ v. StandInRows rows.old v.items) }
+    ensures weight { IfOk result (λ v. count_left bit_count (emitted_aces v.items)
+        ≡ count_left bit_count rows.old) }
 {
-    let _ = &rows.masks;
     let mut queues = Queues::of(alloc, rows)?;
     let mut ready = Ready::new(alloc, rows.len())?;
     fill(rows, &queues, &mut ready)?;
@@ -85,7 +72,6 @@ fn fill(rows: &Remaining<'_>, queues: &Queues, ready: &mut Ready) -> Result<(), 
     ensures keys { OnOk result (FitsKeys (nothing_left rows.now) ready.new) }
     ensures marks { OnOk result (HoldsFree (marks (nothing_left rows.now) ready.new) rows.now) }
 {
-    let _ = &rows.masks;
     for bit in 0..Bit::COUNT {
         let right = Bit { bit };
         enter(rows, queues, Kind::Deny, Class::Others, right, ready)?;
@@ -104,7 +90,6 @@ fn pop<'a>(rows: &Remaining<'a>, ready: &mut Ready) -> Option<Emitted<'a>>
         TakesBits rows.now ready.old ready.new e.row (plain_key e.key) e.mask.bits) }
     ensures none { IfNone result ((n : ℕ) → slice_index_or ready.old n 0 ≡ 0) }
 {
-    let _ = &rows.masks;
     let next = ready.pop()?;
     let key = rows.key_of(next.number);
     // Only rights are ever free, so that the bits are a mask.
@@ -172,7 +157,6 @@ fn enter(
         (marks (nothing_left rows.now) ready.old)
         (marks (nothing_left rows.now) ready.new)) }
 {
-    let _ = &rows.masks;
     // Mostly none waits, which is known without a look at what is before it.
     if queues.head(kind, class, right) == 0 {
         return Ok(());
@@ -196,7 +180,6 @@ fn walk(
         (marks (nothing_left rows.now) ready.old)
         (marks (nothing_left rows.now) ready.new)) }
 {
-    let _ = &rows.masks;
     let last = queues.last_clear(rows, kind, class, right);
     let mut at = queues.head(kind, class, right);
     while at != 0 {
@@ -228,12 +211,11 @@ fn add(
         (marks (nothing_left rows.now) ready.old)
         (marks (nothing_left rows.now) ready.new)) }
 {
-    let _ = &rows.masks;
     let number = 2 * rows.row_at(place) + rank(kind);
     ready.add(number, right)
 }
 
-/// The number of a kind, in the order of kinds.
+/// Returns the number of a kind, in the order of kinds.
 pub(crate) fn rank(kind: Kind) -> usize
     ensures { result ≡ kind_rank kind }
 {

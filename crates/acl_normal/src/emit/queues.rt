@@ -1,15 +1,12 @@
 //! Queues of the places that wait, by kind, class and right.
-ghost use Rattle.std.specs.Prelude.{◌≡◌, ◌≢◌, ℕ, ◌+◌, ◌<◌, ◌≤◌, ◌^◌, List, IfOk, OnOk, false, true, length, vec_len};
-ghost use Rattle.acl_nfs4.specs.Ace.{Ace};
-ghost use Rattle.acl_perm.specs.Bits.{has_bit};
-ghost use Rattle.acl_normal.specs.internal.Places.{is_blocked, mask_here, slot_count, slot_of, waits_before};
-ghost use Rattle.acl_normal.specs.internal.Classes.{is_users};
-ghost use Rattle.acl_normal.specs.internal.Queues.{AreNoted, AreQueues, IsQueueAt, MovesOn, PutsPlace, head_in, place_in};
+ghost use Rattle.std.specs.Prelude.{◌+◌, ◌<◌, ◌^◌, ◌≡◌, ◌≢◌, ◌≤◌};
+ghost use Rattle.acl_normal.specs.Common.{Ace, AreQueues, false, has_bit, IfOk, is_blocked, is_users, length, List, mask_here, OnOk, slot_count, slot_of, true, vec_len, waits_before, ℕ};
+ghost use Rattle.acl_normal.specs.internal.emit.Queues.{AreNoted, IsQueueAt, MovesOn, PutsPlace, head_in, place_in};
 
 use crate::bits::next_right;
 use crate::class::Class;
 use crate::rows::remaining::Remaining;
-use crate::rows::waiting::slot;
+use crate::rows::waiting::{SLOTS, slot};
 use acl_perm::Kind;
 use acl_perm::internal::Bit;
 use std::alloc::{AllocError, Global};
@@ -32,12 +29,10 @@ pub(crate) struct Queues {
 }
 
 impl Queues {
-    /// The queues of all that waits.
+    /// Makes the queues of all that waits.
     pub(crate) fn of(alloc: Global, rows: &Remaining<'_>) -> Result<Queues, AllocError>
         ensures { IfOk result (λ queues. AreQueues rows.now queues) }
     {
-        // The look at a field gives the proof the invariant of `rows`, here and below. It does nothing.
-        let _ = &rows.masks;
         let mut queues = Queues::new(alloc, rows.len())?;
         for done in 0..rows.len() {
             queues.note(rows, rows.len() - 1 - done)?;
@@ -45,7 +40,7 @@ impl Queues {
         Ok(queues)
     }
 
-    /// Empty queues, with room for a number of places.
+    /// Returns empty queues, with room for a number of places.
     fn new(alloc: Global, places: usize) -> Result<Queues, AllocError>
         requires { places < 2 ^ 63 }
         ensures { IfOk result (λ queues. (list : List Ace)
@@ -53,7 +48,7 @@ impl Queues {
     {
         let mut links = Vec::with_capacity(alloc, places + 1)?;
         links.push(Link { place: 0, next: 0 })?;
-        let heads = vec![in alloc; 0; 84]?;
+        let heads = vec![in alloc; 0; SLOTS]?;
         Ok(Queues { links, heads })
     }
 
@@ -63,7 +58,6 @@ impl Queues {
         requires noted { AreNoted rows.now (place + 1) 0 self.old }
         ensures { OnOk result (AreNoted rows.now place 0 self.new) }
     {
-        let _ = &rows.masks;
         let kind = rows.kind_at(place);
         let class = rows.class_at(place);
         let mask = rows.mask_at(place);
@@ -87,34 +81,6 @@ impl Queues {
         Ok(())
     }
 
-    /// The number of the first link of the queue of a kind, a class and a right.
-    #[inline(always)]
-    pub(crate) fn head(&self, kind: Kind, class: Class, right: Bit) -> usize
-        requires { vec_len self.now.heads ≡ slot_count }
-        ensures { result ≡ head_in self.now (slot_of kind (is_users class) right.bit) }
-    {
-        self.heads[slot(kind, class, right)]
-    }
-
-    /// The number of the first link of a queue whose place still waits, or 0 where none does.
-    fn first_link(&self, rows: &Remaining<'_>, kind: Kind, class: Class, right: Bit) -> usize
-        requires { AreQueues rows.now self.now }
-        ensures queue { IsQueueAt kind (is_users class) right.bit rows.now
-            self.now.links.items result }
-        ensures waits { result ≢ 0
-            → has_bit (mask_here rows.now (place_in self.now result)) right.bit ≡ true }
-    {
-        let mut at = self.head(kind, class, right);
-        while at != 0 {
-            let link = self.links[at];
-            if rows.has(link.place, right) {
-                return at;
-            }
-            at = link.next;
-        }
-        0
-    }
-
     /// Lets the queue of a kind, a class and a right begin where a place still waits, or at its end.
     pub(crate) fn move_on(&mut self, rows: &Remaining<'_>, kind: Kind, class: Class, right: Bit)
         requires { AreQueues rows.now self.old }
@@ -125,22 +91,8 @@ impl Queues {
         self.heads[slot(kind, class, right)] = first;
     }
 
-    /// The first place that waits in a kind and a class with a right, or the greatest number where none does.
-    fn first_waiting(&self, rows: &Remaining<'_>, kind: Kind, class: Class, right: Bit) -> usize
-        requires { AreQueues rows.now self.now }
-        ensures before { (place : ℕ) → place ≤ result
-            → waits_before kind (is_users class) right.bit rows.now place ≡ false }
-        ensures behind { (place : ℕ) → result < place → place < 2 ^ 64
-            → waits_before kind (is_users class) right.bit rows.now place ≡ true }
-    {
-        let at = self.first_link(rows, kind, class, right);
-        if at == 0 {
-            return usize::MAX;
-        }
-        self.links[at].place
-    }
-
-    /// The last place where an ACE of a kind and a class with a right has nothing before it that conflicts with it.
+    /// Returns the last place where an ACE of a kind and a class with a right has nothing before it that conflicts with
+    /// it.
     pub(crate) fn last_clear(
         &self,
         rows: &Remaining<'_>,
@@ -162,5 +114,48 @@ impl Queues {
                 if users < others { users } else { others }
             }
         }
+    }
+
+    /// Returns the first place that waits in a kind and a class with a right, or the greatest number where none does.
+    fn first_waiting(&self, rows: &Remaining<'_>, kind: Kind, class: Class, right: Bit) -> usize
+        requires { AreQueues rows.now self.now }
+        ensures before { (place : ℕ) → place ≤ result
+            → waits_before kind (is_users class) right.bit rows.now place ≡ false }
+        ensures behind { (place : ℕ) → result < place → place < 2 ^ 64
+            → waits_before kind (is_users class) right.bit rows.now place ≡ true }
+    {
+        let at = self.first_link(rows, kind, class, right);
+        if at == 0 {
+            return usize::MAX;
+        }
+        self.links[at].place
+    }
+
+    /// Returns the number of the first link of a queue whose place still waits, or 0 where none does.
+    fn first_link(&self, rows: &Remaining<'_>, kind: Kind, class: Class, right: Bit) -> usize
+        requires { AreQueues rows.now self.now }
+        ensures queue { IsQueueAt kind (is_users class) right.bit rows.now
+            self.now.links.items result }
+        ensures waits { result ≢ 0
+            → has_bit (mask_here rows.now (place_in self.now result)) right.bit ≡ true }
+    {
+        let mut at = self.head(kind, class, right);
+        while at != 0 {
+            let link = self.links[at];
+            if rows.has(link.place, right) {
+                return at;
+            }
+            at = link.next;
+        }
+        0
+    }
+
+    /// Returns the number of the first link of the queue of a kind, a class and a right.
+    #[inline(always)]
+    pub(crate) fn head(&self, kind: Kind, class: Class, right: Bit) -> usize
+        requires { vec_len self.now.heads ≡ slot_count }
+        ensures { result ≡ head_in self.now (slot_of kind (is_users class) right.bit) }
+    {
+        self.heads[slot(kind, class, right)]
     }
 }

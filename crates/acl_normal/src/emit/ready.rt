@@ -1,6 +1,7 @@
 //! The keys that have a free bit, by number.
-ghost use Rattle.std.specs.Prelude.{◌≡◌, ℕ, ◌*◌, ◌^◌, ◌<◌, bit_or, length, slice_index_or, slice_set, replicate, IfOk, IfSome, IfNone, OnOk};
-ghost use Rattle.acl_normal.specs.internal.Ready.{IsLeastReady};
+ghost use Rattle.std.specs.Prelude.{◌*◌, ◌<◌, ◌^◌, ◌≡◌, slice_set};
+ghost use Rattle.acl_normal.specs.Common.{bit_or, IfNone, IfOk, IfSome, length, OnOk, replicate, slice_index_or, ℕ};
+ghost use Rattle.acl_normal.specs.internal.emit.Ready.{IsLeastReady};
 
 use crate::bits::with;
 use acl_perm::internal::Bit;
@@ -28,7 +29,7 @@ impl Model for Ready {
 
     ghost Value = { List ℕ };
 
-    ghost use Rattle.acl_normal.specs.internal.Heaped.{heaped_bits, IsHeaped};
+    ghost use Rattle.acl_normal.specs.internal.emit.Heaped.{heaped_bits, IsHeaped};
 
     ghost view = { heaped_bits };
 
@@ -36,7 +37,7 @@ impl Model for Ready {
 }
 
 impl Ready {
-    /// Room for the keys of a number of rows, none of which has a free bit.
+    /// Makes room for the keys of a number of rows, none of which has a free bit.
     pub(crate) fn new(alloc: Global, rows: usize) -> Result<Ready, AllocError>
         requires { rows < 2 ^ 63 }
         ensures { IfOk result (λ r. r ≡ replicate (2 * rows) 0) }
@@ -61,7 +62,7 @@ impl Ready {
         Ok(())
     }
 
-    /// The least number that has free bits, with them. It has none afterwards.
+    /// Takes the least number that has free bits, with them. It has none afterwards.
     pub(crate) fn pop(&mut self) -> Option<Numbered>
         ensures least { IfSome result (λ key. IsLeastReady self.old key.number key.bits) }
         ensures taken { IfSome result (λ key. self.new ≡ slice_set self.old key.number 0) }

@@ -1,12 +1,7 @@
 //! Lists whose keys rise: such a list is its own normal form, but for flags that do not say whom an ACE names.
-ghost use Rattle.std.specs.Prelude.{◌≡◌, ◌<◌, ◌^◌, length, IfOk, IsTrue};
-ghost use Rattle.acl_nfs4.specs.Ace.{ace};
-ghost use Rattle.acl_nfs4.specs.Spelling.{IsAccepted};
-ghost use Rattle.acl_perm.specs.Profile.{full};
-ghost use Rattle.acl_normal.specs.Left.{left};
-ghost use Rattle.acl_normal.specs.internal.Rising.{IsRising, all_cleared, cleared};
-ghost use Rattle.acl_normal.specs.internal.Rows.{AreRowNumbers};
-ghost use Rattle.acl_normal.specs.internal.Shown.{mask_numbers, with_masks};
+ghost use Rattle.std.specs.Prelude.{◌<◌, ◌^◌, ◌≡◌};
+ghost use Rattle.acl_normal.specs.Common.{ace, all_cleared, AreRowNumbers, full, IfOk, IsAccepted, IsRising, IsTrue, left, length, mask_numbers, with_masks};
+ghost use Rattle.acl_normal.specs.internal.emit.Rising.{cleared};
 
 use crate::emit::emission::rank;
 use crate::normal_form::flags_of;
@@ -14,7 +9,8 @@ use acl_nfs4::{AceRef, Acl};
 use acl_perm::Mask;
 use std::alloc::{AllocError, Global};
 
-/// Whether the keys of the ACEs of which something is left rise strictly. `rows` has the row of each one's principal.
+/// Returns whether the keys of the ACEs of which something is left rise strictly. `rows` has the row of each one's
+/// principal.
 pub(crate) fn rises(aces: &[AceRef<'_>], masks: &[Mask], rows: &[usize]) -> bool
     requires few { length aces.now < 2 ^ 32 }
     requires masks { length masks.now ≡ length aces.now }
@@ -35,7 +31,7 @@ pub(crate) fn rises(aces: &[AceRef<'_>], masks: &[Mask], rows: &[usize]) -> bool
     true
 }
 
-/// The list of the ACEs of which something is left, with the flags alone that say whom each names.
+/// Returns the list of the ACEs of which something is left, with the flags alone that say whom each names.
 pub(crate) fn cleared(alloc: Global, aces: &[AceRef<'_>], masks: &[Mask]) -> Result<Acl, AllocError>
     requires masks { length masks.now ≡ length aces.now }
     requires accepted { IsAccepted full

@@ -1,21 +1,14 @@
 //! Puts ACEs into the order of the normal form: each time the least ACE that no other ACE has to precede.
 
-ghost use Rattle.std.specs.Prelude.{◌≡◌, ◌≤◌, ◌&&◌, not, ℕ, List, option_map, ◌∷◌, ◌++◌, [], true, false, IfOk, IfNone, IfSome, length};
-ghost use Rattle.std.specs.List.{AllByRecursion};
-ghost use Rattle.acl_perm.specs.Bits.{has_bit};
+ghost use Rattle.std.specs.Prelude.{◌&&◌, ◌++◌, ◌∷◌, ◌≡◌, ◌≤◌};
+ghost use Rattle.acl_normal.specs.Common.{[], Ace, ace, aces_in, AllByRecursion, column, count_left, false, full, has_bit, IfNone, IfOk, IfSome, is_free, IsEmission, KeepsProfiles, kind_eq, length, List, not, option_map, principal_eq, principal_of, true, ℕ};
 ghost use Rattle.std.specs.Ordering.{is_le};
-ghost use Rattle.acl_perm.specs.Profile.{full};
-ghost use Rattle.acl_nfs4.specs.Ace.{Ace, ace};
 ghost use Rattle.acl_nfs4.specs.Limits.{most_weight};
 ghost use Rattle.acl_nfs4.specs.Spelling.{IsAce};
-ghost use Rattle.acl_nfs4.specs.Who.{principal_of};
-ghost use Rattle.acl_eval.specs.Column.{column};
-ghost use Rattle.acl_normal.specs.internal.Shown.{aces_in};
-ghost use Rattle.acl_normal.specs.internal.Counts.{count_left};
-ghost use Rattle.acl_normal.specs.internal.Emissions.{HasOnceColumns, IsEmission};
-ghost use Rattle.acl_normal.specs.Keys.{compare_keys, ace_key, kind_eq, principal_eq};
-ghost use Rattle.acl_normal.specs.Normal.{is_free};
-ghost use Rattle.acl_normal.specs.internal.Passes.{Best, conflicts_before, IsCandidate, IsNowhereFree, IsWithinAs, KeepsProfiles, lesser};
+ghost use Rattle.acl_normal.specs.internal.Counts.{mask_width};
+ghost use Rattle.acl_normal.specs.internal.emit.Emissions.{HasOnceColumns};
+ghost use Rattle.acl_normal.specs.Keys.{compare_keys, ace_key};
+ghost use Rattle.acl_normal.specs.internal.Passes.{Best, conflicts_before, IsCandidate, IsNowhereFree, IsWithinAs, lesser};
 ghost use Rattle.acl_normal.specs.internal.Plain.{without_principal};
 
 use super::reduction::is_same;
@@ -29,7 +22,7 @@ use std::alloc::{AllocError, Global};
 pub(super) fn emit(alloc: Global, aces: Vec<AceRef<'_>>) -> Result<Acl, AllocError>
     requires once { HasOnceColumns (aces_in aces.items) }
     requires each { AllByRecursion (IsAce full) (aces_in aces.items) }
-    requires small { count_left 32 (aces_in aces.items) ≤ most_weight }
+    requires small { count_left mask_width (aces_in aces.items) ≤ most_weight }
     ensures emission { IfOk result (λ list. IsEmission (aces_in aces.entry.items) list) }
     ensures shorter { IfOk result (λ list. (bit : ℕ)
         → length (column list bit) ≤ length (column (aces_in aces.entry.items) bit)) }

@@ -1,17 +1,10 @@
 //! Takes out the bits that play no part, by sets of bits.
 
-ghost use Rattle.std.specs.Prelude.{◌≡◌, ℕ, ◌∷◌, [], ◌&&◌, not, IfOk};
-ghost use Rattle.acl_perm.specs.Bits.{has_bit};
-ghost use Rattle.acl_perm.specs.Principal.{principal};
+ghost use Rattle.std.specs.Prelude.{◌&&◌, ◌∷◌, ◌≡◌};
+ghost use Rattle.acl_normal.specs.Common.{[], ace, aces_in, column, default, default_at, has_bit, IfOk, KeepsProfiles, kind_eq, needed_keys, not, principal, principal_eq, principal_of, unshadowed, ℕ};
 ghost use Rattle.acl_perm.specs.declared.kind.Kind.TheVariants.{Allow};
-ghost use Rattle.acl_nfs4.specs.Ace.{ace};
-ghost use Rattle.acl_nfs4.specs.Who.{principal_of};
-ghost use Rattle.acl_eval.specs.Column.{column};
-ghost use Rattle.acl_normal.specs.Keys.{kind_eq, principal_eq};
-ghost use Rattle.acl_normal.specs.internal.Needed.{default_at};
-ghost use Rattle.acl_normal.specs.internal.Shown.{aces_in};
-ghost use Rattle.acl_normal.specs.internal.Passes.{KeepsProfiles, is_shadowed};
-ghost use Rattle.acl_normal.specs.internal.Plain.{default, has_opposite, is_needed, needed_keys, unshadowed};
+ghost use Rattle.acl_normal.specs.internal.Passes.{is_shadowed};
+ghost use Rattle.acl_normal.specs.internal.Plain.{has_opposite, is_needed};
 
 use crate::bits::active;
 use acl_nfs4::{AceRef, Kind, Mask, Principal};

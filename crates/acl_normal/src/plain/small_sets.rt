@@ -1,13 +1,10 @@
 //! The comparison that tries all small sets: it is slow, and tests compare the fast one with it.
-ghost use Rattle.std.specs.Prelude.{◌≡◌, ◌∷◌, [], IfOk, true};
-ghost use Rattle.std.specs.Bool.{OnFalse, OnTrue};
+ghost use Rattle.std.specs.Prelude.{◌∷◌, ◌≡◌};
+ghost use Rattle.acl_normal.specs.Common.{[], aces_in, GrantAlikeTo, IfOk, OnFalse, OnTrue, principal, principals, set_or_none, true};
 ghost use Rattle.acl_perm.specs.Overlap.{may_overlap};
-ghost use Rattle.acl_perm.specs.Principal.{principal};
 ghost use Rattle.acl_normal.specs.Difference.{IsComparison};
 ghost use Rattle.acl_normal.specs.SmallSets.{principal_pairs, partners, singles, small_sets};
-ghost use Rattle.acl_normal.specs.internal.Shown.{aces_in};
-ghost use Rattle.acl_normal.specs.internal.CodeSets.{set_or_none};
-ghost use Rattle.acl_normal.specs.internal.SetSearch.{FindsSet, GrantAlikeTo, principals};
+ghost use Rattle.acl_normal.specs.internal.comparison.SetSearch.{FindsSet};
 
 use crate::comparison::Difference;
 use crate::comparison::compared::Compared;
@@ -88,8 +85,8 @@ fn first_pair<'a>(
     other: &[AceRef<'_>],
     whole: &[Principal<'a>],
 ) -> Option<SmallSet<'a>>
-    ensures { FindsSet (aces_in list.now) (aces_in other.now) (principal_pairs (principals whole.now))
-        (set_or_none result) }
+    ensures { FindsSet (aces_in list.now) (aces_in other.now)
+        (principal_pairs (principals whole.now)) (set_or_none result) }
 {
     for i in 0..whole.len() {
         let (_, rest) = whole.split_at(i + 1);

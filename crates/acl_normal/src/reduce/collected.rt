@@ -1,13 +1,11 @@
 //! The ACEs of a list, to go over them by their places.
-ghost use Rattle.acl_normal.specs.internal.Shown.{aces_in};
-ghost use Rattle.std.specs.Prelude.{◌≡◌, IfOk};
-ghost use Rattle.acl_perm.specs.Profile.{full};
-ghost use Rattle.acl_nfs4.specs.Spelling.{IsAccepted};
+ghost use Rattle.std.specs.Prelude.{◌≡◌};
+ghost use Rattle.acl_normal.specs.Common.{aces_in, full, IfOk, IsAccepted};
 
 use acl_nfs4::{AceRef, AclView};
 use std::alloc::{AllocError, Global};
 
-/// The ACEs of the list.
+/// Returns the ACEs of the list.
 pub(crate) fn collect<'a>(
     alloc: Global,
     source: &AclView<'a>,

@@ -1,19 +1,13 @@
 //! The first ACEs of a list: those bits that no ACE of the same principal or of `EVERYONE@` precedes.
-ghost use Rattle.std.specs.Prelude.{◌≡◌, ℕ, [], length, IfOk, vec_len};
-ghost use Rattle.acl_perm.specs.Profile.{full};
-ghost use Rattle.acl_nfs4.specs.Spelling.{IsAccepted};
-ghost use Rattle.acl_eval.specs.Column.{column};
-ghost use Rattle.acl_normal.specs.internal.Plain.{unshadowed};
-ghost use Rattle.acl_normal.specs.internal.Reduced.{IsThinned};
-ghost use Rattle.acl_normal.specs.internal.Rows.{AreRowNumbers};
-ghost use Rattle.acl_normal.specs.internal.Shown.{aces_in, mask_numbers, with_masks};
+ghost use Rattle.std.specs.Prelude.{◌≡◌};
+ghost use Rattle.acl_normal.specs.Common.{[], aces_in, AreRowNumbers, column, full, IfOk, IsAccepted, IsThinned, length, mask_numbers, unshadowed, vec_len, with_masks, ℕ};
 
 use crate::bits::{active, of_everyone};
 use acl_nfs4::AceRef;
 use acl_perm::Mask;
 use std::alloc::{AllocError, Global};
 
-/// The masks of the first ACEs, by place: the bits that none of the same principal or of everyone has before.
+/// Returns the masks of the first ACEs, by place: the bits that none of the same principal or of everyone has before.
 /// `rows` are the rows of the principals, by place.
 pub(crate) fn first_masks(
     alloc: Global,

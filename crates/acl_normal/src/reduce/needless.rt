@@ -1,21 +1,10 @@
 //! The needless bits: those that only repeat what everyone gets, and that nothing later conflicts with.
-ghost use Rattle.std.specs.Prelude.{◌≡◌, ℕ, ◌<◌, Bool, true, false, not, ◌||◌, ◌&&◌, length};
-ghost use Rattle.acl_perm.specs.Bits.{has_bit};
+ghost use Rattle.std.specs.Prelude.{◌&&◌, ◌<◌, ◌||◌, ◌≡◌, Bool};
+ghost use Rattle.acl_normal.specs.Common.{ace, bit_count, column, default, default_at, everyone, false, has_bit, is_users, IsThinned, IsTidy, kind_eq, length, mask_numbers, needed_keys, not, plain_key, principal_eq, principal_of, true, with_masks, ℕ};
 ghost use Rattle.acl_perm.specs.declared.kind.Kind.{Kind as Sort};
-ghost use Rattle.acl_eval.specs.Column.{column};
-ghost use Rattle.acl_normal.specs.internal.Places.{bit_count};
-ghost use Rattle.acl_normal.specs.internal.Tidy.{IsTidy};
-ghost use Rattle.acl_normal.specs.Keys.{kind_eq, plain_key, principal_eq};
-ghost use Rattle.acl_normal.specs.internal.Classes.{is_users};
-ghost use Rattle.acl_normal.specs.internal.Needed.{class_mask, default_at, is_kept, is_of_kind_and_class, later_mask, opposes};
+ghost use Rattle.acl_normal.specs.internal.Needed.{class_mask, is_kept, is_of_kind_and_class, later_mask, opposes};
 ghost use Rattle.acl_normal.specs.Places.{same_class};
-ghost use Rattle.acl_perm.specs.Principal.{everyone};
 ghost use Rattle.acl_perm.specs.declared.kind.Kind.TheVariants.{Allow};
-ghost use Rattle.acl_nfs4.specs.Ace.{ace};
-ghost use Rattle.acl_nfs4.specs.Who.{principal_of};
-ghost use Rattle.acl_normal.specs.internal.Plain.{default, needed_keys};
-ghost use Rattle.acl_normal.specs.internal.Reduced.{IsThinned};
-ghost use Rattle.acl_normal.specs.internal.Shown.{mask_numbers, with_masks};
 
 use crate::bits::of_everyone;
 use crate::class::Class;
@@ -36,7 +25,7 @@ impl ByClass {
         others: Mask::NONE,
     };
 
-    /// With more bits of one class.
+    /// Returns these bits with more bits of one class.
     fn with(self, class: Class, mask: Mask) -> ByClass
         ensures { (users : Bool) (b : ℕ) → has_bit (class_mask result users) b
             ≡ (has_bit (class_mask self users) b
@@ -54,7 +43,7 @@ impl ByClass {
         }
     }
 
-    /// The bits of those that may overlap with a principal of a class: with a user, others alone.
+    /// Returns the bits of those that may overlap with a principal of a class: with a user, others alone.
     fn beside(self, class: Class) -> Mask
         ensures { (b : ℕ) → has_bit result.bits b
             ≡ (has_bit (class_mask self false) b
@@ -81,7 +70,8 @@ pub(crate) fn drop_needless(aces: &[AceRef<'_>], masks: &mut [Mask])
     ensures places { length masks.new ≡ length aces.now }
     ensures thinned { IsThinned (with_masks aces.now (mask_numbers masks.old))
         (with_masks aces.now (mask_numbers masks.new)) }
-    ensures columns { (b : ℕ) → b < bit_count → column (with_masks aces.now (mask_numbers masks.new)) b
+    ensures columns { (b : ℕ) → b < bit_count
+        → column (with_masks aces.now (mask_numbers masks.new)) b
         ≡ needed_keys (default (column (with_masks aces.now (mask_numbers masks.old)) b))
         (column (with_masks aces.now (mask_numbers masks.old)) b) }
 {
@@ -98,7 +88,7 @@ pub(crate) fn drop_needless(aces: &[AceRef<'_>], masks: &mut [Mask])
     }
 }
 
-/// The bits that everyone is allowed by the ACEs, with these masks.
+/// Returns the bits that everyone is allowed by the ACEs, with these masks.
 fn allowed_to_everyone(aces: &[AceRef<'_>], masks: &[Mask]) -> Mask
     requires places { length masks.now ≡ length aces.now }
     requires tidy { IsTidy (with_masks aces.now (mask_numbers masks.now)) }
@@ -112,7 +102,7 @@ fn allowed_to_everyone(aces: &[AceRef<'_>], masks: &[Mask]) -> Mask
     allowed
 }
 
-/// The bits of the mask, where its ACE allows everyone.
+/// Returns the bits of the mask, where its ACE allows everyone.
 fn allowed_by(item: AceRef<'_>, mask: Mask) -> Mask
     ensures { (b : ℕ) → has_bit result.bits b ≡ (has_bit mask.bits b
         && (principal_eq (principal_of (ace item.entry)) everyone
@@ -124,7 +114,7 @@ fn allowed_by(item: AceRef<'_>, mask: Mask) -> Mask
     }
 }
 
-/// The bits that ACEs behind the last have: none.
+/// Returns the bits that ACEs behind the last have: none.
 fn no_later() -> Later
     ensures { (k : Sort) (users : Bool) (b : ℕ) → has_bit (later_mask result k users) b ≡ false }
 {
@@ -134,7 +124,7 @@ fn no_later() -> Later
     }
 }
 
-/// The bits of a mask that its ACE doesn't need.
+/// Returns the bits of a mask that its ACE doesn't need.
 #[tactic(auto, using(crate::proofs::unique::Names::everyone_test))]
 fn needless(at: Key<'_>, mask: Mask, allowed: Mask, opposite: Mask) -> Mask
     ensures { (b : ℕ) → has_bit result.bits b ≡ (has_bit mask.bits b && not
@@ -153,7 +143,7 @@ fn needless(at: Key<'_>, mask: Mask, allowed: Mask, opposite: Mask) -> Mask
     }
 }
 
-/// The bits that later ACEs have that may conflict with a key.
+/// Returns the bits that later ACEs have that may conflict with a key.
 fn opposite(later: Later, at: Key<'_>) -> Mask
     ensures { (b : ℕ) → has_bit result.bits b ≡ opposes later (plain_key at.entry) b }
 {
@@ -164,7 +154,7 @@ fn opposite(later: Later, at: Key<'_>) -> Mask
     }
 }
 
-/// With the bits of one more ACE.
+/// Returns the later bits with those of one more ACE.
 fn noted(later: Later, at: Key<'_>, mask: Mask) -> Later
     ensures { (k : Sort) (users : Bool) (b : ℕ) → has_bit (later_mask result k users) b
         ≡ (has_bit (later_mask later k users) b

@@ -3,7 +3,7 @@ ghost use Rattle.std.specs.Prelude.{◌≡◌, drop, get_or, length, option_map,
 ghost use Rattle.acl_perm.specs.Order.{principal_cmp};
 ghost use Rattle.acl_perm.specs.Principal.{principal};
 ghost use Rattle.acl_nfs4.specs.internal.Progress.{IsBytes};
-ghost use Rattle.acl_normal.specs.internal.Heads.{AllBegin, BeginsWith, HasHead, IsHeadOf, count_to, given_name, head_from, is_whole};
+ghost use Rattle.acl_normal.specs.internal.rows.Heads.{AllBegin, BeginsWith, HasHead, IsHeadOf, count_to, given_name, head_from, is_whole};
 ghost use Rattle.acl_normal.specs.internal.Shown.{aces_in};
 
 use crate::whom::whom;
@@ -29,7 +29,7 @@ impl<'a> HeadedPrincipal<'a> {
         }
     }
 
-    /// How the principals stand to each other.
+    /// Returns how the principals stand to each other.
     pub(crate) fn compared(&self, other: &HeadedPrincipal<'_>) -> Ordering
         ensures { result
             ≡ principal_cmp (principal self.now.principal) (principal other.now.principal) }
@@ -44,15 +44,15 @@ impl<'a> HeadedPrincipal<'a> {
     }
 }
 
-/// The head of a principal: the rank in the highest byte, below it six bytes of the name, after the first `common`
-/// bytes, and in the lowest byte how many bytes the name has there. Seven stands for more than six.
+/// Returns the head of a principal: the rank in the highest byte, below it six bytes of the name, after the first
+/// `common` bytes, and in the lowest byte how many bytes the name has there. Seven stands for more than six.
 pub(crate) fn head(p: Principal<'_>, common: usize) -> u64
     ensures { IsHeadOf common result (principal p.entry) }
 {
     packed(p.rank(), behind(p.name(), common))
 }
 
-/// Whether a head has the whole name.
+/// Returns whether a head has the whole name.
 pub(crate) fn is_whole(head: u64) -> bool
     ensures { result ≡ is_whole head }
 {
@@ -104,7 +104,7 @@ fn byte(name: &[u8], place: usize) -> u8
     name.get(place).copied().unwrap_or(0)
 }
 
-/// The bytes with which the names of all users and groups begin, where these are enough to pass over.
+/// Returns the bytes with which the names of all users and groups begin, where these are enough to pass over.
 pub(crate) fn common_start<'a>(aces: &[AceRef<'a>]) -> &'a [u8]
     ensures { AllBegin result.now (aces_in aces.now) }
 {

@@ -1,14 +1,12 @@
 //! Rows of principals by number: in the order of the principals.
-ghost use Rattle.std.specs.Prelude.{◌≡◌, ◌&&◌, ◌==◌, false, map, IfNone, IfOk, IfSome};
+ghost use Rattle.std.specs.Prelude.{◌&&◌, ◌≡◌, ◌==◌};
+ghost use Rattle.acl_normal.specs.Common.{aces_in, AreRowNumbers, false, IfNone, IfOk, IfSome, is_principal_of, IsRowOf, map, nat_cmp, principal, principal_here};
 ghost use Rattle.std.specs.List.{range_with_len};
 ghost use Rattle.std.specs.Cmp.Lexicographic.{slice_cmp};
-ghost use Rattle.std.specs.Ordering.{nat_cmp, ordering_then};
+ghost use Rattle.std.specs.Ordering.{ordering_then};
 ghost use Rattle.std.specs.Str.{bytes_eq};
-ghost use Rattle.acl_perm.specs.Principal.{principal};
-ghost use Rattle.acl_normal.specs.internal.Places.{principal_here};
-ghost use Rattle.acl_normal.specs.internal.RowNumbers.{AreHeaded, AreSorted, DoNotFall, tail_here, who_here};
-ghost use Rattle.acl_normal.specs.internal.Rows.{AreRowNumbers, IsByPrincipal, IsRowOf, is_principal_of};
-ghost use Rattle.acl_normal.specs.internal.Shown.{aces_in};
+ghost use Rattle.acl_normal.specs.internal.rows.RowNumbers.{AreHeaded, AreSorted, DoNotFall, tail_here, who_here};
+ghost use Rattle.acl_normal.specs.internal.rows.Rows.{IsByPrincipal};
 
 use super::heads::{HeadedPrincipal, common_start, head, is_whole};
 use crate::whom::whom;
@@ -75,7 +73,7 @@ fn in_turn(alloc: Global, aces: &[AceRef<'_>], rows: Vec<usize>) -> Result<RowNu
     Ok(RowNumbers { rows, order })
 }
 
-// The first places.
+// The places below a count, in order.
 fn first_places(alloc: Global, count: usize) -> Result<Vec<usize>, AllocError>
     ensures { IfOk result (λ v. v.items ≡ range_with_len 0 count) }
 {
@@ -117,8 +115,8 @@ fn headed_places(alloc: Global, aces: &[AceRef<'_>]) -> Result<Vec<HeadedPlace>,
     Ok(places)
 }
 
-// How whom the ACEs at two places name stand to each other: by the heads, and where these are the same and do not have
-// the whole names, by the whos.
+// Compares whom the ACEs at two places name: by the heads, and by the whos if the heads are the same and do not have
+// the whole names.
 fn headed_compared(aces: &[AceRef<'_>], at: &HeadedPlace, other: &HeadedPlace) -> Ordering
     ensures { result ≡ ordering_then (nat_cmp at.now.head other.now.head)
         (slice_cmp nat_cmp (tail_here (aces_in aces.now) at.now)
@@ -131,25 +129,6 @@ fn headed_compared(aces: &[AceRef<'_>], at: &HeadedPlace, other: &HeadedPlace) -
         return Ordering::Equal;
     }
     who_at(aces, at.place).cmp(who_at(aces, other.place))
-}
-
-// Whether the ACEs at two places name one principal.
-fn is_same(aces: &[AceRef<'_>], at: HeadedPlace, other: HeadedPlace) -> bool
-    ensures { result ≡ ((at.head == other.head)
-        && bytes_eq (tail_here (aces_in aces.now) at) (tail_here (aces_in aces.now) other)) }
-{
-    at.head == other.head
-        && (is_whole(at.head) || who_at(aces, at.place) == who_at(aces, other.place))
-}
-
-// The who of the ACE at a place. A comparison may ask of any place: past the last it is empty.
-fn who_at<'a>(aces: &[AceRef<'a>], place: usize) -> &'a [u8]
-    ensures { result.now ≡ who_here (aces_in aces.now) place }
-{
-    match aces.get(place) {
-        Some(ace) => ace.who,
-        None => &[],
-    }
 }
 
 // By place, the row of the principal, which begins where the principal first stands in the order.
@@ -172,6 +151,25 @@ fn rows_of(
     Ok(rows)
 }
 
+// Whether the ACEs at two places name one principal.
+fn is_same(aces: &[AceRef<'_>], at: HeadedPlace, other: HeadedPlace) -> bool
+    ensures { result ≡ ((at.head == other.head)
+        && bytes_eq (tail_here (aces_in aces.now) at) (tail_here (aces_in aces.now) other)) }
+{
+    at.head == other.head
+        && (is_whole(at.head) || who_at(aces, at.place) == who_at(aces, other.place))
+}
+
+// The who of the ACE at a place. A comparison may ask of any place: past the last it is empty.
+fn who_at<'a>(aces: &[AceRef<'a>], place: usize) -> &'a [u8]
+    ensures { result.now ≡ who_here (aces_in aces.now) place }
+{
+    match aces.get(place) {
+        Some(ace) => ace.who,
+        None => &[],
+    }
+}
+
 // The places alone.
 fn places_of(alloc: Global, sorted: &[HeadedPlace]) -> Result<Vec<usize>, AllocError>
     ensures { IfOk result (λ v. v.items ≡ map (λ n. n.place) sorted.now) }
@@ -179,7 +177,7 @@ fn places_of(alloc: Global, sorted: &[HeadedPlace]) -> Result<Vec<usize>, AllocE
     sorted.iter().map(|at| at.place).collect(alloc)
 }
 
-/// The row of a principal, if an ACE names it, by halving.
+/// Returns the row of a principal, if an ACE names it, by halving.
 pub(crate) fn find_row(
     aces: &[AceRef<'_>],
     rows: &[usize],
@@ -189,7 +187,8 @@ pub(crate) fn find_row(
     requires rows { AreRowNumbers (aces_in aces.now) rows.now }
     requires order { IsByPrincipal (aces_in aces.now) order.now }
     ensures found { IfSome result (λ row. IsRowOf row (principal p.entry) (aces_in aces.now)) }
-    ensures missing { IfNone result (is_principal_of (principal p.entry) (aces_in aces.now) ≡ false) }
+    ensures missing { IfNone result
+        (is_principal_of (principal p.entry) (aces_in aces.now) ≡ false) }
 {
     match order.binary_search_by(|place| named_at(aces, *place).cmp(&p)) {
         Ok(found) => Some(rows[order[found]]),

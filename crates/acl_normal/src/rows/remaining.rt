@@ -1,14 +1,10 @@
 //! What is left of a list while it is emitted: of each row the rights that were not emitted yet.
-ghost use Rattle.std.specs.Prelude.{◌≡◌, ◌*◌, ◌<◌, ◌^◌, false, length, vec_len, IfNone, IfOk, IfSome};
-ghost use Rattle.acl_perm.specs.Bits.{has_bit};
-ghost use Rattle.acl_perm.specs.Principal.{Principal as Who, is_user, principal};
-ghost use Rattle.acl_normal.specs.internal.Classes.{is_users};
-ghost use Rattle.acl_normal.specs.Keys.{plain_key};
-ghost use Rattle.acl_normal.specs.Places.{first_at, take_out};
-ghost use Rattle.acl_normal.specs.internal.Places.{kind_here, mask_here, principal_here};
-ghost use Rattle.acl_normal.specs.internal.Remaining.{IsNumbered};
-ghost use Rattle.acl_normal.specs.internal.Rows.{IsNumberOf, IsRowOf, first_place_of, is_principal_of};
-ghost use Rattle.acl_normal.specs.internal.Shown.{mask_numbers, with_masks};
+ghost use Rattle.std.specs.Prelude.{◌*◌, ◌<◌, ◌^◌, ◌≡◌};
+ghost use Rattle.acl_normal.specs.Common.{ace, false, first_place_of, has_bit, IfNone, IfOk, IfSome, is_principal_of, is_user, is_users, IsNumbered, IsRowOf, key_here, kind_here, length, mask_here, mask_numbers, plain_key, principal, principal_here, principal_of, take_out, vec_len, with_masks};
+ghost use Rattle.acl_perm.specs.Principal.{Principal as Who};
+ghost use Rattle.acl_normal.specs.Places.{first_at};
+ghost use Rattle.acl_normal.specs.internal.rows.Remaining.{IsRemainder};
+ghost use Rattle.acl_normal.specs.internal.rows.Rows.{IsNumberOf};
 
 use crate::class::Class;
 use crate::rows::numbers::{RowNumbers, find_row};
@@ -29,7 +25,6 @@ pub(crate) struct Reduced<'a> {
 
 /// What is left of a list while its normal form is emitted. No place is ever moved: a right that is emitted leaves the
 /// mask of its row.
-// A body that says `let _ = &rows.masks;` looks at a field, so that the check has the invariant there. It does nothing.
 #[derive(Drop)]
 pub(crate) struct Remaining<'a> {
     pub(crate) aces: Vec<AceRef<'a>>,
@@ -46,7 +41,7 @@ pub(crate) struct Remaining<'a> {
 impl<'a> Model for Remaining<'a> {
     ghost use Rattle.std.specs.Prelude.{List};
     ghost use Rattle.acl_nfs4.specs.Ace.{Ace};
-    ghost use Rattle.acl_normal.specs.internal.Remaining.{remaining_of, IsRemaining};
+    ghost use Rattle.acl_normal.specs.internal.rows.Remaining.{remaining_of, IsRemaining};
 
     ghost Value = { List Ace };
 
@@ -56,11 +51,12 @@ impl<'a> Model for Remaining<'a> {
 }
 
 impl<'a> Remaining<'a> {
-    /// All of a list.
+    /// Returns all of a list, of which nothing was emitted yet.
     pub(crate) fn of(alloc: Global, reduced: Reduced<'a>) -> Result<Remaining<'a>, AllocError>
         requires few { vec_len reduced.aces < 2 ^ 32 }
         requires places { vec_len reduced.masks ≡ vec_len reduced.aces }
-        requires reduced { IsNumbered (with_masks reduced.aces.items (mask_numbers reduced.masks.items))
+        requires reduced { IsNumbered
+            (with_masks reduced.aces.items (mask_numbers reduced.masks.items))
             reduced.numbers.rows.items reduced.numbers.order.items }
         ensures { IfOk result (λ r. r
             ≡ with_masks reduced.entry.aces.items (mask_numbers reduced.entry.masks.items)) }
@@ -81,41 +77,16 @@ impl<'a> Remaining<'a> {
         })
     }
 
-    /// How many ACEs the list has.
-    pub(crate) fn len(&self) -> usize
-        ensures { result ≡ length self.now }
+    /// Returns the kind of the principal's ACE with the right, and its place.
+    pub(crate) fn source(&self, p: Principal<'_>, right: Bit) -> Option<(Kind, usize)>
+        ensures { result ≡ first_at right.bit (principal p.entry) self.now }
     {
-        let aces = &self.aces;
-        aces.len()
+        let row = self.row_named(p)?;
+        let place = self.place_in(row, right)?;
+        Some((self.kind_at(place), place))
     }
 
-    /// The row of the principal that the ACE at a place names.
-    pub(crate) fn row_at(&self, place: usize) -> usize
-        requires { place < length self.now }
-        ensures { IsRowOf result (principal_here self.now place) self.now }
-    {
-        self.rows[place]
-    }
-
-    /// The key of a number.
-    pub(crate) fn key_of(&self, number: usize) -> Key<'a>
-        requires { number < 2 * length self.now }
-        ensures { IsNumberOf self.now number (plain_key result) }
-    {
-        let place = self.order[number / 2];
-        let aces = &self.aces;
-        let kind = if number % 2 == 0 {
-            Kind::Deny
-        } else {
-            Kind::Allow
-        };
-        Key {
-            principal: whom(&aces[place]),
-            kind,
-        }
-    }
-
-    /// The row of a principal, if an ACE names it.
+    /// Returns the row of a principal, if an ACE names it.
     pub(crate) fn row_named(&self, p: Principal<'_>) -> Option<usize>
         ensures found { IfSome result (λ row. IsRowOf row (principal p.entry) self.now) }
         ensures missing { IfNone result (is_principal_of (principal p.entry) self.now ≡ false) }
@@ -123,26 +94,8 @@ impl<'a> Remaining<'a> {
         find_row(&self.aces, &self.rows, &self.order, p)
     }
 
-    /// The kind of the ACE at a place.
-    pub(crate) fn kind_at(&self, place: usize) -> Kind
-        requires { place < length self.now }
-        ensures { result ≡ kind_here self.now place }
-    {
-        let aces = &self.aces;
-        aces[place].kind
-    }
-
-    /// The class of the principal that the ACE at a place names.
-    pub(crate) fn class_at(&self, place: usize) -> Class
-        requires { place < length self.now }
-        ensures { is_users result ≡ is_user (principal_here self.now place) }
-    {
-        let aces = &self.aces;
-        Class::of(whom(&aces[place]))
-    }
-
-    /// The place of the ACE of a row that still has a right. The places of a row stand together in the order of the
-    /// principals.
+    /// Returns the place of the ACE of a row that still has a right. The places of a row stand together in the order of
+    /// the principals.
     pub(crate) fn place_in(&self, row: usize, right: Bit) -> Option<usize>
         requires { row < length self.now }
         ensures { (p : Who) → IsRowOf row p self.now
@@ -160,29 +113,84 @@ impl<'a> Remaining<'a> {
         None
     }
 
-    /// The kind of the principal's ACE with the right, and its place.
-    pub(crate) fn source(&self, p: Principal<'_>, right: Bit) -> Option<(Kind, usize)>
-        ensures { result ≡ first_at right.bit (principal p.entry) self.now }
-    {
-        let row = self.row_named(p)?;
-        let place = self.place_in(row, right)?;
-        Some((self.kind_at(place), place))
-    }
-
-    /// The rights that the ACE at a place still has.
-    pub(crate) fn mask_at(&self, place: usize) -> Mask
-        requires { place < length self.now }
-        ensures { result.bits ≡ mask_here self.now place }
-    {
-        self.masks[place].intersection(self.left[self.rows[place]])
-    }
-
-    /// Whether the ACE at a place still has a right.
+    /// Returns whether the ACE at a place still has a right.
     pub(crate) fn has(&self, place: usize, right: Bit) -> bool
         requires { place < length self.now }
         ensures { result ≡ has_bit (mask_here self.now place) right.bit }
     {
         right.is_in(self.mask_at(place))
+    }
+
+    /// Returns the rights that the ACE at a place still has.
+    pub(crate) fn mask_at(&self, place: usize) -> Mask
+        requires { place < length self.now }
+        ensures mask { result.bits ≡ mask_here self.now place }
+        ensures list { IsRemainder self.now }
+    {
+        self.masks[place].intersection(self.left[self.rows[place]])
+    }
+
+    /// Returns the key of a number.
+    pub(crate) fn key_of(&self, number: usize) -> Key<'a>
+        requires { number < 2 * length self.now }
+        ensures key { IsNumberOf self.now number (plain_key result) }
+        ensures list { IsRemainder self.now }
+    {
+        let place = self.order[number / 2];
+        let aces = &self.aces;
+        let kind = if number % 2 == 0 {
+            Kind::Deny
+        } else {
+            Kind::Allow
+        };
+        Key {
+            principal: whom(&aces[place]),
+            kind,
+        }
+    }
+
+    /// Returns the row of the principal that the ACE at a place names.
+    pub(crate) fn row_at(&self, place: usize) -> usize
+        requires { place < length self.now }
+        ensures row { IsRowOf result (principal_here self.now place) self.now }
+        ensures list { IsRemainder self.now }
+    {
+        self.rows[place]
+    }
+
+    /// Returns the kind of the ACE at a place.
+    pub(crate) fn kind_at(&self, place: usize) -> Kind
+        requires { place < length self.now }
+        ensures { result ≡ kind_here self.now place }
+    {
+        self.ace_at(place).kind
+    }
+
+    /// Returns the class of the principal that the ACE at a place names.
+    pub(crate) fn class_at(&self, place: usize) -> Class
+        requires { place < length self.now }
+        ensures { is_users result ≡ is_user (principal_here self.now place) }
+    {
+        Class::of(whom(&self.ace_at(place)))
+    }
+
+    /// Returns the ACE at a place, with all rights that play a part.
+    fn ace_at(&self, place: usize) -> AceRef<'a>
+        requires { place < length self.now }
+        ensures { (principal_of (ace result), result.kind) ≡ key_here self.now place }
+    {
+        let aces = &self.aces;
+        aces[place]
+    }
+
+    /// Returns how many ACEs the list has.
+    pub(crate) fn len(&self) -> usize
+        ensures count { result ≡ length self.now }
+        // What is left is a tidy list at every step.
+        ensures list { IsRemainder self.now }
+    {
+        let aces = &self.aces;
+        aces.len()
     }
 
     /// Takes rights of the principal of a row out of what is left of it.

@@ -66,7 +66,7 @@ fn is_same(alloc: Global, forms: &FiveForms, other: &FiveForms) -> Result<bool, 
     Ok(copy == *other)
 }
 
-/// Copies of the five are equal exactly if the lists let alice read at the same paths.
+/// The five forms of two lists are equal if and only if both lists let alice read at the same paths.
 pub fn copies(rt: &impl Abort, alloc: Global) -> Result<(), PushFault> {
     for (flags, reads) in &INHERITED {
         let forms = forms_of(alloc, *flags)?;

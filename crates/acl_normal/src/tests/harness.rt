@@ -83,8 +83,8 @@ pub fn built(alloc: Global, rows: &[AceRow]) -> Result<Acl, PushFault> {
     Ok(list)
 }
 
-/// Want of memory as a list tells it. Tables answer it where they meet it, and each runs twice: once in its own file,
-/// with that for an answer, and once in `ample`, without.
+/// Returns the value, or the fault of a list if memory ran out. Each table of tests runs twice: in its own file, where
+/// memory may run out, and in `ample`, where it may not.
 pub fn kept<T>(answer: Result<T, AllocError>) -> Result<T, PushFault> {
     match answer {
         Ok(value) => Ok(value),

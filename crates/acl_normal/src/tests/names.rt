@@ -10,8 +10,8 @@ use std::process::Abort;
 // as fit before eight others.
 static STARTS: [usize; 7] = [0, 3, 4, 7, 8, 9, 1016];
 
-// How the names of a list go on, as the ACEs come and in order: in order already, out of order at the last place, out of
-// order at the first, with names that are there twice, and with names that are the beginning of others.
+// How the names of a list go on, as the ACEs come and in order: in order already, out of order at the last place, out
+// of order at the first, with names that are there twice, and with names that are the beginning of others.
 static ENDS: [(&[&[u8]], &[&[u8]]); 6] = [
     (&[b"a", b"b", b"c"], &[b"a", b"b", b"c"]),
     (&[b"b", b"c", b"a"], &[b"a", b"b", b"c"]),

@@ -1,4 +1,4 @@
-//! Principals and types: their order, when they are equal, and which principals overlap.
+//! Principals and kinds: their order, when they are equal, and which principals overlap.
 
 use crate::*;
 

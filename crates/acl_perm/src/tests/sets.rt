@@ -1,5 +1,7 @@
 //! The numbers of rights and flags, by the tables of RFC 8881, and the operations on sets.
 
+use crate::bit_names::BitName;
+use crate::right_names::RIGHTS;
 use crate::*;
 
 // The flags of RFC 8881, section 6.2.1.4.1, from FILE_INHERIT to INHERITED: whether each is INHERIT_ONLY, and whether
@@ -66,38 +68,22 @@ fn the_sixteen_rights_are_those_of_the_standard(rt: HostRuntime) {
     }
 }
 
-// The rights of RFC 8881, section 6.2.1.3.1: the bit, the number, and the first name without `ACE4_`.
-static RIGHTS: [(usize, u32, &str); 16] = [
-    (0, 0x0000_0001, "READ_DATA"),
-    (1, 0x0000_0002, "WRITE_DATA"),
-    (2, 0x0000_0004, "APPEND_DATA"),
-    (3, 0x0000_0008, "READ_NAMED_ATTRS"),
-    (4, 0x0000_0010, "WRITE_NAMED_ATTRS"),
-    (5, 0x0000_0020, "EXECUTE"),
-    (6, 0x0000_0040, "DELETE_CHILD"),
-    (7, 0x0000_0080, "READ_ATTRIBUTES"),
-    (8, 0x0000_0100, "WRITE_ATTRIBUTES"),
-    (9, 0x0000_0200, "WRITE_RETENTION"),
-    (10, 0x0000_0400, "WRITE_RETENTION_HOLD"),
-    (16, 0x0001_0000, "DELETE"),
-    (17, 0x0002_0000, "READ_ACL"),
-    (18, 0x0004_0000, "WRITE_ACL"),
-    (19, 0x0008_0000, "WRITE_OWNER"),
-    (20, 0x0010_0000, "SYNCHRONIZE"),
-];
+fn right_of(row: &BitName) -> Option<Right> {
+    Right::new(row.bit.trailing_zeros() as usize)
+}
 
-fn is_right_of_table(bit: usize, number: u32, name: &str) -> bool {
-    let Some(right) = Right::new(bit) else {
+fn is_right_of_row(row: &BitName) -> bool {
+    let Some(right) = right_of(row) else {
         return false;
     };
     let alone = Mask::from(right);
-    right.bit() == bit && alone.bits() == number && alone.has(right) && right.name() == name
+    alone.bits() == row.bit && alone.has(right) && right.name() == row.name
 }
 
 #[test]
 fn a_right_is_one_of_sixteen(rt: HostRuntime) {
-    for (bit, number, name) in RIGHTS {
-        assert!(rt; is_right_of_table(bit, number, name), "{name}");
+    for row in &RIGHTS {
+        assert!(rt; is_right_of_row(row), "{}", row.name);
     }
     for bit in [11, 12, 13, 14, 15, 21, 64] {
         assert!(rt; Right::new(bit).is_none(), "{bit}");
@@ -135,10 +121,10 @@ fn types_and_rights_are_shown_by_name(rt: HostRuntime) {
             assert!(rt; shown.as_str() == word);
         }
     }
-    for (bit, _, name) in RIGHTS {
-        if let Some(right) = Right::new(bit) {
+    for row in &RIGHTS {
+        if let Some(right) = right_of(row) {
             if let Ok(shown) = right.to_string(rt.alloc()) {
-                assert!(rt; shown.as_str() == name);
+                assert!(rt; shown.as_str() == row.name);
             }
         }
     }

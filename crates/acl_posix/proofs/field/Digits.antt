@@ -1,18 +1,13 @@
 -- The number that digits spell.
-use Rattle.acl_posix.proofs.Common.{[], AllDigits, and_true, ap, arith, digit_value, digits_value, digits_value_after, get_or, is_ascii_digit, is_number, length, length-take, List, list_all, nat_tests, None, suc, take, true, zero, ℕ, ◌*◌, ◌+◌, ◌-◌, ◌<◌, ◌∙◌, ◌∷◌, ◌≡◌, ◌≤◌}
+use Rattle.acl_posix.proofs.Common.{[], All-get_or, AllDigits, AllPass-from_list_all, and_true, ap, arith, digit_value, digits_value, get_or, is_ascii_digit, is_number, length, length-take, List, list_all, nat_tests, None, take, true, ℕ, ◌*◌, ◌+◌, ◌-◌, ◌<◌, ◌∙◌, ◌∷◌, ◌≡◌, ◌≤◌}
 use Rattle.std.proofs.Math.Nat.{pow-le-pow_right}
+use Rattle.std.proofs.lemmas.Str.Parse.{digits_value-take-le}
 use Rattle.std.proofs.lemmas.Int.Digits.{digits_value_more, digits_value-lt}
 use Rattle.acl_posix.specs.Fields.{id_of}
 
 -- the value of a digit is its distance from the byte `0`
 pub digit_is : (b : ℕ) → is_ascii_digit b ≡ true → digit_value b ≡ b - 48
 digit_is b h = grind (arith, nat_tests)
-
-all_at : (bs : List ℕ) (i : ℕ) → i < length bs → list_all is_ascii_digit bs ≡ true
-    → is_ascii_digit (get_or bs i 0) ≡ true
-all_at [] i lt h = absurd (omega arith)
-all_at (b ∷ bs) zero lt h = (and_true _ _ h).0
-all_at (b ∷ bs) (suc i) lt h = all_at bs i (omega arith) (and_true _ _ h).1
 
 digit_small : (b : ℕ) → is_ascii_digit b ≡ true → digit_value b < 10
 digit_small b h = omega (arith, digit_is b h, (let most : b ≤ 57 = grind (arith, nat_tests) in most))
@@ -47,18 +42,10 @@ digit_more bs i lt h = digits_value_more 10 bs i lt
 -- the value of the first digits of a number, with one more of them
 pub value_more : (bs : List ℕ) (i : ℕ) → i < length bs → is_number bs ≡ true
     → digits_value 10 (take (i + 1) bs) ≡ digits_value 10 (take i bs) * 10 + (get_or bs i 0 - 48)
-value_more bs i lt h = digit_more bs i lt (all_at bs i lt (digits_all bs h))
-
-grows : (n : ℕ) (bs : List ℕ) → n ≤ digits_value_after 10 n bs
-grows n [] = omega arith
-grows n (b ∷ bs) = omega (arith, grows (n * 10 + digit_value b) bs)
-
-front_le : (n i : ℕ) (bs : List ℕ) → digits_value_after 10 n (take i bs) ≤ digits_value_after 10 n bs
-front_le n zero bs = grows n bs
-front_le n (suc i) [] = omega arith
-front_le n (suc i) (b ∷ bs) = front_le (n * 10 + digit_value b) i bs
+value_more bs i lt h = digit_more bs i lt
+    (All-get_or (λ b. is_ascii_digit b ≡ true) bs i 0 lt (AllPass-from_list_all is_ascii_digit bs (digits_all bs h)))
 
 -- digits spell no id if the number of some first ones is above the greatest id
 pub too_large : (bs : List ℕ) (i : ℕ) → 4294967294 < digits_value 10 (take i bs) → None ≡ id_of bs
 unfolding id_of
-too_large bs i h = let le = front_le 0 i bs in grind (arith, nat_tests)
+too_large bs i h = let le = digits_value-take-le 10 bs i (omega arith) in grind (arith, nat_tests)

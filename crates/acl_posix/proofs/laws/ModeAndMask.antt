@@ -1,6 +1,7 @@
 -- Laws of the mode and the mask, over sets of entries.
-use Rattle.acl_posix.proofs.Common.{[], ap, arith, bit_and, bit_or, Bool, by_order, class_union, cond, effective_of, Entries, eq_by_cmp, Equal, false, Greater, group, group_obj, is_masked, is_some, Less, List, mask, other, refl, Some, sym, Tag, tag_cmp, tags_total, true, unwrap_or, user, user_obj, with_mask, ℕ, ◌%◌, ◌*◌, ◌+◌, ◌/◌, ◌||◌, ◌∙◌, ◌∷◌, ◌≡◌}
+use Rattle.acl_posix.proofs.Common.{[], ap, arith, bit_and, bit_or, Bool, by_order, class_union, cond, effective_of, Entries, eq_by_cmp, Equal, false, Greater, group_obj, is_masked, is_some, Less, List, mask, Option, other, refl, Some, sym, Tag, tag_cmp, tags_total, true, unwrap_or, user_obj, with_mask, ℕ, ◌%◌, ◌*◌, ◌+◌, ◌/◌, ◌||◌, ◌∙◌, ◌∷◌, ◌≡◌}
 use Rattle.std.proofs.lemmas.Nat.{and_comm, and_or_self}
+use Rattle.std.proofs.lemmas.Bool.{cond_both}
 use Rattle.std.specs.FinMap as fin
 use Rattle.acl_perm.specs.Bits.{has_bit}
 use Rattle.acl_perm.proofs.Sets.{subset, has_bit-or}
@@ -13,39 +14,14 @@ use Rattle.acl_posix.proofs.sorted.Masks.{union_from, joined, union_step}
 abbrev three : Entries → Tag → ℕ → ℕ → ℕ → Entries
 three E l owner class others = fin.insert (fin.insert (fin.insert E user_obj owner) l class) other others
 
-get_three : (E : Entries) (l : Tag) (owner class others : ℕ) (q : Tag) → fin.get (three E l owner class others) q
-    ≡ cond (eq_by_cmp tag_cmp q other) (Some others) (cond (eq_by_cmp tag_cmp q l) (Some class)
-    (cond (eq_by_cmp tag_cmp q user_obj) (Some owner) (fin.get E q)))
-get_three E l owner class others q =
-    fin.get-insert tags_total (fin.insert (fin.insert E user_obj owner) l class) other others q
-    ∙ ap (cond (eq_by_cmp tag_cmp q other) (Some others))
-    (fin.get-insert tags_total (fin.insert E user_obj owner) l class q
-    ∙ ap (cond (eq_by_cmp tag_cmp q l) (Some class)) (fin.get-insert tags_total E user_obj owner q))
-
 mode_three : (E : Entries) (owner class others : ℕ) (b : Bool) → is_some (fin.get E mask) ≡ b
     → mode_of (three E (cond b mask group_obj) owner class others) ≡ 64 * owner + 8 * class + others
-mode_three E owner class others true has =
-    rw (
-      get_three E mask owner class others mask,
-      get_three E mask owner class others user_obj,
-      get_three E mask owner class others mask,
-      get_three E mask owner class others other,
-    ) refl
-mode_three E owner class others false has =
-    rw (
-      get_three E group_obj owner class others mask,
-      has,
-      get_three E group_obj owner class others user_obj,
-      get_three E group_obj owner class others group_obj,
-      get_three E group_obj owner class others other,
-    ) refl
-
-nine_bits : (mode : ℕ) → 64 * (mode / 64) + 8 * (mode / 8 % 8) + mode % 8 ≡ mode
-nine_bits mode = omega arith
+mode_three E owner class others true has = simp (fin.get-insert {X = ℕ} tags_total) refl
+mode_three E owner class others false has = simp (fin.get-insert {X = ℕ} tags_total, has) refl
 
 -- the mode after it is changed is the mode that was set
 pub mode_set : (E : Entries) (mode : ℕ) → mode_of (chmoded E mode) ≡ mode
-mode_set E mode = mode_three E (mode / 64) (mode / 8 % 8) (mode % 8) (is_some (fin.get E mask)) refl ∙ nine_bits mode
+mode_set E mode = mode_three E (mode / 64) (mode / 8 % 8) (mode % 8) (is_some (fin.get E mask)) refl ∙ omega arith
 
 -- ---- the calculated mask leaves each entry its own permissions
 
@@ -55,35 +31,27 @@ within_or p u n h =
     and_comm p (bit_or u n) ∙ (subset (bit_or u n) p).1 (λ k t. has_bit-or u n k
     ∙ ap (λ b. b || has_bit n k) ((subset u p).0 (and_comm u p ∙ h) k t))
 
-or_own : (p u : ℕ) → bit_and p (bit_or u p) ≡ p
-or_own p u = and_comm p (bit_or u p) ∙ and_or_self p u
-
 within_fold : (p u : ℕ) (ps : List (Tag × ℕ)) → bit_and p u ≡ p → bit_and p (union_from u ps) ≡ p
 within_fold p u [] h = h
 within_fold p u (q ∷ ps) h =
     ap (bit_and p) (union_step u q ps)
-    ∙ within_fold p (joined u q) ps (elim (is_masked q.0) as (λ b. bit_and p (cond b (bit_or u q.1) u)
-    ≡ p) [ true ↦ within_or p u q.1 h | false ↦ h ])
+    ∙ within_fold p (joined u q) ps (cond_both (is_masked q.0) (bit_or u q.1) u (λ v. bit_and p v ≡ p)
+    (λ is. within_or p u q.1 h) (λ is. h))
 
 found_within : (ps : List (Tag × ℕ)) (u : ℕ) (l : Tag) (p : ℕ) → is_masked l ≡ true → fin.find tag_cmp l ps ≡ Some p
     → bit_and p (union_from u ps) ≡ p
 found_within [] u l p m h = absurd cc
-found_within (q ∷ ps) u l p m h = ap (bit_and p) (union_step u q ps) ∙
-    elim (eq_by_cmp tag_cmp l q.0) as (λ b. eq_by_cmp tag_cmp l q.0 ≡ b
-    → cond b (Some q.1) (fin.find tag_cmp l ps) ≡ Some p → bit_and p (union_from (joined u q) ps) ≡ p) [
-      | true ↦ λ same is.
-          let masked : is_masked q.0 ≡ true = ap is_masked (sym (same_tag l q.0 same)) ∙ m in
-          let own : q.1 ≡ p = ap (λ o. unwrap_or o 0) is in
-          within_fold p (joined u q) ps (ap (λ b. bit_and p (cond b (bit_or u q.1) u)) masked
-          ∙ ap (λ n. bit_and p (bit_or u n)) own ∙ or_own p u)
-      | false ↦ λ same is. found_within ps (joined u q) l p m is
-    ] refl h
+found_within (q ∷ ps) u l p m h = ap (bit_and p) (union_step u q ps)
+    ∙ cond_both (eq_by_cmp tag_cmp l q.0) (Some q.1) (fin.find tag_cmp l ps)
+    (λ found. found ≡ Some p → bit_and p (union_from (joined u q) ps) ≡ p)
+    (λ same is. within_fold p (joined u q) ps (ap (λ b. bit_and p (cond b (bit_or u q.1) u))
+    (ap is_masked (sym (same_tag l q.0 same)) ∙ m) ∙ ap (λ n. bit_and p (bit_or u n)) (ap (λ o. unwrap_or o 0) is)
+    ∙ and_comm p (bit_or u p)
+    ∙ and_or_self p u))
+    (λ differ is. found_within ps (joined u q) l p m is) h
 
 apart : (l : Tag) → is_masked l ≡ true → eq_by_cmp tag_cmp l mask ≡ false
-apart (user id) m = refl
-apart group_obj m = refl
-apart (group id) m = refl
-apart tag m = absurd cc
+apart l m = grind arith
 
 -- after the mask is calculated each entry grants all of its own permissions
 pub effective_own : (E : Entries) (entry : Tag × ℕ) → fin.get (with_mask E) entry.0 ≡ Some entry.1
@@ -118,12 +86,13 @@ put_mask u n (p ∷ ps) =
           ∙ sym (union_step u p ps)
     ] refl
 
+twice : (b : Bool) (x y : Option ℕ) → cond b x (cond b x y) ≡ cond b x y
+twice b x y = grind arith
+
 again : (E : Entries) (n : ℕ) → fin.insert (fin.insert E mask n) mask n ≡ fin.insert E mask n
 again E n = fin.same_map tags_total exact_tags _ _ (λ q.
     fin.get-insert tags_total (fin.insert E mask n) mask n q ∙ ap (cond (eq_by_cmp tag_cmp q mask) (Some n))
-    (fin.get-insert tags_total E mask n q)
-    ∙ elim (eq_by_cmp tag_cmp q mask) as (λ b. cond b (Some n) (cond b (Some n) (fin.get E q))
-    ≡ cond b (Some n) (fin.get E q)) [ true ↦ refl | false ↦ refl ]
+    (fin.get-insert tags_total E mask n q) ∙ twice (eq_by_cmp tag_cmp q mask) (Some n) (fin.get E q)
     ∙ sym (fin.get-insert tags_total E mask n q))
 
 -- the mask calculated twice is calculated once

@@ -31,28 +31,19 @@ set_decides D E =
       (λ e. lists.1 (ap (λ (s : Entries). fin.entries s) e)),
     )
 
--- the default ACL that a list of default ACLs has
-abbrev first_acl : List Entries → Option Entries
-first_acl [] = None
-first_acl (acl ∷ rest) = Some acl
-
-again : (default : Option Entries) → first_acl (default_acls default) ≡ default
-again None = refl
-again (Some acl) = refl
-
--- the file with these ACLs
-abbrev file_of : List Entries → PosixFile
-file_of [] = record { access = fin.empty; default = None }
-file_of (access ∷ rest) = record { access = access; default = first_acl rest }
-
-file_again : (file : PosixFile) → file_of (acls_of file) ≡ file
-file_again file = ap (λ (d : Option Entries). record { access = file.access; default = d }) (again file.default)
+-- lists of ACLs that are equal have the same ACLs
+same_acls : (a b : Entries) (c d : Option Entries) → a ∷ default_acls c ≡ b ∷ default_acls d → (a ≡ b) × (c ≡ d)
+same_acls a b None None e = (cc, refl)
+same_acls a b None (Some y) e = absurd cc
+same_acls a b (Some x) None e = absurd cc
+same_acls a b (Some x) (Some y) e = (cc, cc)
 
 -- the test of two files decides whether they are equal
 pub file_decides : (one two : PosixFile) → Decides (same_file one two) (one ≡ two)
 file_decides one two =
     let lists = slice_eq-Decides set_decides (acls_of one) (acls_of two) (same_file one two) refl in (
-      (λ h. sym (file_again one) ∙ ap file_of (lists.0 h) ∙ file_again two),
+      (λ h. let same = same_acls one.access two.access one.default two.default (lists.0 h) in
+          λ i. record { access = same.0 i; default = same.1 i }),
       (λ e. lists.1 (ap (λ (f : PosixFile). acls_of f) e)),
     )
 

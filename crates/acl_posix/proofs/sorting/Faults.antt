@@ -1,17 +1,13 @@
 -- A list of entries has at most one fault, and a valid list has none.
-use Rattle.acl_posix.proofs.Common.{AclFault, ap, arith, as_set, Bool, cases_lt, cond, Duplicate, Entries, Err, false, group, group_obj, IfErr, inl, inr, is_named, is_refusal, IsDistinct, IsFaultOf, IsFirstRepeat, IsMiss, IsTrue, IsValidList, List, mask, MatchResult, Memory, Miss, Multi, None, Ok, OnOk, other, refl, Result, Some, sym, Tag, tag_at, tag_of, true, unwrap_or, user, user_obj, ℕ, ◌∙◌, ◌≡◌}
+use Rattle.acl_posix.proofs.Common.{AclFault, ap, arith, as_set, Bool, cond, Duplicate, Entries, Err, false, group_obj, IfErr, is_named, is_refusal, IsDistinct, IsFaultOf, IsFirstRepeat, IsMiss, IsTrue, IsValidList, List, mask, MatchResult, Memory, Miss, Multi, None, Ok, OnOk, other, Result, Some, sym, Tag, tag_at, tag_of, true, unwrap_or, user_obj, ℕ, ◌<◌, ◌∙◌, ◌≡◌}
 use Rattle.acl_posix.specs.declared.tag.Tag.{Tag as TagOfCode}
-use Rattle.acl_posix.specs.declared.tag.Tag.TheVariants as code
 use Rattle.acl_posix.specs.Valid.{missing}
 
 same_first : (ps : List (Tag × ℕ)) (i j : ℕ) → IsFirstRepeat ps i → IsFirstRepeat ps j → i ≡ j
-same_first ps i j a b = elim (cases_lt i j) [
-  | inl below ↦ absurd (b.first i below a.repeats)
-  | inr above ↦ elim (cases_lt j i) [
-    | inl below ↦ absurd (a.first j below b.repeats)
-    | inr under ↦ omega arith
-  ]
-]
+same_first ps i j a b =
+    let not_below : i < j → ⊥ = λ below. b.first i below a.repeats in
+    let not_above : j < i → ⊥ = λ below. a.first j below b.repeats in
+    grind arith
 
 no_repeat : (ps : List (Tag × ℕ)) (i : ℕ) → IsDistinct ps → IsFirstRepeat ps i → ⊥
 no_repeat ps i distinct first = distinct i first.in_range first.repeats
@@ -32,25 +28,13 @@ missing_unnamed : (E : Entries) (l : Tag) → missing E ≡ Some l → is_named 
 unfolding missing
 missing_unnamed E l e = unnamed _ _ _ _ l e
 
--- the tag of the code with this tag, for tags without a qualifier
-abbrev of_code : Tag → TagOfCode
-of_code user_obj = code.UserObj
-of_code (user id) = code.Other
-of_code group_obj = code.GroupObj
-of_code (group id) = code.Other
-of_code mask = code.Mask
-of_code other = code.Other
-
-from_code : (t : TagOfCode) → is_named (tag_of t) ≡ false → of_code (tag_of t) ≡ t
-from_code (code.User id) h = absurd cc
-from_code (code.Group id) h = absurd cc
-from_code tag h = refl
+-- a tag of the code without a qualifier is determined by its plain data
+same_code : (s t : TagOfCode) → tag_of s ≡ tag_of t → is_named (tag_of s) ≡ false → s ≡ t
+same_code s t same plain = grind arith
 
 same_miss : (ps : List (Tag × ℕ)) (s t : TagOfCode) → IsMiss ps (tag_of s) → IsMiss ps (tag_of t) → s ≡ t
-same_miss ps s t a b =
-    let same : tag_of s ≡ tag_of t = ap (λ o. unwrap_or o other) (sym a.absent ∙ b.absent) in
-    sym (from_code s (missing_unnamed (as_set ps) (tag_of s) a.absent)) ∙ ap of_code same
-    ∙ from_code t (missing_unnamed (as_set ps) (tag_of t) b.absent)
+same_miss ps s t a b = same_code s t (ap (λ o. unwrap_or o other) (sym a.absent ∙ b.absent))
+    (missing_unnamed (as_set ps) (tag_of s) a.absent)
 
 -- a list has at most one fault, apart from `Memory`
 pub one_fault : (ps : List (Tag × ℕ)) (f g : AclFault) → IsTrue (is_refusal f) → IsTrue (is_refusal g)

@@ -1,8 +1,6 @@
 -- Tags that compare as equal are equal, and what a list of entries has at a tag.
-use Rattle.acl_posix.proofs.Common.{[], ap, arith, Bool, cond, Entry, eq_by_cmp, false, get_or, is_some, IsAntisymmetric, length, length-map, Less, List, list_any, nat_cmp, None, Option, pair_of, pairs, qualifier, rank, refl, Some, subst, suc, sym, Tag, tag_again, tag_cmp, tag_from, tag_of, tags, true, zero, ℕ, ◌<◌, ◌||◌, ◌∙◌, ◌∷◌, ◌≡◌}
-use Rattle.std.proofs.Common.{set}
+use Rattle.acl_posix.proofs.Common.{[], ap, arith, Bool, Entry, eq_by_cmp, false, get_or, is_some, IsAntisymmetric, length, length-map, List, list_any, map, nat_cmp, None, Option, pair_of, pairs, qualifier, rank, refl, Some, suc, sym, Tag, tag_again, tag_cmp, tag_from, tag_of, tags, true, zero, ℕ, ◌<◌, ◌||◌, ◌∙◌, ◌∷◌, ◌≡◌}
 use Rattle.std.specs.Prelude.{insert}
-use Rattle.std.proofs.lemmas.List.{map-set}
 use Rattle.std.proofs.lemmas.Map.Lookups.{exact_pairs, exact_unsigned}
 use Rattle.acl_perm.specs.internal.FedAlike.{is_equal}
 
@@ -16,22 +14,6 @@ exact_tags x y e =
 -- tags that a test finds equal are equal
 pub same_tag : (q l : Tag) → eq_by_cmp tag_cmp q l ≡ true → q ≡ l
 same_tag q l h = exact_tags q l (is_equal (tag_cmp q l) h)
-
--- a tag that is less than another does not compare as equal to it
-pub unequal_less : (a b : Tag) → tag_cmp a b ≡ Less → eq_by_cmp tag_cmp a b ≡ false
-unequal_less a b h = rw h refl
-
--- two tests of one tag against tags that differ
-pub swap_tests : (q a b : Tag) (x y z : Option ℕ) → eq_by_cmp tag_cmp a b ≡ false
-    → cond (eq_by_cmp tag_cmp q a) x (cond (eq_by_cmp tag_cmp q b) y z) ≡ cond (eq_by_cmp tag_cmp q b) y
-    (cond (eq_by_cmp tag_cmp q a) x z)
-swap_tests q a b x y z differ =
-    elim (eq_by_cmp tag_cmp q a) as (λ s. eq_by_cmp tag_cmp q a ≡ s
-    → cond s x (cond (eq_by_cmp tag_cmp q b) y z) ≡ cond (eq_by_cmp tag_cmp q b) y (cond s x z)) [
-      | true ↦ λ is. let apart : eq_by_cmp tag_cmp q b ≡ false = subst (λ (t : Tag). eq_by_cmp tag_cmp t b ≡ false)
-          (sym (same_tag q a is)) differ in rw apart refl
-      | false ↦ λ is. refl
-    ] refl
 
 -- ---- a list of entries and its tags, place by place
 
@@ -50,28 +32,19 @@ length-tags es = length-map (pairs es) (λ (p : Tag × ℕ). p.0) ∙ length-map
 pub length-tags_of : (ps : List (Tag × ℕ)) → length (tags ps) ≡ length ps
 length-tags_of ps = length-map ps (λ (p : Tag × ℕ). p.0)
 
--- the pairs of a list with another entry at a place
-pub pairs-set : (es : List Entry) (i : ℕ) (e : Entry) → pairs (set es i e) ≡ set (pairs es) i (pair_of e)
-pairs-set es i e = map-set pair_of es i e
-
 -- the pairs of a list with one entry more
 pub pairs-insert : (es : List Entry) (i : ℕ) (e : Entry) → pairs (insert es i e) ≡ insert (pairs es) i (pair_of e)
 pairs-insert es zero e = refl
 pairs-insert [] (suc i) e = refl
 pairs-insert (x ∷ es) (suc i) e = ap (λ (ps : List (Tag × ℕ)). pair_of x ∷ ps) (pairs-insert es i e)
 
--- if some element passes a test, the place of one that does
-pub any_place : {X : Type 0} (p : X → Bool) (xs : List X) (d : X) → list_any p xs ≡ true
-    → (i : ℕ) × (i < length xs) × (p (get_or xs i d) ≡ true)
-any_place p [] d h = absurd cc
-any_place p (x ∷ xs) d h =
-    elim (p x) as (λ b. p x ≡ b → (b || list_any p xs) ≡ true
-    → (i : ℕ) × (i < length (x ∷ xs)) × (p (get_or (x ∷ xs) i d) ≡ true)) [
-      | true ↦ λ is some. (0, omega arith, is)
-      | false ↦ λ is some. let rest = any_place p xs d some in (suc rest.0, omega (arith, rest.1), rest.2)
-    ] refl h
-
 -- an option that is not Some is None
 pub is_none : {X : Type 0} (o : Option X) → is_some o ≡ false → o ≡ None
 is_none None e = refl
 is_none (Some x) e = absurd cc
+
+-- a test of some element of a list of values is a test of what they are values of
+pub list_any-map : {X Y : Type 0} (p : Y → Bool) (f : X → Y) (xs : List X)
+    → list_any p (map f xs) ≡ list_any (λ x. p (f x)) xs
+list_any-map p f [] = refl
+list_any-map p f (x ∷ xs) = ap (λ b. p (f x) || b) (list_any-map p f xs)

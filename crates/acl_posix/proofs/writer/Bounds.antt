@@ -1,10 +1,8 @@
 -- A text of ACLs has fewer than 2^64 bytes: the tags of a sorted list rise, so there are at most 6 * 2^32 entries.
-use Rattle.acl_posix.proofs.Common.{[], All, AllByRecursion, arith, Bool, codes, cond, decimal, effective_of, ending, Entries, entry_lead, entry_text, eqb, false, Form, form_word, IfSome, IsEntry, IsId, IsTag, length, length-append, length-decimal-le, length-take, Less, List, long_word, mark_text, None, Option, option_map, Part, part_out, perm_text, qualifier_text, recursion_from_All, short_word, Some, Tag, tag_cmp, tag_row, tags, TagWord, true, unwrap_or, word_text, ℕ, ◌*◌, ◌++◌, ◌+◌, ◌<◌, ◌^◌, ◌∷◌, ◌≡◌, ◌≤◌}
+use Rattle.acl_posix.proofs.Common.{[], All, AllByRecursion, arith, Bool, decimal, effective_of, ending, Entries, entry_lead, entry_text, false, Form, form_word, IfSome, IsEntry, IsId, IsTag, length, length-append, length-decimal-le, length-take, Less, List, long_word, None, Option, option_map, Part, part_out, perm_text, qualifier_text, recursion_from_All, Some, Tag, tag_cmp, tag_row, tags, TagWord, unwrap_or, word_text, ℕ, ◌*◌, ◌++◌, ◌+◌, ◌<◌, ◌^◌, ◌∷◌, ◌≡◌, ◌≤◌}
 use Rattle.std.specs.List.Sorted.{IsStrictlySortedBy}
 use Rattle.std.specs.FinMap as fin
 use Rattle.acl_posix.specs.declared.form.Form.TheVariants as forms
-use Rattle.acl_posix.specs.declared.text_fault.Part.TheVariants as parts
-use Rattle.acl_posix.specs.declared.field.TagWord.TheVariants as words
 use Rattle.acl_posix.specs.internal.Writing.{entry_out}
 use Rattle.acl_posix.proofs.tag.TagNumbers.{less_rises, number, qualifier_below, rank_below}
 use Rattle.acl_posix.proofs.tag.Tags.{length-tags_of}
@@ -14,47 +12,21 @@ use Rattle.acl_posix.proofs.sorted.Lookups.{entries_sorted}
 
 -- the bytes before an entry are at most eight
 lead_short : (form : Form) (part : Part) (first : Bool) → length (entry_lead form part first) ≤ 8
-lead_short forms.Canonical parts.Access first = omega arith
-lead_short forms.Canonical parts.Default first = omega arith
-lead_short forms.Shown parts.Access first = omega arith
-lead_short forms.Shown parts.Default first = omega arith
-lead_short forms.Short parts.Access true = omega arith
-lead_short forms.Short parts.Access false = omega arith
-lead_short forms.Short parts.Default true = omega arith
-lead_short forms.Short parts.Default false = omega arith
+lead_short form part first = grind arith
 
 text_short : (word : TagWord) → length (word_text word) ≤ 5
-text_short words.User = omega arith
-text_short word = omega arith
-
-short_short : (t : Tag) → length (short_word t) ≤ 5
-short_short t = let long = length-take 1 (long_word t) in omega (arith, long, text_short (tag_row t).word)
+text_short word = grind arith
 
 word_short : (form : Form) (t : Tag) → length (form_word form t) ≤ 5
-word_short forms.Short t = short_short t
+word_short forms.Short t = let long = length-take 1 (long_word t) in omega (arith, long, text_short (tag_row t).word)
 word_short form t = text_short (tag_row t).word
 
 digits_short : (number : Option ℕ) → IfSome number IsId → length (unwrap_or (option_map decimal number) []) ≤ 20
 digits_short None h = omega arith
-digits_short (Some id) h = let lt : id < 4294967295 = omega (arith, h) in
-    length-decimal-le 20 id (omega arith) (omega arith) (omega arith)
-
-qualifier_short : (t : Tag) → IsTag t → length (qualifier_text t) ≤ 20
-qualifier_short t h = digits_short (tag_row t).qualifier h
-
-mark_short : (eff perm : ℕ) → length (mark_text eff perm) ≤ 15
-mark_short eff perm =
-    elim (eqb eff perm)
-    as (λ b. length (cond b [] (9 ∷ (codes "#effective:" ++ perm_text eff))) ≤ 15) [
-      | true ↦ omega arith
-      | false ↦ omega arith
-    ]
+digits_short (Some id) h = length-decimal-le 20 id (omega arith) (omega (arith, h)) (omega (arith, h))
 
 ending_short : (form : Form) (eff perm : ℕ) → length (ending form eff perm) ≤ 16
-ending_short forms.Canonical eff perm = omega arith
-ending_short forms.Shown eff perm = let m = mark_short eff perm in
-    let n = length-append (mark_text eff perm) (10 ∷ []) in omega (arith, m, n)
-ending_short forms.Short eff perm = omega arith
+ending_short form eff perm = grind arith
 
 out_short : (form : Form) (part : Part) (first : Bool) (eff : ℕ) (e : Tag × ℕ) → IsEntry e
     → length (entry_out form part first eff e) ≤ 64
@@ -66,17 +38,8 @@ out_short form part first eff e h =
     let b = length-append (entry_text w e) (ending form eff e.1) in
     let c = length-append w (58 ∷ (q ++ 58 ∷ perm_text e.1)) in
     let d = length-append q (58 ∷ perm_text e.1) in
-    omega (
-      arith,
-      a,
-      b,
-      c,
-      d,
-      lead_short form part first,
-      word_short form e.0,
-      qualifier_short e.0 h.0,
-      ending_short form eff e.1,
-    )
+    let few = digits_short (tag_row e.0).qualifier h.0 in
+    omega (arith, a, b, c, d, lead_short form part first, word_short form e.0, few, ending_short form eff e.1)
 
 part_short : (form : Form) (part : Part) (acl : Entries) (first : Bool) (es : List (Tag × ℕ))
     → AllByRecursion IsEntry es → length (part_out form part acl first es) ≤ 64 * length es

@@ -1,5 +1,6 @@
 -- The bytes of written entries: lowercase letters, digits, `-` and colons.
-use Rattle.acl_posix.proofs.Common.{[], All, All-weaker, AllPass-from_list_all, and_true, ap, arith, Bool, eqb, false, List, list_all, list_all-append, nat_tests, perm_text, refl, true, ℕ, ◌&&◌, ◌++◌, ◌<◌, ◌||◌, ◌∙◌, ◌∷◌, ◌≡◌}
+use Rattle.acl_posix.proofs.Common.{All, All-weaker, AllPass-from_list_all, ap, arith, Bool, eqb, false, List, list_all, list_all-append, nat_tests, perm_text, true, ℕ, ◌&&◌, ◌++◌, ◌<◌, ◌||◌, ◌∙◌, ◌∷◌, ◌≡◌}
+use Rattle.std.proofs.lemmas.List.Sums.{list_all-from_AllPass}
 use Rattle.acl_posix.proofs.writer.Again.{is_plain, Plain, perm_plain, fields_text}
 
 -- a plain byte or a colon
@@ -14,11 +15,15 @@ Text bs = list_all is_text bs ≡ true
 pub text_not : (b : ℕ) → is_text b ≡ true → (eqb b 10 ≡ false) × (eqb b 35 ≡ false) × (eqb b 44 ≡ false)
 text_not b h = (grind (arith, nat_tests), grind (arith, nat_tests), grind (arith, nat_tests))
 
+-- bytes that pass a test pass a weaker test
+pub all_also : (p q : ℕ → Bool) → ((b : ℕ) → p b ≡ true → q b ≡ true) → (bs : List ℕ) → list_all p bs ≡ true
+    → list_all q bs ≡ true
+all_also p q each bs h = list_all-from_AllPass q bs
+    (All-weaker (λ b. p b ≡ true) (λ b. q b ≡ true) each bs (AllPass-from_list_all p bs h))
+
 -- plain bytes are plain bytes and colons
 pub text_from_plain : (bs : List ℕ) → Plain bs → Text bs
-text_from_plain [] h = refl
-text_from_plain (b ∷ bs) h =
-    let both = and_true (is_plain b) (list_all is_plain bs) h in rw both.0 (text_from_plain bs both.1)
+text_from_plain bs h = all_also is_plain is_text (λ b is. ap (λ t. t || eqb b 58) is) bs h
 
 -- plain bytes and colons with such bytes behind them are plain bytes and colons
 pub text_append : (xs ys : List ℕ) → Text xs → Text ys → Text (xs ++ ys)

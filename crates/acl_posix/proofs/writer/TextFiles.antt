@@ -1,12 +1,47 @@
 -- A text whose pieces spell the entries of a file reads back as that file.
-use Rattle.acl_posix.proofs.Common.{[], AllByRecursion, ap, as_set, default_entries, Entries, IsAclOf, IsDefault, IsDefaultOf, IsEntry, IsFile, List, None, Option, pieces_of, PosixFile, Reads, recursion_from_All, refl, Some, SpellAll, subst, sym, Table, Tag, tag_cmp, tags_total, user_obj, ℕ, ◌++◌, ◌∙◌, ◌∷◌, ◌≡◌}
+use Rattle.acl_posix.proofs.Common.{[], access_of, All, All-from_recursion, AllByRecursion, ap, as_set, default_entries, default_of, Entries, IsAclOf, IsDefault, IsDefaultOf, IsEntry, IsFile, List, map, None, Option, Part, PartEntry, pieces_of, PosixFile, Reads, recursion_from_All, refl, Some, SpellAll, subst, sym, Table, Tag, tag_cmp, tags_total, user_obj, ℕ, ◌++◌, ◌∙◌, ◌∷◌, ◌≡◌}
+use Rattle.std.proofs.lemmas.List.Elements.{All-append, All-map}
 use Rattle.std.specs.FinMap as fin
 use Rattle.acl_posix.specs.declared.text_fault.Part.TheVariants as parts
 use Rattle.acl_posix.specs.Valid.{missing}
 use Rattle.acl_posix.proofs.tag.Tags.{exact_tags}
 use Rattle.acl_posix.proofs.sorting.Repeats.{sorted_distinct}
 use Rattle.acl_posix.proofs.sorted.Lookups.{entries_sorted}
-use Rattle.acl_posix.proofs.writer.EntryLines.{in_part, access_joined, default_joined}
+
+-- ---- the entries of a file
+
+-- entries with the part that they belong to
+abbrev pub in_part : Part → List (Tag × ℕ) → List PartEntry
+in_part part es = map (λ e. (part, e)) es
+
+-- the entries of a file, in canonical order, first those of the access part
+abbrev pub entries_of : PosixFile → List PartEntry
+entries_of F = in_part parts.Access (fin.entries F.access) ++ in_part parts.Default (default_entries F.default)
+
+-- entries are within the limits of ids and permissions
+abbrev pub Within : List PartEntry → Type 0
+Within es = AllByRecursion (λ e. IsEntry e.1) es
+
+default_within : (d : Option Entries) → IsDefault d → All IsEntry (default_entries d)
+default_within None h = All-from_recursion IsEntry [] tt
+default_within (Some E) h = h.within
+
+-- the entries of a file are within the limits
+pub within_file : (F : PosixFile) → IsFile F → Within (entries_of F)
+within_file F h = recursion_from_All (λ e. IsEntry e.1) (entries_of F)
+    (All-append (λ e. IsEntry e.1) (in_part parts.Access (fin.entries F.access))
+    (in_part parts.Default (default_entries F.default))
+    (All-map (λ (e : PartEntry). IsEntry e.1) (λ e. (parts.Access, e)) (fin.entries F.access) h.access.within)
+    (All-map (λ (e : PartEntry). IsEntry e.1) (λ e. (parts.Default, e)) (default_entries F.default)
+    (default_within F.default h.default)))
+
+parts_joined : (es ds : List (Tag × ℕ)) → (access_of (in_part parts.Access es ++ in_part parts.Default ds) ≡ es)
+    × (default_of (in_part parts.Access es ++ in_part parts.Default ds) ≡ ds)
+parts_joined [] [] = (refl, refl)
+parts_joined [] (d ∷ ds) = let rest = parts_joined [] ds in (rest.0, ap (λ (xs : List (Tag × ℕ)). d ∷ xs) rest.1)
+parts_joined (e ∷ es) ds = let rest = parts_joined es ds in (ap (λ (xs : List (Tag × ℕ)). e ∷ xs) rest.0, rest.1)
+
+-- ---- the file of the entries
 
 set_again : (E : Entries) → as_set (fin.entries E) ≡ E
 set_again E = fin.same_map tags_total exact_tags _ _
@@ -40,28 +75,14 @@ default_of_entries (Some E) h = some_default (fin.entries E) E (has_owner E h.va
 
 -- a text whose pieces spell the entries of a file reads back as that file
 pub reads_from : (text : List ℕ) (names : Table) (F : PosixFile) → IsFile F
-    → SpellAll names (pieces_of text)
-    (in_part parts.Access (fin.entries F.access) ++ in_part parts.Default (default_entries F.default))
-    → Reads text names F
-reads_from text names F h spelled = record {
-  entries = in_part parts.Access (fin.entries F.access) ++ in_part parts.Default (default_entries F.default);
-  spelled = spelled;
-  access = subst (λ (xs : List (Tag × ℕ)). IsAclOf xs F.access)
-      (sym (access_joined (fin.entries F.access) (default_entries F.default))) (acl_of_entries F.access h.access.valid);
-  default = subst (λ (xs : List (Tag × ℕ)). IsDefaultOf xs F.default)
-      (sym (default_joined (fin.entries F.access) (default_entries F.default)))
-      (default_of_entries F.default h.default);
-}
-
--- the entries of a list are within the limits of ids and permissions
-abbrev pub Within : List (Tag × ℕ) → Type 0
-Within es = AllByRecursion IsEntry es
-
--- the access entries of a file are within the limits
-pub within_access : (F : PosixFile) → IsFile F → Within (fin.entries F.access)
-within_access F h = recursion_from_All IsEntry (fin.entries F.access) h.access.within
-
--- the default entries of a file are within the limits
-pub within_default : (d : Option Entries) → IsDefault d → Within (default_entries d)
-within_default None h = tt
-within_default (Some E) h = recursion_from_All IsEntry (fin.entries E) h.within
+    → SpellAll names (pieces_of text) (entries_of F) → Reads text names F
+reads_from text names F h spelled =
+    let joined = parts_joined (fin.entries F.access) (default_entries F.default) in
+    record {
+      entries = entries_of F;
+      spelled = spelled;
+      access = subst (λ (xs : List (Tag × ℕ)). IsAclOf xs F.access) (sym joined.0)
+          (acl_of_entries F.access h.access.valid);
+      default = subst (λ (xs : List (Tag × ℕ)). IsDefaultOf xs F.default) (sym joined.1)
+          (default_of_entries F.default h.default);
+    }

@@ -1,78 +1,69 @@
 -- An entry as it is written, in each form and part, spells that entry.
-use Rattle.acl_posix.proofs.Common.{[], ap, append_assoc, codes, false, is_all_blank, IsEntry, List, long_word, Part, perm_text, qualifier_text, short_word, Spells, subst, sym, Table, Tag, ℕ, ◌++◌, ◌∙◌, ◌∷◌, ◌≡◌}
+use Rattle.acl_posix.proofs.Common.{[], append_assoc, codes, IsEntry, List, long_word, PartEntry, perm_text, qualifier_text, short_word, Spells, subst, Table, Tag, tag_row, ℕ, ◌++◌, ◌∷◌, ◌≡◌}
 use Rattle.acl_posix.specs.declared.text_fault.Part.TheVariants as parts
-use Rattle.acl_posix.specs.Texts.{long_entry, short_entry, long_default, short_default}
-use Rattle.acl_posix.proofs.writer.Again.{qualifier_plain, IsWordOf, long_is, short_is, IsMark, long_mark, short_mark, perm_alone, perm_tab, written_qualifier, fields_text, starts_filled, access_spelled, default_spelled}
-use Rattle.acl_posix.proofs.writer.TextBytes.{Text, text_from_plain, text_append, fields_are_text}
+use Rattle.acl_posix.proofs.writer.Again.{IsMark, access_spelled, default_spelled, fields_text, IsPermText, IsWordOf, long_is, long_mark, perm_alone, perm_tab, qualifier_plain, short_is, short_mark, written_qualifier}
+use Rattle.acl_posix.proofs.writer.TextBytes.{text_from_plain, Text, text_append, fields_are_text}
 
--- what an entry is written as, of a part and a form
-pub record IsWritten (part : Part) (f : Tag × ℕ → List ℕ) : Type 0 where
-  pub text : (e : Tag × ℕ) → IsEntry e → Text (f e)
-  pub filled : (e : Tag × ℕ) (rest : List ℕ) → is_all_blank (f e ++ rest) ≡ false
-  pub spells : (names : Table) (column : ℕ) (e : Tag × ℕ) → IsEntry e
-      → Spells names (record { column = column; bytes = f e }) (part, e)
-  pub with_tab : (names : Table) (column : ℕ) (e : Tag × ℕ) → IsEntry e
-      → Spells names (record { column = column; bytes = f e ++ 9 ∷ [] }) (part, e)
+-- what the entries of a text are written as
+pub record IsWritten (text : PartEntry → List ℕ) : Type 0 where
+  pub bytes : (e : PartEntry) → IsEntry e.1 → Text (text e)
+  pub spells : (names : Table) (column : ℕ) (e : PartEntry) → IsEntry e.1
+      → Spells names (record { column = column; bytes = text e }) e
+  pub with_tab : (names : Table) (column : ℕ) (e : PartEntry) → IsEntry e.1
+      → Spells names (record { column = column; bytes = text e ++ 9 ∷ [] }) e
 
--- a tab behind the last field
-tab_behind : (w q : List ℕ) (p : ℕ) → fields_text w q (perm_text p ++ 9 ∷ [])
-    ≡ fields_text w q (perm_text p) ++ 9 ∷ []
-tab_behind w q p =
-    sym (append_assoc w (58 ∷ (q ++ 58 ∷ perm_text p)) (9 ∷ [])
-    ∙ ap (λ (xs : List ℕ). w ++ 58 ∷ xs) (append_assoc q (58 ∷ perm_text p) (9 ∷ [])))
+-- an entry with the mark of a default entry, words for the tags, and these bytes as the last field
+abbrev pub with_last : List ℕ → (Tag → List ℕ) → PartEntry → List ℕ → List ℕ
+with_last mark word (parts.Access, (t, p)) ps = fields_text (word t) (qualifier_text t) ps
+with_last mark word (parts.Default, (t, p)) ps = mark ++ 58 ∷ fields_text (word t) (qualifier_text t) ps
 
-access_written : (f : Tag → List ℕ) → ((t : Tag) → IsWordOf t (f t))
-    → IsWritten parts.Access (λ e. fields_text (f e.0) (qualifier_text e.0) (perm_text e.1))
-access_written f is = record {
-  text = λ e h. fields_are_text (f e.0) (qualifier_text e.0) e.1 (is e.0).plain (qualifier_plain e.0 h.0) h.1;
-  filled = λ e rest. ap is_all_blank (append_assoc (f e.0) (58 ∷ (qualifier_text e.0 ++ 58 ∷ perm_text e.1)) rest)
-      ∙ starts_filled (f e.0) ((58 ∷ (qualifier_text e.0 ++ 58 ∷ perm_text e.1)) ++ rest) (is e.0).plain
-      (is e.0).some_byte;
-  spells = λ names column e h. access_spelled names column (f e.0) e.0 (qualifier_text e.0) e.1 (perm_text e.1)
-      (written_qualifier e.0 h.0) h.1 (is e.0) (perm_alone e.1 h.1);
+-- an entry with the mark of a default entry and words for the tags
+abbrev pub written : List ℕ → (Tag → List ℕ) → PartEntry → List ℕ
+written mark word e = with_last mark word e (perm_text e.1.1)
+
+bytes_of : (mark : List ℕ) (word : Tag → List ℕ) → IsMark mark → ((t : Tag) → IsWordOf (tag_row t).word (word t))
+    → (e : PartEntry) → IsEntry e.1 → Text (written mark word e)
+bytes_of mark word marks is (parts.Access, (t, p)) h =
+    fields_are_text (word t) (qualifier_text t) p (is t).plain (qualifier_plain t h.0) h.1
+bytes_of mark word marks is (parts.Default, (t, p)) h =
+    text_append mark (58 ∷ fields_text (word t) (qualifier_text t) (perm_text p)) (text_from_plain mark marks.plain)
+    (fields_are_text (word t) (qualifier_text t) p (is t).plain (qualifier_plain t h.0) h.1)
+
+last_spells : (mark : List ℕ) (word : Tag → List ℕ) → IsMark mark → ((t : Tag) → IsWordOf (tag_row t).word (word t))
+    → (names : Table) (column : ℕ) (e : PartEntry) (ps : List ℕ) → IsEntry e.1 → IsPermText e.1.1 ps
+    → Spells names (record { column = column; bytes = with_last mark word e ps }) e
+last_spells mark word marks is names column (parts.Access, (t, p)) ps h perm =
+    access_spelled names column (word t) t (qualifier_text t) p ps (written_qualifier t h.0) h.1 (is t) perm
+last_spells mark word marks is names column (parts.Default, (t, p)) ps h perm =
+    default_spelled names column mark (word t) t (qualifier_text t) p ps marks (written_qualifier t h.0) h.1 (is t) perm
+
+tab_behind : (mark : List ℕ) (word : Tag → List ℕ) (e : PartEntry)
+    → with_last mark word e (perm_text e.1.1 ++ 9 ∷ []) ≡ written mark word e ++ 9 ∷ []
+tab_behind mark word (parts.Access, e) = simp append_assoc
+tab_behind mark word (parts.Default, e) = simp append_assoc
+
+is_written : (mark : List ℕ) (word : Tag → List ℕ) → IsMark mark → ((t : Tag) → IsWordOf (tag_row t).word (word t))
+    → IsWritten (written mark word)
+is_written mark word marks is = record {
+  bytes = bytes_of mark word marks is;
+  spells = λ names column e h. last_spells mark word marks is names column e (perm_text e.1.1) h (perm_alone e.1.1 h.1);
   with_tab = λ names column e h.
-      subst (λ (bs : List ℕ). Spells names (record { column = column; bytes = bs }) (parts.Access, e))
-      (tab_behind (f e.0) (qualifier_text e.0) e.1)
-      (access_spelled names column (f e.0) e.0 (qualifier_text e.0) e.1 (perm_text e.1 ++ 9 ∷ [])
-      (written_qualifier e.0 h.0) h.1 (is e.0) (perm_tab e.1 h.1));
+      subst (λ (bs : List ℕ). Spells names (record { column = column; bytes = bs }) e) (tab_behind mark word e)
+      (last_spells mark word marks is names column e (perm_text e.1.1 ++ 9 ∷ []) h (perm_tab e.1.1 h.1));
 }
 
-default_written : (d : List ℕ) (f : Tag → List ℕ) → IsMark d → ((t : Tag) → IsWordOf t (f t))
-    → IsWritten parts.Default (λ e. d ++ 58 ∷ fields_text (f e.0) (qualifier_text e.0) (perm_text e.1))
-default_written d f mark is = record {
-  text = λ e h. text_append d (58 ∷ fields_text (f e.0) (qualifier_text e.0) (perm_text e.1))
-      (text_from_plain d mark.plain)
-      (fields_are_text (f e.0) (qualifier_text e.0) e.1 (is e.0).plain (qualifier_plain e.0 h.0) h.1);
-  filled = λ e rest. ap is_all_blank
-      (append_assoc d (58 ∷ fields_text (f e.0) (qualifier_text e.0) (perm_text e.1)) rest)
-      ∙ starts_filled d ((58 ∷ fields_text (f e.0) (qualifier_text e.0) (perm_text e.1)) ++ rest) mark.plain
-      mark.some_byte;
-  spells = λ names column e h. default_spelled names column d (f e.0) e.0 (qualifier_text e.0) e.1 (perm_text e.1) mark
-      (written_qualifier e.0 h.0) h.1 (is e.0) (perm_alone e.1 h.1);
-  with_tab = λ names column e h.
-      subst (λ (bs : List ℕ). Spells names (record { column = column; bytes = bs }) (parts.Default, e))
-      (ap (λ (bs : List ℕ). d ++ 58 ∷ bs) (tab_behind (f e.0) (qualifier_text e.0) e.1)
-      ∙ sym (append_assoc d (58 ∷ fields_text (f e.0) (qualifier_text e.0) (perm_text e.1)) (9 ∷ [])))
-      (default_spelled names column d (f e.0) e.0 (qualifier_text e.0) e.1 (perm_text e.1 ++ 9 ∷ []) mark
-      (written_qualifier e.0 h.0) h.1 (is e.0) (perm_tab e.1 h.1));
-}
+-- an entry in the long form
+abbrev pub long : PartEntry → List ℕ
+long = written (codes "default") long_word
 
--- a long access entry reads back
-pub long_written : IsWritten parts.Access long_entry
-unfolding long_entry
-long_written = access_written long_word long_is
+-- an entry in the short form
+abbrev pub short : PartEntry → List ℕ
+short = written (codes "d") short_word
 
--- a short access entry reads back
-pub short_written : IsWritten parts.Access short_entry
-unfolding short_entry
-short_written = access_written short_word short_is
+-- an entry in the long form reads back
+pub long_written : IsWritten long
+long_written = is_written (codes "default") long_word long_mark long_is
 
--- a long default entry reads back
-pub long_default_written : IsWritten parts.Default long_default
-unfolding long_default long_entry
-long_default_written = default_written (codes "default") long_word long_mark long_is
-
--- a short default entry reads back
-pub short_default_written : IsWritten parts.Default short_default
-unfolding short_default short_entry
-short_default_written = default_written (codes "d") short_word short_mark short_is
+-- an entry in the short form reads back
+pub short_written : IsWritten short
+short_written = is_written (codes "d") short_word short_mark short_is

@@ -1,5 +1,5 @@
 -- Lines that are read in one step: the first line of a text spells its entry.
-use Rattle.acl_posix.proofs.Common.{[], and_true, ap, append_assoc, arith, Bool, Bor, codes, Decides-eqb, digits_value, drop, drop_more, eqb, false, get_or, group, IfSome, is_all_blank, is_ascii_digit, is_named, is_number, IsEntryBefore, IsFirstLine, IsIdBefore, IsPermBefore, length, length-append, length-take-le, letter_of, lines_of, List, list_all, list_all-append, long_word, MatchOption, nat_le, nat_tests, None, Option, Part, perm_text, pointwise, qualifier, refl, slice_split_at, Some, Spells, sym, Table, Tag, take, take-append-drop, take_more, take_rest, true, user, ℕ, ◌&&◌, ◌++◌, ◌+◌, ◌-◌, ◌<◌, ◌∙◌, ◌∷◌, ◌≡◌, ◌≤◌}
+use Rattle.acl_posix.proofs.Common.{[], and_true, ap, append_assoc, arith, Bool, Bor, codes, Decides-eqb, digits_value, drop, drop_more, eqb, false, get_or, group, IfSome, is_all_blank, is_ascii_digit, is_named, is_number, IsEntryBefore, IsFirstLine, IsIdBefore, IsPermBefore, length, length-append, length-take-le, letter_of, lines_of, List, list_all, long_word, MatchOption, nat_le, nat_tests, None, Option, Part, perm_text, pointwise, qualifier, refl, slice_split_at, Some, Spells, sym, Table, Tag, take, take-append-drop, take_rest, true, user, ℕ, ◌++◌, ◌+◌, ◌-◌, ◌<◌, ◌∙◌, ◌∷◌, ◌≡◌, ◌≤◌}
 use Rattle.std.proofs.lemmas.Slice.Eq.{strip_prefix_is}
 use Rattle.acl_posix.specs.declared.text_fault.Part.TheVariants as parts
 use Rattle.acl_posix.specs.Fields.{id_of}
@@ -16,14 +16,6 @@ digit_is_plain b h = grind (arith, nat_tests)
 digits_plain : (bs : List ℕ) → list_all is_ascii_digit bs ≡ true → Plain bs
 digits_plain [] h = refl
 digits_plain (b ∷ bs) h = let both = and_true _ _ h in rw (digit_is_plain b both.0) (digits_plain bs both.1)
-
--- digits with one more behind them are digits
-pub digits_more : (bs : List ℕ) (i : ℕ) → i < length bs → list_all is_ascii_digit (take i bs) ≡ true
-    → is_ascii_digit (get_or bs i 0) ≡ true → list_all is_ascii_digit (take (i + 1) bs) ≡ true
-digits_more bs i lt h is =
-    ap (list_all is_ascii_digit) (take_more bs i 0 lt)
-    ∙ list_all-append is_ascii_digit (take i bs) (get_or bs i 0 ∷ [])
-    ∙ ap (λ t. t && (is_ascii_digit (get_or bs i 0) && true)) h ∙ ap (λ t. t && true) is
 
 -- some digits are a number
 number_of : (bs : List ℕ) → 0 < length bs → list_all is_ascii_digit bs ≡ true → is_number bs ≡ true

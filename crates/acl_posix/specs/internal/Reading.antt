@@ -1,8 +1,7 @@
 -- How the code reads pieces one after the other, as functions (this library's own). What public clauses say about texts
 -- is in Grammar and TextFault.
-use Rattle.std.specs.Prelude.{ℕ, ◌≡◌, ◌+◌, ◌<◌, ◌≤◌, ◌==◌, List, [], ◌∷◌, ◌++◌, length, Option, Some, None, Result, Ok, Err, option_map, ok_or, if◌then◌else◌}
+use Rattle.std.specs.Prelude.{ℕ, ◌≡◌, ◌+◌, ◌<◌, ◌≤◌, ◌==◌, List, [], ◌∷◌, ◌++◌, length, Option, Some, None, Result, Ok, Err, ok_or, if◌then◌else◌}
 use Rattle.std.specs.Borrow.{Bor}
-use Rattle.std.specs.FinMap as fin
 use Rattle.acl_perm.specs.declared.lines.Piece.{Piece}
 use Rattle.acl_perm.specs.Lines.{Span, span_of, cut_at, lines_of, start_of, trimmed, is_all_blank}
 use Rattle.acl_perm.specs.internal.Steps.{◌>>=◌}
@@ -19,9 +18,9 @@ use Rattle.acl_posix.specs.Tag.{Tag, user_obj, user, group_obj, group, mask, oth
 use Rattle.acl_posix.specs.Entries.{pair_of, pairs}
 use Rattle.acl_posix.specs.Valid.{IsFaultOf}
 use Rattle.acl_posix.specs.Names.{Table, Ids, is_number}
-use Rattle.acl_posix.specs.Fields.{word_of, id_of, permissions_of}
+use Rattle.acl_posix.specs.Fields.{word_of, id_in, permissions_of}
 use Rattle.acl_posix.specs.Grammar.{TextPiece, EntryFields, fields_of, PartEntry, line_pieces, numbered, pieces_from, colon}
-use Rattle.acl_posix.specs.TextFault.{acl_fault}
+use Rattle.acl_posix.specs.TextFault.{acl_fault, qualifier_names}
 
 -- the tag word of a field, or its fault
 unfoldable pub read_word : ℕ → Span → Result TagWord TextFault
@@ -31,25 +30,38 @@ read_word line span = ok_or (word_of (trimmed span.bytes)) (faults.Tag line (sta
 unfoldable pub read_permissions : ℕ → Span → Result ℕ TextFault
 read_permissions line span = ok_or (permissions_of (trimmed span.bytes)) (faults.Permission line (start_of span))
 
--- a tag word that may have a qualifier: its tag without one, and its tag with an id
-abbrev pub read_named : Tag → (ℕ → Tag) → Ids → ℕ → Span → Result Tag TextFault
-read_named alone of_id ids line span =
-    if length (trimmed span.bytes) == 0 then Ok alone
-    else (if is_number (trimmed span.bytes)
-    then ok_or (option_map of_id (id_of (trimmed span.bytes))) (faults.Id line (start_of span))
-    else ok_or (option_map of_id (fin.get ids (trimmed span.bytes))) (faults.UnknownName line (start_of span)))
+-- the tag of a word without a qualifier
+abbrev pub tag_alone : TagWord → Tag
+tag_alone word.User = user_obj
+tag_alone word.Group = group_obj
+tag_alone word.Mask = mask
+tag_alone word.Other = other
 
--- a tag that has no qualifier
-abbrev pub read_unnamed : Tag → ℕ → Span → Result Tag TextFault
-read_unnamed tag line span =
-    if length (trimmed span.bytes) == 0 then Ok tag else Err (faults.Qualifier line (start_of span))
+-- the tag of a word with an id, if the word can have one
+abbrev pub tag_with : TagWord → ℕ → Tag
+tag_with word.User id = user id
+tag_with word.Group id = group id
+tag_with word.Mask id = mask
+tag_with word.Other id = other
+
+-- the id of a qualifier, which may be one of these names, or its fault; a tag word without names has no qualifier
+abbrev pub read_qualifier : Option Ids → ℕ → Span → Result ℕ TextFault
+read_qualifier None line span = Err (faults.Qualifier line (start_of span))
+read_qualifier (Some ids) line span =
+    ok_or (id_in ids (trimmed span.bytes))
+    (if is_number (trimmed span.bytes) then faults.Id line (start_of span)
+    else faults.UnknownName line (start_of span))
+
+-- what code read, as the definitions have it
+abbrev pub mapped : {A B : Type 0} → (A → B) → Result A TextFault → Result B TextFault
+mapped f (Ok x) = Ok (f x)
+mapped f (Err fault) = Err fault
 
 -- the tag of a word and a qualifier, or its fault
 unfoldable pub read_tag : Table → ℕ → Span → TagWord → Result Tag TextFault
-read_tag names line span word.User = read_named user_obj (λ id. user id) names.users line span
-read_tag names line span word.Group = read_named group_obj (λ id. group id) names.groups line span
-read_tag names line span word.Mask = read_unnamed mask line span
-read_tag names line span word.Other = read_unnamed other line span
+read_tag names line span tag_word =
+    if length (trimmed span.bytes) == 0 then Ok (tag_alone tag_word)
+    else mapped (tag_with tag_word) (read_qualifier (qualifier_names names tag_word) line span)
 
 -- the fields that the code cuts, as the grammar has them
 abbrev pub view_fields : EntryPieces → EntryFields
@@ -70,11 +82,16 @@ pub record FieldsFit (fields : EntryPieces) (whole : Piece) : Type 0 where
   pub qualifier : FitsIn fields.qualifier whole
   pub permissions : FitsIn fields.permissions whole
 
+-- the tag of the first two fields, or its fault
+abbrev pub read_both : Table → ℕ → EntryFields → Result Tag TextFault
+read_both names line fields = do
+  tag_word ← read_word line fields.tag
+  read_tag names line fields.qualifier tag_word
+
 -- the entry of three fields
 abbrev pub read_three : Table → ℕ → EntryFields → Result PartEntry TextFault
 read_three names line fields = do
-  tag_word ← read_word line fields.tag
-  tag ← read_tag names line fields.qualifier tag_word
+  tag ← read_both names line fields
   perm ← read_permissions line fields.permissions
   Ok (fields.part, (tag, perm))
 
@@ -92,11 +109,6 @@ read_piece names line piece =
 -- an entry of code with its part
 abbrev pub view_entry : Part × Entry → PartEntry
 view_entry entry = (entry.0, pair_of entry.1)
-
--- what code read, as the definitions have it
-abbrev pub mapped : {A B : Type 0} → (A → B) → Result A TextFault → Result B TextFault
-mapped f (Ok x) = Ok (f x)
-mapped f (Err fault) = Err fault
 
 -- the entries of each part, in the order read
 pub record Lists : Type 0 where

@@ -1,13 +1,13 @@
 -- How the code puts a text together, one entry after the other (this library's own). What public clauses say about the
 -- texts is in Texts.
-use Rattle.std.specs.Prelude.{ℕ, ◌≡◌, ◌+◌, Bool, true, false, List, [], ◌∷◌, ◌++◌, codes, drop, length, bit_and, unwrap_or, Option, Some, None, if◌then◌else◌}
+use Rattle.std.specs.Prelude.{ℕ, ◌≡◌, ◌+◌, Bool, true, false, List, [], ◌∷◌, ◌++◌, codes, drop, length, Option, Some, None, if◌then◌else◌}
 use Rattle.std.specs.FinMap as set
 use Rattle.acl_perm.specs.Ascii.{line_feed}
 use Rattle.acl_posix.specs.declared.form.Form.{Form}
 use Rattle.acl_posix.specs.declared.form.Form.TheVariants.{Canonical, Shown, Short}
 use Rattle.acl_posix.specs.declared.text_fault.Part.{Part}
 use Rattle.acl_posix.specs.declared.text_fault.Part.TheVariants.{Access, Default}
-use Rattle.acl_posix.specs.Tag.{Tag, is_masked}
+use Rattle.acl_posix.specs.Tag.{Tag}
 use Rattle.acl_posix.specs.Entries.{Entries}
 use Rattle.acl_posix.specs.Mask.{effective_of}
 use Rattle.acl_posix.specs.Texts.{long_word, short_word, entry_text, mark_text}
@@ -48,10 +48,6 @@ lead_room = 8
 pub record IsPut (bytes old new : List ℕ) (end start : ℕ) : Type 0 where
   pub begins : start + length bytes ≡ end
   pub written : drop start new ≡ bytes ++ drop end old
-
--- the permissions of an entry that a mask leaves, if there is a mask
-abbrev pub masked_by : Option ℕ → Tag × ℕ → ℕ
-masked_by mask entry = if is_masked entry.0 then bit_and entry.1 (unwrap_or mask entry.1) else entry.1
 
 -- the bytes before an entry: a comma before each entry of a short text except the first, and the mark of a default
 -- entry

@@ -147,7 +147,7 @@ pub fn changed_entries<A: Abort>(rt: &A, memory: Memory) {
 }
 
 #[test]
-fn modes_and_masks_are_set_or_memory_is_wanting(rt: HostRuntime) {
+fn modes_and_masks_are_set_unless_memory_runs_out(rt: HostRuntime) {
     let memory = Memory::scarce(rt.alloc());
     effective_permissions(&rt, memory);
     modes(&rt, memory);
@@ -156,7 +156,7 @@ fn modes_and_masks_are_set_or_memory_is_wanting(rt: HostRuntime) {
 }
 
 #[test]
-fn a_mask_is_added_or_nothing_is(rt: HostRuntime) {
+fn a_call_that_fails_adds_no_mask(rt: HostRuntime) {
     let memory = Memory::scarce(rt.alloc());
     // A copy has no spare room, so another entry takes memory.
     let Ok(Ok(mut acl)) = memory.acl(NO_OWNER).map(|acl| acl.copy(memory.alloc)) else {

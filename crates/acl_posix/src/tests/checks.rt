@@ -64,6 +64,6 @@ pub fn requests<A: Abort>(rt: &A, memory: Memory) {
 }
 
 #[test]
-fn requests_are_answered_or_memory_is_wanting(rt: HostRuntime) {
+fn requests_are_answered_unless_memory_runs_out(rt: HostRuntime) {
     requests(&rt, Memory::scarce(rt.alloc()));
 }

@@ -75,7 +75,7 @@ const MESSAGES: [(AclFault, &str); 5] = [
     (AclFault::Memory, "out of memory"),
 ];
 
-fn is_told(memory: Memory, fault: AclFault, message: &str) -> bool {
+fn has_message(memory: Memory, fault: AclFault, message: &str) -> bool {
     match fault.to_string(memory.alloc) {
         Ok(text) => text.as_str() == message,
         Err(_) => !memory.is_ample,
@@ -85,12 +85,12 @@ fn is_told(memory: Memory, fault: AclFault, message: &str) -> bool {
 /// Each fault has this message.
 pub fn messages<A: Abort>(rt: &A, memory: Memory) {
     for (fault, message) in MESSAGES {
-        assert!(rt; is_told(memory, fault, message), "of {message}");
+        assert!(rt; has_message(memory, fault, message), "of {message}");
     }
 }
 
 #[test]
-fn valid_lists_are_taken_and_others_refused_or_memory_is_wanting(rt: HostRuntime) {
+fn valid_lists_are_accepted_and_others_are_refused_unless_memory_runs_out(rt: HostRuntime) {
     let memory = Memory::scarce(rt.alloc());
     whole_lists(&rt, memory);
     cut_lists(&rt, memory);

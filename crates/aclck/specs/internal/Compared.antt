@@ -2,7 +2,7 @@
 use Rattle.std.specs.Prelude.{List, ℕ, Option, Some, None}
 use Rattle.acl_normal.specs.Difference.{situation_of}
 use Rattle.acl_normal.specs.declared.comparison.Difference.{Difference}
-use Rattle.aclck.specs.Compare.{difference_text, same_text}
+use Rattle.aclck.specs.commands.Compare.{difference_text, same_text}
 use Rattle.aclck.specs.declared.answer.Outcome.{Outcome}
 use Rattle.aclck.specs.declared.answer.Outcome.TheVariants as outcome
 

@@ -12,7 +12,7 @@ use Rattle.acl_nfs4.specs.Stream.{IsCutShort}
 use Rattle.acl_nfs4.specs.declared.xdr.fault.Fault.{Fault}
 use Rattle.acl_nfs4.specs.declared.xdr.fault.Reason.TheVariants.{Memory, TrailingBytes, Truncated}
 use Rattle.aclck.specs.Answer.{IsXdrFault, cause_of, has_read_failed, is_read}
-use Rattle.aclck.specs.Compare.{IsRefusedTwo}
+use Rattle.aclck.specs.commands.Compare.{IsRefusedTwo}
 use Rattle.aclck.specs.ListInput.{AreOpen, IsOpen, ListEnds, RefusalEnds, TakesPart, TakesTo, TwoEnd, ValueEnds, piece_len}
 use Rattle.aclck.specs.declared.answer.Cause.{Cause}
 use Rattle.aclck.specs.declared.answer.Cause.TheVariants as cause

@@ -1,10 +1,10 @@
 //! The files that POSIX texts spell, and the texts of files.
-ghost use Rattle.std.specs.Prelude.{◌≡◌, ◌⊎◌, IfErr, IfOk, OnOk, true};
 ghost use Rattle.std.specs.Io.KnownBytes.{IsAtEnd};
-ghost use Rattle.acl_perm.specs.Devices.{failures_after};
 ghost use Rattle.acl_posix.specs.Grammar.{Reads};
 ghost use Rattle.acl_posix.specs.Programs.{file_text};
-ghost use Rattle.aclck.specs.Answer.{has_read_failed, is_input_fault};
+ghost use Rattle.std.specs.Prelude.{◌≡◌, ◌⊎◌};
+ghost use Rattle.aclck.specs.Common.{IfErr, IfOk, OnOk, failures_after, is_input_fault, true};
+ghost use Rattle.aclck.specs.Answer.{has_read_failed};
 ghost use Rattle.aclck.specs.PosixAnswer.{IsPosixFault};
 ghost use Rattle.aclck.specs.internal.Reading.{HasInput};
 ghost use Rattle.aclck.specs.internal.Files.{IsNoFile};

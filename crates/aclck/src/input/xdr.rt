@@ -1,14 +1,13 @@
 //! Lists that an input spells, read as they arrive.
-ghost use Rattle.std.specs.Prelude.{◌≡◌, ◌⊎◌, ◌<◌, ◌≤◌, ◌^◌, [], IfErr, IfOk, Ok, OnErr, OnOk, drop, false, length, true};
+ghost use Rattle.std.specs.Prelude.{◌≡◌, ◌⊎◌, ◌<◌, ◌≤◌, ◌^◌, Ok, OnErr, drop, length};
 ghost use Rattle.std.specs.Io.KnownBytes.{Consumes, IsAtEnd, Keeps};
-ghost use Rattle.acl_perm.specs.Devices.{failures_after};
-ghost use Rattle.acl_perm.specs.Profile.{profile_of};
 ghost use Rattle.acl_nfs4.specs.Spelling.{Xdr};
 ghost use Rattle.acl_nfs4.specs.Stream.{FinishesStream};
-ghost use Rattle.aclck.specs.Compare.{AreTwo};
-ghost use Rattle.aclck.specs.ListInput.{piece_len};
-ghost use Rattle.aclck.specs.internal.Reading.{EndsNot, ReadsInput, ReadsNone, ReadsValue, StandsBelow, has_pull_failed, later, one_list_input, two_list_input};
 ghost use Rattle.acl_nfs4.specs.internal.Progress.{IsBytes};
+ghost use Rattle.aclck.specs.Common.{[], IfErr, IfOk, OnOk, failures_after, false, profile_of, true};
+ghost use Rattle.aclck.specs.commands.Compare.{AreTwo};
+ghost use Rattle.aclck.specs.ListInput.{piece_len};
+ghost use Rattle.aclck.specs.internal.Reading.{EndsNot, IsTold, ReadsInput, ReadsNone, ReadsValue, StandsBelow, has_pull_failed, later, one_list_input, told, two_list_input};
 
 use crate::answer::RunFault;
 use acl_nfs4::{Acl, Fault, Fed, Feed, Reason};
@@ -26,9 +25,6 @@ pub(crate) enum ListFault {
 }
 
 impl From<ListFault> for RunFault {
-    ghost use Rattle.std.specs.Prelude.{◌≡◌};
-    ghost use Rattle.aclck.specs.internal.Reading.{told};
-
     ghost from_gives = { λ fault run. run ≡ told fault };
 
     fn from(fault: ListFault) -> RunFault {
@@ -41,8 +37,6 @@ impl From<ListFault> for RunFault {
 }
 
 impl From<Fault> for ListFault {
-    ghost use Rattle.aclck.specs.internal.Reading.{IsTold};
-
     ghost from_gives = { λ fault list. IsTold list fault };
 
     fn from(fault: Fault) -> ListFault {

@@ -1,6 +1,6 @@
 //! `bridge`: the NFSv4 list of a POSIX ACL.
-ghost use Rattle.aclck.specs.Run.{Runs, of_text};
-ghost use Rattle.aclck.specs.Bridge.{BridgeAnswer};
+ghost use Rattle.aclck.specs.Common.{Runs, of_text};
+ghost use Rattle.aclck.specs.commands.Bridge.{BridgeAnswer};
 
 use crate::answer::{Outcome, RunFault, tell_list};
 use crate::input::posix::read_file;

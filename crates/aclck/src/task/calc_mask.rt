@@ -1,6 +1,6 @@
 //! `calc-mask`: the canonical text of a file with its mask calculated.
-ghost use Rattle.aclck.specs.Run.{Runs, of_text};
-ghost use Rattle.aclck.specs.CalcMask.{CalcMaskAnswer};
+ghost use Rattle.aclck.specs.Common.{Runs, of_text};
+ghost use Rattle.aclck.specs.commands.CalcMask.{CalcMaskAnswer};
 
 use crate::answer::{Outcome, RunFault};
 use crate::input::posix::{read_file, write_file};

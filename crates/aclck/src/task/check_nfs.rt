@@ -1,18 +1,17 @@
 //! `check-nfs`: whether a list grants a request.
-ghost use Rattle.std.specs.Prelude.{◌≡◌, ◌↔◌, IfOk, IsTrue, option_and_then, option_map};
-ghost use Rattle.acl_perm.specs.Profile.{profile_of};
-ghost use Rattle.aclck.specs.Run.{Runs, of_list};
-ghost use Rattle.aclck.specs.Line.{ReadsValues, rows_in, text_if_any, texts};
-ghost use Rattle.aclck.specs.Values.{mask_value, mask_within};
+ghost use Rattle.std.specs.Prelude.{◌≡◌, ◌↔◌, IsTrue};
 ghost use Rattle.acl_eval.specs.Grant.{Grant};
 ghost use Rattle.acl_eval.specs.Situation.{situation};
-ghost use Rattle.aclck.specs.Answer.{is_yes};
-ghost use Rattle.aclck.specs.CheckNfs.{CheckNfsAnswer, check_nfs_held, check_nfs_in, object_named, object_names, requester_named, requester_names};
+ghost use Rattle.aclck.specs.Common.{IfOk, ReadsValues, Runs, is_yes, of_list, option_and_then, option_map, profile_of, rows_in, text_if_any, texts};
+ghost use Rattle.aclck.specs.Values.{mask_value, mask_within};
+ghost use Rattle.aclck.specs.commands.CheckNfs.{CheckNfsAnswer, check_nfs_held, check_nfs_in, object_named, object_names, requester_named, requester_names};
 
 use crate::answer::{Outcome, RunFault, decision_line};
 use crate::input::xdr::read_list;
 use crate::line::{Argument, LineFault, text_of};
-use crate::words::profile::{PROFILE, profile_in};
+use crate::words::options::{GROUP, MASK, OWNER, PROFILE, USER};
+use crate::words::profile::profile_in;
+use crate::words::values::within;
 use acl_eval::{Object, Requester, grants_by_table};
 use acl_nfs4::{Acl, read_mask};
 use acl_perm::{Mask, Profile, Sink, Source, put_all};
@@ -23,14 +22,7 @@ use std::alloc::{AllocError, Global};
 pub(crate) const WORD: &str = "check-nfs";
 
 /// The arguments of `check-nfs`.
-pub(crate) const ARGUMENTS: [Argument; 6] = [
-    Argument::Required("owner"),
-    Argument::Required("group"),
-    Argument::Required("user"),
-    Argument::Required("mask"),
-    PROFILE,
-    Argument::Words,
-];
+pub(crate) const ARGUMENTS: [Argument; 6] = [OWNER, GROUP, USER, MASK, PROFILE, Argument::Words];
 
 /// The object, the requester, the rights that are requested, and the profile.
 #[derive(Clone, Copy, Debug)]
@@ -42,7 +34,7 @@ pub struct CheckNfs<'a> {
 }
 
 /// Returns the values that the words give.
-#[tactic(auto, unfolding(crate::specs::CheckNfs::check_nfs_in))]
+#[tactic(auto, unfolding(crate::specs::commands::CheckNfs::check_nfs_in))]
 pub(crate) fn read<'a, 'w: 'a>(
     matches: &ArgMatches<'w>,
     groups: &'a [&'a [u8]],
@@ -50,14 +42,14 @@ pub(crate) fn read<'a, 'w: 'a>(
     ensures { ReadsValues check_nfs_held (check_nfs_in (rows_in matches.now)
         (texts groups.entry.now)) result }
 {
-    let Some(object) = object_of(text_of(matches, "owner"), text_of(matches, "group")) else {
+    let Some(object) = object_of(text_of(matches, OWNER), text_of(matches, GROUP)) else {
         return Err(LineFault::Usage);
     };
-    let Some(requester) = requester_of(text_of(matches, "user"), groups) else {
+    let Some(requester) = requester_of(text_of(matches, USER), groups) else {
         return Err(LineFault::Usage);
     };
     let profile = profile_in(matches)?;
-    let mask = mask_in(text_of(matches, "mask"), profile.masks).ok_or(LineFault::Usage)?;
+    let mask = mask_in(text_of(matches, MASK), profile.masks).ok_or(LineFault::Usage)?;
     Ok(CheckNfs {
         object,
         requester,
@@ -87,23 +79,12 @@ fn requester_of_bytes<'a>(user: &'a [u8], groups: &'a [&'a [u8]]) -> Option<Requ
     Requester::new(user, groups)
 }
 
+// The value of `--mask`, if all its rights are among these.
 fn mask_in(word: Option<&str>, rights: Mask) -> Option<Mask>
     ensures { option_map (λ mask. mask.bits) result
         ≡ option_and_then (mask_within rights.bits) (text_if_any word.entry) }
 {
-    mask_within(word?, rights)
-}
-
-// The value of `--mask`, if all its rights are among these.
-fn mask_within(word: &str, rights: Mask) -> Option<Mask>
-    ensures { option_map (λ mask. mask.bits) result ≡ mask_within rights.bits word.now }
-{
-    let mask = mask_value(word)?;
-    if rights.contains(mask) {
-        Some(mask)
-    } else {
-        None
-    }
+    within(rights, mask_value(word?)?)
 }
 
 // The value of `--mask`: `none`, or names of rights with `|` between them. None if the word is neither.
@@ -129,7 +110,8 @@ pub fn run_check_nfs<S: Source, K: Sink>(
     sink: &mut K,
     task: &CheckNfs<'_>,
 ) -> Result<Outcome, RunFault>
-    ensures { Runs (CheckNfsAnswer (check_nfs_held task.now)) (of_list (profile_of task.now.profile))
+    ensures { Runs (CheckNfsAnswer (check_nfs_held task.now))
+        (of_list (profile_of task.now.profile))
         S.remaining S.failure_count source.old source.new
         K.contents K.failure_count sink.old sink.new result }
 {

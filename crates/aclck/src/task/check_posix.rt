@@ -1,17 +1,17 @@
 //! `check-posix`: whether the access part of a text grants a request.
-ghost use Rattle.std.specs.Prelude.{◌≡◌, ◌==◌, IfOk, count_by, option_and_then, option_map};
+ghost use Rattle.std.specs.Prelude.{◌≡◌, ◌==◌, count_by};
 ghost use Rattle.std.specs.List.{list_all, slice_split};
 ghost use Rattle.acl_posix.specs.Check.{ids};
 ghost use Rattle.acl_posix.specs.Grammar.{comma};
-ghost use Rattle.aclck.specs.Run.{Runs, of_text};
-ghost use Rattle.aclck.specs.Line.{ReadsValues, rows_in, text_if_any, texts};
+ghost use Rattle.aclck.specs.Common.{IfOk, ReadsValues, Runs, of_text, option_and_then, option_map, rows_in, text_if_any, texts};
 ghost use Rattle.aclck.specs.Values.{each_value, id_value, ids_value, is_letter, letters_value, want_value};
-ghost use Rattle.aclck.specs.CheckPosix.{CheckPosixAnswer, check_posix_held, check_posix_in, groups_value};
+ghost use Rattle.aclck.specs.commands.CheckPosix.{CheckPosixAnswer, check_posix_held, check_posix_in, groups_value};
 
 use crate::answer::{Outcome, RunFault, decision_line, tell};
 use crate::input::posix::read_file;
 use crate::line::{Argument, LineFault, text_of};
 use crate::words::names::names_in;
+use crate::words::options::{GROUP, GROUPS, OWNER, USER, WANT};
 use crate::words::values::id_value;
 use acl_perm::{Perm, Sink, Source};
 use acl_posix::{Id, Names};
@@ -22,14 +22,7 @@ use std::alloc::{AllocError, Global};
 pub(crate) const WORD: &str = "check-posix";
 
 /// The arguments of `check-posix`.
-pub(crate) const ARGUMENTS: [Argument; 6] = [
-    Argument::Required("owner"),
-    Argument::Required("group"),
-    Argument::Required("user"),
-    Argument::Optional("groups"),
-    Argument::Required("want"),
-    Argument::Words,
-];
+pub(crate) const ARGUMENTS: [Argument; 6] = [OWNER, GROUP, USER, GROUPS, WANT, Argument::Words];
 
 /// The object by its owner and its owning group, the requester, the permissions that are requested, and which names a
 /// text may have.
@@ -44,16 +37,16 @@ pub struct CheckPosix {
 }
 
 /// Returns the values that the words give.
-#[tactic(auto, unfolding(crate::specs::CheckPosix::check_posix_in))]
+#[tactic(auto, unfolding(crate::specs::commands::CheckPosix::check_posix_in))]
 pub(crate) fn read(alloc: Global, matches: &ArgMatches<'_>) -> Result<CheckPosix, LineFault>
     ensures { ReadsValues check_posix_held (check_posix_in (rows_in matches.now)) result }
 {
     Ok(CheckPosix {
-        owner: id_in(text_of(matches, "owner"))?,
-        group: id_in(text_of(matches, "group"))?,
-        user: id_in(text_of(matches, "user"))?,
-        groups: groups_in(alloc, text_of(matches, "groups"))?,
-        want: text_of(matches, "want")
+        owner: id_in(text_of(matches, OWNER))?,
+        group: id_in(text_of(matches, GROUP))?,
+        user: id_in(text_of(matches, USER))?,
+        groups: groups_in(alloc, text_of(matches, GROUPS))?,
+        want: text_of(matches, WANT)
             .and_then(want_value)
             .ok_or(LineFault::Usage)?,
         names: names_in(alloc, matches)?,
@@ -61,7 +54,8 @@ pub(crate) fn read(alloc: Global, matches: &ArgMatches<'_>) -> Result<CheckPosix
 }
 
 fn id_in(word: Option<&str>) -> Result<Id, LineFault>
-    ensures { ReadsValues (λ id. id.value) (option_and_then id_value (text_if_any word.entry)) result }
+    ensures { ReadsValues (λ id. id.value)
+        (option_and_then id_value (text_if_any word.entry)) result }
 {
     word.and_then(id_value).ok_or(LineFault::Usage)
 }

@@ -1,14 +1,13 @@
 //! `child`: the list that a new object gets from its directory.
 ghost use Rattle.std.specs.Prelude.{◌≡◌};
-ghost use Rattle.acl_perm.specs.Profile.{profile_of};
-ghost use Rattle.aclck.specs.Run.{Runs, of_list};
-ghost use Rattle.aclck.specs.Line.{ReadsValues, rows_in};
-ghost use Rattle.aclck.specs.Child.{ChildAnswer, child_held, child_in, kind_value};
+ghost use Rattle.aclck.specs.Common.{ReadsValues, Runs, of_list, profile_of, rows_in};
+ghost use Rattle.aclck.specs.commands.Child.{ChildAnswer, child_held, child_in, kind_value};
 
 use crate::answer::{Outcome, RunFault};
 use crate::input::xdr::read_list;
 use crate::line::{Argument, LineFault, text_of};
-use crate::words::profile::{PROFILE, profile_in};
+use crate::words::options::{KIND, PROFILE};
+use crate::words::profile::profile_in;
 use acl_eval::{ChildKind, child};
 use acl_perm::{Profile, Sink, Source};
 use clap::ArgMatches;
@@ -18,7 +17,7 @@ use std::alloc::Global;
 pub(crate) const WORD: &str = "child";
 
 /// The arguments of `child`.
-pub(crate) const ARGUMENTS: [Argument; 2] = [Argument::Required("kind"), PROFILE];
+pub(crate) const ARGUMENTS: [Argument; 2] = [KIND, PROFILE];
 
 /// What is created, and the profile.
 #[derive(Clone, Copy, Debug)]
@@ -28,11 +27,11 @@ pub struct Child {
 }
 
 /// Returns the values that the words give.
-#[tactic(auto, unfolding(crate::specs::Child::child_in))]
+#[tactic(auto, unfolding(crate::specs::commands::Child::child_in))]
 pub(crate) fn read(matches: &ArgMatches<'_>) -> Result<Child, LineFault>
     ensures { ReadsValues child_held (child_in (rows_in matches.now)) result }
 {
-    let kind = text_of(matches, "kind")
+    let kind = text_of(matches, KIND)
         .and_then(kind_value)
         .ok_or(LineFault::Usage)?;
     Ok(Child {
@@ -42,7 +41,7 @@ pub(crate) fn read(matches: &ArgMatches<'_>) -> Result<Child, LineFault>
 }
 
 // The value of `--kind`: `file` or `dir`. None if the word is neither.
-#[tactic(auto, unfolding(crate::specs::Child::kind_value))]
+#[tactic(auto, unfolding(crate::specs::commands::Child::kind_value))]
 fn kind_value(word: &str) -> Option<ChildKind>
     ensures { result ≡ kind_value word.now }
 {

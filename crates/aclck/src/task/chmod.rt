@@ -1,12 +1,12 @@
 //! `chmod`: the canonical text of a file with its mode set.
-ghost use Rattle.aclck.specs.Run.{Runs, of_text};
-ghost use Rattle.aclck.specs.Line.{ReadsValues, rows_in};
-ghost use Rattle.aclck.specs.Chmod.{ChmodAnswer, chmod_held, chmod_in};
+ghost use Rattle.aclck.specs.Common.{ReadsValues, Runs, of_text, rows_in};
+ghost use Rattle.aclck.specs.commands.Chmod.{ChmodAnswer, chmod_held, chmod_in};
 
 use crate::answer::{Outcome, RunFault};
 use crate::input::posix::{read_file, write_file};
 use crate::line::{Argument, LineFault, text_of};
 use crate::words::names::names_in;
+use crate::words::options::MODE;
 use crate::words::values::mode_in;
 use acl_perm::{Mode, Sink, Source};
 use acl_posix::{Form, Names};
@@ -17,7 +17,7 @@ use std::alloc::Global;
 pub(crate) const WORD: &str = "chmod";
 
 /// The arguments of `chmod`.
-pub(crate) const ARGUMENTS: [Argument; 2] = [Argument::Required("mode"), Argument::Words];
+pub(crate) const ARGUMENTS: [Argument; 2] = [MODE, Argument::Words];
 
 /// The mode, and which names a text may have.
 #[derive(Drop)]
@@ -27,11 +27,11 @@ pub struct Chmod {
 }
 
 /// Returns the values that the words give.
-#[tactic(auto, unfolding(crate::specs::Chmod::chmod_in))]
+#[tactic(auto, unfolding(crate::specs::commands::Chmod::chmod_in))]
 pub(crate) fn read(alloc: Global, matches: &ArgMatches<'_>) -> Result<Chmod, LineFault>
     ensures { ReadsValues chmod_held (chmod_in (rows_in matches.now)) result }
 {
-    let mode = mode_in(text_of(matches, "mode"))?;
+    let mode = mode_in(text_of(matches, MODE))?;
     Ok(Chmod {
         mode,
         names: names_in(alloc, matches)?,

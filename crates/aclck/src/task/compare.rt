@@ -1,11 +1,11 @@
 //! `compare`: whether two lists grant the same, and where they differ.
-ghost use Rattle.std.specs.Prelude.{◌≡◌, ◌++◌, [], codes, IfOk, OnOk, flat_map, map, unwrap_or};
-ghost use Rattle.acl_perm.specs.Profile.{profile_of};
+ghost use Rattle.std.specs.Prelude.{◌≡◌, ◌++◌, codes, flat_map, map, unwrap_or};
 ghost use Rattle.acl_nfs4.specs.BitNames.{first_name};
 ghost use Rattle.acl_nfs4.specs.Rights.{rights};
 ghost use Rattle.acl_normal.specs.Difference.{situation_of};
-ghost use Rattle.aclck.specs.Run.{Runs, of_two};
-ghost use Rattle.aclck.specs.Compare.{CompareAnswer, Compares, decision, difference_text, compare_line};
+ghost use Rattle.aclck.specs.Common.{[], IfOk, OnOk, Runs, of_two, profile_of};
+ghost use Rattle.aclck.specs.Answer.{decision};
+ghost use Rattle.aclck.specs.commands.Compare.{CompareAnswer, Compares, compare_line, difference_text};
 ghost use Rattle.aclck.specs.internal.Compared.{compared_outcome, compared_text};
 
 use crate::answer::{Outcome, RunFault};
@@ -55,7 +55,7 @@ fn answer_of(alloc: Global, lists: &TwoLists) -> Result<Compared, AllocError>
     Ok(Compared { outcome, text })
 }
 
-// The text of an answer.
+// `same`, or the lines of the difference.
 fn text_of_answer(alloc: Global, difference: &Option<Difference>) -> Result<Vec<u8>, AllocError>
     ensures { IfOk result (λ text. text.items ≡ compared_text difference.now) }
 {

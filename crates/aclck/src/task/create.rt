@@ -1,12 +1,12 @@
 //! `create`: the canonical text of a new object.
-ghost use Rattle.aclck.specs.Run.{Runs, of_text};
-ghost use Rattle.aclck.specs.Line.{ReadsValues, rows_in};
-ghost use Rattle.aclck.specs.Create.{CreateAnswer, create_held, create_in};
+ghost use Rattle.aclck.specs.Common.{ReadsValues, Runs, of_text, rows_in};
+ghost use Rattle.aclck.specs.commands.Create.{CreateAnswer, create_held, create_in};
 
 use crate::answer::{Outcome, RunFault};
 use crate::input::posix::{read_file, write_file};
 use crate::line::{Argument, LineFault, is_set, text_of};
 use crate::words::names::names_in;
+use crate::words::options::{DIR, MODE, UMASK};
 use crate::words::values::mode_in;
 use acl_perm::{Mode, Sink, Source};
 use acl_posix::{Form, Names, create};
@@ -17,12 +17,7 @@ use std::alloc::Global;
 pub(crate) const WORD: &str = "create";
 
 /// The arguments of `create`.
-pub(crate) const ARGUMENTS: [Argument; 4] = [
-    Argument::Required("mode"),
-    Argument::Required("umask"),
-    Argument::Flag("dir"),
-    Argument::Words,
-];
+pub(crate) const ARGUMENTS: [Argument; 4] = [MODE, UMASK, DIR, Argument::Words];
 
 /// The mode and the umask, whether the new object is a directory, and which names a text may have.
 #[derive(Drop)]
@@ -34,14 +29,14 @@ pub struct Create {
 }
 
 /// Returns the values that the words give.
-#[tactic(auto, unfolding(crate::specs::Create::create_in))]
+#[tactic(auto, unfolding(crate::specs::commands::Create::create_in))]
 pub(crate) fn read(alloc: Global, matches: &ArgMatches<'_>) -> Result<Create, LineFault>
     ensures { ReadsValues create_held (create_in (rows_in matches.now)) result }
 {
     Ok(Create {
-        mode: mode_in(text_of(matches, "mode"))?,
-        umask: mode_in(text_of(matches, "umask"))?,
-        dir: is_set(matches, "dir"),
+        mode: mode_in(text_of(matches, MODE))?,
+        umask: mode_in(text_of(matches, UMASK))?,
+        dir: is_set(matches, DIR),
         names: names_in(alloc, matches)?,
     })
 }

@@ -1,10 +1,8 @@
 //! `encode`: the bytes that spell the list of a text.
-ghost use Rattle.std.specs.Prelude.{◌≡◌, ◌⊎◌, IfErr, IfOk, true};
-ghost use Rattle.acl_perm.specs.Profile.{profile_of};
 ghost use Rattle.acl_nfs4.specs.AceText.{IsAceText};
-ghost use Rattle.aclck.specs.Run.{Runs, of_text};
-ghost use Rattle.aclck.specs.Answer.{is_input_fault};
-ghost use Rattle.aclck.specs.Encode.{EncodeAnswer, IsNfsTextFault};
+ghost use Rattle.std.specs.Prelude.{◌≡◌, ◌⊎◌};
+ghost use Rattle.aclck.specs.Common.{IfErr, IfOk, Runs, is_input_fault, of_text, profile_of, true};
+ghost use Rattle.aclck.specs.commands.Encode.{EncodeAnswer, IsNfsTextFault};
 
 use crate::answer::{Outcome, RunFault};
 use acl_nfs4::{AceTextFault, Acl, parse_text_with};

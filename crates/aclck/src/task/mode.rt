@@ -1,8 +1,7 @@
 //! `mode`: the mode of a list.
 ghost use Rattle.std.specs.Prelude.{◌≡◌};
-ghost use Rattle.acl_perm.specs.Profile.{profile_of};
-ghost use Rattle.aclck.specs.Run.{Runs, of_list};
-ghost use Rattle.aclck.specs.ListMode.{ModeAnswer, mode_line, octal_digit};
+ghost use Rattle.aclck.specs.Common.{Runs, of_list, profile_of};
+ghost use Rattle.aclck.specs.commands.ListMode.{ModeAnswer, mode_line, octal_digit};
 
 use crate::answer::{Outcome, RunFault};
 use crate::input::xdr::read_list;

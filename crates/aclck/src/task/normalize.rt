@@ -1,14 +1,13 @@
 //! `normalize`: the normal form of a list, or its five normal forms.
 ghost use Rattle.std.specs.Prelude.{◌≡◌};
-ghost use Rattle.acl_perm.specs.Profile.{profile_of};
-ghost use Rattle.aclck.specs.Run.{Runs, of_list};
-ghost use Rattle.aclck.specs.Line.{ReadsValues, rows_in};
-ghost use Rattle.aclck.specs.Normalize.{NormalizeAnswer, NormalizeInheritAnswer, NormalizedAnswer, normalize_held, normalize_in};
+ghost use Rattle.aclck.specs.Common.{ReadsValues, Runs, of_list, profile_of, rows_in};
+ghost use Rattle.aclck.specs.commands.Normalize.{NormalizeAnswer, NormalizeInheritAnswer, NormalizedAnswer, normalize_held, normalize_in};
 
 use crate::answer::{Outcome, RunFault};
 use crate::input::xdr::read_list;
 use crate::line::{Argument, LineFault, is_set};
-use crate::words::profile::{PROFILE, profile_in};
+use crate::words::options::{INHERIT, PROFILE};
+use crate::words::profile::profile_in;
 use acl_normal::{normalize, normalize_inherit};
 use acl_perm::{Profile, Sink, Source};
 use clap::ArgMatches;
@@ -18,7 +17,7 @@ use std::alloc::Global;
 pub(crate) const WORD: &str = "normalize";
 
 /// The arguments of `normalize`.
-pub(crate) const ARGUMENTS: [Argument; 2] = [Argument::Flag("inherit"), PROFILE];
+pub(crate) const ARGUMENTS: [Argument; 2] = [INHERIT, PROFILE];
 
 /// Whether inheritance counts, and the profile.
 #[derive(Clone, Copy, Debug)]
@@ -28,11 +27,11 @@ pub struct Normalize {
 }
 
 /// Returns the values that the words give.
-#[tactic(auto, unfolding(crate::specs::Normalize::normalize_in))]
+#[tactic(auto, unfolding(crate::specs::commands::Normalize::normalize_in))]
 pub(crate) fn read(matches: &ArgMatches<'_>) -> Result<Normalize, LineFault>
     ensures { ReadsValues normalize_held (normalize_in (rows_in matches.now)) result }
 {
-    let inherit = is_set(matches, "inherit");
+    let inherit = is_set(matches, INHERIT);
     let profile = profile_in(matches)?;
     Ok(Normalize { inherit, profile })
 }

@@ -1,9 +1,8 @@
 //! `show-nfs`: the text of a list.
-ghost use Rattle.std.specs.Prelude.{◌≡◌, IfOk};
-ghost use Rattle.acl_perm.specs.Profile.{profile_of};
 ghost use Rattle.acl_nfs4.specs.AceText.{ace_text};
-ghost use Rattle.aclck.specs.Run.{Runs, of_list};
-ghost use Rattle.aclck.specs.ShowNfs.{ShowNfsAnswer};
+ghost use Rattle.std.specs.Prelude.{◌≡◌};
+ghost use Rattle.aclck.specs.Common.{IfOk, Runs, of_list, profile_of};
+ghost use Rattle.aclck.specs.commands.ShowNfs.{ShowNfsAnswer};
 
 use crate::answer::{Outcome, RunFault};
 use crate::input::xdr::read_list;
@@ -33,7 +32,7 @@ pub fn run_show_nfs<S: Source, K: Sink>(
     Ok(Outcome::Yes)
 }
 
-// The text of a list.
+// One line per ACE.
 fn text_of_list(alloc: Global, list: &Acl) -> Result<Vec<u8>, AllocError>
     ensures { IfOk result (λ text. text.items ≡ ace_text list.now) }
 {

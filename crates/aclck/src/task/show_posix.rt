@@ -1,13 +1,13 @@
 //! `show-posix`: the text of a file in a form.
 ghost use Rattle.std.specs.Prelude.{◌≡◌};
-ghost use Rattle.aclck.specs.Run.{Runs, of_text};
-ghost use Rattle.aclck.specs.Line.{ReadsValues, rows_in};
-ghost use Rattle.aclck.specs.ShowPosix.{ShowPosixAnswer, form_value, show_posix_held, show_posix_in};
+ghost use Rattle.aclck.specs.Common.{ReadsValues, Runs, of_text, rows_in};
+ghost use Rattle.aclck.specs.commands.ShowPosix.{ShowPosixAnswer, form_value, show_posix_held, show_posix_in};
 
 use crate::answer::{Outcome, RunFault};
 use crate::input::posix::{read_file, write_file};
 use crate::line::{Argument, LineFault, text_of};
 use crate::words::names::names_in;
+use crate::words::options::FORM;
 use acl_perm::{Sink, Source};
 use acl_posix::{Form, Names};
 use clap::ArgMatches;
@@ -17,10 +17,7 @@ use std::alloc::Global;
 pub(crate) const WORD: &str = "show-posix";
 
 /// The arguments of `show-posix`.
-pub(crate) const ARGUMENTS: [Argument; 2] = [
-    Argument::Default("form", "canonical"),
-    Argument::Words,
-];
+pub(crate) const ARGUMENTS: [Argument; 2] = [FORM, Argument::Words];
 
 /// The form, and which names a text may have.
 #[derive(Drop)]
@@ -30,11 +27,11 @@ pub struct ShowPosix {
 }
 
 /// Returns the values that the words give.
-#[tactic(auto, unfolding(crate::specs::ShowPosix::show_posix_in))]
+#[tactic(auto, unfolding(crate::specs::commands::ShowPosix::show_posix_in))]
 pub(crate) fn read(alloc: Global, matches: &ArgMatches<'_>) -> Result<ShowPosix, LineFault>
     ensures { ReadsValues show_posix_held (show_posix_in (rows_in matches.now)) result }
 {
-    let form = text_of(matches, "form")
+    let form = text_of(matches, FORM)
         .and_then(form_value)
         .ok_or(LineFault::Usage)?;
     Ok(ShowPosix {
@@ -44,7 +41,7 @@ pub(crate) fn read(alloc: Global, matches: &ArgMatches<'_>) -> Result<ShowPosix,
 }
 
 // The value of `--form`: `canonical`, `shown` or `short`. None if the word is none of these.
-#[tactic(auto, unfolding(crate::specs::ShowPosix::form_value))]
+#[tactic(auto, unfolding(crate::specs::commands::ShowPosix::form_value))]
 fn form_value(word: &str) -> Option<Form>
     ensures { result ≡ form_value word.now }
 {

@@ -1,14 +1,14 @@
 //! `table`: what the normal form of a list says about one right.
-ghost use Rattle.std.specs.Prelude.{◌≡◌, option_and_then, option_map};
-ghost use Rattle.acl_perm.specs.Profile.{profile_of};
-ghost use Rattle.aclck.specs.Run.{Runs, of_list};
-ghost use Rattle.aclck.specs.Line.{ReadsValues, rows_in, text_if_any};
-ghost use Rattle.aclck.specs.BitTable.{TableAnswer, bit_value, right_named, table_held, table_in};
+ghost use Rattle.std.specs.Prelude.{◌≡◌};
+ghost use Rattle.aclck.specs.Common.{ReadsValues, Runs, of_list, option_and_then, option_map, profile_of, rows_in, text_if_any};
+ghost use Rattle.aclck.specs.commands.BitTable.{TableAnswer, bit_value, right_named, table_held, table_in};
 
 use crate::answer::{Outcome, RunFault};
 use crate::input::xdr::read_list;
 use crate::line::{Argument, LineFault, text_of};
-use crate::words::profile::{PROFILE, profile_in};
+use crate::words::options::{BIT, PROFILE};
+use crate::words::profile::profile_in;
+use crate::words::values::within;
 use acl_nfs4::read_mask;
 use acl_normal::table_text;
 use acl_perm::{Mask, Profile, Sink, Source, put_all};
@@ -19,7 +19,7 @@ use std::alloc::Global;
 pub(crate) const WORD: &str = "table";
 
 /// The arguments of `table`.
-pub(crate) const ARGUMENTS: [Argument; 2] = [Argument::Required("bit"), PROFILE];
+pub(crate) const ARGUMENTS: [Argument; 2] = [BIT, PROFILE];
 
 /// The mask of the one right that is asked for, and the profile.
 #[derive(Clone, Copy, Debug)]
@@ -29,36 +29,25 @@ pub struct BitTable {
 }
 
 /// Returns the values that the words give.
-#[tactic(auto, unfolding(crate::specs::BitTable::table_in))]
+#[tactic(auto, unfolding(crate::specs::commands::BitTable::table_in))]
 pub(crate) fn read(matches: &ArgMatches<'_>) -> Result<BitTable, LineFault>
     ensures { ReadsValues table_held (table_in (rows_in matches.now)) result }
 {
     let profile = profile_in(matches)?;
-    let bit = bit_in(text_of(matches, "bit"), profile.masks).ok_or(LineFault::Usage)?;
+    let bit = bit_in(text_of(matches, BIT), profile.masks).ok_or(LineFault::Usage)?;
     Ok(BitTable { bit, profile })
 }
 
+// The right that a word names, if it is among these.
 fn bit_in(word: Option<&str>, rights: Mask) -> Option<Mask>
     ensures { option_map (λ mask. mask.bits) result
         ≡ option_and_then (bit_value rights.bits) (text_if_any word.entry) }
 {
-    bit_value(word?, rights)
-}
-
-// The right that a word names, if it is among these.
-fn bit_value(word: &str, rights: Mask) -> Option<Mask>
-    ensures { option_map (λ mask. mask.bits) result ≡ bit_value rights.bits word.now }
-{
-    let bit = right_named(word.as_bytes())?;
-    if rights.contains(bit) {
-        Some(bit)
-    } else {
-        None
-    }
+    within(rights, right_named(word?.as_bytes())?)
 }
 
 // The right of a field with one name.
-#[tactic(auto, unfolding(crate::specs::BitTable::right_named))]
+#[tactic(auto, unfolding(crate::specs::commands::BitTable::right_named))]
 fn right_named(word: &[u8]) -> Option<Mask>
     ensures { option_map (λ mask. mask.bits) result ≡ right_named word.now }
 {

@@ -38,13 +38,13 @@ fn every_row_is_answered_as_it_says(rt: HostRuntime) {
 }
 
 #[test]
-fn every_failed_read_and_write_and_each_refusal_is_told_at_once(rt: HostRuntime) {
+fn every_failed_read_and_write_and_each_refusal_is_reported_at_once(rt: HostRuntime) {
     let trial = Trial::new(rt.alloc(), Way::Failing);
     lists_hold(&rt, trial);
     texts_hold(&rt, trial);
 }
 
 #[test]
-fn a_failed_read_of_a_text_is_told_before_a_fault(rt: HostRuntime) {
+fn a_failed_read_of_a_text_is_reported_before_a_fault(rt: HostRuntime) {
     texts_hold(&rt, Trial::new(rt.alloc(), Way::Unread));
 }

@@ -121,7 +121,7 @@ mod ample {
     use super::*;
 
     #[test]
-    fn check_nfs_tells_of_a_read_that_fails_and_reads_no_more(rt: HostRuntime) {
+    fn check_nfs_reports_a_read_that_fails_and_reads_no_more(rt: HostRuntime) {
         for failing in 1..10u64 {
             for source in [Calls::one(failing, 4), Calls::since(failing, 4)] {
                 assert!(rt;
@@ -134,7 +134,7 @@ mod ample {
 
     // The sink works again after the failure, or it takes no byte at all.
     #[test]
-    fn check_nfs_tells_of_a_write_that_fails_and_writes_no_more(rt: HostRuntime) {
+    fn check_nfs_reports_a_write_that_fails_and_writes_no_more(rt: HostRuntime) {
         for (mask, failing, gone) in &WRITES {
             assert!(rt;
                 fails_at_write(
@@ -157,7 +157,7 @@ mod ample {
 
     // `err` fails at each call, or at one call and then works.
     #[test]
-    fn a_status_stays_and_nothing_is_told_again_where_err_fails(rt: HostRuntime) {
+    fn the_status_stays_and_nothing_is_reported_twice_if_err_fails(rt: HostRuntime) {
         for (mask, byte, reads, status, line) in &STATUSES {
             for (first, last, step) in &ERRS {
                 let err = Calls {
@@ -175,7 +175,7 @@ mod ample {
 
     // An input that is cut short gives a failed read.
     #[test]
-    fn a_refusal_is_told_before_a_read_that_would_fail(rt: HostRuntime) {
+    fn a_refusal_is_reported_before_a_read_that_would_fail(rt: HostRuntime) {
         for (input, reads, step, fault, failures) in &FAULTS {
             let mut source = Counted::new(Fused::new(*input, *reads, *step));
             let answer = run_check(rt.alloc(), &mut source);

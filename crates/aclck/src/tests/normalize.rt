@@ -49,8 +49,8 @@ const AMY_FIRST: &[u8] = b"\0\0\0\x02\
     \0\0\0\0\0\0\0\0\0\0\0\x01\0\0\0\x03amy\0\
     \0\0\0\0\0\0\0\0\0\0\0\x01\0\0\0\x03zoe\0";
 
-// ALLOW - READ_DATA frontend2, and the same of amy, of frontend1 and of fronte: three names that begin with the same six
-// bytes.
+// ALLOW - READ_DATA frontend2, and the same of amy, of frontend1 and of fronte: three names that begin with the same
+// six bytes.
 const FRONTEND_FIRST: &[u8] = b"\0\0\0\x04\
     \0\0\0\0\0\0\0\0\0\0\0\x01\0\0\0\x09frontend2\0\0\0\
     \0\0\0\0\0\0\0\0\0\0\0\x01\0\0\0\x03amy\0\

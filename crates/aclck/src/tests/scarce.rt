@@ -8,76 +8,76 @@ use crate::tests::{
 };
 
 #[test]
-fn bridge_writes_each_list_or_wants_memory(rt: HostRuntime) {
+fn bridge_writes_each_list_or_runs_out_of_memory(rt: HostRuntime) {
     bridge::holds(&rt, Trial::new(rt.alloc(), Way::Scarce));
 }
 
 #[test]
-fn calc_mask_writes_each_text_or_wants_memory(rt: HostRuntime) {
+fn calc_mask_writes_each_text_or_runs_out_of_memory(rt: HostRuntime) {
     calc_mask::holds(&rt, Trial::new(rt.alloc(), Way::Scarce));
 }
 
 #[test]
-fn check_nfs_answers_each_row_or_wants_memory(rt: HostRuntime) {
+fn check_nfs_answers_each_row_or_runs_out_of_memory(rt: HostRuntime) {
     check_nfs::holds(&rt, Trial::new(rt.alloc(), Way::Scarce));
 }
 
 #[test]
-fn check_posix_answers_each_row_or_wants_memory(rt: HostRuntime) {
+fn check_posix_answers_each_row_or_runs_out_of_memory(rt: HostRuntime) {
     check_posix::holds(&rt, Trial::new(rt.alloc(), Way::Scarce));
 }
 
 #[test]
-fn child_writes_each_list_or_wants_memory(rt: HostRuntime) {
+fn child_writes_each_list_or_runs_out_of_memory(rt: HostRuntime) {
     child::holds(&rt, Trial::new(rt.alloc(), Way::Scarce));
 }
 
 #[test]
-fn chmod_writes_each_text_or_wants_memory(rt: HostRuntime) {
+fn chmod_writes_each_text_or_runs_out_of_memory(rt: HostRuntime) {
     chmod::holds(&rt, Trial::new(rt.alloc(), Way::Scarce));
 }
 
 #[test]
-fn compare_answers_each_pair_or_wants_memory(rt: HostRuntime) {
+fn compare_answers_each_pair_or_runs_out_of_memory(rt: HostRuntime) {
     compare::holds(&rt, Trial::new(rt.alloc(), Way::Scarce));
 }
 
 #[test]
-fn create_writes_each_text_or_wants_memory(rt: HostRuntime) {
+fn create_writes_each_text_or_runs_out_of_memory(rt: HostRuntime) {
     create::holds(&rt, Trial::new(rt.alloc(), Way::Scarce));
 }
 
 #[test]
-fn encode_writes_each_list_or_wants_memory(rt: HostRuntime) {
+fn encode_writes_each_list_or_runs_out_of_memory(rt: HostRuntime) {
     encode::holds(&rt, Trial::new(rt.alloc(), Way::Scarce));
 }
 
 #[test]
-fn mode_writes_each_mode_or_wants_memory(rt: HostRuntime) {
+fn mode_writes_each_mode_or_runs_out_of_memory(rt: HostRuntime) {
     mode::holds(&rt, Trial::new(rt.alloc(), Way::Scarce));
 }
 
 #[test]
-fn normalize_writes_each_normal_form_or_wants_memory(rt: HostRuntime) {
+fn normalize_writes_each_normal_form_or_runs_out_of_memory(rt: HostRuntime) {
     normalize::holds(&rt, Trial::new(rt.alloc(), Way::Scarce));
 }
 
 #[test]
-fn normalize_writes_five_forms_or_wants_memory(rt: HostRuntime) {
+fn normalize_writes_five_forms_or_runs_out_of_memory(rt: HostRuntime) {
     normalize_inherit::holds(&rt, Trial::new(rt.alloc(), Way::Scarce));
 }
 
 #[test]
-fn show_nfs_writes_each_text_or_wants_memory(rt: HostRuntime) {
+fn show_nfs_writes_each_text_or_runs_out_of_memory(rt: HostRuntime) {
     show_nfs::holds(&rt, Trial::new(rt.alloc(), Way::Scarce));
 }
 
 #[test]
-fn show_posix_writes_each_text_or_wants_memory(rt: HostRuntime) {
+fn show_posix_writes_each_text_or_runs_out_of_memory(rt: HostRuntime) {
     show_posix::holds(&rt, Trial::new(rt.alloc(), Way::Scarce));
 }
 
 #[test]
-fn table_writes_the_rows_of_a_bit_or_wants_memory(rt: HostRuntime) {
+fn table_writes_the_rows_of_a_bit_or_runs_out_of_memory(rt: HostRuntime) {
     table::holds(&rt, Trial::new(rt.alloc(), Way::Scarce));
 }

@@ -2,11 +2,11 @@
 ghost use Rattle.std.specs.Prelude.{◌≡◌, [], None, Some, option_map, unwrap_or};
 ghost use Rattle.acl_posix.specs.Grammar.{colon};
 ghost use Rattle.acl_posix.specs.Names.{empty_table};
-ghost use Rattle.aclck.specs.Line.{ReadsValues, rows_in, texts, words_of};
+ghost use Rattle.aclck.specs.Line.{ReadsValues, rows_in, texts};
 ghost use Rattle.aclck.specs.NameWords.{equals_sign, first_cut, last_cut, named_id, names_in, with_words};
-ghost use Rattle.aclck.specs.internal.Adding.{cut_of, named_of, Adds};
+ghost use Rattle.aclck.specs.internal.Adding.{cut_of, line_fault_of, named_of, Adds};
 
-use crate::line::{Argument, LineFault};
+use crate::line::{Argument, LineFault, other_words};
 use crate::words::values::id_value;
 use acl_posix::{Id, NameFault, Names};
 use clap::ArgMatches;
@@ -16,9 +16,6 @@ use std::alloc::Global;
 pub(crate) const ARGUMENTS: [Argument; 1] = [Argument::Words];
 
 impl From<NameFault> for LineFault {
-    ghost use Rattle.std.specs.Prelude.{◌≡◌};
-    ghost use Rattle.aclck.specs.internal.Adding.{line_fault_of};
-
     ghost from_gives = { λ fault line. line ≡ line_fault_of fault };
 
     fn from(fault: NameFault) -> LineFault {
@@ -49,15 +46,7 @@ struct NamedId<'a> {
 pub(crate) fn names_in(alloc: Global, matches: &ArgMatches<'_>) -> Result<Names, LineFault>
     ensures { ReadsValues (λ n. n) (names_in (rows_in matches.now)) result }
 {
-    names_given(alloc, given(matches))
-}
-
-// The words that are no option, if there are any.
-fn given<'a, 'm>(matches: &'m ArgMatches<'a>) -> Option<&'m [&'a str]>
-    ensures { unwrap_or (option_map (λ ws. texts ws.now) result) []
-        ≡ words_of (rows_in matches.now) }
-{
-    matches.get_strs("words")
+    names_given(alloc, other_words(matches))
 }
 
 fn names_given(alloc: Global, words: Option<&[&str]>) -> Result<Names, LineFault>

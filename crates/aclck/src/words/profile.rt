@@ -1,15 +1,12 @@
-//! `--profile`, and the words of the commands that take it and no other word.
-ghost use Rattle.std.specs.Prelude.{◌≡◌, option_map};
-ghost use Rattle.acl_perm.specs.Profile.{profile_of};
-ghost use Rattle.aclck.specs.Line.{ReadsValues, rows_in};
+//! The value of `--profile`, and the arguments of the commands that take it and no other word.
+ghost use Rattle.std.specs.Prelude.{◌≡◌};
+ghost use Rattle.aclck.specs.Common.{ReadsValues, option_map, profile_of, rows_in};
 ghost use Rattle.aclck.specs.ProfileArgument.{profile_in, profile_value};
 
 use crate::line::{Argument, LineFault, text_of};
+use crate::words::options::PROFILE;
 use acl_perm::Profile;
 use clap::ArgMatches;
-
-/// `--profile`, an argument of several commands.
-pub(crate) const PROFILE: Argument = Argument::Default("profile", "full");
 
 /// The arguments of a command that takes `--profile` and no other word.
 pub(crate) const ARGUMENTS: [Argument; 1] = [PROFILE];
@@ -19,7 +16,7 @@ pub(crate) const ARGUMENTS: [Argument; 1] = [PROFILE];
 pub(crate) fn profile_in(matches: &ArgMatches<'_>) -> Result<Profile, LineFault>
     ensures { ReadsValues profile_of (profile_in (rows_in matches.now)) result }
 {
-    text_of(matches, "profile")
+    text_of(matches, PROFILE)
         .and_then(profile_value)
         .ok_or(LineFault::Usage)
 }

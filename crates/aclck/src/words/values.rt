@@ -1,13 +1,13 @@
-//! Numbers on the command line: ids and modes, which several commands take.
+//! Values that several commands take: ids and modes, and what a set of rights has of a mask.
 ghost use Rattle.std.specs.Prelude.{◌≡◌, ◌≤◌, ◌^◌, MatchResult, option_and_then, option_map, true};
 ghost use Rattle.std.specs.Char.{is_digit};
 ghost use Rattle.std.specs.List.{list_all};
 ghost use Rattle.std.specs.Str.Parse.{digits_value};
 ghost use Rattle.aclck.specs.Line.{ReadsValues, text_if_any};
-ghost use Rattle.aclck.specs.Values.{IsDigitRadix, IsRadix, are_digits, id_value, mode_value};
+ghost use Rattle.aclck.specs.Values.{IsDigitRadix, IsRadix, are_digits, id_value, mode_value, within};
 
 use crate::line::LineFault;
-use acl_perm::Mode;
+use acl_perm::{Mask, Mode};
 use acl_posix::Id;
 use std::num::ParseIntError;
 
@@ -46,6 +46,17 @@ fn mode_value(word: &str) -> Option<Mode>
         return None;
     }
     Mode::new(u16::try_from(digits(word, OCTAL).ok()?).ok()?)
+}
+
+/// Returns the mask, if the set of rights has all of its rights.
+pub(crate) fn within(rights: Mask, mask: Mask) -> Option<Mask>
+    ensures { option_map (λ m. m.bits) result ≡ within rights.bits mask.bits }
+{
+    if rights.contains(mask) {
+        Some(mask)
+    } else {
+        None
+    }
 }
 
 // Whether there are digits alone, and at least one.

@@ -5,7 +5,6 @@ use Rattle.acl_perm.specs.Bits.{all_rights}
 use Rattle.acl_perm.specs.Profile.{Profile}
 use Rattle.acl_perm.specs.Situation.{Situation}
 use Rattle.acl_nfs4.specs.Ace.{Ace}
-use Rattle.acl_nfs4.specs.Fault.{IsWholeFault}
 use Rattle.acl_nfs4.specs.Spelling.{Xdr}
 use Rattle.acl_eval.specs.Grant.{SameGrants}
 use Rattle.acl_normal.specs.SmallSets.{IsFirstDifference}
@@ -29,3 +28,11 @@ pub record IsToldDifference (list other : List Ace) (found : Named) : Type 0 whe
 abbrev pub Told : List Ace → List Ace → Option Named → Type 0
 Told list other None = SameGrants all_rights list other
 Told list other (Some found) = IsToldDifference list other found
+
+-- both spell lists, and this is the report of their first difference
+pub record IsToldOfBoth (p : Profile) (first second : List ℕ) (found : Option Named) : Type 0 where
+  pub list : List Ace
+  pub other : List Ace
+  pub first_spelled : Xdr p list first
+  pub second_spelled : Xdr p other second
+  pub told : Told list other found

@@ -1,16 +1,14 @@
 //! Which rights of a mask a list grants many requesters.
-ghost use Rattle.std.specs.Prelude.{◌≡◌, ◌≤◌, ◌≢◌, ◌<◌, ◌↔◌, All, IfErr, IfOk, IfSome, IsSome, IsTrue, length};
-ghost use Rattle.acl_perm.specs.Profile.{profile_of};
-ghost use Rattle.acl_nfs4.specs.Fault.{IsWholeFault};
-ghost use Rattle.acl_nfs4.specs.Spelling.{Xdr};
-ghost use Rattle.acl_eval.specs.Situation.{groups_of, owner_of, owning_group_of, user_of};
-ghost use Rattle.aclck_c.specs.Lists.{IsRefusedList};
+ghost use Rattle.acl_eval.specs.Situation.{owner_of, owning_group_of};
 ghost use Rattle.aclck_c.specs.Many.{AreEachGranted, AreGoodMany, HaveGranted, IsGoodAsker, IsGoodCall, asked_by};
-ghost use Rattle.aclck_c.specs.Options.{profile_from};
 ghost use Rattle.aclck_c.specs.Requests.{AreGranted};
+ghost use Rattle.std.specs.Prelude.{◌≡◌, ◌<◌, ◌↔◌};
+ghost use Rattle.aclck_c.specs.Common.{All, IfSome, IsSome, IsTrue, length, profile_of, LooksAtList, profile_from, WritesValue};
 
+use crate::failure::Failure;
 use crate::options::profile_from;
 use crate::refusal::Refusal;
+use crate::status::{BAD_ARGUMENT, DONE};
 use acl_eval::{Object, Requester, granted};
 use acl_nfs4::AclView;
 use acl_perm::{Mask, Profile};
@@ -38,33 +36,24 @@ pub extern "C" fn aclck_check_many(
     granted: &mut [u32],
     fault: &mut Refusal,
 ) -> u32
-    ensures done { result ≡ 0 → HaveGranted (profile_from options) acl.now owner.now group.now
-        requesters.now mask granted.new }
-    ensures refused { result ≡ 2 → IsRefusedList (profile_from options) acl.now 0 fault.new }
-    // The status is 3 if and only if an argument is bad.
-    ensures bad { result ≡ 3 → AreGoodMany owner.now group.now requesters.now
-        mask options (length granted.old) → ⊥ }
-    ensures good { (result ≢ 3) → AreGoodMany owner.now group.now requesters.now
-        mask options (length granted.old) }
-    ensures unwritten { (result ≢ 0) → granted.new ≡ granted.old }
-    ensures kept { (result ≢ 2) → fault.new ≡ fault.old }
-    ensures known { result ≤ 3 }
+    ensures rights { WritesValue (HaveGranted (profile_from options) acl.now owner.now group.now
+        requesters.now mask) granted.old granted.new result }
+    ensures input { LooksAtList (profile_from options) acl.now
+        (AreGoodMany owner.now group.now requesters.now mask options (length granted.old))
+        fault.old fault.new result }
 {
     let Some(request) = asked(owner, group, mask, options) else {
-        return 3;
+        return BAD_ARGUMENT;
     };
     if granted.len() != requesters.len() || !are_good(requesters) {
-        return 3;
+        return BAD_ARGUMENT;
     }
     match AclView::parse_whole_with(acl, request.profile) {
         Ok(view) => {
             grant_each(&view, &request, requesters, granted);
-            0
+            DONE
         }
-        Err(found) => {
-            *fault = Refusal::in_list(found.offset, found.reason, 0);
-            2
-        }
+        Err(found) => Failure::from(found).report(fault),
     }
 }
 

@@ -1,18 +1,14 @@
 //! What a new object inherits.
-ghost use Rattle.std.specs.Prelude.{◌≡◌, ◌<◌, ◌≤◌, ◌≢◌, IfErr, IfOk};
-ghost use Rattle.acl_perm.specs.Profile.{profile_of};
 ghost use Rattle.acl_nfs4.specs.Programs.{MakesText};
 ghost use Rattle.acl_eval.specs.Programs.{child_bytes};
-ghost use Rattle.aclck_c.specs.Lists.{AreList, IsRefusedList};
-ghost use Rattle.aclck_c.specs.Options.{child_kind_from, profile_from};
-ghost use Rattle.aclck_c.specs.Out.{HandsOut, IsShortFor};
-ghost use Rattle.aclck_c.specs.internal.Stops.{HasListFault};
+ghost use Rattle.aclck_c.specs.Common.{IfErr, IfOk, profile_of, WritesOfList, child_kind_from, profile_from, IsListFailure, IsCreationOption};
 
-use crate::nfs4::list_fault::ListFault;
+use crate::failure::Failure;
 use crate::nfs4::reading::list_of;
 use crate::options::{Creation, creation_from};
-use crate::out::put;
+use crate::out::answer;
 use crate::refusal::Refusal;
+use crate::status::BAD_ARGUMENT;
 use acl_eval::child;
 use std::alloc::Global;
 
@@ -29,35 +25,21 @@ pub extern "C" fn aclck_child(
     needed: &mut usize,
     fault: &mut Refusal,
 ) -> u32
-    ensures done { result ≡ 0 → HandsOut (MakesText (profile_from options)
-        (child_bytes (child_kind_from options)) acl.now) out.old out.new needed.new }
-    ensures short { result ≡ 5 → IsShortFor (MakesText (profile_from options)
-        (child_bytes (child_kind_from options)) acl.now) out.old needed.new }
-    ensures refused { result ≡ 2 → IsRefusedList (profile_from options) acl.now 0 fault.new }
-    // Bytes with a fault are refused with that fault, also if memory runs out.
-    ensures memory { result ≡ 4 → AreList (profile_from options) acl.now }
-    // The status is 3 if and only if an argument is bad.
-    ensures bad { result ≡ 3 → (options < 4) → ⊥ }
-    ensures good { (result ≢ 3) → options < 4 }
-    ensures unwritten { (result ≢ 0) → out.new ≡ out.old }
-    ensures untold { (result ≢ 0) → (result ≢ 5) → needed.new ≡ needed.old }
-    ensures kept { (result ≢ 2) → fault.new ≡ fault.old }
-    ensures known { result ≤ 5 }
+    ensures { WritesOfList (profile_from options) acl.now (IsCreationOption options)
+        (MakesText (profile_from options) (child_bytes (child_kind_from options)) acl.now)
+        out.old out.new needed.old needed.new fault.old fault.new result }
 {
     let Some(creation) = creation_from(options) else {
-        return 3;
+        return BAD_ARGUMENT;
     };
-    match child_of(alloc, acl, creation) {
-        Ok(text) => put(&text, out, needed),
-        Err(found) => found.tell(0, fault),
-    }
+    answer(child_of(alloc, acl, creation), out, needed, fault)
 }
 
 // The bytes of the list of a new object.
-fn child_of(alloc: Global, acl: &[u8], creation: Creation) -> Result<Vec<u8>, ListFault>
+fn child_of(alloc: Global, acl: &[u8], creation: Creation) -> Result<Vec<u8>, Failure>
     ensures ok { IfOk result (λ text.
         MakesText (profile_of creation.profile) (child_bytes creation.kind) acl.now text.items) }
-    ensures err { IfErr result (HasListFault (profile_of creation.profile) acl.now) }
+    ensures err { IfErr result (IsListFailure (profile_of creation.profile) acl.now 0) }
 {
     let parent = list_of(alloc, acl, creation.profile)?;
     let list = child(alloc, &parent, creation.kind)?;

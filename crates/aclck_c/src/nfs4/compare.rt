@@ -1,19 +1,21 @@
 //! Whether two lists grant everybody the same, and where they differ.
-ghost use Rattle.std.specs.Prelude.{◌≡◌, ◌++◌, ◌<◌, ◌≤◌, ◌≢◌, IfErr, IfOk, OnOk, map};
 ghost use Rattle.std.specs.List.{flat_map};
 ghost use Rattle.acl_normal.specs.Difference.{situation_of};
-ghost use Rattle.aclck_c.specs.Compare.{AreSame, DifferAt, IsRefusedPair, ended, names_text, truth_number};
-ghost use Rattle.aclck_c.specs.Lists.{AreList};
-ghost use Rattle.aclck_c.specs.Options.{profile_from};
-ghost use Rattle.aclck_c.specs.Out.{HandsOut, IsShortFor};
-ghost use Rattle.aclck_c.specs.internal.Told.{TellsOf, Told};
+ghost use Rattle.aclck_c.specs.Compare.{AreSame, DifferAt, ended, names_text, truth_number};
+ghost use Rattle.aclck_c.specs.Status as status;
+ghost use Rattle.aclck_c.specs.internal.Told.{IsToldOfBoth, TellsOf, Told};
+ghost use Rattle.std.specs.Prelude.{◌≡◌, ◌++◌, ◌≢◌};
+ghost use Rattle.aclck_c.specs.Common.{IfErr, IfOk, OnOk, map, profile_of, ReadsTwoLists, profile_from, WritesBytes, IsPairFailure, IsProfileOption};
 
-use crate::nfs4::reading::list_of;
+use crate::failure::Failure;
+use crate::nfs4::reading::{list_of, second_list_of};
 use crate::options::profile_from;
 use crate::out::put;
 use crate::refusal::Refusal;
+use crate::status::{BAD_ARGUMENT, DONE, NO, SHORT, YES};
 use acl_nfs4::Acl;
 use acl_normal::{Difference, compare};
+use acl_perm::Profile;
 use std::alloc::{AllocError, Global};
 
 /// `struct aclck_difference`: the right on which two lists differ, as a mask, and 1 if the first list grants it.
@@ -40,48 +42,28 @@ pub extern "C" fn aclck_compare(
     needed: &mut usize,
     fault: &mut Refusal,
 ) -> u32
-    ensures same { result ≡ 0 → AreSame (profile_from options) first.now second.now }
-    ensures differ { result ≡ 1
-        → HandsOut (DifferAt (profile_from options) first.now second.now at.new)
-        out.old out.new needed.new }
-    ensures short { result ≡ 5
-        → IsShortFor (DifferAt (profile_from options) first.now second.now at.new)
-        out.old needed.new }
-    ensures refused { result ≡ 2 →
-        IsRefusedPair (profile_from options) first.now second.now fault.new }
-    // Bytes with a fault are refused with that fault, also if memory runs out.
-    ensures memory { result ≡ 4 → AreList (profile_from options) first.now }
-    // The status is 3 if and only if an argument is bad.
-    ensures bad { result ≡ 3 → (options < 2) → ⊥ }
-    ensures good { (result ≢ 3) → options < 2 }
-    ensures unwritten { (result ≢ 1) → out.new ≡ out.old }
-    ensures untold { (result ≢ 1) → (result ≢ 5) → needed.new ≡ needed.old }
-    ensures unplaced { (result ≢ 1) → (result ≢ 5) → at.new ≡ at.old }
-    ensures kept { (result ≢ 2) → fault.new ≡ fault.old }
-    ensures known { result ≤ 5 }
+    ensures input { ReadsTwoLists (profile_from options) first.now second.now
+        (IsProfileOption options) status.short fault.old fault.new result }
+    ensures same { result ≡ status.yes → AreSame (profile_from options) first.now second.now }
+    ensures names { WritesBytes status.no
+        (DifferAt (profile_from options) first.now second.now at.new)
+        out.old out.new needed.old needed.new result }
+    ensures unplaced { (result ≢ status.no) → (result ≢ status.short) → at.new ≡ at.old }
 {
     let Some(profile) = profile_from(options) else {
-        return 3;
+        return BAD_ARGUMENT;
     };
-    let list = match list_of(alloc, first, profile) {
-        Ok(list) => list,
-        Err(found) => return found.tell(0, fault),
-    };
-    let other = match list_of(alloc, second, profile) {
-        Ok(list) => list,
-        Err(found) => return found.tell(1, fault),
-    };
-    match first_difference(alloc, &list, &other) {
-        Ok(None) => 0,
+    match difference_of(alloc, first, second, profile) {
+        Ok(None) => YES,
         Ok(Some(found)) => {
             *at = found.at;
-            if put(&found.names, out, needed) == 0 {
-                1
+            if put(&found.names, out, needed) == DONE {
+                NO
             } else {
-                5
+                SHORT
             }
         }
-        Err(_) => 4,
+        Err(failure) => failure.report(fault),
     }
 }
 
@@ -93,6 +75,21 @@ struct Named {
 }
 
 // The first difference of two lists.
+#[tactic(auto, using(crate::proofs::Pairs::of_first, crate::proofs::Pairs::of_second))]
+fn difference_of(
+    alloc: Global,
+    first: &[u8],
+    second: &[u8],
+    profile: Profile,
+) -> Result<Option<Named>, Failure>
+    ensures ok { IfOk result (IsToldOfBoth (profile_of profile) first.now second.now) }
+    ensures err { IfErr result (IsPairFailure (profile_of profile) first.now second.now) }
+{
+    let list = list_of(alloc, first, profile)?;
+    let other = second_list_of(alloc, second, profile)?;
+    Ok(first_difference(alloc, &list, &other)?)
+}
+
 fn first_difference(alloc: Global, list: &Acl, other: &Acl) -> Result<Option<Named>, AllocError>
     ensures { IfOk result (Told list.now other.now) }
 {
@@ -116,7 +113,6 @@ fn told(alloc: Global, found: &Difference) -> Result<Named, AllocError>
     })
 }
 
-// The number of an answer.
 fn truth_number(answer: bool) -> u32
     ensures { result ≡ truth_number answer }
 {

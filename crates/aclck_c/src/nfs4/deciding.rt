@@ -1,21 +1,20 @@
 //! Which ACE decides a right.
-ghost use Rattle.std.specs.Prelude.{◌≡◌, ◌≤◌, ◌≢◌, IfErr, IfOk, IfSome, IsNone, None, Some};
-ghost use Rattle.acl_perm.specs.Profile.{profile_of};
-ghost use Rattle.acl_nfs4.specs.Fault.{IsWholeFault};
-ghost use Rattle.acl_eval.specs.Situation.{situation};
-ghost use Rattle.aclck_c.specs.Lists.{IsRefusedList};
-ghost use Rattle.aclck_c.specs.Options.{profile_from};
-ghost use Rattle.aclck_c.specs.Requests.{AreGood, IsDecidedAt, IsSomeRight, IsRight, IsUndecided, asked};
 ghost use Rattle.acl_nfs4.specs.Spelling.{kind_number};
-ghost use Rattle.aclck_c.specs.internal.Stops.{Finds};
+ghost use Rattle.aclck_c.specs.Requests.{IsDecidedAt, IsSomeRight, IsRight, IsUndecided};
+ghost use Rattle.aclck_c.specs.Status as status;
+ghost use Rattle.aclck_c.specs.internal.Deciding.{Finds};
+ghost use Rattle.std.specs.Prelude.{◌≡◌};
+ghost use Rattle.aclck_c.specs.Common.{IfErr, IfOk, IfSome, IsNone, None, Some, profile_of, situation, LooksAtList, profile_from, WritesValue, AreGood, asked, IsViewFailure};
 
+use crate::failure::Failure;
 use crate::nfs4::request::{Request, asked};
 use crate::refusal::Refusal;
+use crate::status::{BAD_ARGUMENT, NO, YES};
 use acl_eval::{Decision, deciding_ace};
-use acl_nfs4::{AclView, Fault};
+use acl_nfs4::AclView;
 use acl_perm::{Kind, Mask, Right};
 
-/// `struct aclck_decision`: the place of an ACE, from 0, and its type, 0 ALLOW or 1 DENY.
+/// `struct aclck_decision`: the place of an ACE, from 0, and its kind, 0 ALLOW or 1 DENY.
 #[repr(C)]
 #[derive(Clone, Copy, Debug)]
 pub struct Deciding {
@@ -39,25 +38,20 @@ pub extern "C" fn aclck_deciding(
     decision: &mut Deciding,
     fault: &mut Refusal,
 ) -> u32
-    ensures decided { result ≡ 0 → IsDecidedAt (profile_from options) acl.now
-        (asked owner.now group.now user.now groups.now) right decision.new.place decision.new.kind }
-    ensures undecided { result ≡ 1 → IsUndecided (profile_from options) acl.now
+    ensures decided { WritesValue (λ found. IsDecidedAt (profile_from options) acl.now
+        (asked owner.now group.now user.now groups.now) right found.place found.kind)
+        decision.old decision.new result }
+    ensures undecided { result ≡ status.no → IsUndecided (profile_from options) acl.now
         (asked owner.now group.now user.now groups.now) right }
-    ensures refused { result ≡ 2 → IsRefusedList (profile_from options) acl.now 0 fault.new }
-    // The status is 3 if and only if an argument is bad.
-    ensures bad { result ≡ 3 → AreGood owner.now group.now user.now groups.now right options
-        → IsSomeRight right → ⊥ }
-    ensures good { (result ≢ 3) → AreGood owner.now group.now user.now groups.now right options }
-    ensures one { (result ≢ 3) → IsSomeRight right }
-    ensures unwritten { (result ≢ 0) → decision.new ≡ decision.old }
-    ensures kept { (result ≢ 2) → fault.new ≡ fault.old }
-    ensures known { result ≤ 3 }
+    ensures input { LooksAtList (profile_from options) acl.now
+        (AreGood owner.now group.now user.now groups.now right options × IsSomeRight right)
+        fault.old fault.new result }
 {
     let Some(request) = asked(owner, group, user, groups, right, options) else {
-        return 3;
+        return BAD_ARGUMENT;
     };
     let Some(bit) = right_of(request.mask) else {
-        return 3;
+        return BAD_ARGUMENT;
     };
     match decide(acl, &request, bit) {
         Ok(Some(found)) => {
@@ -65,22 +59,19 @@ pub extern "C" fn aclck_deciding(
                 place: found.place as u64,
                 kind: kind_number(found.kind),
             };
-            0
+            YES
         }
-        Ok(None) => 1,
-        Err(found) => {
-            *fault = Refusal::in_list(found.offset, found.reason, 0);
-            2
-        }
+        Ok(None) => NO,
+        Err(failure) => failure.report(fault),
     }
 }
 
-// The one right of a mask.
+// The right of a mask that is exactly one right.
 fn right_of(mask: Mask) -> Option<Right>
     ensures right { IfSome result (λ right. IsRight mask.bits right.bit) }
     ensures none { IsNone result → IsSomeRight mask.bits → ⊥ }
 {
-    for bit in 0..Right::COUNT {
+    for bit in 0..Right::END {
         if mask.bits() == 1 << bit {
             return Some(Right { bit });
         }
@@ -89,17 +80,16 @@ fn right_of(mask: Mask) -> Option<Right>
 }
 
 // The ACE that decides the right.
-fn decide(acl: &[u8], request: &Request<'_>, right: Right) -> Result<Option<Decision>, Fault>
+fn decide(acl: &[u8], request: &Request<'_>, right: Right) -> Result<Option<Decision>, Failure>
     ensures ok { IfOk result (Finds (profile_of request.now.profile) acl.now
         (situation request.now.object request.now.requester) right.bit) }
-    ensures err { IfErr result (λ f.
-        IsWholeFault (profile_of request.now.profile) acl.now f.offset f.reason) }
+    ensures err { IfErr result (IsViewFailure (profile_of request.now.profile) acl.now) }
 {
     let view = AclView::parse_whole_with(acl, request.profile)?;
     Ok(deciding_ace(view.aces(), &request.object, &request.requester, right))
 }
 
-// The number of a type.
+// The numbers are those of `enum aclck_kind`.
 fn kind_number(kind: Kind) -> u32
     ensures { result ≡ kind_number kind }
 {

@@ -1,15 +1,16 @@
 //! The bytes of a text.
-ghost use Rattle.std.specs.Prelude.{◌≡◌, ◌<◌, ◌≤◌, ◌≢◌, IfErr, IfOk};
-ghost use Rattle.acl_perm.specs.Profile.{profile_of};
-ghost use Rattle.acl_nfs4.specs.AceTextFault.{IsTextRefusal};
 ghost use Rattle.acl_nfs4.specs.Programs.{Encodes};
 ghost use Rattle.aclck_c.specs.Encode.{IsRefusedText, ace_text_refusal};
-ghost use Rattle.aclck_c.specs.Options.{profile_from};
-ghost use Rattle.aclck_c.specs.Out.{HandsOut, IsShortFor};
+ghost use Rattle.aclck_c.specs.Status as status;
+ghost use Rattle.aclck_c.specs.internal.Failures.{IsTextFailure};
+ghost use Rattle.std.specs.Prelude.{◌≡◌};
+ghost use Rattle.aclck_c.specs.Common.{⊤, IfErr, IfOk, profile_of, JudgesInput, profile_from, WritesBytes, IsProfileOption};
 
+use crate::failure::Failure;
 use crate::options::profile_from;
-use crate::out::put;
+use crate::out::answer;
 use crate::refusal::Refusal;
+use crate::status::BAD_ARGUMENT;
 use acl_nfs4::{AceTextFault, parse_text_with};
 use acl_perm::Profile;
 use std::alloc::Global;
@@ -26,43 +27,25 @@ pub extern "C" fn aclck_encode(
     needed: &mut usize,
     fault: &mut Refusal,
 ) -> u32
-    ensures done { result ≡ 0 → HandsOut (Encodes (profile_from options) text.now)
-        out.old out.new needed.new }
-    ensures short { result ≡ 5 → IsShortFor (Encodes (profile_from options) text.now)
-        out.old needed.new }
-    ensures refused { result ≡ 2 → IsRefusedText (profile_from options) text.now fault.new }
-    // The status is 3 if and only if an argument is bad.
-    ensures bad { result ≡ 3 → (options < 2) → ⊥ }
-    ensures good { (result ≢ 3) → options < 2 }
-    ensures unwritten { (result ≢ 0) → out.new ≡ out.old }
-    ensures untold { (result ≢ 0) → (result ≢ 5) → needed.new ≡ needed.old }
-    ensures kept { (result ≢ 2) → fault.new ≡ fault.old }
-    ensures known { result ≤ 5 }
+    ensures bytes { WritesBytes status.done (Encodes (profile_from options) text.now)
+        out.old out.new needed.old needed.new result }
+    ensures input { JudgesInput (IsRefusedText (profile_from options) text.now) ⊤
+        (IsProfileOption options) status.short fault.old fault.new result }
 {
     let Some(profile) = profile_from(options) else {
-        return 3;
+        return BAD_ARGUMENT;
     };
-    match bytes_of(alloc, text, profile) {
-        Ok(bytes) => put(&bytes, out, needed),
-        Err(found) => match ace_text_refusal(found) {
-            Some(shown) => {
-                *fault = shown;
-                2
-            }
-            None => 4,
-        },
-    }
+    answer(bytes_of(alloc, text, profile), out, needed, fault)
 }
 
 // The bytes that spell the list of a text.
-fn bytes_of(alloc: Global, text: &[u8], profile: Profile) -> Result<Vec<u8>, AceTextFault>
+fn bytes_of(alloc: Global, text: &[u8], profile: Profile) -> Result<Vec<u8>, Failure>
     ensures ok { IfOk result (λ bytes. Encodes (profile_of profile) text.now bytes.items) }
-    ensures err { IfErr result (IsTextRefusal (profile_of profile) text.now) }
+    ensures err { IfErr result (IsTextFailure (profile_of profile) text.now) }
 {
-    let list = parse_text_with(alloc, text, profile)?;
-    match list.to_bytes(alloc) {
-        Ok(bytes) => Ok(bytes),
-        Err(_) => Err(AceTextFault::Memory),
+    match parse_text_with(alloc, text, profile) {
+        Ok(list) => Ok(list.to_bytes(alloc)?),
+        Err(fault) => Err(Failure::of_refusal(ace_text_refusal(fault))),
     }
 }
 

@@ -1,19 +1,16 @@
 //! The normal form of a list, and the five normal forms of the list of a directory.
-ghost use Rattle.std.specs.Prelude.{◌≡◌, ◌<◌, ◌≤◌, ◌≢◌, IfErr, IfOk};
-ghost use Rattle.acl_perm.specs.Profile.{profile_of};
 ghost use Rattle.acl_normal.specs.FiveForms.{five_spellings};
 ghost use Rattle.acl_normal.specs.NormalForm.{Normalises};
-ghost use Rattle.aclck_c.specs.Lists.{AreList, IsRefusedList};
 ghost use Rattle.acl_normal.specs.Programs.{NormalisesAtPaths};
-ghost use Rattle.aclck_c.specs.Options.{profile_from};
-ghost use Rattle.aclck_c.specs.Out.{HandsOut, IsShortFor};
-ghost use Rattle.aclck_c.specs.internal.Stops.{HasListFault};
+ghost use Rattle.std.specs.Prelude.{◌≡◌};
+ghost use Rattle.aclck_c.specs.Common.{IfErr, IfOk, profile_of, WritesOfList, profile_from, IsListFailure, IsProfileOption};
 
-use crate::nfs4::list_fault::ListFault;
+use crate::failure::Failure;
 use crate::nfs4::reading::list_of;
 use crate::options::profile_from;
-use crate::out::put;
+use crate::out::answer;
 use crate::refusal::Refusal;
+use crate::status::BAD_ARGUMENT;
 use acl_normal::{FiveForms, normalize, normalize_inherit};
 use acl_perm::{Counted, Profile};
 use std::alloc::{AllocError, Global};
@@ -31,34 +28,19 @@ pub extern "C" fn aclck_normalize(
     needed: &mut usize,
     fault: &mut Refusal,
 ) -> u32
-    ensures done { result ≡ 0 → HandsOut (Normalises (profile_from options) acl.now)
-        out.old out.new needed.new }
-    ensures short { result ≡ 5 → IsShortFor (Normalises (profile_from options) acl.now)
-        out.old needed.new }
-    ensures refused { result ≡ 2 → IsRefusedList (profile_from options) acl.now 0 fault.new }
-    // Bytes with a fault are refused with that fault, also if memory runs out.
-    ensures memory { result ≡ 4 → AreList (profile_from options) acl.now }
-    // The status is 3 if and only if an argument is bad.
-    ensures bad { result ≡ 3 → (options < 2) → ⊥ }
-    ensures good { (result ≢ 3) → options < 2 }
-    ensures unwritten { (result ≢ 0) → out.new ≡ out.old }
-    ensures untold { (result ≢ 0) → (result ≢ 5) → needed.new ≡ needed.old }
-    ensures kept { (result ≢ 2) → fault.new ≡ fault.old }
-    ensures known { result ≤ 5 }
+    ensures { WritesOfList (profile_from options) acl.now (IsProfileOption options)
+        (Normalises (profile_from options) acl.now)
+        out.old out.new needed.old needed.new fault.old fault.new result }
 {
     let Some(profile) = profile_from(options) else {
-        return 3;
+        return BAD_ARGUMENT;
     };
-    match normal_form(alloc, acl, profile) {
-        Ok(text) => put(&text, out, needed),
-        Err(found) => found.tell(0, fault),
-    }
+    answer(normal_form(alloc, acl, profile), out, needed, fault)
 }
 
-// The bytes of the normal form.
-fn normal_form(alloc: Global, acl: &[u8], profile: Profile) -> Result<Vec<u8>, ListFault>
+fn normal_form(alloc: Global, acl: &[u8], profile: Profile) -> Result<Vec<u8>, Failure>
     ensures ok { IfOk result (λ text. Normalises (profile_of profile) acl.now text.items) }
-    ensures err { IfErr result (HasListFault (profile_of profile) acl.now) }
+    ensures err { IfErr result (IsListFailure (profile_of profile) acl.now 0) }
 {
     let list = list_of(alloc, acl, profile)?;
     let form = normalize(alloc, &list)?;
@@ -79,34 +61,19 @@ pub extern "C" fn aclck_normalize_inherit(
     needed: &mut usize,
     fault: &mut Refusal,
 ) -> u32
-    ensures done { result ≡ 0 → HandsOut (NormalisesAtPaths (profile_from options) acl.now)
-        out.old out.new needed.new }
-    ensures short { result ≡ 5 → IsShortFor (NormalisesAtPaths (profile_from options) acl.now)
-        out.old needed.new }
-    ensures refused { result ≡ 2 → IsRefusedList (profile_from options) acl.now 0 fault.new }
-    // Bytes with a fault are refused with that fault, also if memory runs out.
-    ensures memory { result ≡ 4 → AreList (profile_from options) acl.now }
-    // The status is 3 if and only if an argument is bad.
-    ensures bad { result ≡ 3 → (options < 2) → ⊥ }
-    ensures good { (result ≢ 3) → options < 2 }
-    ensures unwritten { (result ≢ 0) → out.new ≡ out.old }
-    ensures untold { (result ≢ 0) → (result ≢ 5) → needed.new ≡ needed.old }
-    ensures kept { (result ≢ 2) → fault.new ≡ fault.old }
-    ensures known { result ≤ 5 }
+    ensures { WritesOfList (profile_from options) acl.now (IsProfileOption options)
+        (NormalisesAtPaths (profile_from options) acl.now)
+        out.old out.new needed.old needed.new fault.old fault.new result }
 {
     let Some(profile) = profile_from(options) else {
-        return 3;
+        return BAD_ARGUMENT;
     };
-    match five_forms(alloc, acl, profile) {
-        Ok(text) => put(&text, out, needed),
-        Err(found) => found.tell(0, fault),
-    }
+    answer(five_forms(alloc, acl, profile), out, needed, fault)
 }
 
-// The bytes of the five normal forms.
-fn five_forms(alloc: Global, acl: &[u8], profile: Profile) -> Result<Vec<u8>, ListFault>
+fn five_forms(alloc: Global, acl: &[u8], profile: Profile) -> Result<Vec<u8>, Failure>
     ensures ok { IfOk result (λ text. NormalisesAtPaths (profile_of profile) acl.now text.items) }
-    ensures err { IfErr result (HasListFault (profile_of profile) acl.now) }
+    ensures err { IfErr result (IsListFailure (profile_of profile) acl.now 0) }
 {
     let list = list_of(alloc, acl, profile)?;
     let forms = normalize_inherit(alloc, &list)?;

@@ -1,22 +1,33 @@
 //! Lists of bytes, and texts of lists.
-ghost use Rattle.std.specs.Prelude.{◌≡◌, IfErr, IfOk};
-ghost use Rattle.acl_perm.specs.Profile.{profile_of};
 ghost use Rattle.acl_nfs4.specs.AceText.{ace_text};
 ghost use Rattle.acl_nfs4.specs.Spelling.{Xdr};
-ghost use Rattle.aclck_c.specs.internal.Stops.{HasListFault};
+ghost use Rattle.std.specs.Prelude.{◌≡◌};
+ghost use Rattle.aclck_c.specs.Common.{IfErr, IfOk, profile_of, IsListFailure};
 
-use crate::nfs4::list_fault::ListFault;
+use crate::failure::Failure;
+use crate::refusal::Refusal;
 use acl_nfs4::{Acl, AclView};
 use acl_perm::{Counted, Profile};
 use std::alloc::{AllocError, Global};
 
 /// Returns the list that all of the bytes spell.
-pub(crate) fn list_of(alloc: Global, bytes: &[u8], profile: Profile) -> Result<Acl, ListFault>
+pub(crate) fn list_of(alloc: Global, bytes: &[u8], profile: Profile) -> Result<Acl, Failure>
     ensures ok { IfOk result (λ list. Xdr (profile_of profile) list bytes.now) }
-    ensures err { IfErr result (HasListFault (profile_of profile) bytes.now) }
+    ensures err { IfErr result (IsListFailure (profile_of profile) bytes.now 0) }
 {
     let view = AclView::parse_whole_with(bytes, profile)?;
     Ok(Acl::from_view(alloc, &view)?)
+}
+
+/// Returns the list that all of the bytes spell, which are the second of two lists.
+pub(crate) fn second_list_of(alloc: Global, bytes: &[u8], profile: Profile) -> Result<Acl, Failure>
+    ensures ok { IfOk result (λ list. Xdr (profile_of profile) list bytes.now) }
+    ensures err { IfErr result (IsListFailure (profile_of profile) bytes.now 1) }
+{
+    match AclView::parse_whole_with(bytes, profile) {
+        Ok(view) => Ok(Acl::from_view(alloc, &view)?),
+        Err(fault) => Err(Failure::Refused(Refusal::in_list(fault.offset, fault.reason, 1))),
+    }
 }
 
 /// Returns the text of a list.

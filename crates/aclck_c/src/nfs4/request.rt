@@ -1,9 +1,6 @@
 //! A request: the object, the requester, and the rights that are requested.
-ghost use Rattle.std.specs.Prelude.{◌≡◌, ◌<◌, ◌↔◌, ◌^◌, IfSome, IsNone, IsSome};
-ghost use Rattle.acl_perm.specs.Profile.{profile_of};
-ghost use Rattle.acl_eval.specs.Situation.{situation};
-ghost use Rattle.aclck_c.specs.Options.{profile_from};
-ghost use Rattle.aclck_c.specs.Requests.{AreGood, asked};
+ghost use Rattle.std.specs.Prelude.{◌≡◌, ◌<◌, ◌↔◌};
+ghost use Rattle.aclck_c.specs.Common.{IfSome, IsSome, profile_of, situation, profile_from, AreGood, asked};
 
 use crate::options::profile_from;
 use acl_eval::{Object, Requester};

@@ -1,17 +1,17 @@
 //! Whether two lists grant everybody the same.
-ghost use Rattle.std.specs.Prelude.{◌≡◌, ◌<◌, ◌≤◌, ◌≢◌, ◌↔◌, IfOk, IsNone, IsTrue};
-ghost use Rattle.acl_perm.specs.Bits.{all_rights};
-ghost use Rattle.acl_eval.specs.Grant.{SameGrants};
-ghost use Rattle.aclck_c.specs.Compare.{AreDifferent, AreSame, IsRefusedPair};
-ghost use Rattle.aclck_c.specs.Lists.{AreList};
-ghost use Rattle.aclck_c.specs.Options.{profile_from};
+ghost use Rattle.aclck_c.specs.Compare.{AreSameOrNot};
+ghost use Rattle.aclck_c.specs.Status as status;
+ghost use Rattle.std.specs.Prelude.{◌↔◌};
+ghost use Rattle.aclck_c.specs.Common.{IfErr, IfOk, IsNone, IsTrue, profile_of, ReadsTwoLists, SaysYesOrNo, profile_from, IsPairFailure, IsProfileOption};
 
-use crate::nfs4::reading::list_of;
+use crate::failure::Failure;
+use crate::nfs4::reading::{list_of, second_list_of};
 use crate::options::profile_from;
 use crate::refusal::Refusal;
-use acl_nfs4::Acl;
+use crate::status::{BAD_ARGUMENT, NO, YES};
 use acl_normal::{Difference, compare};
-use std::alloc::{AllocError, Global};
+use acl_perm::Profile;
+use std::alloc::Global;
 
 /// Returns whether two lists grant everybody the same (this library's own, over RFC 8881, section 6.2.1): 0 if they do;
 /// 1 if they do not; 2 if the bytes of a list are refused, with the reason in `fault`; 3 if an option has no meaning; 4
@@ -24,41 +24,29 @@ pub extern "C" fn aclck_same(
     options: u32,
     fault: &mut Refusal,
 ) -> u32
-    ensures same { result ≡ 0 → AreSame (profile_from options) first.now second.now }
-    ensures different { result ≡ 1 → AreDifferent (profile_from options) first.now second.now }
-    ensures refused { result ≡ 2 →
-        IsRefusedPair (profile_from options) first.now second.now fault.new }
-    // Bytes with a fault are refused with that fault, also if memory runs out.
-    ensures memory { result ≡ 4 → AreList (profile_from options) first.now }
-    // The status is 3 if and only if an argument is bad.
-    ensures bad { result ≡ 3 → (options < 2) → ⊥ }
-    ensures good { (result ≢ 3) → options < 2 }
-    ensures kept { (result ≢ 2) → fault.new ≡ fault.old }
-    ensures known { result ≤ 4 }
+    ensures answer { SaysYesOrNo
+        (AreSameOrNot (profile_from options) first.now second.now) result }
+    ensures input { ReadsTwoLists (profile_from options) first.now second.now
+        (IsProfileOption options) status.memory fault.old fault.new result }
 {
     let Some(profile) = profile_from(options) else {
-        return 3;
+        return BAD_ARGUMENT;
     };
-    let list = match list_of(alloc, first, profile) {
-        Ok(list) => list,
-        Err(found) => return found.tell(0, fault),
-    };
-    let other = match list_of(alloc, second, profile) {
-        Ok(list) => list,
-        Err(found) => return found.tell(1, fault),
-    };
-    match are_same(alloc, &list, &other) {
-        Ok(true) => 0,
-        Ok(false) => 1,
-        Err(_) => 4,
+    match are_same(alloc, first, second, profile) {
+        Ok(true) => YES,
+        Ok(false) => NO,
+        Err(failure) => failure.report(fault),
     }
 }
 
-// Whether two lists grant everybody the same.
-fn are_same(alloc: Global, list: &Acl, other: &Acl) -> Result<bool, AllocError>
-    ensures { IfOk result (λ same. IsTrue same ↔ SameGrants all_rights list.now other.now) }
+#[tactic(auto, using(crate::proofs::Pairs::of_first, crate::proofs::Pairs::of_second))]
+fn are_same(alloc: Global, first: &[u8], second: &[u8], profile: Profile) -> Result<bool, Failure>
+    ensures ok { IfOk result (AreSameOrNot (profile_of profile) first.now second.now) }
+    ensures err { IfErr result (IsPairFailure (profile_of profile) first.now second.now) }
 {
-    let difference = compare(alloc, list, other)?;
+    let list = list_of(alloc, first, profile)?;
+    let other = second_list_of(alloc, second, profile)?;
+    let difference = compare(alloc, &list, &other)?;
     Ok(is_none(&difference))
 }
 

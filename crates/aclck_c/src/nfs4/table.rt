@@ -1,21 +1,18 @@
 //! What the normal form of a list says about one right.
-ghost use Rattle.std.specs.Prelude.{◌≡◌, ◌≤◌, ◌≢◌, ◌↔◌, ℕ, IfErr, IfOk, IfSome, IsSome};
-ghost use Rattle.acl_perm.specs.Profile.{profile_of};
 ghost use Rattle.std.specs.Option.{is_some};
 ghost use Rattle.acl_nfs4.specs.BitNames.{first_name};
 ghost use Rattle.acl_nfs4.specs.Rights.{rights};
-ghost use Rattle.acl_normal.specs.Programs.{Tabulates, rows_text};
-ghost use Rattle.aclck_c.specs.Lists.{AreList, IsRefusedList};
-ghost use Rattle.aclck_c.specs.Options.{profile_from};
-ghost use Rattle.aclck_c.specs.Out.{HandsOut, IsShortFor};
+ghost use Rattle.acl_normal.specs.Programs.{Tabulates};
 ghost use Rattle.aclck_c.specs.Table.{IsGoodTable, IsRightOf, is_right_of};
-ghost use Rattle.aclck_c.specs.internal.Stops.{HasListFault};
+ghost use Rattle.std.specs.Prelude.{◌≡◌, ◌↔◌};
+ghost use Rattle.aclck_c.specs.Common.{IfErr, IfOk, IfSome, IsSome, profile_of, WritesOfList, profile_from, IsListFailure};
 
-use crate::nfs4::list_fault::ListFault;
+use crate::failure::Failure;
 use crate::nfs4::reading::list_of;
 use crate::options::profile_from;
-use crate::out::put;
+use crate::out::answer;
 use crate::refusal::Refusal;
+use crate::status::BAD_ARGUMENT;
 use acl_nfs4::bit_name;
 use acl_normal::table_text;
 use acl_perm::{Mask, Profile};
@@ -36,31 +33,17 @@ pub extern "C" fn aclck_table(
     needed: &mut usize,
     fault: &mut Refusal,
 ) -> u32
-    ensures done { result ≡ 0 → HandsOut (Tabulates (profile_from options) right acl.now)
-        out.old out.new needed.new }
-    ensures short { result ≡ 5 → IsShortFor (Tabulates (profile_from options) right acl.now)
-        out.old needed.new }
-    ensures refused { result ≡ 2 → IsRefusedList (profile_from options) acl.now 0 fault.new }
-    // Bytes with a fault are refused with that fault, also if memory runs out.
-    ensures memory { result ≡ 4 → AreList (profile_from options) acl.now }
-    // The status is 3 if and only if an argument is bad.
-    ensures bad { result ≡ 3 → IsGoodTable right options → ⊥ }
-    ensures good { (result ≢ 3) → IsGoodTable right options }
-    ensures unwritten { (result ≢ 0) → out.new ≡ out.old }
-    ensures untold { (result ≢ 0) → (result ≢ 5) → needed.new ≡ needed.old }
-    ensures kept { (result ≢ 2) → fault.new ≡ fault.old }
-    ensures known { result ≤ 5 }
+    ensures { WritesOfList (profile_from options) acl.now (IsGoodTable right options)
+        (Tabulates (profile_from options) right acl.now)
+        out.old out.new needed.old needed.new fault.old fault.new result }
 {
     let Some(profile) = profile_from(options) else {
-        return 3;
+        return BAD_ARGUMENT;
     };
     let Some(bit) = right_of(right, profile) else {
-        return 3;
+        return BAD_ARGUMENT;
     };
-    match tabulated(alloc, acl, bit, profile) {
-        Ok(text) => put(&text, out, needed),
-        Err(found) => found.tell(0, fault),
-    }
+    answer(tabulated(alloc, acl, bit, profile), out, needed, fault)
 }
 
 // The mask of one right that the profile has.
@@ -90,9 +73,9 @@ fn is_named(mask: Mask) -> bool
 }
 
 // The text of the rows of the list that the bytes spell.
-fn tabulated(alloc: Global, acl: &[u8], bit: Mask, profile: Profile) -> Result<Vec<u8>, ListFault>
+fn tabulated(alloc: Global, acl: &[u8], bit: Mask, profile: Profile) -> Result<Vec<u8>, Failure>
     ensures ok { IfOk result (λ text. Tabulates (profile_of profile) bit.bits acl.now text.items) }
-    ensures err { IfErr result (HasListFault (profile_of profile) acl.now) }
+    ensures err { IfErr result (IsListFailure (profile_of profile) acl.now 0) }
 {
     let list = list_of(alloc, acl, profile)?;
     Ok(table_text(alloc, &list, bit)?)

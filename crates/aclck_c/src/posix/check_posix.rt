@@ -1,17 +1,17 @@
 //! Whether the access part of a text grants a request.
-ghost use Rattle.std.specs.Prelude.{◌≡◌, ◌≤◌, ◌≢◌, ◌↔◌, All, IfErr, IfOk, IfSome, IsSome, IsTrue, false, true};
 ghost use Rattle.acl_posix.specs.Check.{ids};
 ghost use Rattle.acl_posix.specs.Id.{IsId};
 ghost use Rattle.acl_posix.specs.Programs.{Checks};
 ghost use Rattle.aclck_c.specs.CheckPosix.{AreGoodIds, AreNumbers, object_of, requester_of};
-ghost use Rattle.aclck_c.specs.Names.{AreGoodNames};
-ghost use Rattle.aclck_c.specs.Posix.{IsRefusedPosix, SpellsFile};
-ghost use Rattle.aclck_c.specs.internal.Files.{IsFileFault};
+ghost use Rattle.aclck_c.specs.Status as status;
+ghost use Rattle.std.specs.Prelude.{◌≡◌, ◌↔◌};
+ghost use Rattle.aclck_c.specs.Common.{All, IfErr, IfOk, IfSome, IsSome, IsTrue, ReadsFile, SaysYesOrNo, IsRefusedPosix, SpellsFile, IsFileFailure};
 
+use crate::failure::Failure;
 use crate::posix::file::file_of;
-use crate::posix::file_fault::FileFault;
 use crate::posix::names::Name;
 use crate::refusal::Refusal;
+use crate::status::{BAD_ARGUMENT, MEMORY, NO, YES};
 use acl_perm::Perm;
 use acl_posix::Id;
 use std::alloc::{AllocError, Global};
@@ -32,33 +32,25 @@ pub extern "C" fn aclck_check_posix(
     want: u32,
     fault: &mut Refusal,
 ) -> u32
-    ensures granted { result ≡ 0 → Checks (SpellsFile names.now text.now) (object_of owner group)
-        (requester_of user groups.now) want true }
-    ensures denied { result ≡ 1 → Checks (SpellsFile names.now text.now) (object_of owner group)
-        (requester_of user groups.now) want false }
-    ensures refused { result ≡ 2 → IsRefusedPosix names.now text.now fault.new }
-    ensures bad { result ≡ 3 → AreGoodNames names.now
-        → AreGoodIds owner group user groups.now want → ⊥ }
-    ensures good { (result ≢ 3) → AreGoodIds owner group user groups.now want }
-    // If memory runs out, nothing is said about the names.
-    ensures named { (result ≢ 3) → (result ≢ 4) → AreGoodNames names.now }
-    ensures kept { (result ≢ 2) → fault.new ≡ fault.old }
-    ensures known { result ≤ 4 }
+    ensures answer { SaysYesOrNo (Checks (SpellsFile names.now text.now) (object_of owner group)
+        (requester_of user groups.now) want) result }
+    ensures input { ReadsFile names.now (IsRefusedPosix names.now text.now)
+        (AreGoodIds owner group user groups.now want) status.memory fault.old fault.new result }
 {
     let Some(request) = asked(owner, group, user, want) else {
-        return 3;
+        return BAD_ARGUMENT;
     };
     if !are_ids(groups) {
-        return 3;
+        return BAD_ARGUMENT;
     }
     let groups = match ids_of(alloc, groups) {
         Ok(groups) => groups,
-        Err(_) => return 4,
+        Err(_) => return MEMORY,
     };
     match decide(alloc, text, names, &request, &groups) {
-        Ok(true) => 0,
-        Ok(false) => 1,
-        Err(found) => found.tell(fault),
+        Ok(true) => YES,
+        Ok(false) => NO,
+        Err(failure) => failure.report(fault),
     }
 }
 
@@ -90,7 +82,6 @@ fn asked(owner: u32, group: u32, user: u32, want: u32) -> Option<Request>
     })
 }
 
-// Whether all of the numbers are ids.
 fn are_ids(numbers: &[u32]) -> bool
     ensures { IsTrue result ↔ All IsId numbers.now }
 {
@@ -104,11 +95,11 @@ fn decide(
     names: &[Name<'_>],
     request: &Request,
     groups: &[Id],
-) -> Result<bool, FileFault>
+) -> Result<bool, Failure>
     ensures ok { IfOk result (Checks (SpellsFile names.now text.now)
         (object_of request.now.owner.value request.now.group.value)
         (requester_of request.now.user.value (ids groups.now)) request.now.want.bits) }
-    ensures err { IfErr result (IsFileFault names.now text.now) }
+    ensures err { IfErr result (IsFileFailure names.now text.now) }
 {
     let file = file_of(alloc, text, names)?;
     Ok(
@@ -122,7 +113,6 @@ fn decide(
     )
 }
 
-// The ids of these numbers.
 fn ids_of(alloc: Global, numbers: &[u32]) -> Result<Vec<Id>, AllocError>
     requires { All IsId numbers.now }
     ensures { IfOk result (λ v. ids v.items ≡ numbers.now) }

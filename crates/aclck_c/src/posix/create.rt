@@ -1,18 +1,17 @@
 //! What a new object inherits of POSIX ACLs.
-ghost use Rattle.std.specs.Prelude.{◌≡◌, ◌==◌, ◌<◌, ◌≤◌, ◌≢◌, ◌⊎◌, ◌↔◌, IfErr, IfOk, IfSome, IsSome, option_map};
 ghost use Rattle.aclck_c.specs.Create.{IsCreation};
-ghost use Rattle.aclck_c.specs.Names.{AreGoodNames};
-ghost use Rattle.aclck_c.specs.Out.{HandsOut, IsShortFor};
-ghost use Rattle.acl_posix.specs.Programs.{MakesOfFile, created_text};
-ghost use Rattle.aclck_c.specs.Posix.{IsRefusedPosix, SpellsFile, is_directory};
-ghost use Rattle.aclck_c.specs.internal.Files.{IsFileFault};
+ghost use Rattle.acl_posix.specs.Programs.{created_text};
+ghost use Rattle.aclck_c.specs.Posix.{is_directory};
+ghost use Rattle.std.specs.Prelude.{◌≡◌, ◌==◌, ◌<◌, ◌↔◌};
+ghost use Rattle.aclck_c.specs.Common.{IfErr, IfOk, IfSome, IsSome, WritesOfFile, MakesOfFile, IsRefusedPosix, SpellsFile, IsFileFailure};
 
-use crate::options::mode_from;
-use crate::out::put;
+use crate::failure::Failure;
+use crate::options::{DIRECTORY, mode_from};
+use crate::out::answer;
 use crate::posix::file::file_of;
-use crate::posix::file_fault::FileFault;
 use crate::posix::names::Name;
 use crate::refusal::Refusal;
+use crate::status::BAD_ARGUMENT;
 use acl_perm::Mode;
 use acl_posix::{Form, create};
 use std::alloc::Global;
@@ -34,27 +33,15 @@ pub extern "C" fn aclck_create(
     needed: &mut usize,
     fault: &mut Refusal,
 ) -> u32
-    ensures done { result ≡ 0 → HandsOut (MakesOfFile (SpellsFile names.now text.now)
-        (created_text mode umask (is_directory options))) out.old out.new needed.new }
-    ensures short { result ≡ 5 → IsShortFor (MakesOfFile (SpellsFile names.now text.now)
-        (created_text mode umask (is_directory options))) out.old needed.new }
-    ensures refused { result ≡ 2 → IsRefusedPosix names.now text.now fault.new }
-    ensures bad { result ≡ 3 → AreGoodNames names.now → IsCreation mode umask options → ⊥ }
-    ensures good { (result ≢ 3) → IsCreation mode umask options }
-    // If memory runs out, nothing is said about the names.
-    ensures named { (result ≢ 3) → (result ≢ 4) → AreGoodNames names.now }
-    ensures unwritten { (result ≢ 0) → out.new ≡ out.old }
-    ensures untold { (result ≢ 0) → (result ≢ 5) → needed.new ≡ needed.old }
-    ensures kept { (result ≢ 2) → fault.new ≡ fault.old }
-    ensures known { result ≤ 5 }
+    ensures { WritesOfFile names.now (IsCreation mode umask options)
+        (IsRefusedPosix names.now text.now) (MakesOfFile (SpellsFile names.now text.now)
+        (created_text mode umask (is_directory options)))
+        out.old out.new needed.old needed.new fault.old fault.new result }
 {
     let Some(creation) = creation_of(mode, umask, options) else {
-        return 3;
+        return BAD_ARGUMENT;
     };
-    match created(alloc, text, names, &creation) {
-        Ok(made) => put(&made, out, needed),
-        Err(found) => found.tell(fault),
-    }
+    answer(created(alloc, text, names, &creation), out, needed, fault)
 }
 
 // The mode and the umask, and whether the new object is a directory.
@@ -72,13 +59,13 @@ fn creation_of(mode: u32, umask: u32, options: u32) -> Option<Creation>
     ensures umask { IfSome result (λ c. c.umask.bits ≡ umask) }
     ensures directory { IfSome result (λ c. c.is_directory ≡ is_directory options) }
 {
-    if options != 0 && options != 2 {
+    if options != 0 && options != DIRECTORY {
         return None;
     }
     Some(Creation {
         mode: mode_from(mode)?,
         umask: mode_from(umask)?,
-        is_directory: options == 2,
+        is_directory: options == DIRECTORY,
     })
 }
 
@@ -88,11 +75,11 @@ fn created(
     text: &[u8],
     names: &[Name<'_>],
     creation: &Creation,
-) -> Result<Vec<u8>, FileFault>
+) -> Result<Vec<u8>, Failure>
     ensures ok { IfOk result (λ made. MakesOfFile (SpellsFile names.now text.now)
         (created_text creation.now.mode.bits creation.now.umask.bits creation.now.is_directory)
         made.items) }
-    ensures err { IfErr result (IsFileFault names.now text.now) }
+    ensures err { IfErr result (IsFileFailure names.now text.now) }
 {
     let parent = file_of(alloc, text, names)?;
     let default = parent.default.as_ref();

@@ -1,18 +1,15 @@
 //! The text of POSIX ACLs after the mask is calculated, or after the mode is set.
-ghost use Rattle.std.specs.Prelude.{◌≡◌, ◌<◌, ◌≤◌, ◌≢◌, IfErr, IfOk};
-ghost use Rattle.aclck_c.specs.Names.{AreGoodNames};
-ghost use Rattle.aclck_c.specs.Options.{IsMode};
-ghost use Rattle.aclck_c.specs.Out.{HandsOut, IsShortFor};
-ghost use Rattle.acl_posix.specs.Programs.{MakesOfFile, chmod_text, masked_text};
-ghost use Rattle.aclck_c.specs.Posix.{IsRefusedPosix, SpellsFile};
-ghost use Rattle.aclck_c.specs.internal.Files.{IsFileFault};
+ghost use Rattle.acl_posix.specs.Programs.{chmod_text, masked_text};
+ghost use Rattle.std.specs.Prelude.{◌<◌};
+ghost use Rattle.aclck_c.specs.Common.{⊤, IfErr, IfOk, IsMode, WritesOfFile, MakesOfFile, IsRefusedPosix, SpellsFile, IsFileFailure};
 
+use crate::failure::Failure;
 use crate::options::mode_from;
-use crate::out::put;
+use crate::out::answer;
 use crate::posix::file::file_of;
-use crate::posix::file_fault::FileFault;
 use crate::posix::names::Name;
 use crate::refusal::Refusal;
+use crate::status::BAD_ARGUMENT;
 use acl_perm::Mode;
 use acl_posix::Form;
 use std::alloc::Global;
@@ -30,29 +27,18 @@ pub extern "C" fn aclck_calc_mask(
     needed: &mut usize,
     fault: &mut Refusal,
 ) -> u32
-    ensures done { result ≡ 0 → HandsOut (MakesOfFile (SpellsFile names.now text.now) masked_text)
-        out.old out.new needed.new }
-    ensures short { result ≡ 5 → IsShortFor (MakesOfFile (SpellsFile names.now text.now) masked_text)
-        out.old needed.new }
-    ensures refused { result ≡ 2 → IsRefusedPosix names.now text.now fault.new }
-    ensures bad { result ≡ 3 → AreGoodNames names.now → ⊥ }
-    // If memory runs out, nothing is said about the names.
-    ensures named { (result ≢ 3) → (result ≢ 4) → AreGoodNames names.now }
-    ensures unwritten { (result ≢ 0) → out.new ≡ out.old }
-    ensures untold { (result ≢ 0) → (result ≢ 5) → needed.new ≡ needed.old }
-    ensures kept { (result ≢ 2) → fault.new ≡ fault.old }
-    ensures known { result ≤ 5 }
+    ensures { WritesOfFile names.now ⊤ (IsRefusedPosix names.now text.now)
+        (MakesOfFile (SpellsFile names.now text.now) masked_text)
+        out.old out.new needed.old needed.new fault.old fault.new result }
 {
-    match masked(alloc, text, names) {
-        Ok(made) => put(&made, out, needed),
-        Err(found) => found.tell(fault),
-    }
+    answer(masked(alloc, text, names), out, needed, fault)
 }
 
 // The text with the mask calculated.
-fn masked(alloc: Global, text: &[u8], names: &[Name<'_>]) -> Result<Vec<u8>, FileFault>
-    ensures ok { IfOk result (λ made. MakesOfFile (SpellsFile names.now text.now) masked_text made.items) }
-    ensures err { IfErr result (IsFileFault names.now text.now) }
+fn masked(alloc: Global, text: &[u8], names: &[Name<'_>]) -> Result<Vec<u8>, Failure>
+    ensures ok { IfOk result (λ made.
+        MakesOfFile (SpellsFile names.now text.now) masked_text made.items) }
+    ensures err { IfErr result (IsFileFailure names.now text.now) }
 {
     let mut file = file_of(alloc, text, names)?;
     file.access.calc_mask()?;
@@ -73,39 +59,21 @@ pub extern "C" fn aclck_chmod(
     needed: &mut usize,
     fault: &mut Refusal,
 ) -> u32
-    ensures done { result ≡ 0 → HandsOut (MakesOfFile (SpellsFile names.now text.now) (chmod_text mode))
-        out.old out.new needed.new }
-    ensures short { result ≡ 5 → IsShortFor (MakesOfFile (SpellsFile names.now text.now) (chmod_text mode))
-        out.old needed.new }
-    ensures refused { result ≡ 2 → IsRefusedPosix names.now text.now fault.new }
-    ensures bad { result ≡ 3 → AreGoodNames names.now → IsMode mode → ⊥ }
-    ensures good { (result ≢ 3) → IsMode mode }
-    // If memory runs out, nothing is said about the names.
-    ensures named { (result ≢ 3) → (result ≢ 4) → AreGoodNames names.now }
-    ensures unwritten { (result ≢ 0) → out.new ≡ out.old }
-    ensures untold { (result ≢ 0) → (result ≢ 5) → needed.new ≡ needed.old }
-    ensures kept { (result ≢ 2) → fault.new ≡ fault.old }
-    ensures known { result ≤ 5 }
+    ensures { WritesOfFile names.now (IsMode mode) (IsRefusedPosix names.now text.now)
+        (MakesOfFile (SpellsFile names.now text.now) (chmod_text mode))
+        out.old out.new needed.old needed.new fault.old fault.new result }
 {
     let Some(mode) = mode_from(mode) else {
-        return 3;
+        return BAD_ARGUMENT;
     };
-    match with_mode(alloc, text, names, mode) {
-        Ok(made) => put(&made, out, needed),
-        Err(found) => found.tell(fault),
-    }
+    answer(with_mode(alloc, text, names, mode), out, needed, fault)
 }
 
 // The text with the mode set.
-fn with_mode(
-    alloc: Global,
-    text: &[u8],
-    names: &[Name<'_>],
-    mode: Mode,
-) -> Result<Vec<u8>, FileFault>
+fn with_mode(alloc: Global, text: &[u8], names: &[Name<'_>], mode: Mode) -> Result<Vec<u8>, Failure>
     ensures ok { IfOk result (λ made.
         MakesOfFile (SpellsFile names.now text.now) (chmod_text mode.bits) made.items) }
-    ensures err { IfErr result (IsFileFault names.now text.now) }
+    ensures err { IfErr result (IsFileFailure names.now text.now) }
 {
     let mut file = file_of(alloc, text, names)?;
     file.access.chmod(mode);

@@ -2,10 +2,10 @@
 ghost use Rattle.std.specs.Prelude.{◌≡◌};
 ghost use Rattle.acl_posix.specs.Names.{empty_table};
 ghost use Rattle.aclck_c.specs.Names.{name_added, names_added};
-ghost use Rattle.aclck_c.specs.internal.Files.{AddsFileName, ReadsTable};
+ghost use Rattle.aclck_c.specs.internal.Failures.{AddsFileName, ReadsTable};
 
-use crate::posix::file_fault::FileFault;
-use acl_posix::{Id, Names};
+use crate::failure::Failure;
+use acl_posix::{Id, NameFault, Names};
 use std::alloc::Global;
 
 /// `struct aclck_name`: a name and its id, for a user if `is_group` is 0, and for a group if it is 1.
@@ -17,8 +17,22 @@ pub struct Name<'a> {
     pub is_group: u32,
 }
 
+impl From<NameFault> for Failure {
+    ghost use Rattle.std.specs.Prelude.{◌≡◌};
+    ghost use Rattle.aclck_c.specs.internal.Failures.{of_name};
+
+    ghost from_gives = { λ fault failure. failure ≡ of_name fault };
+
+    fn from(fault: NameFault) -> Failure {
+        match fault {
+            NameFault::EmptyName | NameFault::DigitsOnly | NameFault::Taken => Failure::BadArgument,
+            NameFault::Memory => Failure::Memory,
+        }
+    }
+}
+
 /// Returns the table that the names make.
-pub(crate) fn table_of(alloc: Global, names: &[Name<'_>]) -> Result<Names, FileFault>
+pub(crate) fn table_of(alloc: Global, names: &[Name<'_>]) -> Result<Names, Failure>
     ensures { ReadsTable (names_added empty_table names.now) result }
 {
     let mut table = Names::new(alloc);
@@ -28,16 +42,16 @@ pub(crate) fn table_of(alloc: Global, names: &[Name<'_>]) -> Result<Names, FileF
     Ok(table)
 }
 
-fn add_name(table: &mut Names, name: &Name<'_>) -> Result<(), FileFault>
+fn add_name(table: &mut Names, name: &Name<'_>) -> Result<(), Failure>
     ensures { AddsFileName (name_added table.old name.now) table.new result }
 {
     let Some(id) = Id::new(name.id) else {
-        return Err(FileFault::Names);
+        return Err(Failure::BadArgument);
     };
     match name.is_group {
         0 => table.add_user(name.name, id)?,
         1 => table.add_group(name.name, id)?,
-        _ => return Err(FileFault::Names),
+        _ => return Err(Failure::BadArgument),
     }
     Ok(())
 }

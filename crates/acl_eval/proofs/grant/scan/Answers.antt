@@ -4,9 +4,8 @@ use Rattle.acl_nfs4.specs.Ace.{ace}
 use Rattle.acl_eval.specs.Situation.{situation}
 use Rattle.acl_eval.specs.Grant.{is_allow}
 use Rattle.acl_eval.specs.Scan.{scan}
-use Rattle.acl_eval.proofs.Scans.{passes, silent, last_allowed, denied}
+use Rattle.acl_eval.proofs.Scans.{passes, silent, last_allowed}
 use Rattle.acl_eval.proofs.grant.scan.Goals.{else-common-ne0-via-then-common-ne0+else-is_meant_by, else-common-ne0-via-else-common-ne0}
-use Rattle.acl_nfs4.proofs.Exports.{who_bounds}
 use Rattle.acl_eval.proofs.grant.scan.Goals as goal
 
 pub loop-ace-preserved : goal.loop-ace-preserved
@@ -23,14 +22,6 @@ loop-ace-preserved c =
     ] in
     (tt, tt, c.loop-ace.invariant.2, step ∙ whole)
 
-pub returns-in-Deny : goal.returns-in-Deny
-returns-in-Deny c =
-    let s = situation c.args.standing.now.object c.args.standing.now.requester in
-    denied (ace c.in-Some.ace) c.next.new.self s c.loop-ace.left c.loop-ace.invariant.2
-    (sym c.is_meant_by.ensures ∙ c.if-is_meant_by.true) (ap is_allow c.in-Deny.is)
-    (λ none. c.if-common-ne0.true (ap (bit_and c.loop-ace.left) c.bits.ensures.value ∙ none))
-    ∙ ap (λ list. scan list s c.loop-ace.left) (sym c.in-Some.ensures.steps.0) ∙ c.loop-ace.invariant.3
-
 pub returns-in-Allow : goal.returns-in-Allow
 returns-in-Allow c =
     let s = situation c.args.standing.now.object c.args.standing.now.requester in
@@ -38,6 +29,3 @@ returns-in-Allow c =
     (sym c.is_meant_by.ensures ∙ c.if-is_meant_by.true) (ap is_allow c.in-Allow.is)
     (ap (bit_and c.loop-ace.left) (sym c.bits.ensures.value) ∙ c.if-common-left.true)
     ∙ ap (λ list. scan list s c.loop-ace.left) (sym c.in-Some.ensures.steps.0) ∙ c.loop-ace.invariant.3
-
-pub is_meant_by-requires : goal.is_meant_by-requires
-is_meant_by-requires c = (who_bounds _ c.in-Some.ensures.steps.1.who).0

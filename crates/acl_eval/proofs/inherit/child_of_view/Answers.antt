@@ -1,9 +1,8 @@
 use Rattle.std.proofs.Common.{◌++◌, refl, sym, ap, ◌∙◌}
-use Rattle.std.specs.Prelude.{option_map}
 use Rattle.acl_perm.specs.Profile.{full}
 use Rattle.acl_nfs4.specs.Ace.{ace}
 use Rattle.acl_eval.specs.Inheritance.{children, with_flags}
-use Rattle.acl_eval.proofs.Children.{all_done, child_accepted, child_fits, no_more_of, one_more, one_more_accepted}
+use Rattle.acl_eval.proofs.Children.{all_done, child_accepted, child_fits, one_more, one_more_accepted}
 use Rattle.acl_eval.proofs.inherit.child_of_view.Goals as goal
 
 pub loop-ace-init : goal.loop-ace-init
@@ -21,28 +20,6 @@ push_accepted-requires c =
     one_more_accepted c.args.kind c.loop-ace.list (with_flags (ace c.in-Some.ace) flags) c.next.new.self _
     (one_more c.args.kind c.loop-ace.list (ace c.in-Some.ace) flags _ c.next.new.self _ c.in-Some.ensures.steps.0
     (sym c.in-Some-inherited.ensures) c.loop-ace.invariant.3) c.loop-ace.invariant.2
-
-pub loop-ace-preserved-in-Continue-1 : goal.loop-ace-preserved-in-Continue-1
-loop-ace-preserved-in-Continue-1 c = (
-  tt,
-  tt,
-  c.loop-ace.invariant.2,
-  ap (λ list. list ++ children c.args.kind c.next.new.self) c.in_ok-push_accepted.ensures.ok
-      ∙ one_more c.args.kind c.loop-ace.list (ace c.in-Some.ace) c.in-Some-inherited.flags.bits _ c.next.new.self _
-      c.in-Some.ensures.steps.0 (sym c.in-Some-inherited.ensures) c.loop-ace.invariant.3,
-)
-
-pub loop-ace-preserved : goal.loop-ace-preserved
-loop-ace-preserved c = (
-  tt,
-  tt,
-  c.loop-ace.invariant.2,
-  no_more_of c.args.kind c.loop-ace.list (ace c.in-Some.ace) _ c.next.new.self _ c.in-Some.ensures.steps.0
-      (sym c.inherited.ensures ∙ ap (option_map (λ f. f.bits)) c.in_default.is) c.loop-ace.invariant.3,
-)
-
-pub returns-clause-ok : goal.returns-clause-ok
-returns-clause-ok c = all_done c.args.kind c.loop-ace.list _ _ c.in-None.ensures.steps.0.0 c.loop-ace.invariant.3
 
 pub returns-clause-fits : goal.returns-clause-fits
 returns-clause-fits c = λ p h fits.

@@ -62,18 +62,12 @@ extends head body piece front rest after now filled k n is bytes inside small wh
     elim (cases_lt filled 4) [
       | inl few ↦
           let empty : body ≡ [] = is.begun few in
-          ap (λ (t : List ℕ). t ++ now) word
-          ∙ ap (λ (t : List ℕ). (take filled head ++ front) ++ t) (ne ∙ ap (λ (t : List ℕ). t ++ rest) empty)
-          ∙ append_assoc (take filled head) front rest ∙ ap (λ (t : List ℕ). take filled head ++ t) joined
-          ∙ ap (λ (t : List ℕ). t ++ piece)
-          (sym (append-nil (take filled head)) ∙ ap (λ (t : List ℕ). take filled head ++ t) (sym empty))
+          rw (word, ne, empty, append-nil) (append_assoc (take filled head) front rest
+          ∙ ap (λ (t : List ℕ). take filled head ++ t) joined)
       | inr full ↦
           let none : front ≡ [] = no_length front (omega (arith, len, small, full)) in
-          ap (λ (t : List ℕ). t ++ now) word ∙ ap (λ (t : List ℕ). (take filled head ++ t) ++ now) none
-          ∙ ap (λ (t : List ℕ). t ++ now) (append-nil (take filled head))
-          ∙ ap (λ (t : List ℕ). take filled head ++ t)
-          (ne ∙ ap (λ (t : List ℕ). body ++ t) (ap (λ (t : List ℕ). t ++ rest) (sym none) ∙ joined))
-          ∙ sym (append_assoc (take filled head) body piece)
+          let tail : rest ≡ piece = ap (λ (t : List ℕ). t ++ rest) (sym none) ∙ joined in
+          rw (word, ne, none, append-nil, tail) (sym (append_assoc (take filled head) body piece))
     ] in
     record {
       is = record {

@@ -1,7 +1,8 @@
 use Rattle.std.proofs.Common.{◌≡◌, ◌+◌, ◌<◌, length}
 use Rattle.acl_normal.proofs.Common.{ap, arith, mask_numbers, has_bit, subst, sym, vec_len, with_masks, ◌∙◌}
 use Rattle.acl_normal.proofs.NotedPlaces.{NotesTo, noted_all, noted_more, noted_past, row_inside}
-use Rattle.acl_normal.proofs.emit.Risen.{has_row, mask_of, masked_count}
+use Rattle.acl_normal.proofs.emit.Risen.{has_row, mask_of}
+use Rattle.acl_normal.proofs.unique.Outline.{masked_count}
 use Rattle.acl_normal.proofs.bit_table.places.Goals as goal
 use Rattle.acl_normal.proofs.bit_table.places.Goals.{then-is_in, else-is_in}
 

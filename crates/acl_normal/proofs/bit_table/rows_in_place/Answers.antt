@@ -1,9 +1,8 @@
 use Rattle.std.proofs.Common.{◌≡◌, ◌+◌, ◌<◌, length}
-use Rattle.acl_normal.proofs.Common.{all_cleared, ap, AreRows, arith, mask_numbers, has_bit, map, mask_here, of_borrowed, subst, sym, take, with_bit, with_masks, ◌∙◌}
+use Rattle.acl_normal.proofs.Common.{all_cleared, ap, AreRows, arith, mask_numbers, has_bit, map, of_borrowed, subst, sym, take, with_bit, with_masks, ◌∙◌}
 use Rattle.acl_normal.proofs.InPlace.{no_row_in_place, row_in_place, rows_in_place}
-use Rattle.acl_normal.proofs.emit.Risen.{shown, shown_at}
-use Rattle.acl_normal.proofs.rows.ByPlace.{length_masks, mask_there}
-use Rattle.acl_normal.proofs.unique.Bits.{bits_at, bits_length}
+use Rattle.acl_normal.proofs.emit.Risen.{shown, shown_at, mask_of}
+use Rattle.acl_normal.proofs.unique.Outline.{masked_count}
 use Rattle.acl_normal.proofs.bit_table.rows_in_place.Goals as goal
 use Rattle.acl_normal.proofs.bit_table.rows_in_place.Goals.{then-is_in+in_ok-push, else-is_in}
 
@@ -13,12 +12,11 @@ loop-place-preserved c =
     let xs = with_masks c.args.aces.now (mask_numbers c.args.masks.now) in
     let place = c.loop-place.place in
     let count : length xs ≡ length c.args.aces.now =
-    length_masks c.args.aces.now (mask_numbers c.args.masks.now) (bits_length c.args.masks.now ∙ c.requires.masks) in
+    masked_count c.args.aces.now c.args.masks.now c.requires.masks in
     let within : place < length xs = omega (arith, count, c.loop-place-test.true) in
     let inside : place < length c.args.masks.now = omega (arith, c.loop-place-test.true, c.requires.masks) in
-    let mask : mask_here xs place ≡ c.index-masks-place.result.bits =
-    sym (mask_there c.args.aces.now (mask_numbers c.args.masks.now) place 0 within)
-    ∙ bits_at c.args.masks.now place 0 _ inside c.index-masks-place.is in
+    let mask = mask_of c.args.aces.now c.args.masks.now place c.index-masks-place.result c.requires.masks
+    c.loop-place-test.true c.index-masks-place.is in
     elim c.if-is_in.branch [
       | then-is_in+in_ok-push w ↦
           let item = shown w.index-aces-place.result c.index-masks-place.result in
@@ -40,6 +38,6 @@ pub returns : goal.returns
 returns c =
     let xs = with_masks c.args.aces.now (mask_numbers c.args.masks.now) in
     let count : length xs ≡ length c.args.aces.now =
-    length_masks c.args.aces.now (mask_numbers c.args.masks.now) (bits_length c.args.masks.now ∙ c.requires.masks) in
+    masked_count c.args.aces.now c.args.masks.now c.requires.masks in
     rows_in_place c.args.right.bit xs c.loop-place.place (map of_borrowed c.loop-place.rows.items)
     (omega (arith, count, c.loop-place-test.false)) c.loop-place.invariant

@@ -1,5 +1,5 @@
-use Rattle.acl_normal.proofs.Common.{AddsRow, emitted_ace, HasKey, IsRowOf, map, of_borrowed, principal_of, subst, sym}
-use Rattle.acl_normal.proofs.Tables.{rows_all, rows_on}
+use Rattle.acl_normal.proofs.Common.{AddsRow, emitted_ace, HasKey, IsRowOf, principal_of, subst, sym}
+use Rattle.acl_normal.proofs.Tables.{rows_on}
 use Rattle.acl_normal.proofs.bit_table.rows_of.Goals as goal
 
 pub loop-item-preserved : goal.loop-item-preserved
@@ -14,8 +14,3 @@ loop-item-preserved c list places rows keys =
     (λ first. places _ _ first
     (subst (λ e. IsRowOf e.row (principal_of (emitted_ace e)) list) (sym c.item-item.is) (rows i _ l)))
     (subst (λ e. HasKey bit list (emitted_ace e)) (sym c.item-item.is) (keys i _ l))))
-
-pub returns : goal.returns
-returns c list places rows keys =
-    rows_all c.args.right.bit list c.args.form.now c.loop-item.item-index (map of_borrowed c.loop-item.table.items)
-    c.loop-item-test.false (c.loop-item.invariant list places rows keys)

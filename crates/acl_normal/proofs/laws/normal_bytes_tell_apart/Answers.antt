@@ -9,7 +9,8 @@ returns-clause-apart c p a b x y source other is at_a at_b na nb =
     λ l m s h k. (c.one_spelling.ensures p l m s s [] [] is h k refl).0 in
     let law : (spelling na.form ≡ spelling nb.form) ↔ SameGrants p.masks na.source nb.source =
     c.equal_bytes.ensures.forms p na.source nb.source na.form nb.form is
-    na.read.accepted na.is_form nb.read.accepted nb.is_form in
+    (record { accepted = na.read.accepted; is_form = na.is_form })
+    (record { accepted = nb.read.accepted; is_form = nb.is_form }) in
     let both : (x ≡ y) ↔ SameGrants p.masks na.source nb.source = (
       λ h. law.0 (sym na.spelled.spelled ∙ h ∙ nb.spelled.spelled),
       λ h. na.spelled.spelled ∙ law.1 h ∙ sym nb.spelled.spelled,

@@ -21,6 +21,3 @@ returns-in-Ok-clause-ok c =
         spelled = form.2;
       };
     }
-
-pub returns-in-Ok-clause-refused : goal.returns-in-Ok-clause-refused
-returns-in-Ok-clause-refused c = λ offset r f. let h = c.in_ok-view.ensures.refused offset r f in cc

@@ -1,5 +1,5 @@
 use Rattle.acl_normal.proofs.Common.{ap, emitted_ace, ◌∙◌}
-use Rattle.acl_normal.proofs.five_forms.Writing.{all_written, next_accepted, next_written}
+use Rattle.acl_normal.proofs.five_forms.Writing.{next_accepted, next_written}
 use Rattle.acl_normal.proofs.normal_form.written.Goals as goal
 
 pub push_accepted-requires : goal.push_accepted-requires
@@ -12,7 +12,3 @@ loop-item-preserved c =
     next_written c.args.form.now c.loop-item.item-index _ c.loop-item.list c.push_accepted.new.self _
     c.loop-item-test.true
     c.loop-item.invariant (c.ace_of.ensures ∙ ap emitted_ace c.item-item.is) c.in_ok-push_accepted.ensures.ok
-
-pub returns : goal.returns
-returns c =
-    all_written c.args.form.now c.loop-item.item-index c.loop-item.list c.loop-item-test.false c.loop-item.invariant

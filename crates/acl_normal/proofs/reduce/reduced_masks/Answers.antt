@@ -18,6 +18,7 @@ returns c =
     rw items (record {
       places = c.in_ok-masks.ensures.places;
       reduced = record {
+        accepted = c.requires.accepted;
         thinned = record {
           outline = r.outline;
           tidy = r.tidy;

@@ -2,9 +2,9 @@ use Rattle.std.proofs.Common.{◌-◌, length, arith}
 use Rattle.acl_perm.proofs.PlaceLemmas.{first_place, last_place}
 use Rattle.acl_perm.proofs.place.place_in_long.Goals as goal
 
-pub returns-then-place-lt16 : goal.returns-then-place-lt16
-returns-then-place-lt16 c = first_place c.args.wanted c.args.bytes.now c.loop-at.at 16 c.place_in-place.result
-    c.loop-at.invariant.absent (let h = c.loop-at-test.true in omega arith) c.if-place-lt16.true
+pub returns-then-place-lt-LONG : goal.returns-then-place-lt-LONG
+returns-then-place-lt-LONG c = first_place c.args.wanted c.args.bytes.now c.loop-at.at 16 c.place_in-place.result
+    c.loop-at.invariant.absent (let h = c.loop-at-test.true in omega arith) c.if-place-lt-LONG.true
     c.place_in-place.ensures
 
 pub returns : goal.returns

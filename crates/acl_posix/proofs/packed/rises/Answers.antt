@@ -1,20 +1,15 @@
-use Rattle.acl_posix.proofs.Common.{arith, refl}
-use Rattle.acl_posix.proofs.packed.Packings.{keys_sorted, rising_all, sorted_keys}
+use Rattle.acl_posix.proofs.Common.{answers_always, rules, unpacked, ◌/◌}
+use Rattle.std.specs.Prelude.{nat_lt}
+use Rattle.std.proofs.lemmas.Simd.{map-map}
+use Rattle.acl_posix.proofs.sorting.Repeats.{in_order}
+use Rattle.acl_posix.proofs.packed.Packings.{keys_less}
 use Rattle.acl_posix.proofs.packed.rises.Goals as goal
 
-pub returns-then-keys-place : goal.returns-then-keys-place
-returns-then-keys-place c = (
-  λ no. absurd cc,
-  λ sorted.
-      let less = sorted_keys c.args.keys.now c.loop-place.place c.requires sorted
-      c.loop-place.invariant.after_first c.loop-place-test.true in
-      absurd (omega (arith, less, c.if-keys-place.true)),
-)
-
 pub returns : goal.returns
-returns c = (
-  λ yes. keys_sorted c.args.keys.now c.requires
-      (rising_all c.args.keys.now c.loop-place.place (omega (arith, c.loop-place-test.false))
-      c.loop-place.invariant.rising),
-  λ sorted. refl,
-)
+returns c =
+    let answer = c.is_sorted_by.ensures.cases (λ a b. nat_lt (a / 8) (b / 8))
+    (answers_always _ _ _ (λ f a r g called. search rules)) in
+    rw (map-map (λ p. p.0) unpacked c.args.keys.now)
+    (in_order (λ key. (unpacked key).0) (λ a b. nat_lt (a / 8) (b / 8)) c.args.keys.now
+    c.is_sorted_by.result (keys_less c.args.keys.now c.requires)
+    answer)

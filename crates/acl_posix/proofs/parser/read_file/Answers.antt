@@ -1,5 +1,5 @@
-use Rattle.acl_posix.proofs.Common.{err_from_is_err_and, lists_of}
-use Rattle.acl_posix.proofs.reader.Settled.{file_found, text_refused, access_refused, default_refused}
+use Rattle.acl_posix.proofs.Common.{Access, Default, err_from_is_err_and, lists_of}
+use Rattle.acl_posix.proofs.reader.Settled.{file_found, part_refused, text_refused}
 use Rattle.acl_posix.proofs.parser.read_file.Goals as goal
 
 pub returns-in_err-lists-clause-fault : goal.returns-in_err-lists-clause-fault
@@ -11,15 +11,16 @@ pub returns-in_err-access-clause-fault : goal.returns-in_err-access-clause-fault
 returns-in_err-access-clause-fault c =
     let p = err_from_is_err_and c.from_residual-in_err-access.result c.from_residual-in_err-access.ensures.1 in
     rw (p.1, p.2)
-    (access_refused c.args.text.now c.args.names.now (lists_of c.in_ok-lists.lists)
-    _ c.in_ok-lists.ensures c.in_err-access.ensures.err)
+    (part_refused c.args.text.now c.args.names.now (lists_of c.in_ok-lists.lists) Access _ _ c.in_ok-lists.ensures
+    (λ why wrong. wrong) c.in_err-access.ensures.err)
 
 pub returns-in_err-default-clause-fault : goal.returns-in_err-default-clause-fault
 returns-in_err-default-clause-fault c =
     let p = err_from_is_err_and c.from_residual-in_err-default.result c.from_residual-in_err-default.ensures.1 in
     rw (p.1, p.2)
-    (default_refused c.args.text.now c.args.names.now (lists_of c.in_ok-lists.lists)
-    _ _ c.in_ok-lists.ensures c.in_ok-access.ensures.ok c.in_err-default.ensures.err)
+    (part_refused c.args.text.now c.args.names.now (lists_of c.in_ok-lists.lists) Default _ _ c.in_ok-lists.ensures
+    (λ why wrong. (c.in_ok-access.ensures.ok.valid, c.in_err-default.ensures.err.some_entry, wrong))
+    c.in_err-default.ensures.err.wrong)
 
 pub returns-clause-found : goal.returns-clause-found
 returns-clause-found c =

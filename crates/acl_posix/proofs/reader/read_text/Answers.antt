@@ -1,5 +1,6 @@
-use Rattle.acl_posix.proofs.Common.{ap, lines_left, List, lists_of, no_lines, NumberFits, pieces_from, read_pieces, subst, sym, ℕ, ◌∙◌}
-use Rattle.acl_posix.proofs.reader.Lines.{read_none, on_told, on_fits}
+use Rattle.acl_posix.proofs.Common.{ap, lines_left, List, lists_of, no_lines, NumberFits, pieces_from, subst, sym, ℕ, ◌∙◌}
+use Rattle.acl_posix.specs.internal.Reading.{read_pieces}
+use Rattle.acl_posix.proofs.reader.Lines.{on_told, on_fits}
 use Rattle.acl_posix.proofs.reader.read_text.Goals as goal
 
 pub loop-rest-preserved : goal.loop-rest-preserved
@@ -18,8 +19,9 @@ loop-rest-preserved c =
     }
 
 pub returns : goal.returns
+unfolding read_pieces
 returns c =
     let left = no_lines c.loop-rest.rest c.in_default.not-Some in
     sym c.loop-rest.invariant.told
     ∙ ap (λ (ls : List (List ℕ)). read_pieces c.args.names.now (lists_of c.loop-rest.lists)
-    (pieces_from c.loop-rest.number ls)) left ∙ read_none c.args.names.now (lists_of c.loop-rest.lists)
+    (pieces_from c.loop-rest.number ls)) left

@@ -1,6 +1,7 @@
-use Rattle.acl_posix.proofs.Common.{arith, length, sym, take_rest, ◌+◌, ◌<◌, ◌∙◌, ◌≤◌}
+use Rattle.acl_posix.proofs.Common.{ap, arith, get_or, is_ascii_digit, length, sym, take_rest, ◌&&◌, ◌+◌, ◌<◌, ◌∙◌, ◌≤◌}
+use Rattle.std.proofs.lemmas.List.Folds.{list_all_more}
 use Rattle.acl_posix.proofs.field.Digits.{digit_more, ten_digits}
-use Rattle.acl_posix.proofs.written_line.FirstLines.{digits_more, id_found}
+use Rattle.acl_posix.proofs.written_line.FirstLines.{id_found}
 use Rattle.acl_posix.proofs.written_line.id_before.Goals as goal
 
 pub overflow_mul-value : goal.overflow_mul-value
@@ -24,7 +25,8 @@ loop-place-preserved c =
     let more = digit_more bytes c.loop-place.place inside digit in
     record {
       within = omega (arith, c.loop-place-test.true);
-      digits = digits_more bytes c.loop-place.place inside inv.digits digit;
+      digits = list_all_more is_ascii_digit bytes c.loop-place.place 0 inside
+          ∙ ap (λ t. t && is_ascii_digit (get_or bytes c.loop-place.place 0)) inv.digits ∙ digit;
       value = omega (arith, more, inv.value, c.from.ensures);
     }
 

@@ -77,8 +77,8 @@ fn refused_part(alloc: Global, words: &[&str], input: &[u8], fault: &str) -> usi
     input.len()
 }
 
-/// Returns whether the words refuse an input like this over a source that fails just after the refusal: behind the end of
-/// a text or of a list that is cut short, and otherwise behind the refused field.
+/// Returns whether the words refuse an input like this over a source that fails just after the refusal: behind the end
+/// of a text or of a list that is cut short, and otherwise behind the refused field.
 pub fn refuses_at_once(alloc: Global, words: &[&str], input: &[u8], fault: &str) -> bool {
     let is_read_whole = !fault.contains(" at byte ") || fault.contains("Truncated");
     let reads = if is_read_whole {

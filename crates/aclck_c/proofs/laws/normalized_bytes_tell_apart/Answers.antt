@@ -1,12 +1,11 @@
-use Rattle.std.proofs.Common.{◌≡◌, ◌++◌, ◌∙◌, ℕ, List, [], Bool, true, false, ap, cond, drop, eqb, length, refl, subst, sym, take}
-use Rattle.std.specs.Prelude.{◌↔◌, bit_and}
+use Rattle.std.proofs.Common.{◌≡◌, ◌∙◌, ℕ, List, [], true, false, ap, cond, drop, eqb, length, refl, subst, sym, take}
+use Rattle.std.specs.Prelude.{bit_and}
 use Rattle.std.proofs.Math.Seq.{take-append_seam}
 use Rattle.acl_perm.specs.Profile.{Profile, full, narrow}
 use Rattle.acl_nfs4.specs.Ace.{Ace}
-use Rattle.acl_nfs4.specs.Spelling.{Xdr, spelling}
+use Rattle.acl_nfs4.specs.Spelling.{Xdr}
 use Rattle.acl_nfs4.specs.Within.{IsProfile}
 use Rattle.acl_nfs4.proofs.Exports.{one}
-use Rattle.acl_eval.specs.Grant.{SameGrants}
 use Rattle.acl_normal.specs.NormalForm.{Normalises}
 use Rattle.acl_normal.proofs.unique.Spelled.{IsForm, form_of, forms_tell}
 use Rattle.aclck_c.specs.Options.{profile_from}
@@ -20,16 +19,12 @@ is_profile options = elim (eqb (bit_and options 1) 1) as (λ t. IsProfile (cond 
   | false ↦ record { masks = refl; flags = refl }
 ]
 
--- bytes spell one list
-one_of : (p : Profile) (list other : List Ace) (x : List ℕ) → IsProfile p → Xdr p list x → Xdr p other x
-    → list ≡ other
-one_of p list other x is h k = (one p list other x x [] [] is h k refl).0
-
 -- the list that was written is a form of the list that was read
 form_is : (p : Profile) (list : List Ace) (x a : List ℕ) → IsProfile p → Xdr p list x → (h : Normalises p x a)
     → IsForm p list h.form
-form_is p list x a is read h = subst (λ source. IsForm p source h.form) (one_of p h.source list x is h.read read)
-    (form_of p h.source h.form is h.read.accepted h.is_form)
+form_is p list x a is read h =
+    let same = one p h.source list x x [] [] is h.read read refl in
+    subst (λ source. IsForm p source h.form) same.0 (form_of p h.source h.form is h.read.accepted h.is_form)
 
 -- what was put at the front of the buffer is the text
 front : (Means : List ℕ → Type 0) (buffer filled : List ℕ) (needed : ℕ)

@@ -1,6 +1,5 @@
-use Rattle.acl_nfs4.proofs.Common.{arith, cases_lt, drop, EndsPart, false, inl, inr, IsScanned, length, List, most_aces, number, profile_of, refl, subst, take, true, ℕ, ◌<◌, ◌≡◌, ◌≤◌}
-use Rattle.acl_nfs4.proofs.feed.Streaming.{text_short, text_many, judged_is}
-use Rattle.acl_nfs4.proofs.list.Within.{code_profile}
+use Rattle.acl_nfs4.proofs.Common.{ap, cases_lt, count_of, false, inl, inr, length, profile_of, refl, sym, true, ◌∙◌, ◌<◌, ◌≡◌, ◌≤◌}
+use Rattle.acl_nfs4.proofs.feed.Streaming.{text_short, text_refused, judged_is}
 use Rattle.acl_nfs4.proofs.feed.step.judge.Goals as goal
 
 pub returns-in-None-clause-judged : goal.returns-in-None-clause-judged
@@ -11,26 +10,19 @@ returns-in-None-clause-judged c =
       | inr long ↦ absurd (none long)
     ] in
     rw (c.at_fault.ensures, c.at_front.ensures)
-    (text_short (profile_of c.args.profile) c.args.text.now c.in-None.ensures.bytes short)
+    (text_short (profile_of c.args.profile) c.args.text.now short)
 
-pub returns-then-count-gt-MOST_ACES-clause-judged : goal.returns-then-count-gt-MOST_ACES-clause-judged
-returns-then-count-gt-MOST_ACES-clause-judged c =
-    let n : c.in-Some.count ≡ number (take 4 c.args.text.now) = c.in-Some.ensures.value in
-    let long : 4 ≤ length c.args.text.now = c.in-Some.ensures.whole.0 refl in
-    rw (c.at_fault-then-count-gt-MOST_ACES.ensures, c.at_front-then-count-gt-MOST_ACES.ensures)
-    (text_many (profile_of c.args.profile) c.args.text.now c.in-Some.ensures.bytes long
-    (subst (λ (k : ℕ). most_aces < k) n c.if-count-gt-MOST_ACES.true))
+pub returns-in-Err-clause-judged : goal.returns-in-Err-clause-judged
+returns-in-Err-clause-judged c =
+    rw (c.at_fault-in-Err.ensures, c.at_front-in-Err.ensures) (
+      4,
+      text_refused (profile_of c.args.profile) c.args.text.now c.in-Err.reason (c.in-Some.ensures.whole.0 refl)
+          (ap count_of (sym c.in-Some.ensures.value) ∙ c.in-Err.ensures.exact),
+    )
 
-pub returns-else-count-gt-MOST_ACES-clause-judged : goal.returns-else-count-gt-MOST_ACES-clause-judged
-returns-else-count-gt-MOST_ACES-clause-judged c =
-    let n : c.in-Some.count ≡ number (take 4 c.args.text.now) = c.in-Some.ensures.value in
-    let long : 4 ≤ length c.args.text.now = c.in-Some.ensures.whole.0 refl in
-    let scanned = subst (λ (b : List ℕ). IsScanned (profile_of c.args.profile) b c.scan.result.progress) c.body.ensures
-    c.scan.ensures.scanned in
-    let ends = subst (λ (b : List ℕ). EndsPart (profile_of c.args.profile) c.in-Some.count b c.scan.result.progress
-    c.scan.result.fault) c.body.ensures c.scan.ensures.ends in
-    judged_is (profile_of c.args.profile) c.args.text.now c.scan.result.progress c.scan.result.fault
-    (code_profile c.args.profile (omega arith)) c.in-Some.ensures.bytes long
-    (subst (λ (k : ℕ). k ≤ most_aces) n c.if-count-gt-MOST_ACES.false)
-    scanned (subst (λ (k : ℕ). EndsPart (profile_of c.args.profile) k (drop 4 c.args.text.now) c.scan.result.progress
-    c.scan.result.fault) n ends)
+pub returns-in-Ok-clause-judged : goal.returns-in-Ok-clause-judged
+returns-in-Ok-clause-judged c =
+    judged_is (profile_of c.args.profile) c.args.text.now c.body.result.now c.in-Ok.count c.scan.result.progress
+    c.scan.result.fault c.in-Some.ensures.bytes
+    (c.in-Some.ensures.whole.0 refl) (ap count_of (sym c.in-Some.ensures.value) ∙ c.in-Ok.ensures.exact) c.body.ensures
+    c.scan.ensures.scanned c.scan.ensures.ends

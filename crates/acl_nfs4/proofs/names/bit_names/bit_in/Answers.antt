@@ -1,11 +1,11 @@
-use Rattle.acl_nfs4.proofs.Common.{ap, option_copied, option_map, sym, ◌∙◌}
+use Rattle.acl_nfs4.proofs.Common.{is_name_of, refl}
 use Rattle.acl_nfs4.proofs.names.Tables.{row_found}
 use Rattle.acl_nfs4.proofs.names.bit_names.bit_in.Goals as goal
 
 pub returns-in-Some : goal.returns-in-Some
-returns-in-Some c = ap (option_map (λ r. r.bit)) (sym (ap option_copied c.in-Some.is) ∙ c.row_named.ensures)
-    ∙ row_found c.args.table.now c.args.word.now
+returns-in-Some c =
+    rw (← row_found (is_name_of c.args.word.now) c.args.table.now, ← c.row_named.ensures, c.in-Some.is) refl
 
 pub returns-in-None : goal.returns-in-None
-returns-in-None c = ap (option_map (λ r. r.bit)) (sym (ap option_copied c.in-None.is) ∙ c.row_named.ensures)
-    ∙ row_found c.args.table.now c.args.word.now
+returns-in-None c =
+    rw (← row_found (is_name_of c.args.word.now) c.args.table.now, ← c.row_named.ensures, c.in-None.is) refl

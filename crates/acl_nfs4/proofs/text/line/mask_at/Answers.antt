@@ -1,4 +1,4 @@
-use Rattle.acl_nfs4.proofs.Common.{ap, Bool, cond, count_ones, Err, false, if_light, le-ltb, List, lt-ltb, ltb, most_weight, None, Ok, ok_or, Option, refl, rights, set_within, Some, sym, true, ℕ, ◌+◌, ◌>>=◌, ◌∙◌, ◌≡◌}
+use Rattle.acl_nfs4.proofs.Common.{ap, Bool, cond, count_ones, Err, false, if_light, List, ltb, most_weight, None, Ok, ok_or, Option, refl, rights, set_within, Some, sym, true, ℕ, ◌+◌, ◌>>=◌, ◌∙◌, ◌≡◌}
 use Rattle.acl_nfs4.specs.declared.text.fault.AceTextFault.TheVariants as faults
 use Rattle.acl_nfs4.proofs.text.line.mask_at.Goals as goal
 
@@ -22,14 +22,14 @@ named whole weight line column field mask heavy e h =
     ap (λ (o : Option ℕ). ok_or o (faults.Mask line column) >>= (λ n. if_light weight line column n)) e
     ∙ ap (λ b. cond b (Err (faults.TooHeavy line column)) (Ok mask)) h
 
-pub returns-then-weight-bits-gt-MOST_WEIGHT-clause-exact : goal.returns-then-weight-bits-gt-MOST_WEIGHT-clause-exact
-returns-then-weight-bits-gt-MOST_WEIGHT-clause-exact c =
+pub returns-then-is_too_heavy-clause-exact : goal.returns-then-is_too_heavy-clause-exact
+returns-then-is_too_heavy-clause-exact c =
     named c.args.profile.masks.bits c.args.weight c.args.line c.args.column c.args.field.now c.in-Some.bits true
     (ap (λ (n : ℕ). set_within rights n c.args.field.now) (sym c.bits.ensures.value) ∙ sym c.in-Some.ensures.exact)
-    (lt-ltb _ _ c.if-weight-bits-gt-MOST_WEIGHT.true)
+    (sym c.is_too_heavy.ensures ∙ c.if-is_too_heavy.true)
 
 pub returns-clause-exact : goal.returns-clause-exact
 returns-clause-exact c =
     named c.args.profile.masks.bits c.args.weight c.args.line c.args.column c.args.field.now c.in-Some.bits false
     (ap (λ (n : ℕ). set_within rights n c.args.field.now) (sym c.bits.ensures.value) ∙ sym c.in-Some.ensures.exact)
-    (le-ltb _ _ c.if-weight-bits-gt-MOST_WEIGHT.false)
+    (sym c.is_too_heavy.ensures ∙ c.if-is_too_heavy.false)

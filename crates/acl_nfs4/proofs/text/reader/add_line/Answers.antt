@@ -1,36 +1,24 @@
-use Rattle.acl_nfs4.proofs.Common.{[], Ace, ace, ap, err_from_is_err_and, List, Ok, profile_of, read_ace, read_lines, sym, weight, ◌∙◌}
-use Rattle.acl_nfs4.proofs.text.AceLines.{fails_is, line_kept, line_skipped, read_fault, read_next, read_none}
+use Rattle.acl_nfs4.proofs.Common.{ace, err_from_is_err_and, Ok, profile_of, sym}
+use Rattle.acl_nfs4.proofs.text.AceLines.{fails_is, read_kept, read_skipped}
 use Rattle.acl_nfs4.proofs.text.reader.add_line.Goals as goal
 
 pub returns-then-is_skipped : goal.returns-then-is_skipped
-returns-then-is_skipped c =
-    ap (read_lines (profile_of c.args.profile) c.args.acl.now)
-    (line_skipped c.args.number c.args.line.now (sym c.if-is_skipped.ensures))
-    ∙ read_none (profile_of c.args.profile) c.args.acl.now
+returns-then-is_skipped c = λ more.
+    read_skipped (profile_of c.args.profile) c.args.acl.now c.args.number c.args.line.now more
+    (sym c.if-is_skipped.ensures)
 
 pub returns-in_err-item : goal.returns-in_err-item
-returns-in_err-item c =
+returns-in_err-item c = λ more.
     let p = err_from_is_err_and c.from_residual.result c.from_residual.ensures.1 in
+    let read = rw (c.len.ensures, c.weight.ensures.value) at c.in_err-item.ensures.exact in
     rw (p.1, p.2)
     (fails_is _ _
-    (ap (read_lines (profile_of c.args.profile) c.args.acl.now)
-    (line_kept c.args.number c.args.line.now (sym c.if-is_skipped.ensures))
-    ∙ read_fault (profile_of c.args.profile) c.args.acl.now
-    (record { number = c.args.number; bytes = c.args.line.now }) [] _
-    (ap (λ n. read_ace (profile_of c.args.profile) n (weight c.args.acl.now) c.args.number c.args.line.now)
-    (sym c.len.ensures)
-    ∙ ap (λ n. read_ace (profile_of c.args.profile) c.len.result n c.args.number c.args.line.now)
-    (sym c.weight.ensures.value) ∙ c.in_err-item.ensures.exact)))
+    (read_kept (profile_of c.args.profile) c.args.acl.now c.args.number c.args.line.now more _
+    (sym c.if-is_skipped.ensures) read))
 
 pub returns-in-Ok : goal.returns-in-Ok
-returns-in-Ok c =
-    ap (read_lines (profile_of c.args.profile) c.args.acl.now)
-    (line_kept c.args.number c.args.line.now (sym c.if-is_skipped.ensures))
-    ∙ read_next (profile_of c.args.profile) c.args.acl.now
-    (record { number = c.args.number; bytes = c.args.line.now }) [] (ace c.in_ok-item.item)
-    (ap (λ n. read_ace (profile_of c.args.profile) n (weight c.args.acl.now) c.args.number c.args.line.now)
-    (sym c.len.ensures)
-    ∙ ap (λ n. read_ace (profile_of c.args.profile) c.len.result n c.args.number c.args.line.now)
-    (sym c.weight.ensures.value) ∙ c.in_ok-item.ensures.exact)
-    ∙ read_none (profile_of c.args.profile) _
-    ∙ ap (λ (l : List Ace). Ok l) (sym c.in-Ok.ensures.ok)
+returns-in-Ok c = λ more.
+    let read = rw (c.len.ensures, c.weight.ensures.value) at c.in_ok-item.ensures.exact in
+    rw c.in-Ok.ensures.ok
+    (read_kept (profile_of c.args.profile) c.args.acl.now c.args.number c.args.line.now more
+    (Ok (ace c.in_ok-item.item)) (sym c.if-is_skipped.ensures) read)

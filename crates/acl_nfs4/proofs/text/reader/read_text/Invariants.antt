@@ -4,7 +4,7 @@ use Rattle.acl_nfs4.proofs.text.reader.read_text.Given as goal
 -- what is left gives what the whole text gives
 abbrev pub invariant-loop-rest : goal.invariant-loop-rest
 invariant-loop-rest l = record {
-  told : read_lines (profile_of l.profile) l.acl (ace_lines_from l.number (lines_left l.rest))
+  reads : read_lines (profile_of l.profile) l.acl (ace_lines_from l.number (lines_left l.rest))
       ≡ read_lines (profile_of l.profile) [] (ace_lines l.text);
   fits : NumberFits l.number l.text l.rest;
 }

@@ -1,11 +1,10 @@
-use Rattle.acl_nfs4.proofs.Common.{Ace, ace, ace_line, ace_text, ap, arith, flat_map-cons, length, List, out_cut, out_more, sym, ℕ, ◌++◌, ◌∙◌, ◌∷◌, ◌≡◌}
+use Rattle.acl_nfs4.proofs.Common.{Ace, ace, ace_line, ace_text, ap, arith, flat_map-cons, length, List, out_cut, out_more, ℕ, ◌++◌, ◌∙◌, ◌∷◌, ◌≡◌}
 use Rattle.acl_nfs4.proofs.text.writer.put_lines.Goals as goal
 
 -- the text of ACEs whose first ACE is known
 next_line : (list rest : List Ace) (a : Ace) (line piece : List ℕ) → list ≡ a ∷ rest → line ≡ ace_line a → piece ≡ line
     → ace_text list ≡ piece ++ ace_text rest
-next_line list rest a line piece e is same =
-    ap ace_text e ∙ flat_map-cons ace_line a rest ∙ ap (λ (l : List ℕ). l ++ ace_text rest) (sym (same ∙ is))
+next_line list rest a line piece e is same = rw (e, same, is) (flat_map-cons ace_line a rest)
 
 pub returns-in-Err-clause-written : goal.returns-in-Err-clause-written
 returns-in-Err-clause-written g c =

@@ -13,6 +13,6 @@ returns-clause-drawn g c =
     let h = c.in_ok-number.ensures in (
       h.0,
       h.1,
-      count_answers h.0 _ _ _ _ _ _ c.count_of.result c.placed.result h.2 c.placed.ensures
+      count_answers h.0 _ _ _ _ _ _ c.count_of.result c.placed.result h.2.0 h.2.1 c.placed.ensures
           c.count_of.ensures.exact,
     )

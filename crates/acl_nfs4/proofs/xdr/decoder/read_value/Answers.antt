@@ -1,5 +1,5 @@
 use Rattle.acl_nfs4.proofs.Common.{ap, arith, Consumes-trans, err_from_is_err_and, inl, inr, List, profile_of, ℕ, ◌++◌, ◌∙◌}
-use Rattle.acl_nfs4.proofs.xdr.FromSource.{count_taken, stops_given, taken_all, taken_light, taken_on, taken_stops}
+use Rattle.acl_nfs4.proofs.xdr.FromSource.{pulled_all, pulled_light, pulled_on, pulled_stops}
 use Rattle.acl_nfs4.proofs.list.Within.{code_profile}
 use Rattle.acl_nfs4.proofs.xdr.decoder.read_value.Goals as goal
 
@@ -7,16 +7,16 @@ pub returns-in_err-count-clause-given : goal.returns-in_err-count-clause-given
 returns-in_err-count-clause-given g c =
     let p = err_from_is_err_and c.from_residual.result c.from_residual.ensures.1 in
     let h = c.in_err-count.ensures.drawn in
-    rw (p.1, p.2) (h.0, h.1, stops_given _ _ _ _ _ _ (h.2 (profile_of c.args.profile)))
+    rw (p.1, p.2) (h.0, h.1, h.2 (profile_of c.args.profile))
 
 pub loop-init : goal.loop-init
 loop-init g c =
     let h = c.in_ok-count.ensures.drawn in
     rw c.new-body.ensures.items
-    (record { given = h.0; taken = h.1; so_far = count_taken _ h.0 _ h.2.0 h.2.1; same = h.2.2 })
+    (record { given = h.0; taken = h.1; so_far = h.2.0 (profile_of c.args.profile); same = h.2.1 })
 
 pub pull_ace-requires-clause-light : goal.pull_ace-requires-clause-light
-pull_ace-requires-clause-light g c = taken_light c.loop.invariant.so_far
+pull_ace-requires-clause-light g c = pulled_light c.loop.invariant.so_far
 
 pub returns-in_err-ace-clause-given : goal.returns-in_err-ace-clause-given
 returns-in_err-ace-clause-given g c =
@@ -26,7 +26,7 @@ returns-in_err-ace-clause-given g c =
     rw (p.1, p.2) (
       inv.given ++ r.given,
       Consumes-trans _ _ _ _ _ inv.taken r.taken,
-      taken_stops c.loop.body.items inv.given inv.so_far c.loop-test.true (omega arith) r,
+      pulled_stops inv.given (code_profile c.args.profile (omega arith)) inv.so_far c.loop-test.true (omega arith) r,
     )
 
 pub returns-in-Err-clause-given : goal.returns-in-Err-clause-given
@@ -43,17 +43,18 @@ loop-preserved g c =
       given = inv.given ++ r.given;
       taken = Consumes-trans _ _ _ _ _ inv.taken r.drawn.taken;
       so_far = rw (c.in-Ok.ensures.items ∙ ap (λ (y : List ℕ). c.loop.body.items ++ y) r.drawn.front)
-          (taken_on c.loop.body.items inv.given inv.so_far c.loop-test.true (omega (arith, c.len.ensures)) r);
+          (pulled_on inv.given (code_profile c.args.profile (omega arith)) inv.so_far c.loop-test.true
+          (omega (arith, c.len.ensures)) r);
       same = r.drawn.kept ∙ inv.same;
     }
 
 pub invariant_of-result : goal.invariant_of-result
-invariant_of-result g c = (taken_all (code_profile c.args.profile (omega arith)) c.loop.invariant.so_far
+invariant_of-result g c = (pulled_all c.loop.invariant.so_far
     (omega (arith, c.loop-test.false, c.loop.auto.counter-end))).1
 
 pub returns-clause-given : goal.returns-clause-given
 returns-clause-given g c =
     let inv = c.loop.invariant in
-    let all = taken_all (code_profile c.args.profile (omega arith)) inv.so_far
+    let all = pulled_all inv.so_far
     (omega (arith, c.loop-test.false, c.loop.auto.counter-end)) in
     (inv.given, inv.taken, all.0)

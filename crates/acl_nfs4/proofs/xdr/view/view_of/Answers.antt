@@ -1,48 +1,58 @@
-use Rattle.acl_nfs4.proofs.Common.{arith, err_from_is_err_and, place, profile_of, refl}
-use Rattle.acl_nfs4.proofs.xdr.Body.{at_start, viewed_slice, fails_at_count, fails_later, is_body, answers}
+use Rattle.acl_nfs4.proofs.Common.{ap, arith, count_of, err_from_is_err_and, IsWhole, profile_of, sym, ◌∙◌}
+use Rattle.acl_nfs4.proofs.feed.Scanning.{none_scanned}
+use Rattle.acl_nfs4.proofs.feed.Streaming.{judged_is, text_refused, text_short}
+use Rattle.acl_nfs4.proofs.xdr.FromSource.{accepted, refusal}
 use Rattle.acl_nfs4.proofs.xdr.view.view_of.Goals as goal
 
-pub returns-in_err-count : goal.returns-in_err-count
-returns-in_err-count c =
+pub returns-then-bytes-lt4-clause-fault : goal.returns-then-bytes-lt4-clause-fault
+returns-then-bytes-lt4-clause-fault c =
+    rw c.at_front.ensures (text_short (profile_of c.args.profile) c.args.bytes.now c.if-bytes-lt4.true)
+
+pub returns-in_err-count-clause-fault : goal.returns-in_err-count-clause-fault
+returns-in_err-count-clause-fault c =
     let p = err_from_is_err_and c.from_residual.result c.from_residual.ensures.1 in
-    rw (p.1, p.2) (fails_at_count (profile_of c.args.profile) c.args.bytes.now c.in_err-count.field-0.0
-    (at_start c.args.bytes.now _ c.in_err-count.ensures.exact))
+    let j = refusal (λ z. z) 0 c.count_of.result _ c.in_err-count.field-0.0 c.in_err-count.ensures
+    c.count_of.ensures.exact in
+    rw (p.1, p.2, j.2) (
+      4,
+      text_refused (profile_of c.args.profile) c.args.bytes.now j.0 (omega arith)
+          (ap count_of (sym c.word_in.ensures) ∙ j.1),
+    )
 
-pub returns-in_err-skip_aces : goal.returns-in_err-skip_aces
-returns-in_err-skip_aces c =
-    let p = err_from_is_err_and c.from_residual-in_err-skip_aces.result c.from_residual-in_err-skip_aces.ensures.1 in
-    rw (p.1, p.2) (fails_later (profile_of c.args.profile) c.args.bytes.now c.in_ok-count.count
-    (place c.count.new.cursor) c.in_err-skip_aces.field-0.0
-    (at_start c.args.bytes.now _ c.in_ok-count.ensures.exact) c.in_err-skip_aces.ensures)
+pub scan-reach-requires-clause-scanned : goal.scan-reach-requires-clause-scanned
+scan-reach-requires-clause-scanned c = none_scanned (profile_of c.args.profile) c.split_at.result.1.now
 
-pub overflow_sub-body : goal.overflow_sub-body
-overflow_sub-body c =
-    let v = viewed_slice c.args.profile c.args.bytes.now c.in_ok-count.count (place c.count.new.cursor)
-    (place c.skip_aces.new.cursor) (omega arith) (λ i. omega (arith, c.type_inv.bytes i)) c.in_ok-count.ensures.exact
-    c.in_ok-skip_aces.ensures in
-    v.shorter
-
-pub overflow_sub-result : goal.overflow_sub-result
-overflow_sub-result c =
-    let v = viewed_slice c.args.profile c.args.bytes.now c.in_ok-count.count (place c.count.new.cursor)
-    (place c.skip_aces.new.cursor) (omega arith) (λ i. omega (arith, c.type_inv.bytes i)) c.in_ok-count.ensures.exact
-    c.in_ok-skip_aces.ensures in
-    omega (arith, v.counted)
+pub returns-in-Some-clause-fault : goal.returns-in-Some-clause-fault
+returns-in-Some-clause-fault c =
+    let is = accepted (λ z. z) 0 c.count_of.result _ c.in_ok-count.count c.in_ok-count.ensures
+    c.count_of.ensures.exact in
+    let j = judged_is (profile_of c.args.profile) c.args.bytes.now c.split_at.result.1.now c.in_ok-count.count
+    c.scan-reach.result.progress c.scan-reach.result.fault (λ i. omega (arith, c.type_inv.bytes i)) (omega arith)
+    (ap count_of (sym c.word_in.ensures) ∙ is)
+    c.split_at.ensures.back c.scan-reach.ensures.scanned c.scan-reach.ensures.ends in
+    rw c.in-Some.is at j
 
 pub invariant_of-result : goal.invariant_of-result
 invariant_of-result c =
-    let v = viewed_slice c.args.profile c.args.bytes.now c.in_ok-count.count (place c.count.new.cursor)
-    (place c.skip_aces.new.cursor) (omega arith) (λ i. omega (arith, c.type_inv.bytes i)) c.in_ok-count.ensures.exact
-    c.in_ok-skip_aces.ensures in
-    record {
-      body = rw c.split_at.ensures.front (is_body v.list c.in_ok-count.count _ v.long v.spells);
-      small = c.in_ok-count.ensures.small;
-    }
+    let is = accepted (λ z. z) 0 c.count_of.result _ c.in_ok-count.count c.in_ok-count.ensures
+    c.count_of.ensures.exact in
+    let j = judged_is (profile_of c.args.profile) c.args.bytes.now c.split_at.result.1.now c.in_ok-count.count
+    c.scan-reach.result.progress c.scan-reach.result.fault (λ i. omega (arith, c.type_inv.bytes i)) (omega arith)
+    (ap count_of (sym c.word_in.ensures) ∙ is)
+    c.split_at.ensures.back c.scan-reach.ensures.scanned c.scan-reach.ensures.ends in
+    let whole : IsWhole (profile_of c.args.profile) c.args.bytes.now c.scan-reach.result.progress = rw c.in-None.is at
+    j in
+    rw (c.split_at-in-None.ensures.front, c.split_at.ensures.back)
+    (record { body = whole.owned.spells; small = whole.owned.small })
 
-pub returns : goal.returns
-returns c =
-    let v = viewed_slice c.args.profile c.args.bytes.now c.in_ok-count.count (place c.count.new.cursor)
-    (place c.skip_aces.new.cursor) (omega arith) (λ i. omega (arith, c.type_inv.bytes i)) c.in_ok-count.ensures.exact
-    c.in_ok-skip_aces.ensures in
-    answers (profile_of c.args.profile) c.args.bytes.now c.in_ok-count.count (place c.count.new.cursor)
-    (place c.skip_aces.new.cursor) c.split_at.result.0.now _ v c.split_at.ensures.front refl
+pub returns-in-None-clause-found : goal.returns-in-None-clause-found
+returns-in-None-clause-found c =
+    let is = accepted (λ z. z) 0 c.count_of.result _ c.in_ok-count.count c.in_ok-count.ensures
+    c.count_of.ensures.exact in
+    let j = judged_is (profile_of c.args.profile) c.args.bytes.now c.split_at.result.1.now c.in_ok-count.count
+    c.scan-reach.result.progress c.scan-reach.result.fault (λ i. omega (arith, c.type_inv.bytes i)) (omega arith)
+    (ap count_of (sym c.word_in.ensures) ∙ is)
+    c.split_at.ensures.back c.scan-reach.ensures.scanned c.scan-reach.ensures.ends in
+    let whole : IsWhole (profile_of c.args.profile) c.args.bytes.now c.scan-reach.result.progress = rw c.in-None.is at
+    j in
+    (whole.inside, rw (c.split_at-in-None.ensures.front, c.split_at.ensures.back) whole.xdr)

@@ -1,10 +1,6 @@
 use Rattle.acl_normal.proofs.Common.{all_rights, IfOk, SameGrants, subst, ◌↔◌}
 use Rattle.std.specs.Prelude.{IsNone}
 use Rattle.acl_normal.proofs.comparison.comparing.compare.Goals as goal
-use Rattle.acl_normal.proofs.comparison.FirstSet.{same_list_same}
-
-pub returns-then-eq-clause-same : goal.returns-then-eq-clause-same
-returns-then-eq-clause-same c = same_list_same c.args.first.now c.args.second.now _ c.if-eq.true c.eq.ensures.exact
 
 pub returns-clause-same : goal.returns-clause-same
 returns-clause-same c =

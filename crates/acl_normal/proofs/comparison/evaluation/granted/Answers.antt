@@ -1,10 +1,7 @@
-use Rattle.acl_normal.proofs.Common.{ap, arith, IsMask, refl, subst, sym}
+use Rattle.acl_normal.proofs.Common.{ap, IsMask, subst, sym}
 use Rattle.acl_normal.proofs.comparison.evaluation.granted.Goals as goal
 use Rattle.acl_normal.proofs.comparison.evaluation.granted.Goals.{in-Allow, in-Deny}
-use Rattle.acl_normal.proofs.comparison.SetEvaluation.{loop_allow, loop_deny, loop_ends, loop_starts}
-
-pub loop-item-init : goal.loop-item-init
-loop-item-init c = record { decides = loop_starts _ _; granted = refl; decided = refl }
+use Rattle.acl_normal.proofs.comparison.SetEvaluation.{loop_allow, loop_deny}
 
 pub loop-item-preserved : goal.loop-item-preserved
 loop-item-preserved c = elim c.match-item.branch [
@@ -23,6 +20,3 @@ loop-item-preserved c = elim c.match-item.branch [
     decided = c.union-decided.result.within;
   }
 ]
-
-pub returns : goal.returns
-returns c = loop_ends _ _ _ _ _ (omega arith) c.loop-item.invariant.decides

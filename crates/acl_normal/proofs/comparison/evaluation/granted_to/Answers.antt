@@ -1,12 +1,9 @@
-use Rattle.acl_normal.proofs.Common.{ap, arith, IsMask, refl, subst, sym}
+use Rattle.acl_normal.proofs.Common.{ap, IsMask, refl, subst, sym}
 use Rattle.acl_normal.proofs.comparison.evaluation.granted_to.Goals as goal
 use Rattle.acl_normal.proofs.comparison.evaluation.granted_to.Goals.{in-Allow, in-Deny}
 use Rattle.acl_normal.proofs.comparison.ApartLemmas.{named_at}
 use Rattle.acl_normal.proofs.comparison.MembersFacts.{matched_bits}
-use Rattle.acl_normal.proofs.comparison.SetEvaluation.{loop_allow, loop_deny, loop_ends, loop_starts}
-
-pub loop-place-init : goal.loop-place-init
-loop-place-init c = record { decides = λ whole named set. loop_starts _ _; granted = refl; decided = refl }
+use Rattle.acl_normal.proofs.comparison.SetEvaluation.{loop_allow, loop_deny}
 
 pub loop-place-preserved : goal.loop-place-preserved
 loop-place-preserved c = elim c.match-item.branch [
@@ -30,6 +27,3 @@ loop-place-preserved c = elim c.match-item.branch [
     decided = c.union-decided.result.within;
   }
 ]
-
-pub returns : goal.returns
-returns c = λ whole named set. loop_ends _ _ _ _ _ (omega arith) (c.loop-place.invariant.decides whole named set)

@@ -1,7 +1,7 @@
 use Rattle.acl_normal.proofs.Common.{aces_in, AreWhoms, IsMask, List, Principal}
 use Rattle.acl_normal.proofs.comparison.evaluation.granted_to.Given as goal
 use Rattle.acl_normal.proofs.comparison.SetEvaluation.{DecidesAll}
-use Rattle.acl_normal.specs.internal.Members.{AreNumbered, members_of}
+use Rattle.acl_normal.specs.internal.comparison.Members.{AreNumbered, members_of}
 
 abbrev pub invariant-loop-place : goal.invariant-loop-place
 invariant-loop-place l = record {

@@ -1,10 +1,6 @@
-use Rattle.std.proofs.Common.{arith}
 use Rattle.acl_normal.proofs.comparison.inversions.scattered.Goals as goal
-use Rattle.acl_normal.proofs.comparison.TableFacts.{scatter_all, scatter_more}
+use Rattle.acl_normal.proofs.comparison.TableFacts.{scatter_more}
 
 pub loop-standing-preserved : goal.loop-standing-preserved
 loop-standing-preserved c = scatter_more _ _ _ _ _ _ _ _ c.loop-standing-test.true c.raise.ensures
     c.loop-standing.invariant
-
-pub returns : goal.returns
-returns c = scatter_all _ _ _ _ _ _ (omega arith) c.loop-standing.invariant

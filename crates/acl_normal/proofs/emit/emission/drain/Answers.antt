@@ -1,32 +1,20 @@
-use Rattle.acl_normal.proofs.Common.{ap, arith, column, count_left, FitsKeys, marks, nothing_left, plain_key, refl, subst, sym, ◌<◌, ◌∙◌}
+use Rattle.acl_normal.proofs.Common.{count_left, emitted_aces, FitsKeys, marks, nothing_left, plain_key, refl, subst, sym, ◌<◌}
 use Rattle.acl_normal.proofs.emit.Chains.{queues_left}
 use Rattle.acl_normal.proofs.emit.Drained.{drain_starts, drain_ends, drain_falls, outline_left}
-use Rattle.acl_normal.proofs.emit.InRemaining.{remaining_once}
-use Rattle.acl_normal.proofs.emit.Few.{remaining_few}
+use Rattle.acl_normal.proofs.emit.Leaving.{alike_count}
 use Rattle.acl_normal.proofs.emit.Marks.{nothing_marked}
 use Rattle.acl_normal.proofs.emit.InRows.{no_rows, turned}
 use Rattle.acl_normal.proofs.emit.emission.drain.Goals as goal
 
-pub new-requires : goal.new-requires
-new-requires c = omega (arith, c.len.ensures, remaining_few _ _ c.rows.invariant c.rows.view_is)
-
 pub emitted-init : goal.emitted-init
 emitted-init c = rw c.in_ok-out.ensures.items (
   drain_starts c.args.rows.now (marks (nothing_left c.args.rows.now) c.fill.new.ready)
-      (remaining_once c.rows.inside _ c.rows.invariant c.rows.view_is)
-      (λ b l. ap (λ v. column v b) (sym c.rows.view_is) ∙ c.rows.invariant.list.tidy.low b l)
-      (λ b none. ap (λ v. column v b) (sym c.rows.view_is) ∙ c.rows.invariant.list.rights b none)
+      c.len.ensures.list.tidy.once c.len.ensures.list.tidy.low c.len.ensures.list.rights
       c.in_ok-fill.ensures.marks,
   c.in_ok-fill.ensures.keys,
   no_rows c.args.rows.now,
   c.in_ok-queues.ensures,
 )
-
-pub pop-requires : goal.pop-requires
-pop-requires c = record { keys = c.emitted.invariant.1; free = c.emitted.invariant.0.free }
-
-pub take_out-requires : goal.take_out-requires
-take_out-requires c = c.in-Some.ensures.some.at_row
 
 pub move_on-requires : goal.move_on-requires
 move_on-requires c =
@@ -51,10 +39,13 @@ emitted-preserved c =
     c.take_out.ensures c.in_ok-free_after.ensures.marks in
     (after.0, c.in_ok-free_after.ensures.keys, after.1, c.move_on.ensures.queues)
 
-pub returns-clause-rows : goal.returns-clause-rows
-returns-clause-rows c = c.emitted.invariant.2.rows
-
 pub returns-clause-emission : goal.returns-clause-emission
 returns-clause-emission c =
     drain_ends c.args.rows.now c.emitted.out.items _ c.emitted.rows c.emitted.invariant.0
     (nothing_marked (nothing_left c.emitted.rows) c.emitted.ready c.in_default.ensures.none)
+
+pub returns-clause-weight : goal.returns-clause-weight
+returns-clause-weight c =
+    alike_count 21 c.args.rows.now (emitted_aces c.emitted.out.items) c.len.ensures.list.tidy.once
+    (drain_ends c.args.rows.now c.emitted.out.items _ c.emitted.rows c.emitted.invariant.0
+    (nothing_marked (nothing_left c.emitted.rows) c.emitted.ready c.in_default.ensures.none))

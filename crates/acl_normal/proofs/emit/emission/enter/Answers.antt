@@ -1,16 +1,15 @@
 use Rattle.acl_normal.proofs.Common.{[], is_users, IsQueueAt, refl, subst, sym}
 use Rattle.acl_normal.proofs.emit.Chains.{queue_ends}
-use Rattle.acl_normal.proofs.emit.InRemaining.{remaining_once}
 use Rattle.acl_normal.proofs.emit.Walk.{nothing_waits}
 use Rattle.acl_normal.proofs.emit.emission.enter.Goals as goal
 
 pub returns-then-head-eq0-clause-marks : goal.returns-then-head-eq0-clause-marks
 returns-then-head-eq0-clause-marks c =
-    let once = remaining_once c.rows.inside _ c.rows.invariant c.rows.view_is c.args.right.bit in
     let q = subst (IsQueueAt c.args.kind (is_users c.args.class) c.args.right.bit c.args.rows.now
     c.args.queues.now.links.items)
     (sym c.head.ensures) (c.requires.queues.each c.args.kind (is_users c.args.class) c.args.right.bit
     c.args.right.within) in
-    nothing_waits c.args.kind (is_users c.args.class) c.args.right.bit c.args.rows.now [] _ once
+    nothing_waits c.args.kind (is_users c.args.class) c.args.right.bit c.args.rows.now [] _
+    (c.requires.queues.list.tidy.once c.args.right.bit)
     (queue_ends c.args.kind (is_users c.args.class) c.args.right.bit c.args.rows.now c.args.queues.now.links.items
     c.head.result q c.if-head-eq0.true) refl

@@ -1,5 +1,5 @@
 use Rattle.std.proofs.Common.{◌≡◌, ℕ, ◌*◌, length, slice_index_or}
-use Rattle.acl_normal.proofs.Common.{ap, arith, column, FitsKeys, marks, nothing_left, subst, sym, ◌∙◌}
+use Rattle.acl_normal.proofs.Common.{ap, arith, FitsKeys, marks, nothing_left, subst, sym}
 use Rattle.acl_normal.proofs.emit.Filled.{fills_nothing, fills_on, fills_all}
 use Rattle.acl_normal.proofs.emit.Marks.{fits_zeros, nothing_marked, zero_at}
 use Rattle.acl_normal.proofs.unique.Outline.{outline_length}
@@ -28,4 +28,4 @@ returns-clause-marks c =
     (nothing_marked (nothing_left c.args.rows.now) c.args.ready.now
     (subst (λ v. (n : ℕ) → slice_index_or v n 0 ≡ 0) (sym c.requires.none) (zero_at (2 * length c.args.rows.now))))
     (omega (arith, c.loop-bit-test.false, c.loop-bit.auto.bit-end))
-    (λ b l. ap (λ v. column v b) (sym c.rows.view_is) ∙ c.rows.invariant.list.tidy.low b l)
+    c.requires.queues.list.tidy.low

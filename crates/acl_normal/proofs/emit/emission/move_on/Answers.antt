@@ -1,13 +1,10 @@
 use Rattle.std.proofs.Common.{◌≡◌, ◌≤◌, ℕ, true}
 use Rattle.acl_normal.proofs.Common.{arith, cases_lt, has_bit, is_users, subst, ⊎_elim}
-use Rattle.acl_normal.specs.internal.Queues.{BeginsWaiting}
+use Rattle.acl_normal.specs.internal.emit.Queues.{BeginsWaiting}
 use Rattle.acl_normal.proofs.emit.Chains.{BeginBelow, begin_on, begin_skip}
 use Rattle.acl_normal.proofs.rows.Publics.{no_right_above}
 use Rattle.acl_normal.proofs.unique.Bits.{past_absent}
 use Rattle.acl_normal.proofs.emit.emission.move_on.Goals as goal
-
-pub loop-right-init : goal.loop-right-init
-loop-right-init c = (c.requires, omega arith, λ b l has. absurd (omega (arith, l)))
 
 pub loop-right-preserved : goal.loop-right-preserved
 loop-right-preserved c =
@@ -23,9 +20,6 @@ loop-right-preserved c =
           (begin_skip k u xs mask c.loop-right.queues) next.above next.lacks c.loop-right.invariant.2)
           c.move_on.ensures.moved,
     )
-
-pub returns-clause-queues : goal.returns-clause-queues
-returns-clause-queues c = c.loop-right.invariant.0
 
 pub returns-clause-first : goal.returns-clause-first
 returns-clause-first c = λ b has.

@@ -1,7 +1,6 @@
-use Rattle.acl_normal.proofs.emit.Leaving.{left_normal, left_only, alike_count}
-use Rattle.acl_normal.proofs.emit.InRemaining.{remaining_once}
+use Rattle.acl_normal.proofs.emit.Leaving.{left_normal, left_only}
 use Rattle.acl_normal.proofs.emit.emission.normalize_left.Goals as goal
-use Rattle.acl_normal.specs.internal.Emitted.{emitted_aces}
+use Rattle.acl_normal.specs.internal.emit.Emitted.{emitted_aces}
 
 pub returns-clause-normal : goal.returns-clause-normal
 returns-clause-normal c =
@@ -14,8 +13,3 @@ returns-clause-grants c =
 pub returns-clause-only : goal.returns-clause-only
 returns-clause-only c =
     left_only c.args.rows.now (emitted_aces c.in_ok-out.out.items) c.requires c.in_ok-out.ensures.emission
-
-pub returns-clause-weight : goal.returns-clause-weight
-returns-clause-weight c =
-    alike_count 21 c.args.rows.now (emitted_aces c.in_ok-out.out.items)
-    (remaining_once c.rows.inside _ c.rows.invariant c.rows.view_is) c.in_ok-out.ensures.emission

@@ -1,7 +1,5 @@
 use Rattle.acl_normal.proofs.Common.{arith, sym, ◌∙◌}
 use Rattle.acl_normal.proofs.emit.Chains.{reached_blocked, reached_falls, reached_free, reached_kind, reached_link, reached_past, reached_within, walk_over}
-use Rattle.acl_normal.proofs.emit.InRemaining.{remaining_once}
-use Rattle.acl_normal.proofs.emit.Few.{remaining_few}
 use Rattle.acl_normal.proofs.emit.emission.walk.Goals as goal
 
 pub index-link-requires : goal.index-link-requires
@@ -10,11 +8,10 @@ index-link-requires c =
 
 pub returns-then-link-last-clause-marks : goal.returns-then-link-last-clause-marks
 returns-then-link-last-clause-marks c =
-    let once = remaining_once c.rows.inside _ c.rows.invariant c.rows.view_is c.args.right.bit in
-    let few = remaining_few c.rows.inside c.args.rows.now c.rows.invariant c.rows.view_is in
+    let once = c.requires.queues.list.tidy.once c.args.right.bit in
     let within = reached_within c.loop-at.invariant.0 _ c.loop-at-test.true c.index-link.ensures in
     reached_blocked c.loop-at.invariant.0 _ c.loop-at-test.true c.index-link.ensures once
-    (c.last_clear-last.ensures.blocked _ c.if-link-last.true (omega (arith, within, few)))
+    (c.last_clear-last.ensures.blocked _ c.if-link-last.true (omega (arith, within, c.requires.queues.list.few)))
 
 pub has-requires : goal.has-requires
 has-requires c = reached_within c.loop-at.invariant.0 _ c.loop-at-test.true c.index-link.ensures
@@ -25,7 +22,7 @@ add-requires-clause-place c = reached_within c.loop-at.invariant.0 _ c.loop-at-t
 pub add-requires-clause-kind : goal.add-requires-clause-kind
 add-requires-clause-kind c =
     reached_kind c.loop-at.invariant.0 _ c.loop-at-test.true c.index-link.ensures
-    (remaining_once c.rows.inside _ c.rows.invariant c.rows.view_is c.args.right.bit)
+    (c.requires.queues.list.tidy.once c.args.right.bit)
     (sym c.has.ensures ∙ c.if-has.true)
 
 pub loop-at-smaller-in_ok-add : goal.loop-at-smaller-in_ok-add
@@ -34,7 +31,7 @@ loop-at-smaller-in_ok-add c = reached_falls c.loop-at.invariant.0 _ c.loop-at-te
 pub loop-at-preserved-in_ok-add : goal.loop-at-preserved-in_ok-add
 loop-at-preserved-in_ok-add c = (
   reached_free c.loop-at.invariant.0 _ c.loop-at-test.true c.index-link.ensures
-      (remaining_once c.rows.inside _ c.rows.invariant c.rows.view_is c.args.right.bit)
+      (c.requires.queues.list.tidy.once c.args.right.bit)
       (c.last_clear-last.ensures.clear _ c.if-link-last.false) (sym c.has.ensures ∙ c.if-has.true)
       c.in_ok-add.ensures.marks,
   c.in_ok-add.ensures.keys,
@@ -51,5 +48,5 @@ loop-at-preserved c = (
 
 pub returns-clause-marks : goal.returns-clause-marks
 returns-clause-marks c =
-    walk_over c.loop-at.invariant.0 (remaining_once c.rows.inside _ c.rows.invariant c.rows.view_is c.args.right.bit)
+    walk_over c.loop-at.invariant.0 (c.requires.queues.list.tidy.once c.args.right.bit)
     c.loop-at-test.false

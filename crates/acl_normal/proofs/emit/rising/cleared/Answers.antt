@@ -1,8 +1,7 @@
 use Rattle.std.proofs.Common.{◌≡◌, ◌+◌, ◌<◌, length}
-use Rattle.acl_normal.proofs.Common.{[], all_cleared, ap, arith, mask_numbers, full, IsAccepted, left, mask_here, subst, sym, take, with_masks, ◌++◌, ◌∙◌, ◌∷◌, ◌≢◌}
-use Rattle.acl_normal.proofs.emit.Risen.{all_places, cleared_more, cleared_past, next_cleared, shown, shown_at}
-use Rattle.acl_normal.proofs.rows.ByPlace.{length_masks, mask_there}
-use Rattle.acl_normal.proofs.unique.Bits.{bits_at, bits_length}
+use Rattle.acl_normal.proofs.Common.{[], all_cleared, ap, arith, mask_numbers, full, IsAccepted, left, subst, sym, take, with_masks, ◌++◌, ◌∙◌, ◌∷◌, ◌≢◌}
+use Rattle.acl_normal.proofs.emit.Risen.{all_places, cleared_more, cleared_past, next_cleared, shown, shown_at, mask_of}
+use Rattle.acl_normal.proofs.unique.Outline.{masked_count}
 use Rattle.acl_normal.proofs.emit.rising.cleared.Goals as goal
 use Rattle.acl_normal.proofs.emit.rising.cleared.Goals.{then-mask-ne0+in_ok-push_accepted, else-mask-ne0}
 
@@ -10,7 +9,7 @@ pub push_accepted-requires : goal.push_accepted-requires
 push_accepted-requires c =
     let xs = with_masks c.args.aces.now (mask_numbers c.args.masks.now) in
     let count : length xs ≡ length c.args.aces.now =
-    length_masks c.args.aces.now (mask_numbers c.args.masks.now) (bits_length c.args.masks.now ∙ c.requires.masks) in
+    masked_count c.args.aces.now c.args.masks.now c.requires.masks in
     let within : c.loop-place.place < length xs = omega (arith, count, c.loop-place-test.true) in
     let some : c.index-masks-place.result.bits ≢ 0 = c.if-mask-ne0.true in
     subst (λ a. IsAccepted full (c.loop-place.list ++ a ∷ [])) (sym c.cleared_ace.ensures)
@@ -26,12 +25,11 @@ loop-place-preserved c =
     let xs = with_masks c.args.aces.now (mask_numbers c.args.masks.now) in
     let place = c.loop-place.place in
     let count : length xs ≡ length c.args.aces.now =
-    length_masks c.args.aces.now (mask_numbers c.args.masks.now) (bits_length c.args.masks.now ∙ c.requires.masks) in
+    masked_count c.args.aces.now c.args.masks.now c.requires.masks in
     let within : place < length xs = omega (arith, count, c.loop-place-test.true) in
     let inside : place < length c.args.masks.now = omega (arith, c.loop-place-test.true, c.requires.masks) in
-    let mask : mask_here xs place ≡ c.index-masks-place.result.bits =
-    sym (mask_there c.args.aces.now (mask_numbers c.args.masks.now) place 0 within)
-    ∙ bits_at c.args.masks.now place 0 _ inside c.index-masks-place.is in
+    let mask = mask_of c.args.aces.now c.args.masks.now place c.index-masks-place.result c.requires.masks
+    c.loop-place-test.true c.index-masks-place.is in
     elim c.if-mask-ne0.branch [
       | then-mask-ne0+in_ok-push_accepted w ↦
           let item = shown w.index-aces-place.result c.index-masks-place.result in
@@ -51,6 +49,6 @@ pub returns : goal.returns
 returns c =
     let xs = with_masks c.args.aces.now (mask_numbers c.args.masks.now) in
     let count : length xs ≡ length c.args.aces.now =
-    length_masks c.args.aces.now (mask_numbers c.args.masks.now) (bits_length c.args.masks.now ∙ c.requires.masks) in
+    masked_count c.args.aces.now c.args.masks.now c.requires.masks in
     all_places xs c.loop-place.place c.loop-place.list (omega (arith, count, c.loop-place-test.false))
     c.loop-place.invariant

@@ -1,6 +1,7 @@
 use Rattle.acl_normal.proofs.Common.{ap, arith, mask_numbers, HasRisen, kind_rank, slice_index_or, subst, sym, with_masks, ◌+◌, ◌∙◌}
 use Rattle.acl_normal.proofs.emit.Marks.{rank_below}
-use Rattle.acl_normal.proofs.emit.Risen.{all_risen, has_row, mask_of, masked_count, none_risen, number_there, risen_more, risen_past}
+use Rattle.acl_normal.proofs.emit.Risen.{all_risen, has_row, mask_of, number_there, risen_more, risen_past}
+use Rattle.acl_normal.proofs.unique.Outline.{masked_count}
 use Rattle.acl_normal.proofs.emit.rising.rises.Goals as goal
 use Rattle.acl_normal.proofs.emit.rising.rises.Goals.{then-mask-ne0+else-number-bound, else-mask-ne0}
 
@@ -29,9 +30,6 @@ overflow_add-bound c =
     c.requires.rows c.loop-place-test.true in
     let kind = (slice_index_or c.args.aces.now c.loop-place.place c.index-aces-place.result).kind in
     omega (arith, row.few, c.requires.few, rank_below kind, c.rank.ensures)
-
-pub loop-place-init : goal.loop-place-init
-loop-place-init c = none_risen (with_masks c.args.aces.now (mask_numbers c.args.masks.now))
 
 pub loop-place-preserved : goal.loop-place-preserved
 loop-place-preserved c =

@@ -18,9 +18,6 @@ kind_at-kind-requires c =
     let at_row = subst (IsRowOf c.args.row p) (sym c.self.view_is) c.requires in
     first_in c.args.right.bit p xs _ (first_by_place c.args.right.bit p xs _ (sym (c.in-Some.ensures p at_row)))
 
-pub take_out-requires : goal.take_out-requires
-take_out-requires c = subst (IsRowOf c.args.row (principal c.args.p)) (sym c.self.view_is) c.requires
-
 pub invariant_of-self : goal.invariant_of-self
 invariant_of-self c =
     let s = c.self.inside in

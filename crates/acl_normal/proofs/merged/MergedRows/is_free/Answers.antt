@@ -1,15 +1,7 @@
 use Rattle.acl_normal.proofs.Common.{arith, principal, sym, ◌∙◌}
-use Rattle.acl_normal.proofs.rows.Publics.{NoneFree, none_free_yet, none_free_absent, none_free_more, free_there, free_nowhere}
+use Rattle.acl_normal.proofs.rows.Publics.{NoneFree, none_free_absent, none_free_more, free_nowhere}
 use Rattle.acl_normal.proofs.unique.Bits.{past_absent}
 use Rattle.acl_normal.proofs.merged.MergedRows.is_free.Goals as goal
-
-pub loop-right-init : goal.loop-right-init
-loop-right-init c = (none_free_yet c.args.self.now (principal c.args.p) c.args.bits.bits, omega arith)
-
-pub returns-then-is_free_at : goal.returns-then-is_free_at
-returns-then-is_free_at c =
-    free_there c.args.self.now (principal c.args.p) c.args.bits.bits c.in-Some.right.bit c.in-Some.ensures.some.has
-    (sym c.is_free_at.ensures ∙ c.if-is_free_at.true)
 
 pub loop-right-preserved : goal.loop-right-preserved
 loop-right-preserved c =

@@ -1,5 +1,5 @@
 use Rattle.std.proofs.Common.{◌≡◌}
-use Rattle.acl_normal.proofs.Common.{all_rights, ap, mask_numbers, KeepsFirsts, SameGrants, subst, sym, waits, with_masks, ◌∙◌}
+use Rattle.acl_normal.proofs.Common.{all_rights, ap, arith, mask_numbers, SameGrants, subst, sym, waits, with_masks, ◌∙◌}
 use Rattle.acl_normal.proofs.merged.MergedRows.new.Goals as goal
 
 pub invariant_of-result : goal.invariant_of-result
@@ -8,18 +8,13 @@ invariant_of-result c =
     let masks = mask_numbers c.in_ok-reduced.reduced.masks.items in
     let is : c.in_ok-rest.rest ≡ with_masks aces masks = c.in_ok-rest.ensures in
     rw is (record {
-      sets = c.in_ok-waiting.ensures.slots;
+      sets = omega (arith, c.in_ok-waiting.ensures.slots, c.in_ok-waiting.waiting.ok);
       once = c.in_ok-reduced.ensures.rows.tidy.once;
       rights = c.in_ok-reduced.ensures.rows.rights;
       waiting = λ k u b i l. c.in_ok-waiting.ensures.waiting k u b i l
           ∙ ap (λ v. waits k u b (with_masks v (mask_numbers c.deref-2.result.now)) i) c.deref.ensures.value
           ∙ ap (λ v. waits k u b (with_masks aces (mask_numbers v)) i) c.deref-2.ensures.value;
     })
-
-pub returns-clause-firsts : goal.returns-clause-firsts
-returns-clause-firsts c =
-    subst (λ l. KeepsFirsts l c.in_ok-rest.rest) c.view.ensures
-    (subst (λ v. KeepsFirsts c.view.result v) (sym c.in_ok-rest.ensures) c.in_ok-reduced.ensures.left.thinned.firsts)
 
 pub returns-clause-grants : goal.returns-clause-grants
 returns-clause-grants c =

@@ -1,13 +1,8 @@
 use Rattle.acl_normal.proofs.Common.{ace, aces_in, full, IsLeastCandidate, subst, sym}
 use Rattle.acl_normal.specs.internal.Passes.{AreNowhereFree}
 use Rattle.acl_normal.proofs.plain.Candidates.{none_free}
-use Rattle.acl_normal.proofs.plain.InTurn.{Emitting, Taken, coming_accepted, emitting_all, emitting_more, emitting_none, fewer_left}
+use Rattle.acl_normal.proofs.plain.InTurn.{Emitting, Taken, coming_accepted, emitting_all, emitting_more, fewer_left}
 use Rattle.acl_normal.proofs.plain.emission.emit.Goals as goal
-
-pub loop-first-init : goal.loop-first-init
-loop-first-init c =
-    subst (λ v. Emitting (aces_in c.args.aces.items) v (aces_in c.args.aces.items)) (sym c.new-list.ensures)
-    (emitting_none (aces_in c.args.aces.items) c.requires.once)
 
 pub push_accepted-requires : goal.push_accepted-requires
 push_accepted-requires c =

@@ -1,5 +1,5 @@
 use Rattle.acl_normal.proofs.Common.{ap, arith, mask_numbers, has_bit, IsDifference, refl, subst, sym, ◌+◌, ◌||◌, ◌∙◌, slice_set, slice_index_or}
-use Rattle.acl_normal.proofs.reduce.FirstMasks.{Reaches, reaches_all, reaches_more, reaches_none, reaches_thinned, row_seen}
+use Rattle.acl_normal.proofs.reduce.FirstMasks.{Reaches, reaches_more, reaches_none, reaches_thinned, row_seen}
 use Rattle.acl_normal.proofs.unique.Bits.{bits_all, bits_length}
 use Rattle.acl_normal.proofs.reduce.first.first_masks.Goals as goal
 
@@ -52,8 +52,3 @@ pub returns-clause-thinned : goal.returns-clause-thinned
 returns-clause-thinned c =
     reaches_thinned c.args.aces.now c.loop-place.place _ _ _ c.requires.accepted c.loop-place.invariant.reaches
     c.loop-place-test.false
-
-pub returns-clause-columns : goal.returns-clause-columns
-returns-clause-columns c =
-    (reaches_all c.args.aces.now c.loop-place.place _ _ _ c.loop-place.invariant.reaches
-    c.loop-place-test.false).columns

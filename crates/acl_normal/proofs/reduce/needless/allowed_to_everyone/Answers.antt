@@ -1,7 +1,8 @@
 use Rattle.acl_normal.proofs.Common.{ace, arith, mask_numbers, length, refl, slice_index_or, with_masks, ◌<◌, ◌∙◌, ◌≡◌}
-use Rattle.acl_normal.proofs.rows.ByPlace.{masked, length_masks, masked_at, quiet_index}
+use Rattle.acl_normal.proofs.rows.ByPlace.{masked, masked_at, quiet_index}
 use Rattle.acl_normal.proofs.reduce.LaterBits.{allows_all, allows_more, allows_start}
 use Rattle.acl_normal.proofs.unique.Bits.{bits_at, bits_length}
+use Rattle.acl_normal.proofs.unique.Outline.{length_shown}
 use Rattle.acl_normal.proofs.reduce.needless.allowed_to_everyone.Goals as goal
 
 pub loop-place-init : goal.loop-place-init
@@ -17,7 +18,7 @@ loop-place-preserved c =
     let shown = with_masks c.args.aces.now masks in
     let count : length masks ≡ length c.args.aces.now = bits_length c.args.masks.now ∙ c.requires.places in
     let within : place < length shown =
-    omega (arith, length_masks c.args.aces.now masks count, c.loop-place-test.true) in
+    omega (arith, length_shown c.args.aces.now masks count, c.loop-place-test.true) in
     let mask : slice_index_or masks place 0 ≡ c.index-masks-place.result.bits =
     bits_at c.args.masks.now place 0 _ (omega (arith, c.requires.places, c.loop-place-test.true))
     c.index-masks-place.is in
@@ -38,6 +39,6 @@ returns c =
     let masks = mask_numbers c.args.masks.now in
     allows_all (with_masks c.args.aces.now masks) c.loop-place.place _ c.loop-place.invariant.allows (omega (
       arith,
-      length_masks c.args.aces.now masks (bits_length c.args.masks.now ∙ c.requires.places),
+      length_shown c.args.aces.now masks (bits_length c.args.masks.now ∙ c.requires.places),
       c.loop-place-test.false,
     )) c.requires.tidy.once

@@ -1,13 +1,9 @@
 use Rattle.std.proofs.Common.{◌≡◌, ◌+◌, ◌-◌, length}
 use Rattle.acl_normal.proofs.Common.{ace, ace_key, ap, arith, mask_numbers, plain_key, principal_of, slice_index_or, slice_set, subst, sym, without, ◌∙◌}
-use Rattle.acl_normal.proofs.reduce.Unneeded.{clear_at, Dropping, dropping_end, dropping_more, dropping_start}
+use Rattle.acl_normal.proofs.reduce.Unneeded.{clear_at, Dropping, dropping_end, dropping_more}
 use Rattle.acl_normal.proofs.unique.Bits.{bits_at, bits_length, bits_set, difference_is}
 use Rattle.acl_normal.proofs.unique.Outline.{outline_shown}
 use Rattle.acl_normal.proofs.reduce.needless.drop_needless.Goals as goal
-
-pub loop-done-init : goal.loop-done-init
-loop-done-init c =
-    dropping_start c.args.aces.now (mask_numbers c.args.masks.now) _ c.requires.tidy c.no_later-later.ensures
 
 pub loop-done-preserved : goal.loop-done-preserved
 loop-done-preserved c =
@@ -46,7 +42,8 @@ returns c =
       places = count;
       thinned = record {
         outline = outline_shown aces (mask_numbers c.loop-done.masks) (bits_length c.loop-done.masks ∙ count)
-            ∙ sym (outline_shown aces (mask_numbers c.args.masks.now) (bits_length c.args.masks.now ∙ c.requires.places));
+            ∙ sym (outline_shown aces (mask_numbers c.args.masks.now)
+            (bits_length c.args.masks.now ∙ c.requires.places));
         tidy = c.loop-done.invariant.tidy;
         firsts = c.loop-done.invariant.firsts;
       };

@@ -10,12 +10,6 @@ loop-i-init c =
     c.requires.names c.in_ok-rows.rows.items
     (omega (arith, c.in_ok-rows.ensures.len, length-map c.args.aces.now ace))
 
-pub offset_bounds-sorted-start : goal.offset_bounds-sorted-start
-offset_bounds-sorted-start c = omega arith
-
-pub bounds-sorted-start : goal.bounds-sorted-start
-bounds-sorted-start c = omega (arith, c.loop-i.invariant.before)
-
 pub index_mut-requires : goal.index_mut-requires
 index_mut-requires c =
     place_within (aces_in c.args.aces.now) c.args.sorted.now c.requires c.loop-i.rows.items c.loop-i.start c.loop-i.i

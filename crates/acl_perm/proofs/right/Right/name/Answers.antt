@@ -1,15 +1,12 @@
-use Rattle.std.proofs.Common.{◌≡◌, arith, ap, sym, inl, inr}
-use Rattle.std.proofs.lemmas.Bool.{cases_lt}
-use Rattle.acl_perm.specs.Names.{right_name}
-use Rattle.acl_perm.proofs.Sets.{right_below, right_outside}
+use Rattle.std.proofs.Common.{◌∙◌, ap, sym}
+use Rattle.std.specs.Prelude.{is_some, option_map}
+use Rattle.std.proofs.lemmas.Bool.{false≢true}
+use Rattle.acl_perm.specs.Names.{first_name, rights}
+use Rattle.acl_perm.proofs.NameTables.{right_named}
 use Rattle.acl_perm.proofs.right.Right.name.Goals as goal
 
-pub returns-in_default : goal.returns-in_default
-returns-in_default c =
-    let right = c.args.self.within in
-    let last : c.args.self.bit ≡ 20 =
-    elim (cases_lt c.args.self.bit 16) [
-      | inl lt ↦ absurd (right_outside c.args.self.bit right (omega (arith, c.in_default)) lt)
-      | inr le ↦ omega (arith, c.in_default, right_below c.args.self.bit right)
-    ] in
-    ap right_name (sym last)
+pub unreachable-requires : goal.unreachable-requires
+unreachable-requires c =
+    let none = ap (option_map (λ name. name.now)) (sym c.in-None.is) ∙ c.first_name.ensures
+    ∙ ap (first_name rights) c.from.ensures in
+    false≢true (ap is_some none ∙ right_named c.args.self.bit c.args.self.within)

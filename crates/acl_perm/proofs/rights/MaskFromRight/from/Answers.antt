@@ -15,6 +15,3 @@ invariant_of-result c =
     record {
       within = subst (λ (n : ℕ). IsMask n) (sym (right_small c.args.right.bit right)) (right_alone c.args.right.bit right);
     }
-
-pub returns : goal.returns
-returns c = right_small c.args.right.bit c.args.right.within

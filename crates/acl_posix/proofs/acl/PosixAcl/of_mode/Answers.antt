@@ -1,6 +1,6 @@
 use Rattle.acl_posix.proofs.Common.{IsValid, subst, sym}
 use Rattle.acl_perm.specs.Mode.{owner_part, group_part, others_part}
-use Rattle.acl_posix.proofs.sorted.Changes.{three_valid}
+use Rattle.acl_posix.proofs.one_entry.OneEntry.{three_valid}
 use Rattle.acl_posix.proofs.acl.PosixAcl.of_mode.Goals as goal
 
 pub invariant_of-result : goal.invariant_of-result

@@ -1,18 +1,14 @@
-use Rattle.acl_posix.proofs.Common.{group_contains, ids, sym, ◌∙◌}
-use Rattle.acl_posix.proofs.sorted.Groups.{any_group, here_true, none_left}
+use Rattle.acl_posix.proofs.Common.{group_contains, Id, ids, rules, sym, ◌∙◌}
+use Rattle.std.proofs.lemmas.Iterator.{YieldsList-from_slice}
+use Rattle.std.proofs.lemmas.Iterator.Search.{any_from_yields_List}
+use Rattle.acl_posix.proofs.tag.Tags.{list_any-map}
+use Rattle.acl_posix.proofs.sorted.Groups.{any_group}
 use Rattle.acl_posix.proofs.sorted.SortedEntries.any_contains.Goals as goal
-
-pub returns-then-group_contains : goal.returns-then-group_contains
-returns-then-group_contains c =
-    let one = group_contains c.args.self.now c.args.owning_group.value c.args.request.bits in
-    sym (here_true one c.args.groups.now c.loop-group.group-index c.group-item.result c.loop-group-test.true
-    c.group-item.is (sym c.group_contains.ensures ∙ c.if-group_contains.true))
-    ∙ c.loop-group.invariant
-    ∙ any_group c.args.self.now c.args.owning_group.value c.args.request.bits (ids c.args.groups.now)
 
 pub returns : goal.returns
 returns c =
     let one = group_contains c.args.self.now c.args.owning_group.value c.args.request.bits in
-    sym (none_left one c.args.groups.now c.loop-group.group-index c.loop-group-test.false)
-    ∙ c.loop-group.invariant
+    any_from_yields_List (λ (g : Id). one g.value) _ _ _ c.any.ensures.ran
+    (YieldsList-from_slice c.args.groups.now cc) (λ x b q k. search rules)
+    ∙ sym (list_any-map one (λ (g : Id). g.value) c.args.groups.now)
     ∙ any_group c.args.self.now c.args.owning_group.value c.args.request.bits (ids c.args.groups.now)

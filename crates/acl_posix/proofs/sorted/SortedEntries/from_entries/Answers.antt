@@ -1,4 +1,4 @@
-use Rattle.acl_posix.proofs.Common.{ap, as_set, Entry, IsDistinct, IsSorted, List, map, pairs, subst, sym, unpacked, ℕ, ◌∙◌}
+use Rattle.acl_posix.proofs.Common.{All, ap, as_set, Bool, Entry, false, IsDistinct, IsNonDecreasing, IsPacked, IsPermutation, IsSorted, IsTrue, List, map, pairs, subst, sym, Tag, unpacked, ℕ, ◌↔◌, ◌∙◌, ◌≡◌}
 use Rattle.acl_posix.proofs.sorting.Repeats.{sorted_distinct}
 use Rattle.acl_posix.proofs.packed.Packings.{distinct_rise, moved_distinct, same_set}
 use Rattle.acl_posix.proofs.sorted.SortedEntries.from_entries.Goals as goal
@@ -8,26 +8,27 @@ returns-then-is_in_order-clause-distinct c =
     sorted_distinct (pairs c.args.entries.items) (subst (λ (es : List Entry). IsSorted (pairs es)) c.deref.ensures.value
     (c.is_in_order.ensures.0 c.if-is_in_order.true))
 
+-- if the numbers do not rise, some tag occurs twice
+some_repeat : (ps : List (Tag × ℕ)) (keys slice : List ℕ) (rises : Bool) → IsPermutation ps (map unpacked keys)
+    → All IsPacked keys → IsNonDecreasing keys → slice ≡ keys → (IsTrue rises ↔ IsSorted (map unpacked slice))
+    → rises ≡ false → IsDistinct ps → ⊥
+some_repeat ps keys slice rises moves all up same says falls distinct =
+    let sorted = subst (λ (ks : List ℕ). IsSorted (map unpacked ks)) (sym same)
+    (distinct_rise ps keys distinct moves all up) in
+    let wrong = sym falls ∙ says.1 sorted in cc
+
 pub first_repeat-requires : goal.first_repeat-requires
 first_repeat-requires c = λ distinct.
-    let distinct = subst (λ (es : List Entry). IsDistinct (pairs es))
-    (c.deref-then-not-rises.ensures.value ∙ sym c.deref-2.ensures.value) distinct in
-    let sorted = distinct_rise _ _ distinct c.in_ok-keys.ensures.permutation c.in_ok-keys.ensures.packed
-    c.in_ok-keys.ensures.sorted in
-    let wrong = sym c.if-not-rises.true
-    ∙ c.rises.ensures.1 (subst (λ (keys : List ℕ). IsSorted (map unpacked keys)) (sym c.deref-3.ensures.value)
-    sorted) in
-    absurd cc
+    let keys = c.in_ok-keys.ensures in
+    some_repeat _ _ _ _ keys.permutation keys.packed keys.sorted c.deref-3.ensures.value c.rises.ensures
+    c.if-not-rises.true (subst (λ (es : List Entry). IsDistinct (pairs es))
+    (c.deref-then-not-rises.ensures.value ∙ sym c.deref-2.ensures.value) distinct)
 
 pub returns-then-not-rises-clause-accepts : goal.returns-then-not-rises-clause-accepts
 returns-then-not-rises-clause-accepts c = λ distinct.
-    let distinct = subst (λ (es : List Entry). IsDistinct (pairs es)) (sym c.deref-2.ensures.value) distinct in
-    let sorted = distinct_rise _ _ distinct c.in_ok-keys.ensures.permutation c.in_ok-keys.ensures.packed
-    c.in_ok-keys.ensures.sorted in
-    let wrong = sym c.if-not-rises.true
-    ∙ c.rises.ensures.1 (subst (λ (keys : List ℕ). IsSorted (map unpacked keys)) (sym c.deref-3.ensures.value)
-    sorted) in
-    absurd cc
+    let keys = c.in_ok-keys.ensures in
+    absurd (some_repeat _ _ _ _ keys.permutation keys.packed keys.sorted c.deref-3.ensures.value c.rises.ensures
+    c.if-not-rises.true (subst (λ (es : List Entry). IsDistinct (pairs es)) (sym c.deref-2.ensures.value) distinct))
 
 pub returns-clause-set : goal.returns-clause-set
 returns-clause-set c =

@@ -1,36 +1,32 @@
-use Rattle.acl_posix.proofs.Common.{arith, IsValid, subst, sym, tag_of}
-use Rattle.acl_posix.proofs.sorted.Changes.{place_in}
-use Rattle.acl_posix.proofs.sorted.Lookups.{absent_in_gap}
-use Rattle.acl_posix.proofs.one_entry.OneEntry.{removed, without_none}
+use Rattle.acl_posix.proofs.Common.{Entry, filter, IsValid, List, not, rules, subst, sym, tag_of, ◌∙◌}
+use Rattle.std.specs.FinMap as set
+use Rattle.std.proofs.lemmas.Fn.{filter_same}
+use Rattle.acl_posix.specs.contracts.tag.TagOrd.TheImpl.Laws as laws
+use Rattle.acl_posix.specs.contracts.tag.TagPartialEq.TheImpl.{ghosts as tags}
+use Rattle.acl_posix.proofs.one_entry.OneEntry.{lacks, valid_without}
+use Rattle.acl_posix.proofs.sorted.Changes.{entries_of, IsListOf, without}
 use Rattle.acl_posix.proofs.sorted.SortedEntries.remove.Goals as goal
 
-pub returns-in_default-clause-ok : goal.returns-in_default-clause-ok
-returns-in_default-clause-ok c =
-    without_none c.args.self.now (tag_of c.args.tag)
-    (absent_in_gap c.args.self.now (tag_of c.args.tag) c.in_default.field-0 c.in_default.ensures)
+pub returns-then-needs-clause-fault : goal.returns-then-needs-clause-fault
+returns-then-needs-clause-fault c =
+    lacks c.args.self.now (tag_of c.args.tag) c.requires (sym c.needs.ensures ∙ c.if-needs.true)
 
-pub remove-requires : goal.remove-requires
-remove-requires c =
-    let lt = place_in c.args.self.now c.self.inside.items.items (tag_of c.args.tag) c.in-Ok.place
-    c.self.view_is c.self.invariant c.in-Ok.ensures in
-    omega (arith, lt)
+-- what is left is the list of the set without the entry
+left : (c : goal.After-retain) → IsListOf (set.remove c.args.self.now (tag_of c.args.tag)) c.retain.new.self.items
+left c = subst (λ (es : List Entry). IsListOf (set.remove c.args.self.now (tag_of c.args.tag)) es)
+    (sym (filter_same _ (λ (e : Entry). not (tags.eq e.tag c.args.tag)) _ (λ e b g called. search rules) _ _
+    c.retain.ensures.filtered
+    ∙ (λ i. filter (λ (e : Entry). not (laws.matches_eq-law e.tag c.args.tag i)) c.self.inside.items.items)))
+    (without c.args.self.now c.self.inside.items.items (tag_of c.args.tag)
+    (entries_of c.args.self.now c.self.inside.items.items c.self.view_is c.self.invariant))
 
 pub invariant_of-self : goal.invariant_of-self
-invariant_of-self c =
-    rw c.remove.ensures.items
-    (removed c.args.self.now c.self.inside.items.items (tag_of c.args.tag) c.in-Ok.place
-    c.self.view_is c.self.invariant c.in-Ok.ensures).sorted
+invariant_of-self c = (left c).sorted
 
 pub returns-clause-ok : goal.returns-clause-ok
-returns-clause-ok c =
-    rw c.remove.ensures.items
-    (removed c.args.self.now c.self.inside.items.items (tag_of c.args.tag) c.in-Ok.place
-    c.self.view_is c.self.invariant c.in-Ok.ensures).set
+returns-clause-ok c = (left c).set
 
 pub returns-clause-valid : goal.returns-clause-valid
 returns-clause-valid c =
-    rw c.remove.ensures.items
-    (subst IsValid
-    (sym (removed c.args.self.now c.self.inside.items.items (tag_of c.args.tag) c.in-Ok.place
-    c.self.view_is c.self.invariant c.in-Ok.ensures).set)
-    (c.needs.ensures.valid c.if-needs.false))
+    subst IsValid (sym (left c).set)
+    (valid_without c.args.self.now (tag_of c.args.tag) c.requires (sym c.needs.ensures ∙ c.if-needs.false))

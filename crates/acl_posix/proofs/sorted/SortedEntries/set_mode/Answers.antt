@@ -1,23 +1,23 @@
-use Rattle.acl_posix.proofs.Common.{IsSome, other, subst, sym, Tag, tag_of, ◌∙◌}
-use Rattle.std.specs.FinMap as set
-use Rattle.acl_posix.proofs.sorted.Changes.{has_three, class_present, present-keys, valid-keys}
+use Rattle.acl_posix.proofs.Common.{other, tag_of, user_obj}
+use Rattle.acl_posix.specs.Mode.{group_class}
+use Rattle.acl_posix.proofs.one_entry.OneEntry.{class_present, complete, still, valid_mode}
 use Rattle.acl_posix.proofs.sorted.SortedEntries.set_mode.Goals as goal
 
 pub set-requires : goal.set-requires
-set-requires c = (has_three c.args.self.now c.requires).0
+set-requires c = (complete c.args.self.now c.requires).owner
 
 pub set-requires-2 : goal.set-requires-2
 set-requires-2 c =
-    present-keys c.set.new.self c.args.self.now (tag_of c.group_class-class.result) c.set.ensures.tags
-    (subst (λ (l : Tag). IsSome (set.get c.args.self.now l)) (sym c.group_class-class.ensures)
-    (class_present c.args.self.now c.requires))
+    rw (c.set.ensures, c.group_class-class.ensures)
+    (still c.args.self.now user_obj (group_class c.args.self.now) _ (class_present c.args.self.now c.requires))
 
 pub set-requires-3 : goal.set-requires-3
 set-requires-3 c =
-    present-keys c.set-2.new.self c.args.self.now other (c.set-2.ensures.tags ∙ c.set.ensures.tags)
-    (has_three c.args.self.now c.requires).2
+    rw (c.set-2.ensures, c.set.ensures)
+    (still _ (tag_of c.group_class-class.result) other _ (still c.args.self.now user_obj other _
+    (complete c.args.self.now c.requires).others))
 
 pub returns-clause-valid : goal.returns-clause-valid
 returns-clause-valid c =
-    valid-keys c.set-3.new.self c.args.self.now (c.set-3.ensures.tags ∙ c.set-2.ensures.tags
-    ∙ c.set.ensures.tags) c.requires
+    rw (c.set-3.ensures, c.set-2.ensures, c.set.ensures, c.group_class-class.ensures)
+    (valid_mode c.args.self.now _ _ _ c.requires)

@@ -1,7 +1,7 @@
 use Rattle.std.proofs.Common.{ap, inr, refl, subst}
 use Rattle.acl_nfs4.specs.Spelling.{spelling}
 use Rattle.acl_eval.specs.Bridge.{IsBridgeFault, bridge_list}
-use Rattle.aclck.specs.Bridge.{BridgeAnswer}
+use Rattle.aclck.specs.commands.Bridge.{BridgeAnswer}
 use Rattle.aclck.proofs.ToldLemmas.{past_limits, told}
 use Rattle.aclck.proofs.task.bridge.run_bridge.Goals as goal
 

@@ -1,5 +1,5 @@
 use Rattle.std.proofs.Common.{◌∙◌}
-use Rattle.aclck.specs.CheckPosix.{CheckPosixAnswer, check_posix_held}
+use Rattle.aclck.specs.commands.CheckPosix.{CheckPosixAnswer, check_posix_held}
 use Rattle.aclck.proofs.ToldLemmas.{told}
 use Rattle.aclck.proofs.task.check_posix.run_check_posix.Goals as goal
 

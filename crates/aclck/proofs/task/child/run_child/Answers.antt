@@ -2,7 +2,7 @@ use Rattle.std.proofs.Common.{ap, refl, rules}
 use Rattle.acl_perm.specs.Profile.{profile_of}
 use Rattle.acl_nfs4.specs.Spelling.{spelling}
 use Rattle.aclck.specs.Answer.{done}
-use Rattle.aclck.specs.Child.{ChildAnswer}
+use Rattle.aclck.specs.commands.Child.{ChildAnswer}
 use Rattle.aclck.specs.declared.answer.Outcome.TheVariants as outcome
 use Rattle.aclck.proofs.task.child.run_child.Goals as goal
 

@@ -1,6 +1,11 @@
-use Rattle.acl_nfs4.proofs.Common.{Ace, ace, aces_of, ap, arith, full, IsAce, IsBody, length, List, subst, sym, ℕ, ◌-◌, ◌∙◌, ◌∷◌, ◌≡◌}
-use Rattle.acl_nfs4.proofs.xdr.Body.{splits}
+use Rattle.acl_nfs4.proofs.Common.{Ace, aces_of, ap, arith, IsBody, length, List, refl, subst, sym, ℕ, ◌-◌, ◌∷◌, ◌≡◌}
+use Rattle.acl_nfs4.proofs.xdr.Body.{Splits, splits}
 use Rattle.acl_nfs4.proofs.list.aces.AcesIterator.next.Goals as goal
+
+-- a list is its first ACE and the list that is left
+stepped : (left : ℕ) (rest after : List ℕ) (a : Ace) (list : List Ace) (s : Splits left rest) → aces_of left rest ≡ list
+    → a ≡ s.first → after ≡ s.more → list ≡ a ∷ aces_of (left - 1) after
+stepped left rest after a list s view first more = rw (← view, s.list, first, more, s.others_are) refl
 
 pub first_ace-first-requires : goal.first_ace-first-requires
 first_ace-first-requires c =
@@ -16,20 +21,12 @@ invariant_of-self c =
 pub returns-clause-steps : goal.returns-clause-steps
 returns-clause-steps c =
     let s = splits c.self.inside.left c.self.inside.rest.now (omega arith) c.self.invariant in
-    let e = c.first_ace-first.ensures s.first s.more s.is s.parts in (
-      sym c.self.view_is ∙ s.list ∙ ap (λ (a : Ace). a ∷ s.others) (sym e.0)
-          ∙ ap (λ (l : List Ace). ace c.first_ace-first.result.ace ∷ l)
-          (sym s.others_are ∙ ap (aces_of (c.self.inside.left - 1)) (sym e.1)),
-      subst (IsAce full) (sym e.0) s.is,
-    )
+    let e = c.first_ace-first.ensures s.first s.more s.is s.parts in
+    (stepped _ _ _ _ _ s c.self.view_is e.0 e.1, rw e.0 s.is)
 
 pub returns-clause-goes : goal.returns-clause-goes
 returns-clause-goes c =
     let s = splits c.self.inside.left c.self.inside.rest.now (omega arith) c.self.invariant in
     let e = c.first_ace-first.ensures s.first s.more s.is s.parts in
-    let now : c.args.self.now
-    ≡ ace c.first_ace-first.result.ace ∷ aces_of (c.self.inside.left - 1) c.first_ace-first.result.rest.now =
-    sym c.self.view_is ∙ s.list ∙ ap (λ (a : Ace). a ∷ s.others) (sym e.0)
-    ∙ ap (λ (l : List Ace). ace c.first_ace-first.result.ace ∷ l)
-    (sym s.others_are ∙ ap (aces_of (c.self.inside.left - 1)) (sym e.1)) in
+    let now = stepped _ _ _ _ c.args.self.now s c.self.view_is e.0 e.1 in
     record { on = λ _. (tt, tt, omega (arith, ap length now)); keeps = tt; rests = λ _. tt }

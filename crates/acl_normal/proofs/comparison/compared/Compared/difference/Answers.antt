@@ -1,5 +1,4 @@
 use Rattle.acl_normal.proofs.comparison.compared.Compared.difference.Goals as goal
-use Rattle.acl_normal.proofs.Common.{IsGrantedTo, set_of, subst}
 use Rattle.acl_normal.proofs.comparison.FirstSet.{differs_there, found_is, situation_there, told_none, told_some}
 
 pub returns-in-None : goal.returns-in-None
@@ -17,13 +16,3 @@ pub returns-in_ok-difference_at-in-Some : goal.returns-in_ok-difference_at-in-So
 returns-in_ok-difference_at-in-Some c = told_some c.args.self.now _ _ c.requires.named
     (found_is c.args.self.now _ _ c.requires.found c.in-Some.is)
     c.in_ok-difference_at-in-Some.ensures.situation c.in_ok-difference_at-in-Some.ensures.bit
-
-pub difference_at-requires-clause-here : goal.difference_at-requires-clause-here
-difference_at-requires-clause-here c =
-    subst (λ both. IsGrantedTo both.first (set_of c.in-Some.set) c.granted-here.result.bits) c.self.view_is
-    c.granted-here.ensures
-
-pub difference_at-requires-clause-there : goal.difference_at-requires-clause-there
-difference_at-requires-clause-there c =
-    subst (λ both. IsGrantedTo both.second (set_of c.in-Some.set) c.granted-there.result.bits) c.self.view_is
-    c.granted-there.ensures

@@ -2,11 +2,7 @@ use Rattle.std.proofs.Common.{◌<◌, length}
 use Rattle.acl_normal.proofs.Common.{All, IsName, IsSituation, set_of, small_situation, subst, sym}
 use Rattle.acl_normal.proofs.comparison.compared.Compared.difference_at.Goals as goal
 use Rattle.acl_normal.proofs.comparison.Asked.{few_groups, one_alone, some_bytes}
-use Rattle.acl_normal.proofs.comparison.SetEvaluation.{differing_are, lowest_difference, none_differ}
-
-pub lowest-bit-requires : goal.lowest-bit-requires
-lowest-bit-requires c = λ none. c.requires.differ ((none_differ _ _ _ _ c.unlike.result.within
-    (differing_are _ _ _ _ _ _ c.requires.here c.requires.there c.unlike.ensures)).0 none)
+use Rattle.acl_normal.proofs.comparison.SetEvaluation.{differing_are, lowest_difference}
 
 pub returns-clause-bit : goal.returns-clause-bit
 returns-clause-bit c = lowest_difference _ _ _ _ _ _ _ _ c.unlike.result.within

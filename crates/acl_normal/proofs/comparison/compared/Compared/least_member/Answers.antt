@@ -3,7 +3,7 @@ use Rattle.acl_normal.proofs.comparison.compared.Compared.least_member.Goals as 
 use Rattle.acl_normal.proofs.comparison.compared.Compared.least_member.Goals.{then-may_differ+in_ok-standings+in_ok-least, else-may_differ}
 use Rattle.acl_normal.proofs.comparison.RowFacts.{LeastMember, least_done, least_skip, member_step, rows_limit, same_pairs}
 use Rattle.acl_normal.proofs.comparison.TableFacts.{slice_within}
-use Rattle.acl_normal.specs.internal.TwoLists.{StandAs, all_mentioned}
+use Rattle.acl_normal.specs.internal.comparison.TwoLists.{StandAs, all_mentioned}
 
 pub first_inverting-requires-clause-limit : goal.first_inverting-requires-clause-limit
 first_inverting-requires-clause-limit c =

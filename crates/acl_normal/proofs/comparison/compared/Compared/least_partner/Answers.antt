@@ -2,7 +2,7 @@ use Rattle.std.proofs.Common.{arith, sym, ap, subst, length, ◌+◌}
 use Rattle.acl_normal.proofs.comparison.compared.Compared.least_partner.Goals as goal
 use Rattle.acl_normal.proofs.comparison.compared.Compared.least_partner.Goals.{then-may_differ+in_ok-standings, else-may_differ}
 use Rattle.acl_normal.proofs.comparison.RowFacts.{LeastPartner, least_done, least_skip, others_length, partner_loop, rows_length, same_pair}
-use Rattle.acl_normal.specs.internal.TwoLists.{all_mentioned}
+use Rattle.acl_normal.specs.internal.comparison.TwoLists.{all_mentioned}
 
 pub split_at-requires : goal.split_at-requires
 split_at-requires c = omega (

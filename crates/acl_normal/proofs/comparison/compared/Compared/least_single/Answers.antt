@@ -2,7 +2,7 @@ use Rattle.std.proofs.Common.{sym, subst, ◌+◌}
 use Rattle.acl_normal.proofs.comparison.compared.Compared.least_single.Goals as goal
 use Rattle.acl_normal.proofs.comparison.compared.Compared.least_single.Goals.{then-may_differ+in_ok-standings, else-may_differ}
 use Rattle.acl_normal.proofs.comparison.RowFacts.{LeastSingle, least_done, least_skip, rows_limit, single_step, same_one}
-use Rattle.acl_normal.specs.internal.TwoLists.{StandAs, all_mentioned}
+use Rattle.acl_normal.specs.internal.comparison.TwoLists.{StandAs, all_mentioned}
 
 pub first_unlike-least-requires : goal.first_unlike-least-requires
 first_unlike-least-requires c =

@@ -11,11 +11,6 @@ split_at-requires c = omega (
   ap length c.as_slice.ensures.value,
 )
 
-pub rights_apart-requires-clause-whoms : goal.rights_apart-requires-clause-whoms
-rights_apart-requires-clause-whoms c = whoms_length (principals c.args.mentions.now.principals.items) _ _
-    (whoms_first _ c.args.first.now c.args.second.now _ _ _ refl
-    (c.split_at.ensures.front ∙ ap (take (length c.args.first.now)) c.as_slice.ensures.value) c.requires.whoms)
-
 pub rights_apart-requires-clause-other_whoms : goal.rights_apart-requires-clause-other_whoms
 rights_apart-requires-clause-other_whoms c = whoms_length (principals c.args.mentions.now.principals.items) _ _
     (whoms_second _ c.args.first.now c.args.second.now _ _ _ refl

@@ -1,7 +1,7 @@
 use Rattle.std.proofs.Common.{arith, ap, length}
 use Rattle.acl_normal.proofs.comparison.compared.Compared.principal.Goals as goal
 use Rattle.acl_normal.proofs.comparison.MentionedRows.{all_there}
-use Rattle.acl_normal.specs.internal.TwoLists.{all_mentioned}
+use Rattle.acl_normal.specs.internal.comparison.TwoLists.{all_mentioned}
 
 pub bounds-mentioned-number : goal.bounds-mentioned-number
 bounds-mentioned-number c = omega (

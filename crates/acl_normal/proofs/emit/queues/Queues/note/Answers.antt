@@ -1,7 +1,7 @@
 use Rattle.std.proofs.Common.{◌≡◌, ◌+◌, true}
-use Rattle.acl_normal.proofs.Common.{ap, AreNoted, arith, has_bit, is_user, is_users, IsQuiet, mask_here, principal_here, slot_of, subst, sym, ◌∙◌}
+use Rattle.acl_normal.proofs.Common.{ap, AreNoted, arith, has_bit, is_user, is_users, mask_here, principal_here, slot_of, subst, sym, ◌∙◌}
 use Rattle.acl_normal.specs.internal.Places.{kind_here}
-use Rattle.acl_normal.specs.internal.Queues.{PutsPlace}
+use Rattle.acl_normal.specs.internal.emit.Queues.{PutsPlace}
 use Rattle.acl_normal.proofs.emit.Chains.{noted_on, noted_place, noted_skip, waits_here}
 use Rattle.acl_normal.proofs.unique.Bits.{past_absent}
 use Rattle.acl_normal.proofs.emit.queues.Queues.note.Goals as goal
@@ -15,15 +15,16 @@ loop-right-preserved c =
     let next = c.in-Some.ensures.some in
     let before : AreNoted xs (place + 1) b old =
     past_absent (λ n. AreNoted xs (place + 1) n old) c.mask_at-mask.result.bits c.loop-right.from b
-    (λ n is lacks. noted_skip xs place n old (ap (λ v. has_bit v n) (sym c.mask_at-mask.ensures) ∙ lacks) is) next.above
+    (λ n is lacks. noted_skip xs place n old (ap (λ v. has_bit v n) (sym c.mask_at-mask.ensures.mask) ∙ lacks) is)
+    next.above
     next.lacks c.loop-right.invariant.0 in
-    let has : has_bit (mask_here xs place) b ≡ true = ap (λ v. has_bit v b) (sym c.mask_at-mask.ensures) ∙ next.has in
-    let quiet : IsQuiet xs = subst IsQuiet c.rows.view_is c.rows.invariant.list.tidy.quiet in
+    let has : has_bit (mask_here xs place) b ≡ true =
+    ap (λ v. has_bit v b) (sym c.mask_at-mask.ensures.mask) ∙ next.has in
     let slot : c.slot.result ≡ slot_of (kind_here xs place) (is_user (principal_here xs place)) b =
     c.slot.ensures ∙ ap (λ k. slot_of k (is_users c.class_at-class.result) b) c.kind_at-kind.ensures
     ∙ ap (λ u. slot_of (kind_here xs place) u b) c.class_at-class.ensures in (
       noted_on (kind_here xs place) (is_user (principal_here xs place)) xs place b old c.put.new.self
-          (waits_here b xs place quiet has) c.in-Some.right.within
+          (waits_here b xs place c.mask_at-mask.ensures.list.tidy.quiet has) c.in-Some.right.within
           (subst (λ v. PutsPlace place v old c.put.new.self) slot c.in_ok-put.ensures) before,
       omega (arith, c.in-Some.right.within),
     )
@@ -35,5 +36,5 @@ returns c =
     let old = c.loop-right.self in
     noted_place xs place old (past_absent (λ n. AreNoted xs (place + 1) n old) c.mask_at-mask.result.bits
     c.loop-right.from 21
-    (λ n is lacks. noted_skip xs place n old (ap (λ v. has_bit v n) (sym c.mask_at-mask.ensures) ∙ lacks) is)
+    (λ n is lacks. noted_skip xs place n old (ap (λ v. has_bit v n) (sym c.mask_at-mask.ensures.mask) ∙ lacks) is)
     c.loop-right.invariant.1 c.in_default.ensures.none c.loop-right.invariant.0)

@@ -1,12 +1,7 @@
 use Rattle.std.proofs.Common.{◌≡◌, ◌-◌, arith, length, subst}
-use Rattle.acl_normal.specs.internal.Queues.{AreNoted}
+use Rattle.acl_normal.specs.internal.emit.Queues.{AreNoted}
 use Rattle.acl_normal.proofs.emit.Chains.{noted_all}
-use Rattle.acl_normal.proofs.emit.Few.{remaining_few}
 use Rattle.acl_normal.proofs.emit.queues.Queues.of.Goals as goal
-
-pub new-requires : goal.new-requires
-new-requires c =
-    omega (arith, c.len.ensures, remaining_few c.rows.inside c.args.rows.now c.rows.invariant c.rows.view_is)
 
 pub loop-done-init : goal.loop-done-init
 loop-done-init c =
@@ -16,6 +11,6 @@ loop-done-init c =
 pub returns : goal.returns
 returns c =
     let none : length c.args.rows.now - c.loop-done.done ≡ 0 =
-    omega (arith, c.loop-done-test.false, c.loop-done.auto.done-end, c.len-done-end.ensures) in
-    noted_all c.args.rows.now c.loop-done.queues
+    omega (arith, c.loop-done-test.false, c.loop-done.auto.done-end, c.len-done-end.ensures.count) in
+    noted_all c.args.rows.now c.loop-done.queues c.len.ensures.list
     (subst (λ n. AreNoted c.args.rows.now n 0 c.loop-done.queues) none c.loop-done.invariant)

@@ -1,6 +1,6 @@
 use Rattle.std.proofs.Common.{◌≡◌, heap_items, slice_index_or, ◌∙◌, sym, subst, arith, refl}
 use Rattle.std.proofs.lemmas.Grind.{get_or_default_zero}
-use Rattle.acl_normal.specs.internal.Ready.{IsLeastReady}
+use Rattle.acl_normal.specs.internal.emit.Ready.{IsLeastReady}
 use Rattle.acl_normal.proofs.emit.Heaped.{heap_popped, popped_least, popped_some}
 use Rattle.acl_normal.proofs.emit.Marks.{number_within}
 use Rattle.acl_normal.proofs.emit.ready.Ready.pop.Goals as goal

@@ -1,5 +1,6 @@
 use Rattle.std.proofs.Common.{◌≡◌, ◌+◌, ◌<◌, ◌/◌, ◌%◌, ◌*◌, ℕ, length, refl, slice_index_or}
 use Rattle.acl_normal.proofs.Common.{ace, AceRef, Allow, ap, arith, Deny, is_principal_of, Key, key_here, Kind, kind_rank, principal, principal_of, remaining_of, row_of, subst, sym, ◌∙◌}
+use Rattle.acl_normal.proofs.emit.Few.{remainder_of}
 use Rattle.acl_normal.proofs.emit.InRemaining.{length_remaining, order_there}
 use Rattle.acl_normal.proofs.emit.Marks.{number_rank}
 use Rattle.acl_normal.proofs.rows.BitsTaken.{key_there}
@@ -26,8 +27,8 @@ allow_at Deny n is e = absurd (e is)
 half_is : (k : Key) (n row : ℕ) → n % 2 ≡ kind_rank k.1 → n ≡ 2 * row + kind_rank k.1 → n / 2 ≡ row
 half_is k n row rank is = omega (arith, rank, is)
 
-pub returns : goal.returns
-returns c = λ k named is.
+pub returns-clause-key : goal.returns-clause-key
+returns-clause-key c = λ k named is.
     let s = c.self.inside in
     let xs = remaining_of s in
     let number : c.args.number < 2 * length xs =
@@ -49,3 +50,6 @@ returns c = λ k named is.
       | else-number-eq0 w ↦ w.kind-is ∙ allow_at k.1 c.args.number rank w.if-number-eq0.false
     ] in
     ap (λ p. (p, c.if-number-eq0.kind)) who ∙ ap (λ j. (k.0, j)) kind
+
+pub returns-clause-list : goal.returns-clause-list
+returns-clause-list c = remainder_of c.self.inside c.args.self.now c.self.invariant c.self.view_is

@@ -1,5 +1,6 @@
 use Rattle.std.proofs.Common.{◌≡◌, ◌<◌, bit_and, length, slice_index_or}
 use Rattle.acl_normal.proofs.Common.{ap, arith, mask_numbers, mask_here, remaining_of, subst, sym, ◌∙◌}
+use Rattle.acl_normal.proofs.emit.Few.{remainder_of}
 use Rattle.acl_normal.proofs.emit.InRemaining.{length_remaining, mask_remaining, row_of_place, row_there}
 use Rattle.acl_normal.proofs.unique.Bits.{bits_at}
 use Rattle.acl_normal.proofs.rows.remaining.Remaining.mask_at.Goals as goal
@@ -19,8 +20,8 @@ index-requires-3 c =
     let row = c.index-2.ensures ∙ row_there s _ _ c.self.invariant within in
     omega (arith, row, row_of_place s c.args.place c.self.invariant within, s.left.ok)
 
-pub returns : goal.returns
-returns c =
+pub returns-clause-mask : goal.returns-clause-mask
+returns-clause-mask c =
     let s = c.self.inside in
     let within : c.args.place < length (remaining_of s) =
     subst (λ v. c.args.place < length v) (sym c.self.view_is) c.requires in
@@ -40,3 +41,6 @@ returns c =
     ∙ ap (bit_and (slice_index_or (mask_numbers s.masks.items) c.args.place 0)) (sym left)
     ∙ sym (mask_remaining s c.args.place c.self.invariant within)
     ∙ ap (λ v. mask_here v c.args.place) c.self.view_is
+
+pub returns-clause-list : goal.returns-clause-list
+returns-clause-list c = remainder_of c.self.inside c.args.self.now c.self.invariant c.self.view_is

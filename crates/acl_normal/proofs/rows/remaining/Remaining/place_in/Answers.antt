@@ -4,13 +4,11 @@ use Rattle.acl_normal.proofs.emit.InRemaining.{order_there, row_there}
 use Rattle.acl_normal.proofs.rows.FirstPlaces.{row_has, row_passed}
 use Rattle.acl_normal.proofs.rows.remaining.Remaining.place_in.Goals as goal
 
-pub loop-at-init : goal.loop-at-init
-loop-at-init c = (omega arith, λ j l h. absurd (omega (arith, l, h)))
-
 pub returns-then-index-row : goal.returns-then-index-row
 returns-then-index-row c p at =
     let s = c.self.inside in
-    let all : length (remaining_of s) ≡ c.len-at-end.result = ap length c.self.view_is ∙ sym c.len-at-end.ensures in
+    let all : length (remaining_of s) ≡ c.len-at-end.result = ap length c.self.view_is
+    ∙ sym c.len-at-end.ensures.count in
     let here = order_there s c.loop-at.at _ _ c.self.invariant (omega (arith, c.loop-at-test.true, all))
     c.index-place.ensures in
     let row : c.index.result.now ≡ slice_index_or s.rows.items (slice_index_or s.order.items c.loop-at.at 0) 0 =
@@ -23,7 +21,8 @@ returns-then-index-row c p at =
 pub returns-then-has : goal.returns-then-has
 returns-then-has c p at =
     let s = c.self.inside in
-    let all : length (remaining_of s) ≡ c.len-at-end.result = ap length c.self.view_is ∙ sym c.len-at-end.ensures in
+    let all : length (remaining_of s) ≡ c.len-at-end.result = ap length c.self.view_is
+    ∙ sym c.len-at-end.ensures.count in
     let here = order_there s c.loop-at.at _ _ c.self.invariant (omega (arith, c.loop-at-test.true, all))
     c.index-place.ensures in
     let has : has_bit (mask_here (remaining_of s) c.index-place.result.now) c.args.right.bit ≡ true =
@@ -38,7 +37,8 @@ returns-then-has c p at =
 pub returns : goal.returns
 returns c p at =
     let s = c.self.inside in
-    let all : length (remaining_of s) ≡ c.len-at-end.result = ap length c.self.view_is ∙ sym c.len-at-end.ensures in
+    let all : length (remaining_of s) ≡ c.len-at-end.result = ap length c.self.view_is
+    ∙ sym c.len-at-end.ensures.count in
     subst (λ v. None ≡ first_place_of c.args.right.bit p v) c.self.view_is
     (sym (row_passed c.args.right.bit _ s.rows.items s.order.items c.args.row c.loop-at.at p c.self.invariant.list.rows
     c.self.invariant.list.order (subst (IsRowOf c.args.row p) (sym c.self.view_is) at) c.loop-at.invariant.0

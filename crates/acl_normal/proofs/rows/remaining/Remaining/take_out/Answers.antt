@@ -37,6 +37,7 @@ returns c =
     let s = c.self.inside in
     let at_row = subst (IsRowOf c.args.row (principal c.args.p)) (sym c.self.view_is) c.requires in
     ap (λ v. with_masks s.aces.items (masks_left (mask_numbers s.masks.items) s.rows.items v))
-    (bits_set s.left.items c.args.row c.difference.result ∙ ap (slice_set (mask_numbers s.left.items) c.args.row) (taken c))
+    (bits_set s.left.items c.args.row c.difference.result
+    ∙ ap (slice_set (mask_numbers s.left.items) c.args.row) (taken c))
     ∙ taken_view s c.args.row c.args.mask.bits (principal c.args.p) c.self.invariant at_row
     ∙ ap (take_out (principal c.args.p) c.args.mask.bits) c.self.view_is

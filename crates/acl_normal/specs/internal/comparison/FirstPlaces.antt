@@ -1,0 +1,198 @@
+-- Where two lists first speak of each principal, and what they say there (this library's own).
+use Rattle.std.specs.Prelude.{◌≡◌, ℕ, ◌<◌, ◌≤◌, ◌+◌, Bool, true, false, not, ◌&&◌, if◌then◌else◌, nat_lt, ◌==◌, drop, slice_index_or, slice_set, List, [], ◌∷◌, length}
+use Rattle.std.specs.List.{AllByRecursion, AllZip, list_any}
+use Rattle.acl_eval.specs.Column.{takes_part}
+use Rattle.acl_eval.specs.Grant.{is_allow}
+use Rattle.acl_nfs4.specs.Ace.{Ace}
+use Rattle.acl_nfs4.specs.Who.{principal_of}
+use Rattle.acl_normal.specs.Classes.{is_users}
+use Rattle.acl_normal.specs.internal.comparison.SetSearch.{GrantAlikeTo, differ, is_granted_to}
+use Rattle.acl_normal.specs.Keys.{principal_eq}
+use Rattle.acl_normal.specs.SmallSituations.{is_among}
+use Rattle.acl_normal.specs.declared.class.Class.TheVariants.{Users}
+use Rattle.acl_normal.specs.declared.comparison.standing.First.{First}
+use Rattle.acl_normal.specs.declared.comparison.standing.Standing.{Standing}
+use Rattle.acl_normal.specs.declared.comparison.standing.Whom.{Whom}
+use Rattle.acl_normal.specs.declared.comparison.standing.Whom.TheVariants.{Everyone, Nobody, One}
+use Rattle.acl_perm.specs.Bits.{all_rights, has_bit}
+use Rattle.acl_perm.specs.Overlap.{may_overlap}
+use Rattle.acl_perm.specs.Principal.{Principal, everyone, is_user}
+use Rattle.acl_perm.specs.declared.kind.Kind.TheVariants.{Deny}
+
+-- the place of the first ACE that has the bit, takes part, and is of the set or everyone; the length of the list where
+-- there is none
+abbrev pub first_place : List Principal → ℕ → List Ace → ℕ
+first_place set bit [] = 0
+first_place set bit (a ∷ list) =
+    if (has_bit a.mask bit && takes_part a) && is_among (principal_of a) (everyone ∷ set) then 0
+    else first_place set bit list + 1
+
+-- the first ACE of a principal, or of everyone
+pub record IsFirst (list : List Ace) (bit : ℕ) (p : Principal) (f : First) : Type 0 where
+  pub place : f.place ≡ first_place (p ∷ []) bit list
+  pub allows : is_allow f.kind ≡ is_granted_to list (p ∷ []) bit
+
+-- what both lists say first of a principal
+pub record IsStanding (list other : List Ace) (bit : ℕ) (p : Principal) (r : Standing) : Type 0 where
+  pub here : IsFirst list bit p r.here
+  pub there : IsFirst other bit p r.there
+  pub class : is_users r.class ≡ is_user p
+
+-- of two that may overlap and are of different kinds, the one comes first in one list, and not in the other
+abbrev pub inverts : Standing → Standing → Bool
+inverts r s = (not (is_users r.class && is_users s.class) && differ (is_allow r.here.kind) (is_allow s.here.kind))
+    && differ (nat_lt s.here.place r.here.place) (nat_lt s.there.place r.there.place)
+
+-- a principal inverts one of the others
+abbrev pub inverts_any : Standing → List Standing → Bool
+inverts_any r = list_any (inverts r)
+
+-- on one bit, the lists grant alike wherever this principal and another that may overlap match
+abbrev pub AgreesAt : List Ace → List Ace → List Principal → ℕ → Principal → Type 0
+AgreesAt list other whole bit p = AllByRecursion (λ q. may_overlap p q ≡ true
+    → is_granted_to list (p ∷ q ∷ []) bit ≡ is_granted_to other (p ∷ q ∷ []) bit) whole
+
+-- on all rights, the lists grant alike wherever this principal and another that may overlap match
+abbrev pub Agrees : List Ace → List Ace → List Principal → Principal → Type 0
+Agrees list other whole p =
+    AllByRecursion (λ q. may_overlap p q ≡ true → GrantAlikeTo list other (p ∷ q ∷ [])) whole
+
+-- the ACE takes part, and is of the principal or of everyone
+abbrev pub is_of : Ace → Principal → Bool
+is_of a p = takes_part a && is_among (principal_of a) (everyone ∷ p ∷ [])
+
+-- the number is one of those that are named
+abbrev pub hits : Whom → ℕ → Bool
+hits Nobody k = false
+hits (One i) k = k == i
+hits Everyone k = true
+
+-- a number that is named is less than n
+abbrev pub IsWhomWithin : Whom → ℕ → Type 0
+IsWhomWithin Nobody n = Unit {0}
+IsWhomWithin (One i) n = i < n
+IsWhomWithin Everyone n = Unit {0}
+
+-- someone is named
+abbrev pub names_any : Whom → Bool
+names_any Nobody = false
+names_any (One i) = true
+names_any Everyone = true
+
+-- everyone is named
+abbrev pub names_all : Whom → Bool
+names_all Nobody = false
+names_all (One i) = false
+names_all Everyone = true
+
+-- the same are named
+abbrev pub same_whom : Whom → Whom → Bool
+same_whom Nobody Nobody = true
+same_whom (One i) (One k) = i == k
+same_whom Everyone Everyone = true
+same_whom _ _ = false
+
+-- of the principals, by their numbers, just those are named that the ACE is of; nobody is named if it takes no part,
+-- and everyone if it is of everyone
+pub record IsWhom (whole : List Principal) (a : Ace) (w : Whom) : Type 0 where
+  pub within : IsWhomWithin w (length whole)
+  pub part : takes_part a ≡ names_any w
+  pub all : (takes_part a && principal_eq (principal_of a) everyone) ≡ names_all w
+  pub hit : (k : ℕ) → k < length whole → is_of a (slice_index_or whole k everyone) ≡ hits w k
+
+-- whom each ACE names
+abbrev pub AreWhoms : List Principal → List Ace → List Whom → Type 0
+AreWhoms whole list ws = AllZip (IsWhom whole) list ws
+
+-- what stands for a first ACE behind a list of them
+abbrev pub no_first : First
+no_first = record { place = 0; kind = Deny }
+
+-- what the ACEs from a place on say first
+pub record IsFirstFrom (list : List Ace) (bit i : ℕ) (p : Principal) (f : First) : Type 0 where
+  pub place : f.place ≡ first_place (p ∷ []) bit (drop i list) + i
+  pub allows : is_allow f.kind ≡ is_granted_to (drop i list) (p ∷ []) bit
+
+-- what the ACEs from a place on say first of each principal
+pub record AreFirstFrom (whole : List Principal) (list : List Ace) (bit i : ℕ) (firsts : List First) : Type 0 where
+  pub count : length firsts ≡ length whole
+  pub each : (k : ℕ) → k < length whole
+      → IsFirstFrom list bit i (slice_index_or whole k everyone) (slice_index_or firsts k no_first)
+
+-- where each principal stands
+pub record AreStandings (whole : List Principal) (list other : List Ace) (bit : ℕ) (standings : List Standing) :
+    Type 0 where
+  pub each : AllZip (IsStanding list other bit) whole standings
+
+-- what stands for an ACE behind a list
+abbrev pub no_ace : Ace
+no_ace = record { kind = Deny; flags = 0; mask = 0; who = [] }
+
+-- the ACE has the bit, and is of everyone
+abbrev pub stops : ℕ → Ace → Whom → Bool
+stops bit a Nobody = false
+stops bit a (One i) = false
+stops bit a Everyone = has_bit a.mask bit
+
+-- the ACE at a place has the bit, and is of everyone
+abbrev pub stops_at : List Ace → List Whom → ℕ → ℕ → Bool
+stops_at list ws bit k = stops bit (slice_index_or list k no_ace) (slice_index_or ws k Nobody)
+
+-- an ACE put before what the later ones say
+abbrev pub put : List First → Ace → Whom → ℕ → ℕ → List First
+put firsts a Nobody place bit = firsts
+put firsts a (One i) place bit =
+    if has_bit a.mask bit then slice_set firsts i (record { place = place; kind = a.kind }) else firsts
+put firsts a Everyone place bit = firsts
+
+-- what stands for a standing behind a list of them
+abbrev pub no_standing : Standing
+no_standing = record { here = no_first; there = no_first; class = Users }
+
+-- both lists say the same of the principal alone
+abbrev pub SameAlone : Standing → Type 0
+SameAlone r = is_allow r.here.kind ≡ is_allow r.there.kind
+
+-- the first below a limit of which the lists say different things, or the limit
+pub record IsFirstUnlike (standings : List Standing) (limit first : ℕ) : Type 0 where
+  pub within : first ≤ limit
+  pub before : (k : ℕ) → k < first → SameAlone (slice_index_or standings k no_standing)
+  pub at : first < limit → SameAlone (slice_index_or standings first no_standing) → ⊥
+
+-- the first below a limit that inverts another, or the limit
+pub record IsFirstInverting (standings : List Standing) (limit first : ℕ) : Type 0 where
+  pub within : first ≤ limit
+  pub before : (k : ℕ) → k < first → inverts_any (slice_index_or standings k no_standing) standings ≡ false
+  pub at : first < limit → inverts_any (slice_index_or standings first no_standing) standings ≡ true
+
+-- the first of the others below a limit that one inverts, or the limit
+pub record IsFirstInverted (one : Standing) (others : List Standing) (limit first : ℕ) : Type 0 where
+  pub within : first ≤ limit
+  pub before : (k : ℕ) → k < first → inverts one (slice_index_or others k no_standing) ≡ false
+  pub at : first < limit → inverts one (slice_index_or others first no_standing) ≡ true
+
+-- what is asked of each right
+abbrev pub OnAll : (ℕ → ℕ → Type 0) → ℕ → Type 0
+OnAll Q k = (bit : ℕ) → has_bit all_rights bit ≡ true → Q bit k
+
+-- the least number below n of which it doesn't hold, or n
+pub record IsLeast (P : ℕ → Type 0) (n least : ℕ) : Type 0 where
+  pub within : least ≤ n
+  pub before : (k : ℕ) → k < least → P k
+  pub at : least < n → P least → ⊥
+
+-- the lists grant alike to one principal alone
+abbrev pub AlikeAlone : List Ace → List Ace → List Principal → ℕ → ℕ → Type 0
+AlikeAlone list other whole bit k =
+    is_granted_to list (slice_index_or whole k everyone ∷ []) bit
+    ≡ is_granted_to other (slice_index_or whole k everyone ∷ []) bit
+
+-- to one and each other
+abbrev pub AlikeWithAll : List Ace → List Ace → List Principal → ℕ → ℕ → Type 0
+AlikeWithAll list other whole bit k = AgreesAt list other whole bit (slice_index_or whole k everyone)
+
+-- to one and a certain other
+abbrev pub AlikeWith : List Ace → List Ace → Principal → List Principal → ℕ → ℕ → Type 0
+AlikeWith list other p rest bit k = may_overlap p (slice_index_or rest k everyone) ≡ true
+    → is_granted_to list (p ∷ slice_index_or rest k everyone ∷ []) bit
+    ≡ is_granted_to other (p ∷ slice_index_or rest k everyone ∷ []) bit

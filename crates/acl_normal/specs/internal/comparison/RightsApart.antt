@@ -1,0 +1,23 @@
+-- The rights on which two lists may differ (this library's own).
+use Rattle.std.specs.Prelude.{◌≡◌, ℕ, Bool, false, not, ◌&&◌, ◌==◌, List}
+use Rattle.acl_eval.specs.Column.{column}
+use Rattle.acl_nfs4.specs.Ace.{Ace}
+use Rattle.acl_normal.specs.internal.comparison.FirstPlaces.{names_any, same_whom}
+use Rattle.acl_normal.specs.internal.comparison.SetSearch.{differ}
+use Rattle.acl_normal.specs.declared.comparison.apart.Statement.{Statement}
+use Rattle.acl_normal.specs.declared.comparison.standing.Whom.{Whom}
+use Rattle.acl_perm.specs.Bits.{has_bit}
+use Rattle.acl_perm.specs.Kind.{is_allow}
+
+-- on each right but these, both lists have the same ACEs that take part, in the same order
+pub record AreApart (list other : List Ace) (mask : ℕ) : Type 0 where
+  pub same : (bit : ℕ) → has_bit mask bit ≡ false → column list bit ≡ column other bit
+
+-- the rights of an ACE that names someone, but for some
+pub record HasOpenBits (a : Ace) (w : Whom) (apart mask : ℕ) : Type 0 where
+  pub bits : (bit : ℕ) → has_bit mask bit ≡ ((has_bit a.mask bit && names_any w) && not (has_bit apart bit))
+
+-- two ACEs allow the same rights to the same, or deny them
+abbrev pub say_the_same : Statement → Statement → Bool
+say_the_same s t = ((s.rights.bits == t.rights.bits) && not (differ (is_allow t.kind) (is_allow s.kind)))
+    && same_whom s.whom t.whom

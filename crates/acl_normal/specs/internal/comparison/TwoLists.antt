@@ -1,0 +1,104 @@
+-- Two lists that are compared, and what is asked of them, right by right (this library's own).
+use Rattle.std.specs.Prelude.{◌≡◌, ℕ, ◌<◌, ◌≤◌, ◌+◌, List, Option, drop, length, slice_index_or}
+use Rattle.acl_eval.specs.Column.{column}
+use Rattle.acl_nfs4.specs.Ace.{Ace}
+use Rattle.acl_perm.specs.Principal.{Principal, everyone}
+use Rattle.acl_perm.specs.Situation.{Situation}
+use Rattle.acl_normal.specs.Difference.{situation_of}
+use Rattle.acl_normal.specs.internal.Tidy.{HasNames}
+use Rattle.acl_normal.specs.SmallSets.{mentioned, small_sets, strange_length}
+use Rattle.acl_normal.specs.SmallSituations.{small_situation}
+use Rattle.acl_normal.specs.internal.comparison.FirstPlaces.{AlikeAlone, AlikeWith, AlikeWithAll, AreStandings, IsLeast, OnAll}
+use Rattle.acl_normal.specs.internal.comparison.SetSearch.{FindsSet, GrantAlikeTo, IsLowestDifference}
+use Rattle.acl_normal.specs.declared.comparison.Difference.{Difference}
+use Rattle.acl_normal.specs.declared.comparison.standing.Standing.{Standing}
+
+-- the two lists
+pub record TwoLists : Type 0 where
+  pub first : List Ace
+  pub second : List Ace
+
+-- the value of two lists
+abbrev pub two_lists : List Ace → List Ace → TwoLists
+two_lists first second = record { first = first; second = second }
+
+-- the principals that they mention, in order
+abbrev pub all_mentioned : TwoLists → List Principal
+all_mentioned both = mentioned both.first both.second
+
+-- the mentioned principal of a number
+abbrev pub principal_at : TwoLists → ℕ → Principal
+principal_at both k = slice_index_or (all_mentioned both) k everyone
+
+-- the mentioned principals behind that of a number
+abbrev pub later_than : TwoLists → ℕ → List Principal
+later_than both k = drop (k + 1) (all_mentioned both)
+
+-- of the ACEs that take part, both lists have the same ones with the right, in the same order
+abbrev pub HaveSameColumn : TwoLists → ℕ → Type 0
+HaveSameColumn both bit = column both.first bit ≡ column both.second bit
+
+-- each who of both lists that is a name is one that a situation may have
+pub record AreNamed (both : TwoLists) : Type 0 where
+  pub first : HasNames both.first
+  pub second : HasNames both.second
+
+-- neither list is longer than this
+pub record AreWithin (both : TwoLists) (size : ℕ) : Type 0 where
+  pub first : length both.first ≤ size
+  pub second : length both.second ≤ size
+
+-- where each mentioned principal stands in both lists, on a right
+abbrev pub StandAs : TwoLists → ℕ → List Standing → Type 0
+StandAs both bit standings = AreStandings (all_mentioned both) both.first both.second bit standings
+
+-- both lists grant alike where just these principals match, and everyone
+abbrev pub AreAlikeTo : TwoLists → List Principal → Type 0
+AreAlikeTo both set = GrantAlikeTo both.first both.second set
+
+-- on a right, both lists grant alike to the principal of a number alone
+abbrev pub AlikeToOne : TwoLists → ℕ → ℕ → Type 0
+AlikeToOne both = AlikeAlone both.first both.second (all_mentioned both)
+
+-- on a right, both lists grant alike to the principal of a number and each other that it may overlap
+abbrev pub AlikeToPairs : TwoLists → ℕ → ℕ → Type 0
+AlikeToPairs both = AlikeWithAll both.first both.second (all_mentioned both)
+
+-- on a right, both lists grant alike to the principal of a number and one of those behind it that it may overlap
+abbrev pub AlikeToPair : TwoLists → ℕ → ℕ → ℕ → Type 0
+AlikeToPair both at = AlikeWith both.first both.second (principal_at both at) (later_than both at)
+
+-- both lists grant alike to each mentioned principal alone
+abbrev pub AreAlikeAlone : TwoLists → Type 0
+AreAlikeAlone both = (k : ℕ) → k < length (all_mentioned both) → OnAll (AlikeToOne both) k
+
+-- the number of the first principal to whom alone the lists grant otherwise; the number of principals where there is
+-- none
+abbrev pub IsFirstSingle : TwoLists → ℕ → Type 0
+IsFirstSingle both least = IsLeast (OnAll (AlikeToOne both)) (length (all_mentioned both)) least
+
+-- the number of the first principal that is one of a pair to whom the lists grant otherwise; the number of principals
+-- where there is none
+abbrev pub IsFirstMember : TwoLists → ℕ → Type 0
+IsFirstMember both least = IsLeast (OnAll (AlikeToPairs both)) (length (all_mentioned both)) least
+
+-- among the principals behind one, the number of the first with whom it is a pair to whom the lists grant otherwise;
+-- the number of these principals where there is none
+abbrev pub IsFirstPartner : TwoLists → ℕ → ℕ → Type 0
+IsFirstPartner both at least = IsLeast (OnAll (AlikeToPair both at)) (length (later_than both at)) least
+
+-- what is found is the first small set at which the lists grant otherwise, if there is one
+abbrev pub FindSet : TwoLists → Option (List Principal) → Type 0
+FindSet both found = FindsSet both.first both.second (small_sets (all_mentioned both)) found
+
+-- the small situation of a set of the mentioned principals
+abbrev pub situation_at : TwoLists → List Principal → Situation
+situation_at both set = small_situation (strange_length both.first both.second) set
+
+-- a difference shows the small situation of a set
+abbrev pub ShowsSituation : TwoLists → List Principal → Difference → Type 0
+ShowsSituation both set d = situation_of d ≡ situation_at both set
+
+-- a difference names the lowest right on which the lists grant otherwise at a set, and whether the first grants it
+abbrev pub DifferLowestOn : TwoLists → List Principal → Difference → Type 0
+DifferLowestOn both set d = IsLowestDifference both.first both.second set d.bit.bits d.first_grants

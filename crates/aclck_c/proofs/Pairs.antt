@@ -1,0 +1,45 @@
+-- What calls over two lists make of each list.
+use Rattle.std.proofs.Common.{ℕ, Bool, List, false, inl, inr, refl, true}
+use Rattle.std.specs.Prelude.{◌↔◌, IsTrue}
+use Rattle.std.proofs.lemmas.Bool.{false≢true}
+use Rattle.acl_perm.specs.Bits.{all_rights}
+use Rattle.acl_perm.specs.Profile.{Profile}
+use Rattle.acl_nfs4.specs.Ace.{Ace}
+use Rattle.acl_nfs4.specs.Spelling.{Xdr}
+use Rattle.acl_eval.specs.Grant.{SameGrants}
+use Rattle.aclck_c.specs.Compare.{AreSameOrNot}
+use Rattle.aclck_c.specs.declared.failure.Failure.{Failure}
+use Rattle.aclck_c.specs.declared.failure.Failure.TheVariants as failure
+use Rattle.aclck_c.specs.internal.Failures.{IsListFailure, IsPairFailure}
+
+-- whether both lists grant the same
+pub same_or_not : (p : Profile) (first second : List ℕ) (list other : List Ace) (same : Bool) → Xdr p list first
+    → Xdr p other second → (IsTrue same ↔ SameGrants all_rights list other) → AreSameOrNot p first second same
+same_or_not p first second list other true read read_other is = record {
+  list = list;
+  other = other;
+  first_spelled = read;
+  second_spelled = read_other;
+  same = is.0 refl;
+}
+same_or_not p first second list other false read read_other is = record {
+  list = list;
+  other = other;
+  first_spelled = read;
+  second_spelled = read_other;
+  different = λ all. false≢true (is.1 all);
+}
+
+-- the first list is refused, or memory ran out
+pub of_first : (p : Profile) (first second : List ℕ) (f : Failure) → IsListFailure p first 0 f
+    → IsPairFailure p first second f
+of_first p first second failure.BadArgument h = h
+of_first p first second (failure.Refused shown) h = inl h
+of_first p first second failure.Memory h = h
+
+-- the first list is read, and the second is refused, or memory ran out
+pub of_second : (p : Profile) (first second : List ℕ) (list : List Ace) (f : Failure) → Xdr p list first
+    → IsListFailure p second 1 f → IsPairFailure p first second f
+of_second p first second list failure.BadArgument spelled h = h
+of_second p first second list (failure.Refused shown) spelled h = inr ((list, spelled), h)
+of_second p first second list failure.Memory spelled h = (list, spelled)

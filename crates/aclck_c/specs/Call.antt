@@ -1,0 +1,80 @@
+-- What calls from C promise (this library's own): what each status says about the answer, the arguments and the input.
+use Rattle.std.specs.Prelude.{◌≡◌, ◌≢◌, ◌≤◌, ℕ, Bool, List, false, true}
+use Rattle.acl_perm.specs.Profile.{Profile}
+use Rattle.aclck_c.specs.Compare.{IsRefusedPair}
+use Rattle.aclck_c.specs.Lists.{AreList, IsRefusedList}
+use Rattle.aclck_c.specs.Names.{AreGoodNames}
+use Rattle.aclck_c.specs.Out.{WritesBytes}
+use Rattle.aclck_c.specs.Status as status
+use Rattle.aclck_c.specs.declared.posix.names.Name.{Name}
+use Rattle.aclck_c.specs.declared.refusal.Refusal.{Refusal}
+
+-- the answer of a call that says yes or no
+pub record SaysYesOrNo (Holds : Bool → Type 0) (returned : ℕ) : Type 0 where
+  -- it is granted, or both lists grant the same
+  pub granted : returned ≡ status.yes → Holds true
+  -- it is denied, or the lists differ
+  pub denied : returned ≡ status.no → Holds false
+
+-- the effect of a call on the fault of its caller
+pub record ReportsFault (IsRefused : Refusal → Type 0) (fault fault_after : Refusal) (returned : ℕ) : Type 0 where
+  -- the input has the fault that is reported
+  pub refused : returned ≡ status.refused → IsRefused fault_after
+  -- at every other status the fault is as it was
+  pub kept : (returned ≢ status.refused) → fault_after ≡ fault
+
+-- the status is that of a bad argument if and only if an argument is bad
+pub record JudgesArguments (AreGood : Type 0) (returned : ℕ) : Type 0 where
+  pub bad : returned ≡ status.bad_argument → AreGood → ⊥
+  pub good : (returned ≢ status.bad_argument) → AreGood
+
+-- the same of a call that also takes names
+pub record JudgesNames (names : List Name) (AreGood : Type 0) (returned : ℕ) : Type 0 where
+  pub bad : returned ≡ status.bad_argument → AreGoodNames names → AreGood → ⊥
+  pub good : (returned ≢ status.bad_argument) → AreGood
+  -- if memory runs out, nothing is said about the names
+  pub named : (returned ≢ status.bad_argument) → (returned ≢ status.memory) → AreGoodNames names
+
+-- what a call promises about its input and its arguments; it returns at most this status
+pub record JudgesInput (IsRefused : Refusal → Type 0) (Known AreGood : Type 0) (most : ℕ)
+    (fault fault_after : Refusal) (returned : ℕ) : Type 0 where
+  pub refusal : ReportsFault IsRefused fault fault_after returned
+  -- what is known of the input if memory runs out
+  pub memory : returned ≡ status.memory → Known
+  pub arguments : JudgesArguments AreGood returned
+  -- no other status is returned
+  pub known : returned ≤ most
+
+-- the same of a call that reads the text of POSIX ACLs, which may use these names
+pub record ReadsFile (names : List Name) (IsRefused : Refusal → Type 0) (AreGood : Type 0) (most : ℕ)
+    (fault fault_after : Refusal) (returned : ℕ) : Type 0 where
+  pub refusal : ReportsFault IsRefused fault fault_after returned
+  pub arguments : JudgesNames names AreGood returned
+  -- no other status is returned
+  pub known : returned ≤ most
+
+-- a call that only looks at the bytes of a list takes no memory
+abbrev pub LooksAtList : Profile → List ℕ → Type 0 → Refusal → Refusal → ℕ → Type 0
+LooksAtList p list AreGood = JudgesInput (IsRefusedList p list 0) ⊥ AreGood status.bad_argument
+
+-- bytes with a fault are refused with that fault, also if memory runs out
+abbrev pub ReadsList : Profile → List ℕ → Type 0 → Refusal → Refusal → ℕ → Type 0
+ReadsList p list AreGood = JudgesInput (IsRefusedList p list 0) (AreList p list) AreGood status.short
+
+-- bytes with a fault are refused with that fault, also if memory runs out, but for those of the second list
+abbrev pub ReadsTwoLists : Profile → List ℕ → List ℕ → Type 0 → ℕ → Refusal → Refusal → ℕ → Type 0
+ReadsTwoLists p first second AreGood most =
+    JudgesInput (IsRefusedPair p first second) (AreList p first) AreGood most
+
+-- what a call promises that makes bytes of the list that bytes spell
+pub record WritesOfList (p : Profile) (list : List ℕ) (AreGood : Type 0) (Means : List ℕ → Type 0)
+    (buffer buffer_after : List ℕ) (needed needed_after : ℕ) (fault fault_after : Refusal) (returned : ℕ) : Type 0 where
+  pub bytes : WritesBytes status.done Means buffer buffer_after needed needed_after returned
+  pub input : ReadsList p list AreGood fault fault_after returned
+
+-- what a call promises that makes bytes of the text of POSIX ACLs
+pub record WritesOfFile (names : List Name) (AreGood : Type 0) (IsRefused : Refusal → Type 0)
+    (Means : List ℕ → Type 0) (buffer buffer_after : List ℕ) (needed needed_after : ℕ)
+    (fault fault_after : Refusal) (returned : ℕ) : Type 0 where
+  pub bytes : WritesBytes status.done Means buffer buffer_after needed needed_after returned
+  pub input : ReadsFile names IsRefused AreGood status.short fault fault_after returned

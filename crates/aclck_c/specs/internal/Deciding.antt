@@ -1,0 +1,15 @@
+-- The ACE that decides a right, as the code finds it (this library's own; only the code needs it).
+use Rattle.std.specs.Prelude.{◌≡◌, ℕ, List, Option, option_map}
+use Rattle.acl_perm.specs.Profile.{Profile}
+use Rattle.acl_perm.specs.Situation.{Situation}
+use Rattle.acl_nfs4.specs.Ace.{Ace}
+use Rattle.acl_nfs4.specs.Spelling.{Xdr}
+use Rattle.acl_eval.specs.Deciding.{deciding_kind, deciding_place}
+use Rattle.acl_eval.specs.declared.deciding.Decision.{Decision}
+
+-- the bytes spell a list, and this ACE of it, or none, decides the right of this bit
+pub record Finds (p : Profile) (bytes : List ℕ) (s : Situation) (bit : ℕ) (found : Option Decision) : Type 0 where
+  pub list : List Ace
+  pub spelled : Xdr p list bytes
+  pub is_place : option_map (λ d. d.place) found ≡ deciding_place list s bit
+  pub is_kind : option_map (λ d. d.kind) found ≡ deciding_kind list s bit

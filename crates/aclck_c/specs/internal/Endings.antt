@@ -1,0 +1,33 @@
+-- How calls end (this library's own; only the code needs it).
+use Rattle.std.specs.Prelude.{◌≡◌, ◌<◌, ◌⊎◌, ℕ, IfErr, IfOk, List, OnErr, OnOk, Result, length}
+use Rattle.std.specs.Global.{Vec}
+use Rattle.aclck_c.specs.Out.{Puts}
+use Rattle.aclck_c.specs.Status as status
+use Rattle.aclck_c.specs.declared.failure.Failure.{Failure}
+use Rattle.aclck_c.specs.declared.failure.Failure.TheVariants as failure
+use Rattle.aclck_c.specs.declared.refusal.Refusal.{Refusal}
+
+-- the effect of bytes on the buffer and on the reported length, and the status
+pub record PutsIfRoom (bytes buffer buffer_after : List ℕ) (needed_after returned : ℕ) : Type 0 where
+  pub told : needed_after ≡ length bytes
+  pub put : returned ≡ status.done → Puts bytes buffer buffer_after
+  pub short : returned ≡ status.short → length buffer < length bytes
+  pub unwritten : returned ≡ status.short → buffer_after ≡ buffer
+  pub known : (returned ≡ status.done) ⊎ (returned ≡ status.short)
+
+-- the effect of a failure on the fault of the caller, and the status
+abbrev pub ReportsFailure : Failure → Refusal → Refusal → ℕ → Type 0
+ReportsFailure failure.BadArgument shown shown_after returned =
+    (returned ≡ status.bad_argument) × (shown_after ≡ shown)
+ReportsFailure (failure.Refused found) shown shown_after returned =
+    (returned ≡ status.refused) × (shown_after ≡ found)
+ReportsFailure failure.Memory shown shown_after returned = (returned ≡ status.memory) × (shown_after ≡ shown)
+
+-- the effect of the bytes that a call made, or of its failure, and the status
+pub record EndsCall (made : Result (Vec ℕ) Failure) (buffer buffer_after : List ℕ) (needed needed_after : ℕ)
+    (fault fault_after : Refusal) (returned : ℕ) : Type 0 where
+  pub put : IfOk made (λ bytes. PutsIfRoom bytes.items buffer buffer_after needed_after returned)
+  pub kept : OnOk made (fault_after ≡ fault)
+  pub reported : IfErr made (λ f. ReportsFailure f fault fault_after returned)
+  pub unwritten : OnErr made (buffer_after ≡ buffer)
+  pub untold : OnErr made (needed_after ≡ needed)

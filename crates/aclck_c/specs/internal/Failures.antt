@@ -1,0 +1,93 @@
+-- Why calls fail (this library's own; only the code needs it).
+use Rattle.std.specs.Prelude.{◌≡◌, ⊤, ℕ, List, None, Option, Some, Result, Ok, Err}
+use Rattle.acl_perm.specs.Profile.{Profile}
+use Rattle.acl_nfs4.specs.declared.xdr.fault.Fault.{Fault}
+use Rattle.acl_eval.specs.declared.bridging.BridgeFault.{BridgeFault}
+use Rattle.acl_eval.specs.declared.bridging.BridgeFault.TheVariants as bridge
+use Rattle.acl_posix.specs.Names.{Table}
+use Rattle.acl_posix.specs.declared.names.NameFault.{NameFault}
+use Rattle.acl_posix.specs.declared.names.NameFault.TheVariants as names
+use Rattle.acl_posix.specs.declared.text_fault.TextFault.{TextFault}
+use Rattle.aclck_c.specs.Compare.{IsRefusedPair}
+use Rattle.aclck_c.specs.Encode.{IsRefusedText}
+use Rattle.aclck_c.specs.Lists.{AreList, IsRefusedList}
+use Rattle.aclck_c.specs.Names.{AreGoodNames}
+use Rattle.aclck_c.specs.Posix.{IsRefusedBridge, IsRefusedPosix, posix_refusal}
+use Rattle.aclck_c.specs.Refusal.{in_list, past_limits}
+use Rattle.aclck_c.specs.declared.failure.Failure.{Failure}
+use Rattle.aclck_c.specs.declared.failure.Failure.TheVariants as failure
+use Rattle.aclck_c.specs.declared.posix.names.Name.{Name}
+use Rattle.aclck_c.specs.declared.refusal.Refusal.{Refusal}
+
+-- memory ran out
+abbrev pub out_of_memory : Failure
+out_of_memory = failure.Memory
+
+-- the failure of a text that is refused; without a refusal memory ran out
+abbrev pub of_refusal : Option Refusal → Failure
+of_refusal (Some shown) = failure.Refused shown
+of_refusal None = failure.Memory
+
+-- the failure of the bytes of a list, which is the first or only one
+abbrev pub of_list_fault : Fault → Failure
+of_list_fault fault = failure.Refused (in_list fault.offset fault.reason 0)
+
+-- the failure of the text of POSIX ACLs
+abbrev pub of_posix_text : TextFault → Failure
+of_posix_text fault = of_refusal (posix_refusal fault)
+
+-- the failure of a name
+abbrev pub of_name : NameFault → Failure
+of_name names.EmptyName = failure.BadArgument
+of_name names.DigitsOnly = failure.BadArgument
+of_name names.Taken = failure.BadArgument
+of_name names.Memory = failure.Memory
+
+-- the failure of a POSIX ACL that has no list
+abbrev pub of_bridge : BridgeFault → Failure
+of_bridge bridge.Limits = failure.Refused past_limits
+of_bridge bridge.Memory = failure.Memory
+
+-- what a failure says: that an argument is bad, that the input is refused so, or what is known if memory runs out
+abbrev pub IsFailure : (AreGood : Type 0) → (Refusal → Type 0) → Type 0 → Failure → Type 0
+IsFailure AreGood IsRefused Known failure.BadArgument = AreGood → ⊥
+IsFailure AreGood IsRefused Known (failure.Refused shown) = IsRefused shown
+IsFailure AreGood IsRefused Known failure.Memory = Known
+
+-- the bytes of a list have the fault, or memory ran out
+abbrev pub IsListFailure : Profile → List ℕ → ℕ → Failure → Type 0
+IsListFailure p bytes which = IsFailure ⊤ (IsRefusedList p bytes which) (AreList p bytes)
+
+-- the bytes of a list have the fault; a call that looks at the bytes alone takes no memory
+abbrev pub IsViewFailure : Profile → List ℕ → Failure → Type 0
+IsViewFailure p bytes = IsFailure ⊤ (IsRefusedList p bytes 0) ⊥
+
+-- the bytes of one of two lists have the fault, or memory ran out
+abbrev pub IsPairFailure : Profile → List ℕ → List ℕ → Failure → Type 0
+IsPairFailure p first second = IsFailure ⊤ (IsRefusedPair p first second) (AreList p first)
+
+-- the text of a list has the fault, or memory ran out
+abbrev pub IsTextFailure : Profile → List ℕ → Failure → Type 0
+IsTextFailure p text = IsFailure ⊤ (IsRefusedText p text) ⊤
+
+-- the names make no table, the text of POSIX ACLs has the fault, or memory ran out
+abbrev pub IsFileFailure : List Name → List ℕ → Failure → Type 0
+IsFileFailure names text = IsFailure (AreGoodNames names) (IsRefusedPosix names text) ⊤
+
+-- the same, or the list of the file is above a limit
+abbrev pub IsBridgeFailure : List Name → List ℕ → Failure → Type 0
+IsBridgeFailure names text = IsFailure (AreGoodNames names) (IsRefusedBridge names text) ⊤
+
+-- the table that a call reads from names: the expected table, or bad names if there is none
+abbrev pub ReadsTable : Option Table → Result Table Failure → Type 0
+ReadsTable expected (Ok table) = expected ≡ Some table
+ReadsTable expected (Err failure.BadArgument) = expected ≡ None
+ReadsTable expected (Err (failure.Refused shown)) = ⊥
+ReadsTable expected (Err failure.Memory) = ⊤
+
+-- the table after a call that adds a name to it: the expected table, or a bad name if there is none
+abbrev pub AddsFileName : Option Table → Table → Result (Unit {0}) Failure → Type 0
+AddsFileName expected after (Ok done) = expected ≡ Some after
+AddsFileName expected after (Err failure.BadArgument) = expected ≡ None
+AddsFileName expected after (Err (failure.Refused shown)) = ⊥
+AddsFileName expected after (Err failure.Memory) = ⊤

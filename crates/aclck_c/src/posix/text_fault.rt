@@ -1,0 +1,77 @@
+//! What is wrong with the text of POSIX ACLs, by numbers.
+ghost use Rattle.std.specs.Prelude.{◌≡◌};
+ghost use Rattle.aclck_c.specs.Posix.{part_number, posix_refusal, tag_number};
+
+use crate::failure::Failure;
+use crate::refusal::Refusal;
+use acl_posix::{Cause, Part, Tag, TextFault};
+
+impl From<TextFault> for Failure {
+    ghost use Rattle.std.specs.Prelude.{◌≡◌};
+    ghost use Rattle.aclck_c.specs.internal.Failures.{of_posix_text};
+
+    ghost from_gives = { λ fault failure. failure ≡ of_posix_text fault };
+
+    fn from(fault: TextFault) -> Failure {
+        Failure::of_refusal(posix_refusal(fault))
+    }
+}
+
+// The fault of a text, by numbers; none if memory ran out.
+fn posix_refusal(fault: TextFault) -> Option<Refusal>
+    ensures { result ≡ posix_refusal fault }
+{
+    let refusal = match fault {
+        TextFault::Fields { line, column } => Refusal::at_place(16, line, column),
+        TextFault::Tag { line, column } => Refusal::at_place(19, line, column),
+        TextFault::Qualifier { line, column } => Refusal::at_place(20, line, column),
+        TextFault::Id { line, column } => Refusal::at_place(21, line, column),
+        TextFault::UnknownName { line, column } => Refusal::at_place(22, line, column),
+        TextFault::Permission { line, column } => Refusal::at_place(23, line, column),
+        TextFault::EmptyEntry { line, column } => Refusal::at_place(24, line, column),
+        TextFault::Invalid(part, Cause::Multi(place)) => Refusal::in_part(
+            25,
+            part_number(part),
+            place,
+            0,
+        ),
+        TextFault::Invalid(part, Cause::Duplicate(place)) => Refusal::in_part(
+            26,
+            part_number(part),
+            place,
+            0,
+        ),
+        TextFault::Invalid(part, Cause::Miss(tag)) => Refusal::in_part(
+            27,
+            part_number(part),
+            0,
+            tag_number(tag),
+        ),
+        TextFault::Memory => return None,
+    };
+    Some(refusal)
+}
+
+// The numbers are those of `enum aclck_part`.
+fn part_number(part: Part) -> u32
+    ensures { result ≡ part_number part }
+{
+    match part {
+        Part::Access => 0,
+        Part::Default => 1,
+    }
+}
+
+// The numbers are those of `enum aclck_tag`.
+fn tag_number(tag: Tag) -> u32
+    ensures { result ≡ tag_number tag }
+{
+    match tag {
+        Tag::UserObj => 1,
+        Tag::User(_) => 2,
+        Tag::GroupObj => 3,
+        Tag::Group(_) => 4,
+        Tag::Mask => 5,
+        Tag::Other => 6,
+    }
+}

@@ -1,0 +1,22 @@
+//! What a call returns: `enum aclck_status` of `aclck.h`.
+
+/// The result is written.
+pub(crate) const DONE: u32 = 0;
+
+/// It is granted, or both lists grant the same.
+pub(crate) const YES: u32 = 0;
+
+/// It is denied, or the lists differ, or there is nothing.
+pub(crate) const NO: u32 = 1;
+
+/// The list or the text is refused.
+pub(crate) const REFUSED: u32 = 2;
+
+/// A name is empty, or a number or an option means nothing.
+pub(crate) const BAD_ARGUMENT: u32 = 3;
+
+/// Memory ran out.
+pub(crate) const MEMORY: u32 = 4;
+
+/// The buffer is too short.
+pub(crate) const SHORT: u32 = 5;
