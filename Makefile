@@ -10,8 +10,8 @@ SHARE = $(DESTDIR)$(PREFIX)/share
 PAGES = docs/recipes.md docs/lists.md docs/formats.md docs/convert.md docs/others.md CHANGELOG.md
 MODULES = $(DESTDIR)$(PREFIX)/lib/aclck/python
 
-# The first example of the README: may bob, an editor, read and execute under a list of six entries?
-EXAMPLE = check-nfs --owner alice --group staff --user bob --mask 'READ_DATA|EXECUTE' editors staff < ../../examples/shared_folder.xdr
+# The first example of the README: may bob, an editor, write under a list of two entries?
+EXAMPLE = check-nfs --owner alice --group staff --user bob --mask 'WRITE_DATA|APPEND_DATA' editors < ../../examples/plan.xdr
 
 # Runs the example and proves nothing, in about a minute.
 try:
