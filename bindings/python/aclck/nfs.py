@@ -79,7 +79,7 @@ class NfsAcl:
     __slots__ = ("_bytes", "_options")
 
     def __init__(self, data: bytes, *, narrow: bool = False) -> None:
-        """Takes the bytes of a list; with `narrow`, only those of the narrow profile (docs/lists.md).
+        """Takes the bytes of a list; with `narrow`, only those of the narrow profile (docs/formats.md).
 
         Raises Refused, with the offset, if the bytes are not a list.
         """
